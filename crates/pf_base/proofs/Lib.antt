@@ -1,0 +1,4 @@
+mod WorkedQueues
+mod WorkedPages
+mod WorkedScript
+pub mod ScriptLemmas

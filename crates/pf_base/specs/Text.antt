@@ -1,0 +1,60 @@
+-- The text that a run prints.
+
+use Rattle.std.specs.Prelude.{ℕ, ◌+◌, nat_eq, List, [], ◌∷◌, ◌++◌, length, codes, decimal, if◌then◌else◌}
+use Rattle.hex.specs.Hex.{encode_lower}
+use Rattle.pf_base.specs.declared.step.Step.{Step}
+use Rattle.pf_base.specs.declared.step.Reply.{Reply}
+use Rattle.pf_base.specs.declared.step.Reply.TheVariants as kinds
+use Rattle.pf_base.specs.declared.step.Answer.{Answer}
+use Rattle.pf_base.specs.declared.step.Answer.TheVariants.{Done, NoMemory}
+use Rattle.pf_base.specs.Errors.{name_of}
+use Rattle.pf_base.specs.Limits.{Limits}
+use Rattle.pf_base.specs.Script.{Draft}
+
+-- bytes in hexadecimal digits of lower case, and `-` for none
+abbrev pub hex_text : List ℕ → List ℕ
+hex_text [] = codes "-"
+hex_text (b ∷ bs) = encode_lower (b ∷ bs)
+
+abbrev pub reply_text : Reply → List ℕ
+reply_text (kinds.Num n) = codes "num " ++ decimal n
+reply_text (kinds.Pid p) = codes "pid " ++ decimal p
+reply_text (kinds.Fds a b) = codes "fds " ++ decimal a ++ codes " " ++ decimal b
+reply_text (kinds.Bytes bytes) = codes "bytes " ++ decimal (length bytes) ++ codes " " ++ hex_text bytes
+reply_text (kinds.Err e) = codes "err " ++ name_of e
+
+abbrev pub answer_text : Answer → List ℕ
+answer_text (Done reply) = reply_text reply
+answer_text NoMemory = codes "nomem"
+
+-- the line of the step with this number
+abbrev pub line_text : ℕ → Answer → List ℕ
+line_text i answer = decimal i ++ codes ": " ++ answer_text answer ++ codes "\n"
+
+-- the lines of the steps from number i on
+unfoldable pub lines_text : ℕ → List Answer → List ℕ
+lines_text i [] = []
+lines_text i (answer ∷ answers) = line_text i answer ++ lines_text (i + 1) answers
+
+-- a namespace's header
+abbrev pub header : List ℕ → List ℕ
+header name = codes "== " ++ name ++ codes "\n"
+
+-- a namespace's name and the answers to its steps
+abbrev pub section : List ℕ → List Answer → List ℕ
+section name answers = header name ++ lines_text 1 answers
+
+-- the answers to the steps of namespace n
+unfoldable pub answers_of : List (ℕ × Step) → List Answer → ℕ → List Answer
+answers_of [] answers n = []
+answers_of (e ∷ es) [] n = []
+answers_of (e ∷ es) (a ∷ answers) n = if nat_eq e.0 n then a ∷ answers_of es answers n else answers_of es answers n
+
+-- the sections of the namespaces from number n on
+unfoldable pub sections : ℕ → List (List ℕ × Limits) → List (ℕ × Step) → List Answer → List ℕ
+sections n [] steps answers = []
+sections n (space ∷ spaces) steps answers = section space.0 (answers_of steps answers n) ++ sections (n + 1) spaces steps answers
+
+-- the whole text of a script whose steps have these answers
+abbrev pub print : Draft → List Answer → List ℕ
+print script answers = sections 0 script.spaces script.steps answers

@@ -1,0 +1,43 @@
+//! The types that every crate speaks of, and, in `specs/`, the definition of the lone machine.
+#![tactic(auto)]
+
+pub mod bytes;
+pub mod config;
+pub mod cred;
+pub mod errno;
+pub mod script;
+pub mod step;
+
+pub use bytes::ByteString;
+pub use config::{Config, ConfigFault};
+pub use cred::{Cred, Groups};
+pub use errno::Errno;
+pub use script::{Cause, Refusal};
+pub use step::{Answer, Reply, Step};
+
+/// The size of a page in bytes (pipe(7), "Pipe capacity"): what one slot of a pipe holds.
+pub const PAGE_SIZE: usize = 4096;
+
+/// A write of at most this many bytes is whole (pipe(7), "PIPE_BUF").
+pub const PIPE_BUF: usize = 4096;
+
+/// How many processes a namespace may have at once (this profile's limit): pids are 1 to 256.
+pub const MAX_PROCESSES: usize = 256;
+
+/// How many descriptors a process may have at once (this profile's limit): 0 to 255.
+pub const MAX_DESCRIPTORS: usize = 256;
+
+/// How many namespaces there may be at once (this profile's limit).
+pub const MAX_NAMESPACES: usize = 64;
+
+/// The longest write in bytes (this profile's limit).
+pub const MAX_WRITE: usize = 1_048_576;
+
+/// The slots of a new pipe where no limit makes it smaller (pipe(7), "Pipe capacity").
+pub const DEFAULT_SLOTS: u32 = 16;
+
+/// The slots of a new pipe where a limit makes it smaller (this profile's choice).
+pub const LEAST_SLOTS: u32 = 1;
+
+#[cfg(test)]
+mod tests;

@@ -1,0 +1,65 @@
+use crate::bytes::ByteString;
+use crate::cred::Groups;
+use crate::errno::Errno;
+
+/// A call of one process of a namespace. `pid`s count from 1, descriptors (`fd`) from 0.
+#[derive(Debug, PartialEq, Eq, Drop)]
+pub enum Step {
+    /// A new process with these credentials and no descriptor.
+    Spawn {
+        uid: u32,
+        gid: u32,
+        groups: Groups,
+        umask: u32,
+    },
+    /// The process ends, and with it its descriptors.
+    Exit {
+        pid: u32,
+    },
+    /// A new pipe with a descriptor for each end (pipe(2)).
+    Pipe {
+        pid: u32,
+        nonblock: bool,
+    },
+    /// A descriptor goes (close(2)).
+    Close {
+        pid: u32,
+        fd: u32,
+    },
+    /// At most `n` bytes out of a pipe (read(2)).
+    Read {
+        pid: u32,
+        fd: u32,
+        n: u64,
+    },
+    /// Bytes into a pipe (write(2)).
+    Write {
+        pid: u32,
+        fd: u32,
+        payload: ByteString,
+    },
+}
+
+/// What a process is told.
+#[derive(Debug, PartialEq, Eq, Drop)]
+pub enum Reply {
+    /// A number: of bytes, or 0 for a call that only succeeds.
+    Num(u64),
+    /// The new process's pid.
+    Pid(u32),
+    /// The descriptors of a new pipe: for reading, for writing.
+    Fds(u32, u32),
+    /// The bytes that were read.
+    Bytes(ByteString),
+    /// The call was refused.
+    Err(Errno),
+}
+
+/// What a step is answered.
+#[derive(Debug, PartialEq, Eq, Drop)]
+pub enum Answer {
+    /// The step was made, and this is its reply.
+    Done(Reply),
+    /// A growth of memory was refused. Nothing has changed.
+    NoMemory,
+}

@@ -1,0 +1,96 @@
+use super::*;
+use std::test::Fail;
+
+#[test]
+fn config_tests_the_reservation_first(rt: HostRuntime) {
+    for (reserve, max, want) in [
+        (65_537, 1_048_576, ConfigFault::ReserveTooLarge),
+        (65_537, 0, ConfigFault::ReserveTooLarge),
+        (65_536, 65_535, ConfigFault::BadMax),
+        (0, 536_870_912, ConfigFault::BadMax),
+        (16, 65_537, ConfigFault::BadMax),
+    ] {
+        assert_eq!(rt;
+            Config::new(reserve, 0, 0, max).err(),
+            Some(want),
+            "{reserve} {max}"
+        );
+    }
+}
+
+#[test]
+fn config_keeps_its_numbers(rt: HostRuntime) {
+    for (reserve, max) in [(0, 65_536), (65_536, 268_435_456), (16, 1_048_576)] {
+        let read = Config::new(reserve, 17, 18, max).map(|c| (
+            c.reserve(),
+            c.soft(),
+            c.hard(),
+            c.max(),
+        ));
+        assert_eq!(rt; read, Ok((reserve, 17, 18, max)));
+    }
+}
+
+#[test]
+fn errors_have_their_numbers_and_texts(rt: HostRuntime) -> Result<(), Fail> {
+    for (error, code, name, text) in [
+        (Errno::EPERM, 1, "EPERM", "operation not permitted"),
+        (
+            Errno::EAGAIN,
+            11,
+            "EAGAIN",
+            "resource temporarily unavailable",
+        ),
+        (Errno::EPIPE, 32, "EPIPE", "broken pipe"),
+        (Errno::ENOTEMPTY, 39, "ENOTEMPTY", "directory not empty"),
+    ] {
+        assert_eq!(rt; error.code(), code);
+        assert_eq!(rt; error.name(), name);
+        assert_eq!(rt; format!(in rt.alloc(); "{error}")?.as_str(), text);
+    }
+    let fault = ConfigFault::ReserveTooLarge;
+    assert_eq!(rt;
+        format!(in rt.alloc(); "{fault}")?.as_str(),
+        "the reservation is above 65536 frames"
+    );
+    Ok(())
+}
+
+#[test]
+fn bytes_come_back(rt: HostRuntime) -> Result<(), Fail> {
+    let bytes = ByteString::new(vec![in rt.alloc(); 104, 101, 108]?);
+    assert_eq!(rt; bytes.as_slice(), [104, 101, 108].as_slice());
+    assert_eq!(rt;
+        bytes,
+        ByteString::from(vec![in rt.alloc(); 104, 101, 108]?)
+    );
+    assert_eq!(rt; bytes.into_vec().as_slice(), [104, 101, 108].as_slice());
+    Ok(())
+}
+
+#[test]
+fn credentials_have_at_most_32_groups(rt: HostRuntime) -> Result<(), Fail> {
+    for (count, umask, want) in [(32, 0o777, true), (33, 0o777, false), (0, 0o1000, false)] {
+        let cred = Cred {
+            uid: 5,
+            gid: 5,
+            groups: Groups::new(vec![in rt.alloc(); 7; count]?),
+            umask,
+        };
+        assert_eq!(rt; cred.is_valid(), want, "{count} {umask}");
+    }
+    Ok(())
+}
+
+#[test]
+fn answers_compare_by_value(rt: HostRuntime) -> Result<(), Fail> {
+    let read = Answer::Done(Reply::Bytes(ByteString::new(vec![in rt.alloc(); 104]?)));
+    assert_eq!(rt;
+        read,
+        Answer::Done(Reply::Bytes(ByteString::new(vec![in rt.alloc(); 104]?)))
+    );
+    assert!(rt; read != Answer::Done(Reply::Num(1)));
+    assert!(rt; Answer::Done(Reply::Err(Errno::EPIPE)) != Answer::NoMemory);
+    assert!(rt; Step::Exit { pid: 1 } != Step::Exit { pid: 2 });
+    Ok(())
+}

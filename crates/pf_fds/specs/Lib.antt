@@ -1,0 +1,3 @@
+pub mod Registry
+pub mod Slots
+pub mod Lends

@@ -1,0 +1,71 @@
+-- One more event of a run.
+
+use Rattle.std.proofs.Common.{◌≡◌, ◌≢◌, ℕ, zero, suc, cond, length-append, ◌+◌, ◌<◌, ◌≤◌, List, [], ◌∷◌, ◌++◌, length, take, get_or, refl, ap, sym, ◌∙◌, subst, arith, inl, inr, Bool, true, false}
+use Rattle.std.specs.Prelude.{Option, Some, None, nat_le, nat_eq}
+use Rattle.std.specs.List.{position_from}
+use Rattle.std.proofs.lemmas.Bool.{eqb-true, eqb-false, leb-false}
+use Rattle.pf_base.specs.State.{opening}
+use Rattle.pf_base.specs.Limits.{Limits}
+use Rattle.pf_base.specs.Machine.{Answers}
+use Rattle.pf_base.specs.Runs.{Run, run_of, lone}
+use Rattle.pf_base.specs.Events.{kept, replies, mine, IsAmple}
+use Rattle.pf_base.specs.EventLaws.{told-own, told-other, kept-mine}
+use Rattle.pf_base.specs.declared.step.Step.{Step}
+use Rattle.pf_base.specs.declared.step.Reply.{Reply}
+use Rattle.pf_base.specs.declared.step.Answer.{Answer}
+use Rattle.pf_hub.specs.Tenants.{Tenants, Tenant, tenant_at, limits_at, state_at, frames_in}
+use Rattle.pf_hub.specs.Isolation.{Ran, first_missing, AreAlone, TwoWorlds}
+
+-- no event has been answered
+pub at_start : (h : Tenants) (events : List (ℕ × Step)) → Ran h (take 0 events) [] h
+at_start h events = record { number = refl; tenants = refl; frames = refl; limits = λ n. refl; own = λ n. refl }
+
+-- one more event was answered
+pub at_next : (old mid new : Tenants) (es : List (ℕ × Step)) (e : ℕ × Step) (as' : List Answer) (a : Answer)
+    → Ran old es as' mid → length new.tenants ≡ length mid.tenants → frames_in new ≡ frames_in mid → limits_at new e.0 ≡ limits_at mid e.0
+    → Answers (limits_at mid e.0) a (state_at mid e.0) e.1 (state_at new e.0)
+    → ((m : ℕ) → m ≢ e.0 → tenant_at new m ≡ tenant_at mid m)
+    → Ran old (es ++ e ∷ []) (as' ++ a ∷ []) new
+at_next old mid new es e as' a so number frames limits made others = record {
+  number = length-append as' (a ∷ []) ∙ ap (λ n. n + 1) so.number ∙ sym (length-append es (e ∷ []));
+  tenants = number ∙ so.tenants;
+  frames = frames ∙ so.frames;
+  limits = λ n. by_own (λ n. limits_at new n ≡ limits_at old n) (limits ∙ so.limits e.0) (λ m ne. ap (λ (t : Tenant). t.limits) (others m ne) ∙ so.limits m) n;
+  own = λ n. by_own (λ n. run_of (limits_at old n) (state_at old n) (kept (es ++ e ∷ []) (as' ++ a ∷ []) n) ≡ record { state = state_at new n; replies = replies (es ++ e ∷ []) (as' ++ a ∷ []) n }) own_next others_next n;
+}
+  where
+    by_own : (P : ℕ → Type 0) → P e.0 → ((m : ℕ) → m ≢ e.0 → P m) → (n : ℕ) → P n
+    by_own P here there n =
+        elim (nat_eq e.0 n) as (λ t. nat_eq e.0 n ≡ t → P n) [ true ↦ λ is. subst P (eqb-true e.0 n is) here | false ↦ λ is. there n (λ (o : n ≡ e.0). eqb-false e.0 n is (sym o)) ] refl
+
+    own_next : run_of (limits_at old e.0) (state_at old e.0) (kept (es ++ e ∷ []) (as' ++ a ∷ []) e.0) ≡ record { state = state_at new e.0; replies = replies (es ++ e ∷ []) (as' ++ a ∷ []) e.0 }
+    own_next =
+        told-own (limits_at old e.0) (state_at old e.0) (state_at mid e.0) (state_at new e.0) es e as' a e.0 (sym so.number) refl (so.own e.0)
+        (subst (λ (c : Limits). Answers c a (state_at mid e.0) e.1 (state_at new e.0)) (so.limits e.0) made)
+
+    others_next : (n : ℕ) → n ≢ e.0 → run_of (limits_at old n) (state_at old n) (kept (es ++ e ∷ []) (as' ++ a ∷ []) n) ≡ record { state = state_at new n; replies = replies (es ++ e ∷ []) (as' ++ a ∷ []) n }
+    others_next n ne =
+        told-other (limits_at old n) (state_at old n) (state_at mid n) es e as' a n (sym so.number) (λ (o : e.0 ≡ n). ne (sym o)) (so.own n)
+        ∙ (λ i. record { state = (sym (others n ne) i).state; replies = replies (es ++ e ∷ []) (as' ++ a ∷ []) n })
+
+-- all events were answered, so who was at the opening state was told what its lone machine is
+pub are_alone : (old new : Tenants) (es : List (ℕ × Step)) (as' : List Answer) → Ran old es as' new → AreAlone old es as'
+are_alone old new es as' ran n opened =
+    sym (ap (λ (r : Run). r.replies) (ran.own n)) ∙ ap (λ s. (run_of (limits_at old n) s (kept es as' n)).replies) opened
+
+-- where no event passes the test, none does at any place
+none_passes : {K : Type 0} (test : K → Bool) (xs : List K) (from i : ℕ) (d : K) → position_from test from xs ≡ None → i < length xs → test (get_or xs i d) ≡ false
+none_passes test [] from i d none h = absurd (omega arith)
+none_passes test (x ∷ xs) from zero d none h = elim (test x) as (λ t. cond t (Some from) (position_from test (from + 1) xs) ≡ None → t ≡ false) [ true ↦ λ some. absurd (cc) | false ↦ λ more. refl ] none
+none_passes test (x ∷ xs) from (suc i) d none h =
+    none_passes test xs (from + 1) i d (elim (test x) as (λ t. cond t (Some from) (position_from test (from + 1) xs) ≡ None → position_from test (from + 1) xs ≡ None) [ true ↦ λ some. absurd (cc) | false ↦ λ more. more ] none) (omega arith)
+
+-- where no event names no namespace, each names one
+pub exists_at : (number : ℕ) (events : List (ℕ × Step)) (i : ℕ) (d : ℕ × Step) → first_missing number events ≡ None → i < length events → (get_or events i d).0 < number
+exists_at number events i d none h = leb-false number (get_or events i d).0 (none_passes (λ e. nat_le number e.0) events 0 i d none h)
+
+pub two_worlds : TwoWorlds
+two_worlds first second es fs as' bs first' second' n ran ran' opened opened' limits same ample ample' =
+    are_alone first first' es as' ran n opened
+    ∙ (λ i. lone (limits i) ((kept-mine es as' n ample ∙ same ∙ sym (kept-mine fs bs n ample')) i))
+    ∙ sym (are_alone second second' fs bs ran' n opened')

@@ -1,0 +1,6 @@
+-- What all namespaces hold and what nobody holds are all frames.
+use Rattle.pf_hub.proofs.OpeningLemmas as lemmas
+use Rattle.pf_hub.proofs.hub.Hub.free.Goals as goal
+
+pub returns : goal.returns
+returns c = lemmas.free_said c.self.inside.pool c.self.inside.spaces.items c.args.self.now c.free.result c.self.view_is c.free.ensures.all

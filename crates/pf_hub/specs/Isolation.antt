@@ -1,0 +1,45 @@
+-- The isolation theorem: what each namespace is told is what its lone machine is told on its own steps alone.
+
+use Rattle.std.specs.Prelude.{◌≡◌, ◌≢◌, ℕ, ◌+◌, ◌<◌, ◌≤◌, List, [], ◌∷◌, length, take, nat_le, Some, Option, None}
+use Rattle.std.specs.List.{position_from}
+use Rattle.pf_base.specs.Limits.{Limits}
+use Rattle.pf_base.specs.State.{opening}
+use Rattle.pf_base.specs.Runs.{run_of, lone}
+use Rattle.pf_base.specs.Events.{mine, kept, replies}
+use Rattle.pf_base.specs.Events.{IsAmple}
+use Rattle.pf_base.specs.declared.step.Step.{Step}
+use Rattle.pf_base.specs.declared.step.Answer.{Answer}
+use Rattle.pf_hub.specs.Tenants.{Tenants, limits_at, state_at, frames_in}
+use Rattle.pf_hub.specs.declared.hub.RunFault.{RunFault}
+use Rattle.pf_hub.specs.declared.hub.RunFault.TheVariants.{NoSuchNamespace, NoMemory}
+
+-- the place of the first event that names no namespace, where there are so many
+abbrev pub first_missing : ℕ → List (ℕ × Step) → Option ℕ
+first_missing number events = position_from (λ e. nat_le number e.0) 0 events
+
+-- an answer for each event; no frame comes or goes; and each namespace's replies and its end state are those of the lone machine's run, from
+-- the state that it was in, on its own steps but for those that memory was wanted for
+pub record Ran (old : Tenants) (events : List (ℕ × Step)) (answers : List Answer) (new : Tenants) : Type 0 where
+  pub number : length answers ≡ length events
+  pub tenants : length new.tenants ≡ length old.tenants
+  pub frames : frames_in new ≡ frames_in old
+  pub limits : (n : ℕ) → limits_at new n ≡ limits_at old n
+  pub own : (n : ℕ) → run_of (limits_at old n) (state_at old n) (kept events answers n) ≡ record { state = state_at new n; replies = replies events answers n }
+
+-- a namespace that was at its opening state is told what its lone machine is told
+abbrev pub AreAlone : Tenants → List (ℕ × Step) → List Answer → Type 0
+AreAlone old events answers = (n : ℕ) → state_at old n ≡ opening → replies events answers n ≡ lone (limits_at old n) (kept events answers n)
+
+-- refused before the first step, or the run of the events answered so far
+abbrev pub IsRunFault : Tenants → List (ℕ × Step) → Tenants → RunFault → Type 0
+IsRunFault old events new (NoSuchNamespace at) = (first_missing (length old.tenants) events ≡ Some at) × (new ≡ old)
+IsRunFault old events new (NoMemory answers) = (first_missing (length old.tenants) events ≡ None) × (length answers.items ≤ length events) × Ran old (take (length answers.items) events) answers.items new
+
+-- Two worlds: where two hubs give n the same limits at its opening state, and two lists of events have the same steps
+-- of n, n is told the same, whatever the others do, if no step of n met want of memory
+abbrev pub TwoWorlds : Type 0
+TwoWorlds = (first second : Tenants) (es fs : List (ℕ × Step)) (as' bs : List Answer) (first' second' : Tenants) (n : ℕ) →
+    Ran first es as' first' → Ran second fs bs second' →
+    state_at first n ≡ opening → state_at second n ≡ opening → limits_at first n ≡ limits_at second n →
+    mine es n ≡ mine fs n → IsAmple es as' n → IsAmple fs bs n →
+    replies es as' n ≡ replies fs bs n

@@ -1,0 +1,9 @@
+//! Laws of what a hub promises. These functions compute nothing: their contracts are the laws.
+
+ghost use Rattle.pf_hub.specs.Isolation.{TwoWorlds};
+
+/// Two worlds: whatever the other namespaces do, a namespace with the same limits and the same steps is told the
+/// same, if no step of its own met want of memory.
+pub fn two_worlds()
+    ensures { TwoWorlds }
+{}

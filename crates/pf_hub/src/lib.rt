@@ -1,0 +1,9 @@
+//! Many namespaces over one pool, and the isolation theorem.
+#![tactic(auto)]
+
+pub mod hub;
+pub mod laws;
+#[cfg(test)]
+mod tests;
+
+pub use hub::{Hub, RunFault};

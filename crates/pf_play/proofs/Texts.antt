@@ -1,0 +1,74 @@
+-- Text that is pushed part by part.
+
+use Rattle.std.proofs.Common.{◌≡◌, ℕ, ◌+◌, ◌<◌, ◌≤◌, List, [], ◌∷◌, ◌++◌, length, take, drop, get_or, refl, ap, append_assoc, sym, ◌∙◌, arith}
+use Rattle.std.specs.Prelude.{nat_eq, true, false, ◌≢◌}
+use Rattle.std.proofs.Common.{eq-eqb}
+use Rattle.std.proofs.lemmas.Bool.{ne_eqb}
+use Rattle.std.proofs.lemmas.List.{take-append-drop, append-nil}
+use Rattle.std.proofs.Math.ListN.{drop_of_length-le}
+use Rattle.hex.specs.Hex.{encode_with, encode_lower, lower_digits}
+use Rattle.pf_base.specs.declared.step.Answer.{Answer}
+use Rattle.pf_base.specs.declared.step.Step.{Step}
+use Rattle.pf_base.specs.Limits.{Limits}
+use Rattle.pf_base.specs.Text.{line_text, lines_text, answers_of, section, sections}
+use Rattle.pf_play.specs.Played.{nomem_of, one_where_wanted}
+use Rattle.pf_play.proofs.Cutting.{next_of}
+
+encode_append : (t xs ys : List ℕ) → encode_with t (xs ++ ys) ≡ encode_with t xs ++ encode_with t ys
+unfolding encode_with
+encode_append t [] ys = refl
+encode_append t (x ∷ xs) ys = rw (encode_append t xs ys) refl
+
+-- the digits of a front were pushed
+pub digits_on : (text rest all : List ℕ) (n : ℕ) → text ++ encode_lower rest ≡ all → (text ++ encode_lower (take n rest)) ++ encode_lower (drop n rest) ≡ all
+digits_on text rest all n same =
+    append_assoc text (encode_lower (take n rest)) (encode_lower (drop n rest))
+    ∙ (ap (λ t. text ++ t) (sym (encode_append lower_digits (take n rest) (drop n rest)) ∙ ap encode_lower (take-append-drop n rest)) ∙ same)
+
+-- a line was pushed
+pub mine_on : (text all : List ℕ) (k i place : ℕ) (steps : List (ℕ × Step)) (answers : List Answer) (ds : ℕ × Step) (da : Answer) → i < length steps → i < length answers → ds ≡ get_or steps i ds → da ≡ get_or answers i da → ds.0 ≡ place →
+    text ++ lines_text k (answers_of (drop i steps) (drop i answers) place) ≡ all →
+    (text ++ line_text k da) ++ lines_text (k + 1) (answers_of (drop (i + 1) steps) (drop (i + 1) answers) place) ≡ all
+unfolding lines_text answers_of
+mine_on text all k i place steps answers ds da high high' step answer owner same =
+    let is : nat_eq ds.0 place ≡ true = eq-eqb ds.0 place owner in
+    let here = rw (next_of steps i ds high, next_of answers i da high', ← step, ← answer, is) at same in
+    append_assoc text (line_text k da) (lines_text (k + 1) (answers_of (drop (i + 1) steps) (drop (i + 1) answers) place)) ∙ here
+
+-- a step of another namespace
+pub other_on : (text all : List ℕ) (k i place : ℕ) (steps : List (ℕ × Step)) (answers : List Answer) (ds : ℕ × Step) (da : Answer) → i < length steps → i < length answers → ds ≡ get_or steps i ds → ds.0 ≢ place →
+    text ++ lines_text k (answers_of (drop i steps) (drop i answers) place) ≡ all →
+    text ++ lines_text k (answers_of (drop (i + 1) steps) (drop (i + 1) answers) place) ≡ all
+unfolding answers_of
+other_on text all k i place steps answers ds da high high' step other same =
+    let is : nat_eq ds.0 place ≡ false = ne_eqb ds.0 place other in
+    rw (next_of steps i ds high, next_of answers i da high', ← step, is) at same
+
+pub lines_end : (text all : List ℕ) (k i place : ℕ) (steps : List (ℕ × Step)) (answers : List Answer) → length steps ≤ i →
+    text ++ lines_text k (answers_of (drop i steps) (drop i answers) place) ≡ all → text ≡ all
+unfolding lines_text answers_of
+lines_end text all k i place steps answers past same =
+    let here = rw (drop_of_length-le steps past) at same in
+    sym (append-nil text) ∙ here
+
+-- a section was pushed
+pub section_on : (text all : List ℕ) (i : ℕ) (spaces : List (List ℕ × Limits)) (steps : List (ℕ × Step)) (answers : List Answer) (d : List ℕ × Limits) → i < length spaces → d ≡ get_or spaces i d →
+    text ++ sections i (drop i spaces) steps answers ≡ all →
+    (text ++ section d.0 (answers_of steps answers i)) ++ sections (i + 1) (drop (i + 1) spaces) steps answers ≡ all
+unfolding sections
+section_on text all i spaces steps answers d high space same =
+    let here = rw (next_of spaces i d high, ← space) at same in
+    append_assoc text (section d.0 (answers_of steps answers i)) (sections (i + 1) (drop (i + 1) spaces) steps answers) ∙ here
+
+pub sections_end : (text all : List ℕ) (i : ℕ) (spaces : List (List ℕ × Limits)) (steps : List (ℕ × Step)) (answers : List Answer) → length spaces ≤ i →
+    text ++ sections i (drop i spaces) steps answers ≡ all → text ≡ all
+unfolding sections
+sections_end text all i spaces steps answers past same =
+    let here = rw (drop_of_length-le spaces past) at same in
+    sym (append-nil text) ∙ here
+
+-- how many of the answers from a place on met want of memory
+pub count_on : (count i all : ℕ) (answers : List Answer) (d : Answer) → i < length answers → count + nomem_of (drop i answers) ≡ all → count + one_where_wanted (get_or answers i d) + nomem_of (drop (i + 1) answers) ≡ all
+count_on count i all answers d high same =
+    let here = rw (next_of answers i d high) at same in
+    omega (arith, here)

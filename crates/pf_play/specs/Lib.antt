@@ -1,0 +1,4 @@
+pub mod Faults
+pub mod Ports
+pub mod Played
+pub mod Replays

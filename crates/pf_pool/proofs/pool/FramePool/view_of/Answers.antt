@@ -1,0 +1,6 @@
+use Rattle.pf_frame.specs.CountedLaws.{counted_within}
+use Rattle.pf_pool.specs.OwnedLaws.{counted}
+use Rattle.pf_pool.proofs.pool.FramePool.view_of.Goals as goal
+
+pub view-requires-clause-exists : goal.view-requires-clause-exists
+view-requires-clause-exists c = counted_within _ _ (counted _ _ _ _ c.args.self.now.kept.owned c.requires.is_live)

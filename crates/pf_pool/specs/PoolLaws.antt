@@ -1,0 +1,42 @@
+-- Laws of a pool.
+
+use Rattle.std.proofs.Common.{◌≡◌, ◌≢◌, ℕ, slice_index, arith, ap}
+use Rattle.pf_frame.specs.Live.{Live, IsSound, Census, SameLive}
+use Rattle.pf_frame.specs.LiveLaws.{is_sound, is_census}
+use Rattle.pf_frame.specs.PagesLaws.{pages_whole}
+use Rattle.pf_pool.specs.declared.pool.FramePool.{FramePool}
+use Rattle.pf_pool.specs.Owned.{mine, PoolRest}
+use Rattle.pf_pool.specs.OwnedLaws.{length-mine, sees_same}
+use Rattle.pf_pool.specs.Pool.{pool_live, pool_rest, frames_of}
+
+pub pool_sound : (p : FramePool) (ns : ℕ) → IsSound (pool_live p ns)
+pool_sound p ns = is_sound _ (mine ns p.owners.items p.table.counts.items) _ (omega (arith, p.kept.each ns, p.kept.within ns)) (λ q less. pages_whole p.table.frames.items q (omega (arith, p.table.kept.paged, length-mine ns p.owners.items p.table.counts.items p.kept.owned)))
+
+pub pool_census : (p : FramePool) (ns : ℕ) → Census (pool_live p ns)
+pool_census p ns = is_census _ (mine ns p.owners.items p.table.counts.items) _
+
+-- another namespace sees what it saw
+pub same_view : (old new : FramePool) (ns m : ℕ) → pool_rest new ns ≡ pool_rest old ns → m ≢ ns → pool_live new m ≡ pool_live old m
+same_view old new ns m e ne = sees_same m ns _ _ _ _ _ _ _ _ ne (ap (λ (r : PoolRest). r.others m) e)
+
+pub same_live : (old new : FramePool) (ns m : ℕ) → pool_rest new ns ≡ pool_rest old ns → m ≢ ns → SameLive (pool_live old m) (pool_live new m)
+same_live old new ns m e ne =
+    let same : pool_live new m ≡ pool_live old m = same_view old new ns m e ne in
+    record {
+      reserved = ap (λ (f : Live). f.reserved) same;
+      held = ap (λ (f : Live). f.held) same;
+      shares = ap (λ (f : Live). f.shares) same;
+      counts = λ q. ap (λ (f : Live). f.count q) same;
+      bytes = λ q some. ap (λ (f : Live). f.bytes q) same;
+    }
+
+-- the reservations stay, and so does the number of frames
+pub same_reserves : (old new : FramePool) (ns : ℕ) → pool_rest new ns ≡ pool_rest old ns → new.reserves.items ≡ old.reserves.items
+same_reserves old new ns e = ap (λ (r : PoolRest). r.reserves) e
+
+pub same_frames : (old new : FramePool) (ns : ℕ) → pool_rest new ns ≡ pool_rest old ns → frames_of new ≡ frames_of old
+same_frames old new ns e = ap (λ (r : PoolRest). r.frames) e
+
+-- a namespace holds as many frames as its door says
+pub held_is : (p : FramePool) (ns : ℕ) → (pool_live p ns).held ≡ slice_index p.held.items ns
+held_is p ns = p.kept.each ns

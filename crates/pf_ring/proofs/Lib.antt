@@ -1,0 +1,4 @@
+pub mod Changes
+pub mod Loops
+pub mod Queues
+pub mod Segments

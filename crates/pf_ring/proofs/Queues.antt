@@ -1,0 +1,80 @@
+-- Laws of the queue's definitions.
+
+use Rattle.std.proofs.Common.{◌≡◌, ℕ, zero, suc, ◌+◌, ◌-◌, ◌<◌, ◌≤◌, min, Bool, List, [], ◌∷◌, ◌++◌, length, take, drop, if◌then◌else◌, refl, sym, ◌∙◌, ap, inl, inr, arith}
+use Rattle.std.proofs.lemmas.Bool.Decides.{leb_tells}
+use Rattle.std.proofs.lemmas.List.{append-nil, take_min, drop-drop, drop-append-le, drop_at, drop_all, length-drop}
+use Rattle.pf_base.specs.declared.TheConstants.{PAGE_SIZE}
+use Rattle.pf_base.specs.Queue.{Segment, joined, last_room, topped_up, pieces, without_front}
+
+-- two segments are the same by their parts
+pub same_segment : (s t : Segment) → s.bytes ≡ t.bytes → s.room ≡ t.room → s ≡ t
+same_segment s t b r = λ i. record { bytes = b i; room = r i }
+
+-- a queue's last room, and what topping up does to the last segment
+pub last_room_push : (ss : List Segment) (s : Segment) → last_room (ss ++ s ∷ []) ≡ s.room
+last_room_push [] s = refl
+last_room_push (a ∷ []) s = refl
+last_room_push (a ∷ b ∷ ss) s = last_room_push (b ∷ ss) s
+
+pub topped_push : (ss : List Segment) (s : Segment) (x : List ℕ) → topped_up (ss ++ s ∷ []) x ≡ ss ++ record { bytes = s.bytes ++ take s.room x; room = s.room - length x } ∷ []
+topped_push [] s x = refl
+topped_push (a ∷ []) s x = refl
+topped_push (a ∷ b ∷ ss) s x = ap (λ (t : List Segment). a ∷ t) (topped_push (b ∷ ss) s x)
+
+-- with no bytes, or with no room, nothing is topped up
+pub topped_none : (ss : List Segment) (x : List ℕ) → min (last_room ss) (length x) ≡ 0 → topped_up ss x ≡ ss
+topped_none [] x e = refl
+topped_none (s ∷ []) x e = ap (λ (t : Segment). t ∷ []) (same_segment _ s (ap (λ (b : List ℕ). s.bytes ++ b) (sym (take_min s.room x) ∙ ap (λ (n : ℕ). take n x) e) ∙ append-nil s.bytes) (omega arith))
+topped_none (s ∷ t ∷ ss) x e = ap (λ (l : List Segment). s ∷ l) (topped_none (t ∷ ss) x e)
+
+-- an emptied segment goes, a cut one stays
+pub without_all : (n : ℕ) (s : Segment) (ss : List Segment) → length s.bytes ≤ n → without_front n (s ∷ ss) ≡ without_front (n - length s.bytes) ss
+without_all n s ss h = elim (leb_tells (length s.bytes) n) [
+  | inl p ↦ ap (λ (b : Bool). if b then without_front (n - length s.bytes) ss else record { bytes = drop n s.bytes; room = s.room } ∷ ss) p.0
+  | inr p ↦ absurd (omega (arith, p.1))
+]
+
+pub without_part : (n : ℕ) (s : Segment) (ss : List Segment) → n < length s.bytes → without_front n (s ∷ ss) ≡ record { bytes = drop n s.bytes; room = s.room } ∷ ss
+without_part n s ss h = elim (leb_tells (length s.bytes) n) [
+  | inl p ↦ absurd (omega (arith, p.1))
+  | inr p ↦ ap (λ (b : Bool). if b then without_front (n - length s.bytes) ss else record { bytes = drop n s.bytes; room = s.room } ∷ ss) p.0
+]
+
+without_cut : (a b : ℕ) (s : Segment) (ss : List Segment) → a < length s.bytes → without_front b (record { bytes = drop a s.bytes; room = s.room } ∷ ss) ≡ without_front (a + b) (s ∷ ss)
+without_cut a b s ss l =
+    let c : Segment = record { bytes = drop a s.bytes; room = s.room } in
+    let size : length c.bytes ≡ length s.bytes - a = length-drop a s.bytes in
+    elim (leb_tells (length s.bytes) (a + b)) [
+      | inl p ↦ without_all b c ss (omega (arith, p.1, size)) ∙ (ap (λ (k : ℕ). without_front k ss) (omega (arith, size, p.1)) ∙ sym (without_all (a + b) s ss p.1))
+      | inr p ↦ without_part b c ss (omega (arith, p.1, size)) ∙ (ap (λ (x : List ℕ). let t : Segment = record { bytes = x; room = s.room } in t ∷ ss) (drop-drop b a s.bytes) ∙ sym (without_part (a + b) s ss p.1))
+    ]
+
+-- takes one after the other
+pub without_more : (a b : ℕ) (ss : List Segment) → without_front b (without_front a ss) ≡ without_front (a + b) ss
+without_more a b [] = refl
+without_more a b (s ∷ ss) = elim (leb_tells (length s.bytes) a) [
+  | inl p ↦ ap (without_front b) (without_all a s ss p.1) ∙ (without_more (a - length s.bytes) b ss ∙ (ap (λ (k : ℕ). without_front k ss) (omega (arith, p.1)) ∙ sym (without_all (a + b) s ss (omega (arith, p.1)))))
+  | inr p ↦ ap (without_front b) (without_part a s ss p.1) ∙ without_cut a b s ss p.1
+]
+
+-- the bytes that a take leaves
+pub joined_without : (n : ℕ) (ss : List Segment) → joined (without_front n ss) ≡ drop n (joined ss)
+joined_without n [] = sym (drop_all n [] (omega arith))
+joined_without n (s ∷ ss) = elim (leb_tells (length s.bytes) n) [
+  | inl p ↦ ap joined (without_all n s ss p.1) ∙ (joined_without (n - length s.bytes) ss
+      ∙ sym (ap (λ (k : ℕ). drop k (s.bytes ++ joined ss)) (omega (arith, p.1)) ∙ (sym (drop-drop (n - length s.bytes) (length s.bytes) (s.bytes ++ joined ss)) ∙ ap (drop (n - length s.bytes)) (drop_at s.bytes (joined ss) (length s.bytes) refl))))
+  | inr p ↦ ap joined (without_part n s ss p.1) ∙ sym (drop-append-le n s.bytes (joined ss) (omega (arith, p.1)))
+]
+
+-- pieces of some bytes, and of none
+pub pieces_step : (k : ℕ) (x : List ℕ) → 0 < k → 0 < length x → pieces k x ≡ record { bytes = take PAGE_SIZE x; room = PAGE_SIZE - length x } ∷ pieces (k - 1) (drop PAGE_SIZE x)
+pieces_step zero x h l = absurd (omega arith)
+pieces_step (suc k) [] h l = absurd (omega arith)
+pieces_step (suc k) (b ∷ x) h l =
+    let e : k ≡ suc k - 1 = omega arith in
+    ap (λ (n : ℕ). let s : Segment = record { bytes = take PAGE_SIZE (b ∷ x); room = PAGE_SIZE - length (b ∷ x) } in s ∷ pieces n (drop PAGE_SIZE (b ∷ x))) e
+
+pub pieces_none : (k : ℕ) (x : List ℕ) → length x ≡ 0 → pieces k x ≡ []
+pieces_none zero x h = refl
+pieces_none (suc k) [] h = refl
+pieces_none (suc k) (b ∷ x) h = absurd (omega arith)

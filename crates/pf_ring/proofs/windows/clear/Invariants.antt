@@ -1,0 +1,16 @@
+use Rattle.std.proofs.Common.{◌≡◌}
+use Rattle.std.specs.VecDeque.{deque_len, deque_capacity}
+use Rattle.pf_ring.specs.Windows.{Stands, Drops}
+use Rattle.pf_ring.proofs.windows.clear.Given as goal
+
+abbrev pub invariant-loop-windows : goal.invariant-loop-windows
+invariant-loop-windows g l = record {
+  fact : g.F.Frames.fact l.f;
+  rest : g.F.Frames.rest l.f ≡ g.F.Frames.rest l.fn.f;
+  space : deque_capacity l.windows ≡ deque_capacity l.fn.windows;
+  stands : Stands (g.F.Frames.live l.f) l.windows.items;
+  drops : Drops l.fn.windows.items l.windows.items (g.F.Frames.live l.fn.f) (g.F.Frames.live l.f);
+}
+
+abbrev pub decreases-loop-windows : goal.decreases-loop-windows
+decreases-loop-windows g l = deque_len l.windows

@@ -1,0 +1,4 @@
+pub mod Ring
+pub mod Table
+pub mod WindowLaws
+pub mod Windows

@@ -1,0 +1,24 @@
+-- What a ring means: a window shows bytes of a frame, and the windows of a ring show the segments of a queue.
+
+use Rattle.std.specs.Prelude.{ℕ, ◌+◌, ◌-◌, List, [], map, take, drop, if◌then◌else◌}
+use Rattle.pf_base.specs.declared.TheConstants.{PAGE_SIZE}
+use Rattle.pf_base.specs.Queue.{Segment, Queue}
+use Rattle.pf_frame.specs.Live.{Live}
+use Rattle.pf_ring.specs.declared.ring.Window.{Window}
+
+-- how many slots there are, and the slots in use, the oldest first
+pub record Ring : Type 0 where
+  pub capacity : ℕ
+  pub windows : List Window
+
+-- the segment that a window shows: its bytes, and the room behind them where it grows
+abbrev pub segment_of : Live → Window → Segment
+segment_of f w = record { bytes = take w.len (drop w.from (f.bytes w.frame)); room = if w.grows then PAGE_SIZE - (w.from + w.len) else 0 }
+
+-- the queue that a ring shows
+abbrev pub queue_of : Live → Ring → Queue
+queue_of f r = record { capacity = r.capacity; segments = map (segment_of f) r.windows }
+
+-- no slot at all
+abbrev pub no_ring : Ring
+no_ring = record { capacity = 0; windows = [] }

@@ -1,0 +1,9 @@
+//! A pipe's content: a ring of slots, each a window on a frame, which together are a queue of segments.
+#![tactic(auto)]
+
+pub mod ring;
+#[cfg(test)]
+mod tests;
+mod windows;
+
+pub use ring::{SlotRing, Window};

@@ -1,0 +1,162 @@
+ghost use Rattle.std.specs.Prelude.{◌≡◌, ℕ, ◌+◌, ◌-◌, ◌<◌, ◌≤◌, ◌^◌, [], ◌++◌, length, take, drop, IfOk};
+ghost use Rattle.pf_base.specs.Queue.{Queue, room_of, bytes_of, put, taken, after_take, empty};
+ghost use Rattle.pf_frame.specs.Live.{Live, IsSound};
+ghost use Rattle.pf_ring.specs.Ring.{segment_of, queue_of};
+ghost use Rattle.pf_base.specs.declared.TheConstants.{PAGE_SIZE};
+ghost use Rattle.pf_ring.specs.Windows.{Stands, Keeps, bytes_in};
+
+use crate::windows;
+use pf_base::PAGE_SIZE;
+use pf_frame::{FrameNo, Frames};
+use std::alloc::{AllocError, Global};
+use std::collections::VecDeque;
+use std::marker::Model;
+
+/// A slot: `len` bytes of a frame, from the place `from` on. One that grows ends where its frame is filled up to,
+/// and may be written behind its end.
+#[derive(Clone, Copy, Debug, PartialEq, Eq)]
+pub struct Window {
+    /// The frame that its bytes stand in.
+    pub frame: FrameNo,
+
+    /// Where they begin, in bytes from the frame's start.
+    pub from: u32,
+
+    /// How many they are: at least one.
+    pub len: u32,
+
+    /// Whether bytes may be written behind its end.
+    pub grows: bool,
+}
+
+impl Window {
+    /// How many bytes may be written behind its end: what is left of the page, if it grows.
+    pub fn room(&self) -> usize
+        ensures room { (f : Live) → result ≡ (segment_of f self.now).room }
+        ensures most { result ≤ PAGE_SIZE }
+    {
+        if self.grows {
+            PAGE_SIZE.saturating_sub(self.from as usize + self.len as usize)
+        } else {
+            0
+        }
+    }
+}
+
+/// A ring of slots. It holds no bytes: they stand in the frames of the door that each call is handed.
+#[derive(Drop)]
+pub struct SlotRing {
+    slots: usize,
+    bytes: usize,
+    windows: VecDeque<Window>,
+}
+
+impl Model for SlotRing {
+    ghost use Rattle.std.specs.Prelude.{◌≡◌, ◌<◌, ◌≤◌, ◌^◌};
+    ghost use Rattle.std.specs.VecDeque.{deque_len, deque_capacity};
+    ghost use Rattle.pf_ring.specs.Ring.{Ring};
+    ghost use Rattle.pf_ring.specs.Windows.{bytes_in};
+
+    ghost Value = { Ring };
+
+    ghost view = { λ r. record { capacity = r.slots; windows = r.windows.items } };
+
+    ghost invariant = { λ r. (deque_len r.windows ≤ r.slots) × (r.slots ≤ deque_capacity r.windows) × (r.slots < 2 ^ 32) × (r.bytes ≡ bytes_in r.windows.items) };
+}
+
+impl SlotRing {
+    /// A ring of so many free slots. No later call takes memory.
+    pub fn new(alloc: Global, slots: usize) -> Result<Self, AllocError>
+        requires { slots < 2 ^ 32 }
+        ensures { IfOk result (λ r. r ≡ record { capacity = slots; windows = [] }) }
+    {
+        let windows = VecDeque::with_capacity(alloc, slots)?;
+        Ok(SlotRing {
+            slots,
+            bytes: 0,
+            windows,
+        })
+    }
+
+    /// How many slots there are.
+    pub fn slots(&self) -> usize
+        ensures number { result ≡ self.now.capacity }
+        ensures most { result < 2 ^ 32 }
+    {
+        self.slots
+    }
+
+    /// How many slots are in use.
+    pub fn used(&self) -> usize
+        ensures number { result ≡ length self.now.windows }
+        ensures most { result ≤ self.now.capacity }
+    {
+        self.windows.len()
+    }
+
+    /// How many bytes there are to read.
+    pub fn len(&self) -> usize
+        ensures number { result ≡ bytes_in self.now.windows }
+        ensures bytes { (f : Live) → IsSound f → Stands f self.now.windows → result ≡ length (bytes_of (queue_of f self.now)) }
+    {
+        self.bytes
+    }
+
+    /// How many bytes may be appended: those that the last slot still takes, and a page for each free slot.
+    pub fn room(&self) -> usize
+        ensures { (f : Live) → result ≡ room_of (queue_of f self.now) }
+    {
+        windows::last_window_room(&self.windows) + PAGE_SIZE * (self.slots - self.windows.len())
+    }
+
+    /// Puts bytes at the end: first behind the last slot, where it grows, and then in new slots, each on a frame that is
+    /// taken for it (pipe(7)). A frame that was live is written to behind the end of this ring's last slot alone.
+    pub fn append<F: Frames>(&mut self, f: &mut F, bytes: &[u8])
+        requires fact { F.fact f.old }
+        requires stands { Stands (F.live f.old) self.old.windows }
+        requires room { length bytes.now ≤ room_of (queue_of (F.live f.old) self.old) }
+        requires credits { (F.live f.old).held + (self.old.capacity - length self.old.windows) ≤ (F.live f.old).reserved }
+        ensures fact { F.fact f.new }
+        ensures rest { F.rest f.new ≡ F.rest f.old }
+        ensures capacity { self.new.capacity ≡ self.old.capacity }
+        ensures fits { length self.new.windows ≤ self.new.capacity }
+        ensures queue { queue_of (F.live f.new) self.new ≡ put (queue_of (F.live f.old) self.old) bytes.now }
+        ensures takes { (F.live f.new).held + length self.old.windows ≡ (F.live f.old).held + length self.new.windows }
+        ensures keeps { Keeps [] self.old.windows self.new.windows (F.live f.old) (F.live f.new) }
+    {
+        windows::append(&mut self.windows, self.slots, f, bytes);
+        self.bytes += bytes.len();
+    }
+
+    /// Moves bytes from the front into the buffer, as many as there are and as it has room for, and answers how many.
+    /// The frame of a slot that is emptied is released.
+    pub fn take_into<F: Frames>(&mut self, f: &mut F, buffer: &mut [u8]) -> usize
+        requires fact { F.fact f.old }
+        requires stands { Stands (F.live f.old) self.old.windows }
+        ensures fact { F.fact f.new }
+        ensures rest { F.rest f.new ≡ F.rest f.old }
+        ensures capacity { self.new.capacity ≡ self.old.capacity }
+        ensures fits { length self.new.windows ≤ self.new.capacity }
+        ensures number { result ≡ length (taken (queue_of (F.live f.old) self.old) (length buffer.old)) }
+        ensures bytes { buffer.new ≡ taken (queue_of (F.live f.old) self.old) (length buffer.old) ++ drop result buffer.old }
+        ensures queue { queue_of (F.live f.new) self.new ≡ after_take (queue_of (F.live f.old) self.old) (length buffer.old) }
+        ensures keeps { Keeps [] self.old.windows self.new.windows (F.live f.old) (F.live f.new) }
+    {
+        let number = windows::take_into(&mut self.windows, f, buffer);
+        self.bytes -= number;
+        number
+    }
+
+    /// Empties all slots, and releases the frame of each.
+    pub fn clear<F: Frames>(&mut self, f: &mut F)
+        requires fact { F.fact f.old }
+        requires stands { Stands (F.live f.old) self.old.windows }
+        ensures fact { F.fact f.new }
+        ensures rest { F.rest f.new ≡ F.rest f.old }
+        ensures ring { self.new ≡ record { capacity = self.old.capacity; windows = [] } }
+        ensures keeps { Keeps [] self.old.windows [] (F.live f.old) (F.live f.new) }
+    {
+        windows::clear(&mut self.windows, f);
+        self.bytes = 0;
+    }
+}

@@ -1,0 +1,13 @@
+pub mod Shown
+pub mod Shrinking
+pub mod Exiting
+pub mod Closing
+pub mod Vacant
+pub mod Opening
+pub mod Dropping
+pub mod Shapes
+pub mod Steps
+pub mod Moving
+pub mod Departures
+pub mod Running
+pub mod Piping

@@ -1,0 +1,5 @@
+use Rattle.pf_space.proofs.Shown.{settled}
+use Rattle.pf_space.proofs.tables.Tables.settled.Goals as goal
+
+pub returns : goal.returns
+returns c = rw (← c.self.view_is) (settled _ _ _ c.self.invariant)

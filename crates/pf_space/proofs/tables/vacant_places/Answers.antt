@@ -1,0 +1,7 @@
+use Rattle.std.proofs.Common.{◌≡◌, replicate, None, ap, ◌∙◌, arith}
+use Rattle.pf_base.specs.State.{vacant}
+use Rattle.pf_space.proofs.tables.vacant_places.Goals as goal
+
+pub returns : goal.returns
+unfolding vacant
+returns g c = let e : c.loop-n.n ≡ 256 = omega arith in c.loop-n.invariant.0 ∙ ap (λ m. replicate m None) e

@@ -1,0 +1,160 @@
+-- How the meaning of a state goes through looking up, changing and sweeping.
+
+use Rattle.std.proofs.Common.{◌≡◌, ◌≢◌, ℕ, ◌≤◌, zero, suc, ◌+◌, ◌<◌, Bool, true, false, List, [], ◌∷◌, ◌++◌, length, map, refl, ap, sym, ◌∙◌, arith, get_or, set, cond}
+use Rattle.std.specs.Prelude.{Option, Some, None, nat_lt, nat_eq, slice_index_or, slice_set}
+use Rattle.std.proofs.lemmas.List.{get_or-set_other, get_or-set_same}
+use Rattle.std.proofs.Common.{length-set, subst}
+use Rattle.std.specs.Option.{option_map, option_and_then}
+use Rattle.pf_base.specs.Queue.{Queue}
+use Rattle.pf_base.specs.Numbered.{at, put_at, change_at, keep, keep_from, sum_of, weight}
+use Rattle.pf_base.specs.State.{State, Process, Description, Pipe, End, process, end_of, with_process, without_process, with_queue, holding, total, names, ends}
+use Rattle.pf_base.specs.Sweep.{sweep, live_descriptions, live_pipes}
+use Rattle.pf_base.specs.Pipes.{opened}
+use Rattle.pf_frame.specs.Live.{Live}
+use Rattle.pf_ring.specs.Ring.{Ring, queue_of, no_ring}
+use Rattle.pf_space.specs.Meaning.{meaning, pipe_meaning, end_meaning, ring_or, rings_of}
+
+module _ {X Y : Type 0} (f : X → Y) where
+  pub at-map : (xs : List (Option X)) (k : ℕ) → at (map (option_map f) xs) k ≡ option_map f (at xs k)
+  at-map [] k = refl
+  at-map (x ∷ xs) zero = refl
+  at-map (x ∷ xs) (suc k) = at-map xs k
+
+  pub keep_from-map : (test : ℕ → Bool) (n : ℕ) (xs : List (Option X)) → keep_from test n (map (option_map f) xs) ≡ map (option_map f) (keep_from test n xs)
+  keep_from-map test n [] = refl
+  keep_from-map test n (x ∷ xs) = λ i. kept (test n) i ∷ keep_from-map test (suc n) xs i
+    where
+      kept : (b : Bool) → cond b (option_map f x) None ≡ option_map f (cond b x None)
+      kept true = refl
+      kept false = refl
+
+  pub set-map : (xs : List (Option X)) (k : ℕ) (x : Option X) → set (map (option_map f) xs) k (option_map f x) ≡ map (option_map f) (set xs k x)
+  set-map [] k x = refl
+  set-map (y ∷ xs) zero x = refl
+  set-map (y ∷ xs) (suc k) x = λ i. option_map f y ∷ set-map xs k x i
+
+  pub map-push : (xs : List (Option X)) (y : Option X) → map (option_map f) (xs ++ y ∷ []) ≡ map (option_map f) xs ++ option_map f y ∷ []
+  map-push [] y = refl
+  map-push (x ∷ xs) y = λ i. option_map f x ∷ map-push xs y i
+
+  pub length-map' : (xs : List (Option X)) → length (map (option_map f) xs) ≡ length xs
+  length-map' [] = refl
+  length-map' (x ∷ xs) = ap suc (length-map' xs)
+
+pub sum_of-map : {X Y : Type 0} (f : X → Y) (h : Y → ℕ) (xs : List (Option X)) → sum_of h (map (option_map f) xs) ≡ sum_of (λ x. h (f x)) xs
+sum_of-map f h [] = refl
+sum_of-map f h (None ∷ xs) = ap (λ n. 0 + n) (sum_of-map f h xs)
+sum_of-map f h (Some x ∷ xs) = ap (λ n. h (f x) + n) (sum_of-map f h xs)
+
+module _ (f : Live) where
+  pub process-meaning : (s : State Ring) (pid : ℕ) → process (meaning f s) pid ≡ process s pid
+  process-meaning s zero = refl
+  process-meaning s (suc i) = refl
+
+  pub total-meaning : (s : State Ring) → total (meaning f s).pipes ≡ sum_of (λ p. p.queue.capacity) s.pipes
+  total-meaning s = sum_of-map (pipe_meaning f) (λ p. p.queue.capacity) s.pipes
+
+  pub end_of-meaning : (s : State Ring) (p : Process) (fd : ℕ) → end_of (meaning f s) p fd ≡ option_map (end_meaning f) (end_of s p fd)
+  end_of-meaning s p fd =
+      elim (at p.descriptors fd) as (λ o. option_and_then (λ n. option_and_then (λ d. option_map (λ (pipe : Pipe Queue). record { description = d; pipe = pipe }) (at (meaning f s).pipes d.pipe)) (at s.descriptions n)) o
+      ≡ option_map (end_meaning f) (option_and_then (λ n. option_and_then (λ d. option_map (λ (pipe : Pipe Ring). record { description = d; pipe = pipe }) (at s.pipes d.pipe)) (at s.descriptions n)) o)) [
+        | None ↦ refl
+        | Some n ↦ elim (at s.descriptions n) as (λ o. option_and_then (λ d. option_map (λ (pipe : Pipe Queue). record { description = d; pipe = pipe }) (at (meaning f s).pipes d.pipe)) o
+            ≡ option_map (end_meaning f) (option_and_then (λ d. option_map (λ (pipe : Pipe Ring). record { description = d; pipe = pipe }) (at s.pipes d.pipe)) o)) [
+              | None ↦ refl
+              | Some d ↦ ap (option_map (λ (pipe : Pipe Queue). record { description = d; pipe = pipe })) (at-map (pipe_meaning f) s.pipes d.pipe) ∙ pipes d (at s.pipes d.pipe)
+            ]
+      ]
+    where
+      pipes : (d : Description) (o : Option (Pipe Ring)) → option_map (λ (pipe : Pipe Queue). record { description = d; pipe = pipe }) (option_map (pipe_meaning f) o)
+          ≡ option_map (end_meaning f) (option_map (λ (pipe : Pipe Ring). record { description = d; pipe = pipe }) o)
+      pipes d None = refl
+      pipes d (Some p) = refl
+
+  pub sweep-meaning : (s : State Ring) → sweep (meaning f s) ≡ meaning f (sweep s)
+  sweep-meaning s = λ i. record {
+    processes = s.processes;
+    descriptions = live_descriptions s.processes s.descriptions;
+    pipes = keep_from-map (pipe_meaning f) (λ p. nat_lt 0 (ends (live_descriptions s.processes s.descriptions) p)) 0 s.pipes i;
+  }
+
+  pub settled-meaning : (s : State Ring) → s ≡ sweep s → meaning f s ≡ sweep (meaning f s)
+  settled-meaning s e = ap (meaning f) e ∙ sym (sweep-meaning s)
+
+-- lists by number
+
+module _ {X : Type 0} where
+  pub same_at : (xs ys : List (Option X)) → length xs ≡ length ys → ((k : ℕ) → at xs k ≡ at ys k) → xs ≡ ys
+  same_at [] [] l h = refl
+  same_at [] (y ∷ ys) l h = absurd (omega arith)
+  same_at (x ∷ xs) [] l h = absurd (omega arith)
+  same_at (x ∷ xs) (y ∷ ys) l h = λ i. h 0 i ∷ same_at xs ys (omega arith) (λ k. h (suc k)) i
+
+  pub set_past : (xs : List (Option X)) (k : ℕ) (x : Option X) → length xs ≤ k → set xs k x ≡ xs
+  set_past [] k x h = refl
+  set_past (y ∷ xs) zero x h = absurd (omega arith)
+  set_past (y ∷ xs) (suc k) x h = λ i. y ∷ set_past xs k x (omega arith) i
+
+-- rings by number
+
+pub ring_at-rings : (pipes : List (Option (Pipe Ring))) (k : ℕ) → slice_index_or (map ring_or pipes) k no_ring ≡ ring_or (at pipes k)
+ring_at-rings [] k = refl
+ring_at-rings (p ∷ ps) zero = refl
+ring_at-rings (p ∷ ps) (suc k) = ring_at-rings ps k
+
+pub rings-set : (pipes : List (Option (Pipe Ring))) (k : ℕ) (p : Option (Pipe Ring)) → map ring_or (slice_set pipes k p) ≡ slice_set (map ring_or pipes) k (ring_or p)
+rings-set [] k p = refl
+rings-set (q ∷ ps) zero p = refl
+rings-set (q ∷ ps) (suc k) p = λ i. ring_or q ∷ rings-set ps k p i
+
+pub rings-push : (pipes : List (Option (Pipe Ring))) (p : Option (Pipe Ring)) → map ring_or (pipes ++ p ∷ []) ≡ map ring_or pipes ++ ring_or p ∷ []
+rings-push [] p = refl
+rings-push (q ∷ ps) p = λ i. ring_or q ∷ rings-push ps p i
+
+-- a ring changes, and no other ring's queue does
+
+module _ (f g : Live) where
+  -- what stands at the other numbers means the same
+  pub record Others (pipes : List (Option (Pipe Ring))) (n : ℕ) : Type 0 where
+    pub stay : (k : ℕ) → k ≢ n → option_map (pipe_meaning g) (at pipes k) ≡ option_map (pipe_meaning f) (at pipes k)
+
+  pub pipe_stays : (pipes : List (Option (Pipe Ring))) (k : ℕ) → queue_of g (ring_or (at pipes k)) ≡ queue_of f (ring_or (at pipes k))
+      → option_map (pipe_meaning g) (at pipes k) ≡ option_map (pipe_meaning f) (at pipes k)
+  pipe_stays pipes k = stays (at pipes k)
+    where
+      stays : (o : Option (Pipe Ring)) → queue_of g (ring_or o) ≡ queue_of f (ring_or o) → option_map (pipe_meaning g) o ≡ option_map (pipe_meaning f) o
+      stays None e = refl
+      stays (Some p) e = λ i. Some (record { queue = e i; owner = p.owner })
+
+  pub others_stay : (pipes : List (Option (Pipe Ring))) (n : ℕ)
+      → ((k : ℕ) → k ≢ n → queue_of g (slice_index_or (map ring_or pipes) k no_ring) ≡ queue_of f (slice_index_or (map ring_or pipes) k no_ring)) → Others pipes n
+  others_stay pipes n h = record { stay = λ k ne. pipe_stays pipes k (subst (λ (r : Ring). queue_of g r ≡ queue_of f r) (ring_at-rings pipes k) (h k ne)) }
+
+  -- the numbers that change nothing mean the same
+  pub all_stay : (pipes : List (Option (Pipe Ring))) → ((k : ℕ) → option_map (pipe_meaning g) (at pipes k) ≡ option_map (pipe_meaning f) (at pipes k))
+      → map (option_map (pipe_meaning g)) pipes ≡ map (option_map (pipe_meaning f)) pipes
+  all_stay [] h = refl
+  all_stay (p ∷ ps) h = λ i. h 0 i ∷ all_stay ps (λ k. h (suc k)) i
+
+  -- a pipe's ring changes
+  pub pipes-with_queue : (pipes : List (Option (Pipe Ring))) (n : ℕ) (r : Ring) → Others pipes n
+      → map (option_map (pipe_meaning g)) (change_at (holding r) pipes n) ≡ change_at (holding (queue_of g r)) (map (option_map (pipe_meaning f)) pipes) n
+  pipes-with_queue [] n r o = refl
+  pipes-with_queue (p ∷ ps) zero r o = λ i. here p i ∷ all_stay ps (λ k. o.stay (suc k) (λ (e : suc k ≡ 0). omega arith)) i
+    where
+      here : (p : Option (Pipe Ring)) → option_map (pipe_meaning g) (option_map (holding r) p) ≡ option_map (holding (queue_of g r)) (option_map (pipe_meaning f) p)
+      here None = refl
+      here (Some p) = refl
+  pipes-with_queue (p ∷ ps) (suc n) r o =
+      λ i. o.stay 0 (λ (e : 0 ≡ suc n). omega arith) i ∷ pipes-with_queue ps n r (record { stay = λ k ne. o.stay (suc k) (λ (e : suc k ≡ suc n). ne (omega arith)) }) i
+
+  pub meaning-with_queue : (s : State Ring) (n : ℕ) (r : Ring) → Others s.pipes n → meaning g (with_queue s n r) ≡ with_queue (meaning f s) n (queue_of g r)
+  meaning-with_queue s n r o = λ i. record { processes = s.processes; descriptions = s.descriptions; pipes = pipes-with_queue s.pipes n r o i }
+
+  -- a pipe goes
+  pub pipes-without : (pipes : List (Option (Pipe Ring))) (n : ℕ) → Others pipes n
+      → map (option_map (pipe_meaning g)) (slice_set pipes n None) ≡ slice_set (map (option_map (pipe_meaning f)) pipes) n None
+  pipes-without [] n o = refl
+  pipes-without (p ∷ ps) zero o = λ i. None ∷ all_stay ps (λ k. o.stay (suc k) (λ (e : suc k ≡ 0). omega arith)) i
+  pipes-without (p ∷ ps) (suc n) o =
+      λ i. o.stay 0 (λ (e : 0 ≡ suc n). omega arith) i ∷ pipes-without ps n (record { stay = λ k ne. o.stay (suc k) (λ (e : suc k ≡ suc n). ne (omega arith)) }) i

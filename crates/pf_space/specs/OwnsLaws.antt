@@ -1,0 +1,131 @@
+-- How a namespace's frames and its rings stay together when a ring changes, a pipe comes and a pipe goes.
+
+use Rattle.std.proofs.Common.{◌≡◌, ◌≢◌, ℕ, zero, suc, ◌+◌, ◌<◌, ◌≤◌, Bool, List, [], ◌∷◌, ◌++◌, length, map, refl, ap, sym, ◌∙◌, subst, arith, get_or, set, ◌-◌, length-set}
+use Rattle.std.specs.Prelude.{Option, Some, None, slice_index_or, slice_set}
+use Rattle.std.specs.List.{sum_by}
+use Rattle.std.proofs.lemmas.List.{set-set, get_or-set_same, length-map}
+use Rattle.std.specs.Option.{option_map}
+use Rattle.std.proofs.lemmas.List.Sums.{sum_by-cons}
+use Rattle.pf_base.specs.Limits.{Limits}
+use Rattle.pf_base.specs.Queue.{Queue, empty, bytes_of}
+use Rattle.pf_base.specs.Numbered.{at, put_at, clear_at, change_at, sum_of, weight}
+use Rattle.pf_base.specs.NumberedLaws.{at_within, sum_of-set}
+use Rattle.pf_base.specs.State.{State, Process, Pipe, opening, with_queue, holding}
+use Rattle.pf_base.specs.Pipes.{opened, reading, writing, with_two}
+use Rattle.pf_frame.specs.Live.{Live, IsSound}
+use Rattle.pf_ring.specs.Ring.{Ring, queue_of, no_ring}
+use Rattle.pf_ring.specs.Windows.{Keeps, Stands}
+use Rattle.pf_ring.specs.Table.{Joined, SameLive, ring_at, slots_of, joined_after, queue_stays, no_source, joined_pushed, joined_cleared, joined_nothing, joined_same, queue_same, ring_stands, credits_for, slots_used, held_le_used, none_held_bytes}
+use Rattle.pf_space.specs.Meaning.{Namespace, meaning, pipe_meaning, ring_or, rings_of, pages, occupied, AreEmpty}
+use Rattle.pf_space.specs.MeaningLaws.{Others, others_stay, all_stay, pipe_stays, ring_at-rings, rings-set, rings-push, map-push, length-map'}
+use Rattle.pf_space.specs.Owns.{Owns}
+
+-- the ring of a pipe that is there
+pub ring_at-pipe : (pipes : List (Option (Pipe Ring))) (n : ℕ) (p : Pipe Ring) → at pipes n ≡ Some p → ring_at (map ring_or pipes) n ≡ p.queue
+ring_at-pipe pipes n p there = ring_at-rings pipes n ∙ ap ring_or there
+
+-- the slots of all rings are the pages that all pipes are charged with
+pub slots-rings : (pipes : List (Option (Pipe Ring))) → sum_by slots_of (map ring_or pipes) ≡ sum_of (λ p. p.queue.capacity) pipes
+slots-rings [] = refl
+slots-rings (None ∷ ps) = sum_by-cons slots_of no_ring (map ring_or ps) ∙ ap (λ n. 0 + n) (slots-rings ps)
+slots-rings (Some p ∷ ps) = sum_by-cons slots_of p.queue (map ring_or ps) ∙ ap (λ n. p.queue.capacity + n) (slots-rings ps)
+
+-- at the opening state nothing is live
+pub owns_opening : (f : Live) (limits : Limits) → ((q : ℕ) → f.count q ≡ 0) → f.shares ≡ 0 → limits.reserve ≡ f.reserved → Owns f (record { limits = limits; state = opening })
+owns_opening f limits counts shares reserve = record { joined = joined_nothing f counts shares; reserve = reserve }
+
+-- another namespace's door was used in between
+
+pub owns_same : (f g : Live) (n : Namespace) → Owns f n → SameLive f g → Owns g n
+owns_same f g n o s = record { joined = joined_same f g (rings_of n.state) o.joined s; reserve = o.reserve ∙ sym s.reserved }
+
+pub meaning_same : (f g : Live) (n : Namespace) → Owns f n → SameLive f g → meaning g n.state ≡ meaning f n.state
+meaning_same f g n o s = λ i. record {
+  processes = n.state.processes;
+  descriptions = n.state.descriptions;
+  pipes = all_stay f g n.state.pipes (λ k. pipe_stays f g n.state.pipes k (subst (λ (r : Ring). queue_of g r ≡ queue_of f r) (ring_at-rings n.state.pipes k) (queue_same f g (rings_of n.state) k o.joined s))) i;
+}
+
+-- the ring of a pipe has changed
+
+module _ (f g : Live) (s : State Ring) (n : ℕ) (p : Pipe Ring) (r : Ring) (joined : Joined f (rings_of s)) (there : at s.pipes n ≡ Some p) (keeps : Keeps [] p.queue.windows r.windows f g) where
+  keeps_at : Keeps [] (ring_at (rings_of s) n).windows r.windows f g
+  keeps_at = subst (λ (x : Ring). Keeps [] x.windows r.windows f g) (sym (ring_at-pipe s.pipes n p there)) keeps
+
+  within : n < length (rings_of s)
+  within = subst (λ k. n < k) (sym (length-map s.pipes ring_or)) (at_within s.pipes n p there)
+
+  pub others_written : Others f g s.pipes n
+  others_written = others_stay f g s.pipes n (λ k ne. queue_stays f g (rings_of s) n k r [] joined keeps_at ne)
+
+  pub joined_written : r.capacity ≡ p.queue.capacity → length r.windows ≤ r.capacity → Joined g (rings_of (with_queue s n r))
+  joined_written same fits =
+      subst (Joined g) (sym (rings-set s.pipes n (option_map (holding r) (at s.pipes n)) ∙ ap (λ (o : Option (Pipe Ring)). set (rings_of s) n (ring_or (option_map (holding r) o))) there))
+      (joined_after f g (rings_of s) n r [] within joined (no_source (rings_of s)) keeps_at (same ∙ ap slots_of (sym (ring_at-pipe s.pipes n p there))) fits)
+
+  -- it is cleared, and its pipe is gone
+  pub joined_gone : r ≡ record { capacity = p.queue.capacity; windows = [] } → Joined g (map ring_or (clear_at s.pipes n))
+  joined_gone cleared =
+      let after : Joined g (set (rings_of s) n r) = joined_after f g (rings_of s) n r [] within joined (no_source (rings_of s)) keeps_at (ap slots_of (cleared ∙ (λ i. record { capacity = (sym (ring_at-pipe s.pipes n p there) i).capacity; windows = [] }))) (subst (λ (x : Ring). length x.windows ≤ x.capacity) (sym cleared) (omega arith)) in
+      let bare : (ring_at (set (rings_of s) n r) n).windows ≡ [] = ap (λ (x : Ring). x.windows) (get_or-set_same (rings_of s) n r no_ring within ∙ cleared) in
+      subst (Joined g) (set-set (rings_of s) n r no_ring ∙ sym (rings-set s.pipes n None)) (joined_cleared g (set (rings_of s) n r) n after bare)
+
+-- one more pipe, with nothing in it
+
+pub joined_opened : (f : Live) (s : State Ring) (pid : ℕ) (nonblock : Bool) (slots : ℕ) (p : Process) → Joined f (rings_of s) → sum_of (λ (q : Pipe Ring). q.queue.capacity) s.pipes + slots ≤ f.reserved
+    → Joined f (rings_of (opened s pid nonblock (record { capacity = slots; windows = [] }) p))
+joined_opened f s pid nonblock slots p joined fits =
+    subst (Joined f) (sym (rings-push s.pipes (Some (record { queue = record { capacity = slots; windows = [] }; owner = p.cred.uid }))))
+    (joined_pushed f (rings_of s) slots joined (subst (λ k. k + slots ≤ f.reserved) (sym (slots-rings s.pipes)) fits))
+
+pub meaning-opened : (f : Live) (s : State Ring) (pid : ℕ) (nonblock : Bool) (slots : ℕ) (p : Process)
+    → meaning f (opened s pid nonblock (record { capacity = slots; windows = [] }) p) ≡ opened (meaning f s) pid nonblock (empty slots) p
+meaning-opened f s pid nonblock slots p = λ i. record {
+  processes = put_at s.processes (pid - 1) (with_two (length s.descriptions) p);
+  descriptions = s.descriptions ++ Some (reading (sym (length-map' (pipe_meaning f) s.pipes) i) nonblock) ∷ Some (writing (sym (length-map' (pipe_meaning f) s.pipes) i) nonblock) ∷ [];
+  pipes = map-push (pipe_meaning f) s.pipes (Some (record { queue = record { capacity = slots; windows = [] }; owner = p.cred.uid })) i;
+}
+
+-- the ring of a pipe that is there stands in the frames, and each of its free slots has a credit
+
+pub stands_at : (f : Live) (s : State Ring) (n : ℕ) (p : Pipe Ring) → Joined f (rings_of s) → at s.pipes n ≡ Some p → Stands f p.queue.windows
+stands_at f s n p joined there = subst (λ (r : Ring). Stands f r.windows) (ring_at-pipe s.pipes n p there) (ring_stands f (rings_of s) n joined)
+
+pub credits_at : (f : Live) (s : State Ring) (n : ℕ) (p : Pipe Ring) → IsSound f → Joined f (rings_of s) → at s.pipes n ≡ Some p → f.held + (p.queue.capacity - length p.queue.windows) ≤ f.reserved
+credits_at f s n p sound joined there = subst (λ (r : Ring). f.held + (r.capacity - length r.windows) ≤ f.reserved) (ring_at-pipe s.pipes n p there) (credits_for f (rings_of s) n sound joined)
+
+-- the pages stay where a ring keeps its capacity
+pub pages-with_queue : (s : State Ring) (n : ℕ) (p : Pipe Ring) (r : Ring) → at s.pipes n ≡ Some p → r.capacity ≡ p.queue.capacity → pages (with_queue s n r) ≡ pages s
+pages-with_queue s n p r there same =
+    let h : Pipe Ring → ℕ = λ (q : Pipe Ring). q.queue.capacity in
+    let after : sum_of h (slice_set s.pipes n (option_map (holding r) (at s.pipes n))) + weight h (at s.pipes n) ≡ sum_of h s.pipes + weight h (option_map (holding r) (at s.pipes n)) = sum_of-set h s.pipes n (option_map (holding r) (at s.pipes n)) (at_within s.pipes n p there) in
+    let was : weight h (at s.pipes n) ≡ p.queue.capacity = ap (weight h) there in
+    let is : weight h (option_map (holding r) (at s.pipes n)) ≡ r.capacity = ap (λ (o : Option (Pipe Ring)). weight h (option_map (holding r) o)) there in
+    omega arith
+
+-- and a pipe that goes takes its own with it
+pub pages-without : (pipes : List (Option (Pipe Ring))) (n : ℕ) (p : Pipe Ring) → at pipes n ≡ Some p → sum_of (λ (q : Pipe Ring). q.queue.capacity) (clear_at pipes n) + p.queue.capacity ≡ sum_of (λ (q : Pipe Ring). q.queue.capacity) pipes
+pages-without pipes n p there =
+    let h : Pipe Ring → ℕ = λ (q : Pipe Ring). q.queue.capacity in
+    let after : sum_of h (slice_set pipes n None) + weight h (at pipes n) ≡ sum_of h pipes + weight h None = sum_of-set h pipes n None (at_within pipes n p there) in
+    let was : weight h (at pipes n) ≡ p.queue.capacity = ap (weight h) there in
+    let none : weight h None ≡ 0 = refl in
+    omega arith
+
+-- all pages are within the reservation
+pub pages_within : (f : Live) (n : Namespace) → Owns f n → pages n.state ≤ n.limits.reserve
+pages_within f n o =
+    let slots : sum_by slots_of (rings_of n.state) ≡ pages n.state = slots-rings n.state.pipes in
+    omega (arith, slots, o.joined.reserve, o.reserve)
+
+-- the slots in use are those of all rings
+pub used-rings : (pipes : List (Option (Pipe Ring))) → sum_by slots_used (map ring_or pipes) ≡ sum_of (λ p. length p.queue.windows) pipes
+used-rings [] = refl
+used-rings (None ∷ ps) = sum_by-cons slots_used no_ring (map ring_or ps) ∙ ap (λ n. 0 + n) (used-rings ps)
+used-rings (Some p ∷ ps) = sum_by-cons slots_used p.queue (map ring_or ps) ∙ ap (λ n. length p.queue.windows + n) (used-rings ps)
+
+pub held_occupied : (f : Live) (n : Namespace) → IsSound f → Owns f n → f.held ≤ occupied n.state
+held_occupied f n sound o = subst (λ (k : ℕ). f.held ≤ k) (used-rings n.state.pipes) (held_le_used f (rings_of n.state) sound o.joined)
+
+pub none_empty : (f : Live) (n : Namespace) → IsSound f → Owns f n → f.held ≡ 0 → AreEmpty f n.state
+none_empty f n sound o none k p there = subst (λ (r : Ring). bytes_of (queue_of f r) ≡ []) (ring_at-pipe n.state.pipes k p there) (none_held_bytes f (rings_of n.state) sound o.joined none k)
