@@ -2,3 +2,5 @@ mod WorkedQueues
 mod WorkedPages
 mod WorkedScript
 pub mod ScriptLemmas
+mod ScriptExamples
+mod TextExamples

@@ -1,21 +1,20 @@
 -- A hub at its opening, and what its pool says of it.
 
-use Rattle.std.proofs.Common.{◌≡◌, ℕ, zero, suc, ◌+◌, ◌-◌, ◌<◌, ◌≤◌, List, [], ◌∷◌, ◌++◌, length, map, take, get_or, refl, ap, sym, ◌∙◌, subst, arith, inl, inr}
+use Rattle.std.proofs.Common.{◌≡◌, ℕ, zero, suc, ◌+◌, ◌-◌, ◌<◌, ◌≤◌, List, [], ◌∷◌, length, map, refl, ap, sym, ◌∙◌, subst, arith, inl, inr}
 use Rattle.std.specs.Prelude.{slice_index, Option, Some, None}
-use Rattle.std.proofs.lemmas.List.{take_more, map-append, length-map}
+use Rattle.std.proofs.lemmas.List.{length-map}
 use Rattle.std.proofs.lemmas.Bool.{cases_lt}
 use Rattle.pf_base.specs.Limits.{Limits}
 use Rattle.pf_frame.specs.Live.{Live}
 use Rattle.pf_frame.specs.declared.fault.PoolFault.{PoolFault}
-use Rattle.pf_frame.specs.declared.fault.PoolFault.TheVariants.{NoMemory}
 use Rattle.pf_pool.specs.declared.pool.FramePool.{FramePool}
 use Rattle.pf_pool.specs.Faults.{IsFault}
-use Rattle.pf_pool.specs.Pool.{pool_live, IsFresh, frames_of, namespaces_of, all_held}
+use Rattle.pf_pool.specs.Pool.{pool_live, IsFresh, frames_of, all_held}
 use Rattle.pf_pool.specs.PoolLaws.{held_is}
 use Rattle.pf_space.specs.Meaning.{Namespace}
 use Rattle.pf_space.specs.Owns.{Owns}
 use Rattle.pf_space.specs.OwnsLaws.{owns_opening}
-use Rattle.pf_hub.specs.Tenants.{Tenants, Tenant, nobody, tenants_from, tenant_at, held_at}
+use Rattle.pf_hub.specs.Tenants.{Tenants, Tenant, tenants_from, held_at}
 use Rattle.pf_hub.specs.TenantLaws.{tenants-at, tenants_from-past}
 use Rattle.pf_hub.specs.Shared.{IsShared, space_at, no_space, hub_of}
 use Rattle.pf_hub.specs.Opening.{new_space, new_tenant, new_hub, IsRefusal}

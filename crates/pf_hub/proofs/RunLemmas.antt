@@ -1,17 +1,15 @@
 -- One more event of a run.
 
-use Rattle.std.proofs.Common.{◌≡◌, ◌≢◌, ℕ, zero, suc, cond, length-append, ◌+◌, ◌<◌, ◌≤◌, List, [], ◌∷◌, ◌++◌, length, take, get_or, refl, ap, sym, ◌∙◌, subst, arith, inl, inr, Bool, true, false}
-use Rattle.std.specs.Prelude.{Option, Some, None, nat_le, nat_eq}
+use Rattle.std.proofs.Common.{◌≡◌, ◌≢◌, ℕ, zero, suc, cond, length-append, ◌+◌, ◌<◌, List, [], ◌∷◌, ◌++◌, length, take, get_or, refl, ap, sym, ◌∙◌, subst, arith, Bool, true, false}
+use Rattle.std.specs.Prelude.{Some, None, nat_le, nat_eq}
 use Rattle.std.specs.List.{position_from}
 use Rattle.std.proofs.lemmas.Bool.{eqb-true, eqb-false, leb-false}
-use Rattle.pf_base.specs.State.{opening}
 use Rattle.pf_base.specs.Limits.{Limits}
 use Rattle.pf_base.specs.Machine.{Answers}
 use Rattle.pf_base.specs.Runs.{Run, run_of, lone}
-use Rattle.pf_base.specs.Events.{kept, replies, mine, IsAmple}
+use Rattle.pf_base.specs.Events.{kept, replies}
 use Rattle.pf_base.specs.EventLaws.{told-own, told-other, kept-mine}
 use Rattle.pf_base.specs.declared.step.Step.{Step}
-use Rattle.pf_base.specs.declared.step.Reply.{Reply}
 use Rattle.pf_base.specs.declared.step.Answer.{Answer}
 use Rattle.pf_hub.specs.Tenants.{Tenants, Tenant, tenant_at, limits_at, state_at, frames_in}
 use Rattle.pf_hub.specs.Isolation.{Ran, first_missing, AreAlone, TwoWorlds}

@@ -1,9 +1,8 @@
 -- A step of one namespace, and all others.
 
-use Rattle.std.proofs.Common.{◌≡◌, ◌≢◌, ℕ, zero, suc, ◌+◌, ◌-◌, ◌<◌, ◌≤◌, List, [], ◌∷◌, length, map, false, refl, ap, sym, ◌∙◌, subst, arith, get_or, set, length-set, inl, inr, zero-add}
+use Rattle.std.proofs.Common.{◌≡◌, ◌≢◌, ℕ, ◌+◌, ◌-◌, ◌<◌, ◌≤◌, List, length, map, false, ap, sym, ◌∙◌, subst, arith, get_or, set, length-set, inl, inr, zero-add}
 use Rattle.std.proofs.lemmas.List.{get_or-set_other, get_or-set_same, get_or_default}
 use Rattle.std.proofs.lemmas.Bool.{cases_eq}
-use Rattle.pf_base.specs.Limits.{Limits}
 use Rattle.std.specs.Prelude.{sum}
 use Rattle.pf_base.specs.Machine.{Answers, may_want_memory}
 use Rattle.pf_base.specs.declared.step.Step.{Step}
@@ -11,11 +10,11 @@ use Rattle.pf_base.specs.declared.step.Answer.{Answer}
 use Rattle.pf_frame.specs.CountedLaws.{positives-le-length}
 use Rattle.pf_frame.specs.Live.{Live}
 use Rattle.pf_pool.specs.declared.pool.FramePool.{FramePool}
-use Rattle.pf_pool.specs.Pool.{pool_live, pool_rest, namespaces_of, frames_of, all_held, DoorRest}
+use Rattle.pf_pool.specs.Pool.{pool_live, pool_rest, frames_of, all_held, DoorRest}
 use Rattle.pf_pool.specs.PoolLaws.{same_view, same_reserves, same_frames, held_is}
 use Rattle.pf_space.specs.Meaning.{Namespace, meaning}
 use Rattle.pf_space.specs.Owns.{Owns}
-use Rattle.pf_hub.specs.Tenants.{Tenants, Tenant, nobody, tenant_of, tenants_of, tenant_at, limits_at, state_at, frames_in}
+use Rattle.pf_hub.specs.Tenants.{Tenants, Tenant, tenant_of, tenants_of, tenant_at, limits_at, state_at, frames_in}
 use Rattle.pf_hub.specs.TenantLaws.{length-tenants_from, tenants-at, tenants-other, tenants-own, helds, may_want-meaning}
 use Rattle.pf_hub.specs.Shared.{IsShared, space_at, no_space, hub_of}
 

@@ -1,8 +1,7 @@
 -- The isolation theorem: what each namespace is told is what its lone machine is told on its own steps alone.
 
-use Rattle.std.specs.Prelude.{◌≡◌, ◌≢◌, ℕ, ◌+◌, ◌<◌, ◌≤◌, List, [], ◌∷◌, length, take, nat_le, Some, Option, None}
+use Rattle.std.specs.Prelude.{◌≡◌, ℕ, ◌≤◌, List, length, take, nat_le, Some, Option, None}
 use Rattle.std.specs.List.{position_from}
-use Rattle.pf_base.specs.Limits.{Limits}
 use Rattle.pf_base.specs.State.{opening}
 use Rattle.pf_base.specs.Runs.{run_of, lone}
 use Rattle.pf_base.specs.Events.{mine, kept, replies}

@@ -16,3 +16,5 @@ pub use run::{Options, ReplayFault, Replayed, replay};
 
 #[cfg(test)]
 mod tests;
+#[cfg(test)]
+mod tests_rows;

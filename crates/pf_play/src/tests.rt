@@ -48,10 +48,10 @@ impl Source for Endless {
 
 /// Takes some bytes, and then fails or takes none.
 #[derive(Debug, Drop)]
-struct Full {
-    room: usize,
-    fails: bool,
-    refused: bool,
+pub(crate) struct Full {
+    pub(crate) room: usize,
+    pub(crate) fails: bool,
+    pub(crate) refused: bool,
 }
 
 impl Sink for Full {

@@ -8,3 +8,6 @@ pub mod space;
 mod tables;
 
 pub use space::Space;
+
+#[cfg(test)]
+mod tests;

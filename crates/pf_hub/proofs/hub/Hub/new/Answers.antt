@@ -1,5 +1,5 @@
 -- Nothing is live, and each namespace is a new one of its limits.
-use Rattle.std.proofs.Common.{◌≡◌, ℕ, List, length, map, ap, sym, ◌∙◌, subst}
+use Rattle.std.proofs.Common.{◌≡◌, ℕ, List, length, map, ap, ◌∙◌, subst}
 use Rattle.std.specs.Prelude.{None}
 use Rattle.pf_base.specs.Limits.{Limits}
 use Rattle.pf_pool.specs.Faults.{fault_of}

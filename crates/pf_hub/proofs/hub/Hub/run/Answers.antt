@@ -1,11 +1,11 @@
 -- Each event names a namespace, and goes on with the run.
-use Rattle.std.proofs.Common.{◌≡◌, ℕ, ◌+◌, ◌<◌, length, take, get_or, ap, sym, ◌∙◌, subst, rules, length-append, List, ◌∷◌, [], ◌++◌, arith}
+use Rattle.std.proofs.Common.{◌≡◌, ℕ, ◌+◌, ◌<◌, length, take, ap, sym, ◌∙◌, subst, rules, length-append, List, ◌∷◌, [], ◌++◌}
 use Rattle.std.specs.Prelude.{None}
 use Rattle.pf_base.specs.declared.step.Step.{Step}
 use Rattle.pf_base.specs.declared.step.Answer.{Answer}
 use Rattle.std.proofs.lemmas.List.{take_more}
 use Rattle.pf_hub.specs.Isolation.{Ran, first_missing}
-use Rattle.pf_hub.proofs.RunLemmas.{at_start, at_next, are_alone, exists_at}
+use Rattle.pf_hub.proofs.RunLemmas.{at_next, exists_at}
 use Rattle.pf_hub.proofs.hub.Hub.run.Goals as goal
 
 pub step-answer-requires : goal.step-answer-requires

@@ -1,5 +1,5 @@
 -- The events so far were run, and there is room for the other answers.
-use Rattle.std.proofs.Common.{◌≡◌, ◌+◌, ◌≤◌, length, take, vec_len}
+use Rattle.std.proofs.Common.{◌≡◌, length, take}
 use Rattle.std.specs.Vec.{vec_capacity}
 use Rattle.pf_hub.specs.Isolation.{Ran}
 use Rattle.pf_hub.proofs.hub.Hub.run.Given as goal

@@ -1,9 +1,8 @@
 -- The door of a namespace leaves all others; and the namespace does as it says.
-use Rattle.std.proofs.Common.{◌≡◌, ℕ, ◌<◌, length, ap, sym, ◌∙◌, subst, rules}
+use Rattle.std.proofs.Common.{ℕ, ◌<◌, ap, sym, ◌∙◌, subst, rules}
 use Rattle.pf_pool.specs.declared.pool.FramePool.{FramePool}
-use Rattle.pf_pool.specs.Pool.{pool_live, namespaces_of}
-use Rattle.pf_base.specs.Machine.{Answers}
-use Rattle.pf_space.specs.Meaning.{Namespace, meaning}
+use Rattle.pf_pool.specs.Pool.{namespaces_of}
+use Rattle.pf_space.specs.Meaning.{Namespace}
 use Rattle.pf_hub.proofs.StepLemmas as lemmas
 use Rattle.pf_hub.proofs.hub.Hub.step.Goals as goal
 

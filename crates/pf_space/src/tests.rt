@@ -1,0 +1,281 @@
+//! The worked examples as lists of steps, with the replies that a process receives.
+
+ghost use Rattle.std.specs.Prelude.{◌≡◌, length, IfOk};
+
+use crate::Space;
+use pf_base::{Answer, ByteString, Config, Errno, Groups, Reply, Step};
+use pf_frame::{Frame, Frames, OwnFrames};
+use std::alloc::{AllocError, Global};
+use std::test::Fail;
+
+fn spawn(alloc: Global) -> Step {
+    Step::Spawn {
+        uid: 5,
+        gid: 5,
+        groups: Groups::new(Vec::new(alloc)),
+        umask: 0o022,
+    }
+}
+
+fn pipe(pid: u32) -> Step {
+    Step::Pipe {
+        pid,
+        nonblock: false,
+    }
+}
+
+fn close(pid: u32, fd: u32) -> Step {
+    Step::Close { pid, fd }
+}
+
+fn read(fd: u32, n: u64) -> Step {
+    Step::Read { pid: 1, fd, n }
+}
+
+fn write(alloc: Global, fd: u32, byte: u8, n: usize) -> Result<Step, AllocError> {
+    Ok(Step::Write {
+        pid: 1,
+        fd,
+        payload: ByteString::new(Vec::from_elem(alloc, byte, n)?),
+    })
+}
+
+fn write_text(alloc: Global, text: &[u8]) -> Result<Step, AllocError> {
+    Ok(Step::Write {
+        pid: 1,
+        fd: 1,
+        payload: ByteString::new(Vec::from_slice(alloc, text)?),
+    })
+}
+
+fn number(n: u64) -> Answer {
+    Answer::Done(Reply::Num(n))
+}
+
+fn refused(error: Errno) -> Answer {
+    Answer::Done(Reply::Err(error))
+}
+
+fn bytes(alloc: Global, text: &[u8]) -> Result<Answer, AllocError> {
+    Ok(Answer::Done(Reply::Bytes(ByteString::new(Vec::from_slice(alloc, text)?))))
+}
+
+// So many frames that hold this byte throughout.
+fn filled(alloc: Global, count: u32, fill: u8) -> Result<Vec<Frame>, AllocError>
+    ensures { IfOk result (λ frames. length frames.items ≡ count) }
+{
+    let mut frames = Vec::with_capacity(alloc, count as usize)?;
+    for _ in 0..count {
+        frames.push_reserved(Frame::filled(alloc, fill)?);
+    }
+    Ok(frames)
+}
+
+// The answers to these steps of a namespace that is alone, and how many frames it could still take then.
+fn played(
+    alloc: Global,
+    reserve: u32,
+    fill: u8,
+    steps: &[Step],
+) -> Result<(Vec<Answer>, u32), Fail> {
+    let Ok(config) = Config::new(
+        reserve,
+        Config::DEFAULT_SOFT,
+        Config::DEFAULT_HARD,
+        Config::DEFAULT_MAX,
+    ) else {
+        return Err(Fail::from(AllocError));
+    };
+    let mut frames = OwnFrames::new(alloc, filled(alloc, config.reserve(), fill)?)?;
+    let mut space = Space::new(alloc, config)?;
+    let answers = space.run(&mut frames, steps)?;
+    Ok((answers, frames.credits()))
+}
+
+#[test]
+fn hello_through_a_pipe(rt: HostRuntime) -> Result<(), Fail> {
+    let alloc = rt.alloc();
+    for fill in [0, 165, 255] {
+        let steps = Vec::from_array(
+            alloc,
+            [
+                spawn(alloc),
+                pipe(1),
+                write_text(alloc, b"hello")?,
+                read(0, 3),
+                read(0, 10),
+                close(1, 1),
+                read(0, 10),
+                Step::Exit { pid: 1 },
+            ],
+        )?;
+        let told = Vec::from_array(
+            alloc,
+            [
+                Answer::Done(Reply::Pid(1)),
+                Answer::Done(Reply::Fds(0, 1)),
+                number(5),
+                bytes(alloc, b"hel")?,
+                bytes(alloc, b"lo")?,
+                number(0),
+                bytes(alloc, b"")?,
+                number(0),
+            ],
+        )?;
+        let (answers, credits) = played(alloc, 16, fill, &steps)?;
+        assert_eq!(rt; answers.as_slice(), told.as_slice());
+        assert_eq!(rt; credits, 16);
+    }
+    Ok(())
+}
+
+#[test]
+fn frames_are_held_for_bytes_alone(rt: HostRuntime) -> Result<(), Fail> {
+    let alloc = rt.alloc();
+    let mut steps = Vec::new(alloc);
+    steps.push(spawn(alloc))?;
+    steps.push(pipe(1))?;
+    let (_, credits) = played(alloc, 16, 165, &steps)?;
+    assert_eq!(rt; credits, 16);
+    steps.push(write(alloc, 1, 0x61, 5000)?)?;
+    let (_, credits) = played(alloc, 16, 165, &steps)?;
+    assert_eq!(rt; credits, 14);
+    steps.push(read(0, 4096))?;
+    let (_, credits) = played(alloc, 16, 165, &steps)?;
+    assert_eq!(rt; credits, 15);
+    steps.push(Step::Exit { pid: 1 })?;
+    let (_, credits) = played(alloc, 16, 165, &steps)?;
+    assert_eq!(rt; credits, 16);
+    Ok(())
+}
+
+#[test]
+fn room_is_counted_by_pages(rt: HostRuntime) -> Result<(), Fail> {
+    let alloc = rt.alloc();
+    let steps = Vec::from_array(
+        alloc,
+        [
+            spawn(alloc),
+            pipe(1),
+            write(alloc, 1, 0x61, 65_536)?,
+            write(alloc, 1, 0x62, 1)?,
+            read(0, 1),
+            write(alloc, 1, 0x62, 1)?,
+            read(0, 4095),
+            write(alloc, 1, 0x62, 1)?,
+        ],
+    )?;
+    let told = Vec::from_array(
+        alloc,
+        [
+            Answer::Done(Reply::Pid(1)),
+            Answer::Done(Reply::Fds(0, 1)),
+            number(65_536),
+            refused(Errno::EAGAIN),
+            bytes(alloc, b"a")?,
+            refused(Errno::EAGAIN),
+            Answer::Done(Reply::Bytes(ByteString::new(Vec::from_elem(alloc, 0x61u8, 4095)?))),
+            number(1),
+        ],
+    )?;
+    for fill in [0, 165, 255] {
+        let (answers, _) = played(alloc, 64, fill, &steps)?;
+        assert_eq!(rt; answers.as_slice(), told.as_slice());
+    }
+    Ok(())
+}
+
+#[test]
+fn a_writer_without_a_reader(rt: HostRuntime) -> Result<(), Fail> {
+    let alloc = rt.alloc();
+    let steps = Vec::from_array(
+        alloc,
+        [
+            spawn(alloc),
+            pipe(1),
+            close(1, 0),
+            write(alloc, 1, 0x61, 1)?,
+            write(alloc, 1, 0x61, 0)?,
+            write(alloc, 1, 0x61, 1_048_576)?,
+            write(alloc, 1, 0x61, 1_048_577)?,
+        ],
+    )?;
+    let told = Vec::from_array(
+        alloc,
+        [
+            Answer::Done(Reply::Pid(1)),
+            Answer::Done(Reply::Fds(0, 1)),
+            number(0),
+            refused(Errno::EPIPE),
+            number(0),
+            refused(Errno::EPIPE),
+            refused(Errno::EINVAL),
+        ],
+    )?;
+    let (answers, _) = played(alloc, 64, 165, &steps)?;
+    assert_eq!(rt; answers.as_slice(), told.as_slice());
+    Ok(())
+}
+
+#[test]
+fn a_reservation_makes_pipes_smaller(rt: HostRuntime) -> Result<(), Fail> {
+    let alloc = rt.alloc();
+    let steps = Vec::from_array(
+        alloc,
+        [
+            spawn(alloc),
+            pipe(1),
+            pipe(1),
+            pipe(1),
+            write(alloc, 3, 0x61, 65_536)?,
+            write(alloc, 5, 0x61, 65_536)?,
+        ],
+    )?;
+    let (answers, _) = played(alloc, 16, 165, &steps)?;
+    assert_eq!(rt; answers.get(2), Some(&refused(Errno::ENFILE)));
+    let (answers, _) = played(alloc, 17, 165, &steps)?;
+    assert_eq!(rt; answers.get(2), Some(&Answer::Done(Reply::Fds(2, 3))));
+    assert_eq!(rt; answers.get(3), Some(&refused(Errno::ENFILE)));
+    assert_eq!(rt; answers.get(4), Some(&number(4096)));
+    let (answers, _) = played(alloc, 33, 165, &steps)?;
+    assert_eq!(rt; answers.get(3), Some(&Answer::Done(Reply::Fds(4, 5))));
+    assert_eq!(rt; answers.get(4), Some(&number(65_536)));
+    assert_eq!(rt; answers.get(5), Some(&number(4096)));
+    Ok(())
+}
+
+#[test]
+fn the_lowest_numbers_are_given(rt: HostRuntime) -> Result<(), Fail> {
+    let alloc = rt.alloc();
+    let mut steps = Vec::new(alloc);
+    for _ in 0..257 {
+        steps.push(spawn(alloc))?;
+    }
+    steps.push(Step::Exit { pid: 7 })?;
+    steps.push(spawn(alloc))?;
+    let (answers, _) = played(alloc, 16, 165, &steps)?;
+    assert_eq!(rt; answers.get(255), Some(&Answer::Done(Reply::Pid(256))));
+    assert_eq!(rt; answers.get(256), Some(&refused(Errno::EAGAIN)));
+    assert_eq!(rt; answers.get(258), Some(&Answer::Done(Reply::Pid(7))));
+    Ok(())
+}
+
+#[test]
+fn a_process_has_256_descriptors(rt: HostRuntime) -> Result<(), Fail> {
+    let alloc = rt.alloc();
+    let mut steps = Vec::new(alloc);
+    steps.push(spawn(alloc))?;
+    for _ in 0..129 {
+        steps.push(pipe(1))?;
+    }
+    steps.push(close(1, 9))?;
+    steps.push(pipe(1))?;
+    steps.push(close(1, 4))?;
+    steps.push(pipe(1))?;
+    let (answers, _) = played(alloc, 4096, 165, &steps)?;
+    assert_eq!(rt; answers.get(128), Some(&Answer::Done(Reply::Fds(254, 255))));
+    assert_eq!(rt; answers.get(129), Some(&refused(Errno::EMFILE)));
+    assert_eq!(rt; answers.get(131), Some(&refused(Errno::EMFILE)));
+    assert_eq!(rt; answers.get(133), Some(&Answer::Done(Reply::Fds(4, 9))));
+    Ok(())
+}
