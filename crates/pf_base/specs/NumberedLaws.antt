@@ -1,9 +1,9 @@
 -- Laws of things by number: what stands where after a change, what a sum is after it, and when a list is what a test keeps.
 
-use Rattle.std.proofs.Common.{◌≡◌, ◌≢◌, ℕ, zero, suc, ◌+◌, ◌<◌, ◌≤◌, Bool, true, false, List, [], ◌∷◌, ◌++◌, length, map, get_or, set, Option, Some, None, refl, sym, ap, ◌∙◌, arith, if◌then◌else◌}
+use Rattle.std.proofs.Common.{◌≡◌, ◌≢◌, ℕ, zero, suc, ◌+◌, ◌<◌, ◌≤◌, Bool, true, false, List, [], ◌∷◌, ◌++◌, length, map, set, Option, Some, None, refl, sym, ap, ◌∙◌, arith, if◌then◌else◌}
 use Rattle.std.specs.Option.{option_map}
 use Rattle.std.proofs.lemmas.List.{get_or-set_same, get_or-set_other, get_or_past, get_or_append_left, get_or_push}
-use Rattle.pf_base.specs.Numbered.{at, put_at, clear_at, change_at, weight, sum_of, keep_from, keep, first_free, one_if}
+use Rattle.pf_base.specs.Numbered.{at, weight, sum_of, keep_from, keep, first_free}
 
 module _ {X : Type 0} where
   -- What stands where

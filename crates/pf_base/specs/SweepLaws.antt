@@ -1,10 +1,10 @@
 -- Laws of the sweep: what is swept already, what is left after things went, and that to sweep on the way changes nothing.
 
-use Rattle.std.proofs.Common.{◌≡◌, ℕ, ◌+◌, ◌<◌, ◌≤◌, Bool, true, false, ◌&&◌, List, length, Option, Some, None, refl, sym, ap, ◌∙◌, subst, arith, nat_eq, nat_lt, if◌then◌else◌}
+use Rattle.std.proofs.Common.{◌≡◌, ℕ, ◌+◌, ◌<◌, ◌≤◌, Bool, true, false, ◌&&◌, List, length, Option, Some, None, refl, ap, ◌∙◌, arith, nat_eq, nat_lt, if◌then◌else◌}
 use Rattle.std.proofs.lemmas.Bool.Decides.{nat_tests}
 use Rattle.pf_base.specs.Numbered.{at, keep, one_if}
-use Rattle.pf_base.specs.NumberedLaws.{is_kept, same_at, length-keep, at-keep, sum_of-le, sum_of-le-two, sum_of-keep}
-use Rattle.pf_base.specs.State.{State, Process, Description, Pipe, named_in, names, ends, readers, writers}
+use Rattle.pf_base.specs.NumberedLaws.{is_kept, length-keep, at-keep, sum_of-le, sum_of-le-two, sum_of-keep}
+use Rattle.pf_base.specs.State.{State, Process, Description, Pipe, names, ends, readers, writers}
 use Rattle.pf_base.specs.Sweep.{live_descriptions, live_pipes, sweep}
 
 -- Ends

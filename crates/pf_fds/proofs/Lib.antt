@@ -1,1 +1,3 @@
+mod MarksLaws
 pub mod Slots
+mod Takes

@@ -1,3 +1,5 @@
 pub mod Registry
 pub mod Slots
 pub mod Lends
+pub mod Marks
+pub mod Taken

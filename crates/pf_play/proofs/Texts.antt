@@ -1,11 +1,12 @@
 -- Text that is pushed part by part.
 
 use Rattle.std.proofs.Common.{◌≡◌, ℕ, ◌+◌, ◌<◌, ◌≤◌, List, [], ◌∷◌, ◌++◌, length, take, drop, get_or, refl, ap, append_assoc, sym, ◌∙◌, arith}
-use Rattle.std.specs.Prelude.{nat_eq, true, false, ◌≢◌}
+use Rattle.std.specs.Prelude.{nat_eq, true, false, ◌≢◌, map, slice_get, Some}
 use Rattle.std.proofs.Common.{eq-eqb}
 use Rattle.std.proofs.lemmas.Bool.{ne_eqb}
 use Rattle.std.proofs.lemmas.List.{take-append-drop, append-nil}
-use Rattle.std.proofs.Math.ListN.{drop_of_length-le}
+use Rattle.std.proofs.Math.ListN.{drop_of_length-le, get_or-map}
+use Rattle.std.proofs.lemmas.Option.{get_or_from_slice_get}
 use Rattle.hex.specs.Hex.{encode_with, encode_lower, lower_digits}
 use Rattle.pf_base.specs.declared.step.Answer.{Answer}
 use Rattle.pf_base.specs.declared.step.Step.{Step}
@@ -52,13 +53,15 @@ lines_end text all k i place steps answers past same =
     sym (append-nil text) ∙ here
 
 -- a section was pushed
-pub section_on : (text all : List ℕ) (i : ℕ) (spaces : List (List ℕ × Limits)) (steps : List (ℕ × Step)) (answers : List Answer) (d : List ℕ × Limits) → i < length spaces → d ≡ get_or spaces i d →
+pub section_on : (text all : List ℕ) (i : ℕ) (spaces : List (List ℕ × Limits)) (steps : List (ℕ × Step)) (answers : List Answer) (name : List ℕ) → i < length spaces → slice_get (map (λ s. s.0) spaces) i ≡ Some name →
     text ++ sections i (drop i spaces) steps answers ≡ all →
-    (text ++ section d.0 (answers_of steps answers i)) ++ sections (i + 1) (drop (i + 1) spaces) steps answers ≡ all
+    (text ++ section name (answers_of steps answers i)) ++ sections (i + 1) (drop (i + 1) spaces) steps answers ≡ all
 unfolding sections
-section_on text all i spaces steps answers d high space same =
-    let here = rw (next_of spaces i d high, ← space) at same in
-    append_assoc text (section d.0 (answers_of steps answers i)) (sections (i + 1) (drop (i + 1) spaces) steps answers) ∙ here
+section_on text all i spaces steps answers name high is same =
+    let other : List ℕ × Limits = ([], record { reserve = 0; soft = 0; hard = 0; max = 0 }) in
+    let called : (get_or spaces i other).0 ≡ name = sym (get_or-map (λ (s : List ℕ × Limits). s.0) spaces i other) ∙ get_or_from_slice_get (map (λ (s : List ℕ × Limits). s.0) spaces) i name [] is in
+    let here = rw (next_of spaces i other high, called) at same in
+    append_assoc text (section name (answers_of steps answers i)) (sections (i + 1) (drop (i + 1) spaces) steps answers) ∙ here
 
 pub sections_end : (text all : List ℕ) (i : ℕ) (spaces : List (List ℕ × Limits)) (steps : List (ℕ × Step)) (answers : List Answer) → length spaces ≤ i →
     text ++ sections i (drop i spaces) steps answers ≡ all → text ≡ all

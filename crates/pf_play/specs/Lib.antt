@@ -1,4 +1,6 @@
 pub mod Faults
+pub mod Named
 pub mod Ports
 pub mod Played
 pub mod Replays
+pub mod Sound

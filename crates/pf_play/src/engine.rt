@@ -1,10 +1,11 @@
-ghost use Rattle.std.specs.Prelude.{◌≡◌, length, map, IfOk, OnOk};
+ghost use Rattle.std.specs.Prelude.{◌≡◌, length, map, IfOk};
+ghost use Rattle.pf_hub.specs.Opening.{new_hub};
 ghost use Rattle.pf_play.specs.Played.{IsPlayed};
 
-use crate::script::{Script, Space};
-use pf_base::{Answer, Config};
-use pf_frame::Frame;
-use pf_hub::Hub;
+use crate::script::Script;
+use pf_base::Answer;
+use pf_frame::{Frame, PoolFault};
+use pf_hub::{Hub, RunFault};
 use std::alloc::{AllocError, Global};
 
 /// So many frames that hold the byte `fill`.
@@ -18,26 +19,28 @@ fn frames_of(alloc: Global, count: u32, fill: u8) -> Result<Vec<Frame>, AllocErr
     Ok(frames)
 }
 
-/// The limits of these namespaces.
-fn configs_of(alloc: Global, spaces: &[Space]) -> Result<Vec<Config>, AllocError>
-    ensures { IfOk result (λ configs. configs.items ≡ map (λ s. s.1) spaces.now) }
+/// A hub of a script's namespaces, over frames that hold the byte `fill`. A script reserves no more than its pool
+/// has, and keeps a hub's limits, so nothing but want of memory stops it.
+fn hub_of(alloc: Global, script: &Script, fill: u8) -> Result<Hub, AllocError>
+    ensures { IfOk result (λ hub. hub ≡ new_hub (map (λ s. s.1) script.now.spaces) script.now.frames) }
 {
-    spaces.iter().map(|space| space.config()).collect(alloc)
+    let frames = frames_of(alloc, script.frames(), fill)?;
+    let configs = script.configs(alloc)?;
+    match Hub::new(alloc, frames, configs) {
+        Ok(hub) => Ok(hub),
+        Err(PoolFault::NoMemory) => Err(AllocError),
+        Err(_) => unreachable!(),
+    }
 }
 
 /// Runs a script's steps over frames that hold the byte `fill` at the start.
 pub fn play(alloc: Global, script: &Script, fill: u8) -> Result<Vec<Answer>, AllocError>
     ensures { IfOk result (λ answers. IsPlayed script.now answers.items) }
 {
-    let frames = frames_of(alloc, script.frames(), fill)?;
-    let configs = configs_of(alloc, script.spaces())?;
-    // A script that was accepted reserves no more frames than it has, and each of its steps names a namespace. So
-    // both faults below mean that memory was refused.
-    let Ok(mut hub) = Hub::new(alloc, frames, configs) else {
-        return Err(AllocError);
-    };
-    let Ok(answers) = hub.run(script.steps()) else {
-        return Err(AllocError);
-    };
-    Ok(answers)
+    let mut hub = hub_of(alloc, script, fill)?;
+    match hub.run(script.steps()) {
+        Ok(answers) => Ok(answers),
+        Err(RunFault::NoMemory { .. }) => Err(AllocError),
+        Err(RunFault::NoSuchNamespace { .. }) => unreachable!(),
+    }
 }

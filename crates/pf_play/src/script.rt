@@ -1,13 +1,15 @@
-ghost use Rattle.std.specs.Prelude.{◌≡◌, ◌+◌, ◌*◌, ◌≤◌, ◌<◌, map, length, IfOk, IfSome, Ok, option_copied, bytes_eq};
-ghost use Rattle.std.specs.List.{list_any, position_from};
+ghost use Rattle.std.specs.Prelude.{◌≡◌, ◌+◌, ◌*◌, ◌≤◌, ◌<◌, map, length, slice_get, IfOk, IfSome, Ok, Some, None, option_copied};
+ghost use Rattle.std.specs.List.{list_any};
 ghost use Rattle.pf_base.specs.Script as grammar;
 ghost use Rattle.pf_base.specs.Script.{Draft, blank, place_of, reserved, read_script};
+ghost use Rattle.pf_hub.specs.Isolation.{first_missing};
 ghost use Rattle.pf_play.specs.Faults.{Gives, Moves, Reads};
 
 use crate::cut::{cut_at, pieces};
 use crate::fault::{LineFault, ScriptFault};
 use crate::verbs::{small_number, step_of};
 use crate::words::is_name_word;
+use indexmap::IndexMap;
 use memchr::{memchr, memchr_iter};
 use pf_base::{Cause, Config, MAX_NAMESPACES, Step};
 use std::alloc::{AllocError, Global};
@@ -19,62 +21,25 @@ const LINE_LIMIT: usize = 2_200_000;
 /// The bytes of the shortest step line, its line feed counted: `a exit 1`.
 const SHORTEST_STEP: usize = 9;
 
-/// A namespace of a script: its name and its limits.
-#[derive(Debug, Drop)]
-pub struct Space {
-    name: Vec<u8>,
-    config: Config,
-}
-
-impl Model for Space {
-    ghost use Rattle.std.specs.Prelude.{List, ℕ};
-    ghost use Rattle.pf_base.specs.Limits.{Limits};
-
-    ghost Value = { List ℕ × Limits };
-
-    ghost view = { λ s. (s.name.items, s.config) };
-}
-
-impl Space {
-    /// The name.
-    pub fn name(&self) -> &[u8]
-        ensures { result.now ≡ self.now.0 }
-    {
-        self.name.as_slice()
-    }
-
-    /// The limits.
-    pub fn config(&self) -> Config
-        ensures { result ≡ self.now.1 }
-    {
-        self.config
-    }
-
-    fn is_named(&self, name: &[u8]) -> bool
-        ensures { result ≡ bytes_eq self.now.0 name.now }
-    {
-        self.name.as_slice() == name
-    }
-}
-
 /// What a script says: its pool, its namespaces, and its steps, each with its namespace's number, from 0.
 #[derive(Debug, Drop)]
 pub struct Script {
     frames: u32,
-    spaces: Vec<Space>,
+    // Limits by name, in the order of their lines.
+    spaces: IndexMap<Vec<u8>, Config>,
     steps: Vec<(u32, Step)>,
 }
 
 impl Model for Script {
     ghost use Rattle.pf_base.specs.Script.{Draft};
+    ghost use Rattle.pf_play.specs.Named.{named};
+    ghost use Rattle.pf_play.specs.Sound.{IsSound};
 
     ghost Value = { Draft };
 
-    ghost use Rattle.std.specs.Prelude.{◌≤◌, length};
+    ghost view = { λ s. record { frames = s.frames; spaces = named s.spaces.entries; steps = s.steps.items } };
 
-    ghost invariant = { λ s. length s.spaces.items ≤ 64 };
-
-    ghost view = { λ s. record { frames = s.frames; spaces = s.spaces.items; steps = s.steps.items } };
+    ghost invariant = { λ s. IsSound (record { frames = s.frames; spaces = named s.spaces.entries; steps = s.steps.items }) };
 }
 
 /// Whether a line is empty or begins with `#`.
@@ -98,19 +63,6 @@ fn has_empty(words: &[&[u8]]) -> bool
     false
 }
 
-/// The sum of the reservations.
-fn reserved_frames(spaces: &[Space]) -> u64
-    requires { length spaces.now ≤ 65536 }
-    ensures sum { result ≡ reserved spaces.now }
-    ensures most { result ≤ 65536 * length spaces.now }
-{
-    let mut sum = 0;
-    for space in spaces {
-        sum += u64::from(space.config().reserve());
-    }
-    sum
-}
-
 impl Script {
     /// A script that says nothing, with room for so many steps.
     fn blank(alloc: Global, steps: usize) -> Result<Self, AllocError>
@@ -119,45 +71,73 @@ impl Script {
         let steps = Vec::with_capacity(alloc, steps)?;
         Ok(Script {
             frames: 0,
-            spaces: Vec::new(alloc),
+            spaces: IndexMap::new(alloc),
             steps,
         })
     }
 
     /// The pool's frames, 0 where there is no pool line.
     pub fn frames(&self) -> u32
-        ensures { result ≡ self.now.frames }
+        ensures frames { result ≡ self.now.frames }
+        ensures most { result ≤ 65536 }
+        ensures fits { reserved self.now.spaces ≤ result }
     {
         self.frames
     }
 
-    /// The namespaces in the order of their lines.
-    pub fn spaces(&self) -> &[Space]
-        ensures all { result.now ≡ self.now.spaces }
-        ensures most { length result.now ≤ 64 }
+    /// How many namespaces there are.
+    pub fn number(&self) -> usize
+        ensures number { result ≡ length self.now.spaces }
+        ensures most { result ≤ 64 }
     {
-        self.spaces.as_slice()
+        self.spaces.len()
     }
 
-    /// The steps, each with its namespace's number, its place in `spaces`.
+    /// The name of the namespace with this number. The numbers are in the order of the namespaces' lines.
+    pub fn name(&self, place: usize) -> &[u8]
+        requires { place < length self.now.spaces }
+        ensures { slice_get (map (λ s. s.0) self.now.spaces) place ≡ Some result.now }
+    {
+        let (name, _) = self.spaces.get_index(place).unwrap();
+        name.as_slice()
+    }
+
+    /// The limits of each namespace, in the order of their numbers.
+    #[tactic(auto, using(crate::proofs::Naming::limits_of))]
+    pub fn configs(&self, alloc: Global) -> Result<Vec<Config>, AllocError>
+        ensures limits { IfOk result (λ configs. configs.items ≡ map (λ s. s.1) self.now.spaces) }
+        ensures most { IfOk result (λ configs. length configs.items ≤ 64) }
+    {
+        self.spaces.values().copied().collect(alloc)
+    }
+
+    /// The steps, each with its namespace's number.
     pub fn steps(&self) -> &[(u32, Step)]
-        ensures { result.now ≡ self.now.steps }
+        ensures steps { result.now ≡ self.now.steps }
+        ensures exist { first_missing (length self.now.spaces) result.now ≡ None }
     {
         self.steps.as_slice()
     }
 
-    fn position(&self, name: &[u8]) -> Option<usize>
-        ensures place { result ≡ place_of name.now self.now.spaces }
-        ensures bound { IfSome result (λ place. place < 64) }
+    /// The sum of the reservations.
+    #[tactic(auto, using(crate::proofs::Naming::reserved_is))]
+    fn reserved_frames(&self) -> u64
+        ensures sum { result ≡ reserved self.now.spaces }
+        ensures most { result ≤ 65536 }
     {
-        self.spaces.iter().position(|s| s.is_named(name))
+        self.spaces
+            .values()
+            .map(|config| u64::from(config.reserve()))
+            .sum()
     }
 
     /// The number of the namespace with this name.
+    #[tactic(auto, using(crate::proofs::Naming::place_is))]
     fn place(&self, name: &[u8]) -> Option<u32>
-        ensures { result ≡ place_of name.now self.now.spaces }
+        ensures place { result ≡ place_of name.now self.now.spaces }
+        ensures within { IfSome result (λ place. place < length self.now.spaces) }
     {
-        match self.position(name) {
+        match self.spaces.get_index_of(name) {
             Some(place) => Some(place as u32),
             None => None,
         }
@@ -165,6 +145,7 @@ impl Script {
 
     #[tactic(auto, unfolding(pf_base::specs::Script::pool_with))]
     fn pool_with(&mut self, frames: &[u8]) -> Result<(), LineFault>
+        requires { self.old.frames ≡ 0 }
         ensures { Moves result self.new (grammar.pool_with self.old frames.now) }
     {
         let frames = small_number(65_536, frames)?;
@@ -177,6 +158,7 @@ impl Script {
 
     #[tactic(auto, unfolding(pf_base::specs::Script::pool_line))]
     fn pool_line(&mut self, words: &[&[u8]]) -> Result<(), LineFault>
+        requires { self.old.frames ≡ 0 }
         ensures { Moves result self.new (grammar.pool_line self.old (map (λ w. w.now) words.now)) }
     {
         match words {
@@ -187,10 +169,11 @@ impl Script {
 
     #[tactic(auto, unfolding(pf_base::specs::Script::with_reserve))]
     fn with_reserve(&mut self, alloc: Global, name: &[u8], reserve: u32) -> Result<(), LineFault>
-        requires { length self.old.spaces < 64 }
+        requires few { length self.old.spaces < 64 }
+        requires fresh { place_of name.now self.old.spaces ≡ None }
         ensures { Moves result self.new (grammar.with_reserve self.old name.now reserve) }
     {
-        let sum = reserved_frames(self.spaces.as_slice()) + u64::from(reserve);
+        let sum = self.reserved_frames() + u64::from(reserve);
         if sum > u64::from(self.frames) {
             return Err(LineFault::Refused(Cause::ReservationsExceed {
                 sum,
@@ -206,7 +189,7 @@ impl Script {
             return Err(LineFault::Refused(Cause::BadNumber));
         };
         let name = Vec::from_slice(alloc, name)?;
-        self.spaces.push(Space { name, config })?;
+        self.spaces.insert(name, config)?;
         Ok(())
     }
 

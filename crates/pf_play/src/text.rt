@@ -3,7 +3,7 @@ ghost use Rattle.pf_base.specs.Text.{hex_text, reply_text, answer_text, line_tex
 ghost use Rattle.pf_play.specs.Played.{nomem_of};
 ghost use Rattle.hex.specs.Hex.{encode_lower};
 
-use crate::script::{Script, Space};
+use crate::script::Script;
 use itoa::Buffer;
 use pf_base::{Answer, Reply, Step};
 use std::alloc::{AllocError, Global};
@@ -134,18 +134,18 @@ fn push_lines(
     Ok(())
 }
 
-/// Pushes the sections of these namespaces, the first of which has the number `place`.
+/// Pushes the section of the namespace with the number `place` and this name.
 fn push_section(
     text: &mut Vec<u8>,
     place: u32,
-    space: &Space,
+    name: &[u8],
     steps: &[(u32, Step)],
     answers: &[Answer],
 ) -> Result<(), AllocError>
     requires { length steps.now ≡ length answers.now }
-    ensures { OnOk result (text.new.items ≡ text.old.items ++ section space.now.0 (answers_of steps.now answers.now place)) }
+    ensures { OnOk result (text.new.items ≡ text.old.items ++ section name.now (answers_of steps.now answers.now place)) }
 {
-    push_header(text, space.name())?;
+    push_header(text, name)?;
     push_lines(text, place, steps, answers)
 }
 
@@ -155,12 +155,11 @@ pub fn text_of(alloc: Global, script: &Script, answers: &[Answer]) -> Result<Vec
     ensures { IfOk result (λ text. text.items ≡ print script.now answers.now) }
 {
     let mut text = Vec::new(alloc);
-    let spaces = script.spaces();
-    for place in 0..spaces.len() {
+    for place in 0..script.number() {
         push_section(
             &mut text,
             place as u32,
-            &spaces[place],
+            script.name(place),
             script.steps(),
             answers,
         )?;

@@ -22,24 +22,61 @@ take_both zero b xs = let e : b ≡ 0 + b = omega arith in ap (λ (n : ℕ). tak
 take_both (suc a) b [] = nil_take b ∙ sym (nil_take (suc a + b))
 take_both (suc a) b (x ∷ xs) = let e : suc (a + b) ≡ suc a + b = omega arith in ap (λ (l : List ℕ). x ∷ l) (take_both a b xs) ∙ ap (λ (n : ℕ). take n (x ∷ xs)) e
 
--- a read that has come so far
-pub record Reading (f0 f : Live) (ws0 ws : List Window) (buffer0 buffer : List ℕ) (done : ℕ) : Type 0 where
-  pub within : done ≤ length buffer0
+-- bytes have gone from the front, so many so far of at most `most`
+pub record Going (f0 f : Live) (ws0 ws : List Window) (most done : ℕ) : Type 0 where
+  pub within : done ≤ most
   pub stands : Stands f ws
   pub drops : Drops ws0 ws f0 f
   pub segments : map (segment_of f) ws ≡ without_front done (map (segment_of f0) ws0)
-  pub filled : buffer ≡ take done (joined (map (segment_of f0) ws0)) ++ drop done buffer0
   pub bytes : bytes_in ws + done ≡ bytes_in ws0
 
-pub reading_start : (f : Live) (ws : List Window) (buffer : List ℕ) → Stands f ws → without_front 0 (map (segment_of f) ws) ≡ map (segment_of f) ws → Reading f f ws ws buffer buffer 0
-reading_start f ws buffer s e = record {
-  within = omega arith;
-  stands = s;
-  drops = drops_nothing f ws s.some;
-  segments = sym e;
-  filled = refl;
-  bytes = omega arith;
+pub going_start : (f : Live) (ws : List Window) (most : ℕ) → Stands f ws → without_front 0 (map (segment_of f) ws) ≡ map (segment_of f) ws → Going f f ws ws most 0
+going_start f ws most s e = record { within = omega arith; stands = s; drops = drops_nothing f ws s.some; segments = sym e; bytes = omega arith }
+
+pub going_more : (f0 f g : Live) (ws0 ws new : List Window) (most done n : ℕ) → Going f0 f ws0 ws most done
+    → n ≤ most - done → map (segment_of g) new ≡ without_front n (map (segment_of f) ws) → bytes_in new + n ≡ bytes_in ws → Drops ws new f g
+    → Going f0 g ws0 new most (done + n)
+going_more f0 f g ws0 ws new most done n r small segs bytes d = record {
+  within = omega (arith, r.within, small);
+  stands = keeps_stands f g [] ws new r.stands (drops_keep f g ws new r.stands d);
+  drops = drops_then f0 f g ws0 ws new r.drops d;
+  segments = segs ∙ (ap (without_front n) r.segments ∙ without_more done n (map (segment_of f0) ws0));
+  bytes = omega (arith, bytes, r.bytes);
 }
+
+-- the bytes that are left
+going_rest : (f0 f : Live) (ws0 ws : List Window) (most done : ℕ) → Going f0 f ws0 ws most done → joined (map (segment_of f) ws) ≡ drop done (joined (map (segment_of f0) ws0))
+going_rest f0 f ws0 ws most done r = ap joined r.segments ∙ joined_without done (map (segment_of f0) ws0)
+
+-- and at the end: all went that might, or there is no byte left
+pub going_number : (f0 f : Live) (ws0 ws : List Window) (most done : ℕ) → IsSound f0 → Stands f0 ws0 → Going f0 f ws0 ws most done
+    → (done < most → length ws ≡ 0) → done ≡ min most (length (joined (map (segment_of f0) ws0)))
+going_number f0 f ws0 ws most done sound s r ends = elim (cases_lt done most) [
+  | inl l ↦ let none : bytes_in ws ≡ 0 = ap bytes_in (nil_from_length ws (ends l)) in omega (arith, none, r.bytes, segments_length f0 ws0 sound s)
+  | inr g ↦ omega (arith, r.within, r.bytes, segments_length f0 ws0 sound s)
+]
+
+pub going_left : (f0 f : Live) (ws0 ws : List Window) (most done : ℕ) → Going f0 f ws0 ws most done
+    → (done < most → length ws ≡ 0) → map (segment_of f) ws ≡ without_front most (map (segment_of f0) ws0)
+going_left f0 f ws0 ws most done r ends = elim (cases_lt done most) [
+  | inl l ↦ let none : map (segment_of f) ws ≡ [] = ap (map (segment_of f)) (nil_from_length ws (ends l)) in
+      let gone : without_front done (map (segment_of f0) ws0) ≡ [] = sym r.segments ∙ none in
+      none ∙ sym (ap (λ (k : ℕ). without_front k (map (segment_of f0) ws0)) (omega (arith, l)) ∙ (sym (without_more done (most - done) (map (segment_of f0) ws0)) ∙ ap (without_front (most - done)) gone))
+  | inr g ↦ r.segments ∙ ap (λ (k : ℕ). without_front k (map (segment_of f0) ws0)) (omega (arith, r.within, g))
+]
+
+pub going_taken : (f0 f : Live) (ws0 ws : List Window) (most done : ℕ) → IsSound f0 → Stands f0 ws0 → Going f0 f ws0 ws most done
+    → (done < most → length ws ≡ 0) → take done (joined (map (segment_of f0) ws0)) ≡ take most (joined (map (segment_of f0) ws0))
+going_taken f0 f ws0 ws most done sound s r ends =
+    ap (λ (k : ℕ). take k (joined (map (segment_of f0) ws0))) (going_number f0 f ws0 ws most done sound s r ends) ∙ take_min most (joined (map (segment_of f0) ws0))
+
+-- a read into a buffer that has come so far
+pub record Reading (f0 f : Live) (ws0 ws : List Window) (buffer0 buffer : List ℕ) (done : ℕ) : Type 0 where
+  pub going : Going f0 f ws0 ws (length buffer0) done
+  pub filled : buffer ≡ take done (joined (map (segment_of f0) ws0)) ++ drop done buffer0
+
+pub reading_start : (f : Live) (ws : List Window) (buffer : List ℕ) → Stands f ws → without_front 0 (map (segment_of f) ws) ≡ map (segment_of f) ws → Reading f f ws ws buffer buffer 0
+reading_start f ws buffer s e = record { going = going_start f ws (length buffer) s e; filled = refl }
 
 pub reading_more : (f0 f g : Live) (ws0 ws new : List Window) (buffer0 buffer after : List ℕ) (done n : ℕ) → IsSound f0 → Stands f0 ws0 → Reading f0 f ws0 ws buffer0 buffer done
     → n ≤ length (drop done buffer) → after ≡ take n (joined (map (segment_of f) ws)) ++ drop n (drop done buffer) → map (segment_of g) new ≡ without_front n (map (segment_of f) ws)
@@ -47,42 +84,40 @@ pub reading_more : (f0 f g : Live) (ws0 ws new : List Window) (buffer0 buffer af
 reading_more f0 f g ws0 ws new buffer0 buffer after done n sound s r small filled segs bytes d =
     let all : List ℕ = joined (map (segment_of f0) ws0) in
     let size : length all ≡ bytes_in ws0 = segments_length f0 ws0 sound s in
-    let front : length (take done all) ≡ done = omega (arith, length-take done all, size, r.bytes) in
+    let front : length (take done all) ≡ done = omega (arith, length-take done all, size, r.going.bytes) in
     let head : take done buffer ≡ take done all = ap (take done) r.filled ∙ take_at (take done all) (drop done buffer0) done front in
     let tail : drop done buffer ≡ drop done buffer0 = ap (drop done) r.filled ∙ drop_at (take done all) (drop done buffer0) done front in
-    let left : joined (map (segment_of f) ws) ≡ drop done all = ap joined r.segments ∙ joined_without done (map (segment_of f0) ws0) in
+    let left : joined (map (segment_of f) ws) ≡ drop done all = going_rest f0 f ws0 ws (length buffer0) done r.going in
     let here : after ≡ take n (drop done all) ++ drop (done + n) buffer0 = filled ∙ (λ i. take n (left i) ++ ((ap (drop n) tail ∙ drop-drop n done buffer0) i)) in
-    let total : length buffer ≡ length buffer0 = ap (λ (b : List ℕ). length b) r.filled ∙ (length-append (take done all) (drop done buffer0) ∙ omega (arith, front, length-drop done buffer0, r.within)) in
+    let total : length buffer ≡ length buffer0 = ap (λ (b : List ℕ). length b) r.filled ∙ (length-append (take done all) (drop done buffer0) ∙ omega (arith, front, length-drop done buffer0, r.going.within)) in
     record {
-      within = omega (arith, r.within, length-drop done buffer, total, small);
-      stands = keeps_stands f g [] ws new r.stands (drops_keep f g ws new r.stands d);
-      drops = drops_then f0 f g ws0 ws new r.drops d;
-      segments = segs ∙ (ap (without_front n) r.segments ∙ without_more done n (map (segment_of f0) ws0));
+      going = going_more f0 f g ws0 ws new (length buffer0) done n r.going (omega (arith, length-drop done buffer, total, small)) segs bytes d;
       filled = (λ i. head i ++ here i) ∙ (sym (append_assoc (take done all) (take n (drop done all)) (drop (done + n) buffer0)) ∙ ap (λ (b : List ℕ). b ++ drop (done + n) buffer0) (take_both done n all));
-      bytes = omega (arith, bytes, r.bytes);
     }
-
--- a read that has come to its end: the buffer is full, or there is no byte left
-pub reading_number : (f0 f : Live) (ws0 ws : List Window) (buffer0 buffer : List ℕ) (done : ℕ) → IsSound f0 → Stands f0 ws0 → Reading f0 f ws0 ws buffer0 buffer done
-    → (done < length buffer0 → length ws ≡ 0) → done ≡ min (length buffer0) (length (joined (map (segment_of f0) ws0)))
-reading_number f0 f ws0 ws buffer0 buffer done sound s r ends = elim (cases_lt done (length buffer0)) [
-  | inl l ↦ let none : bytes_in ws ≡ 0 = ap bytes_in (nil_from_length ws (ends l)) in omega (arith, none, r.bytes, segments_length f0 ws0 sound s)
-  | inr g ↦ omega (arith, r.within, r.bytes, segments_length f0 ws0 sound s)
-]
-
-pub reading_left : (f0 f : Live) (ws0 ws : List Window) (buffer0 buffer : List ℕ) (done : ℕ) → Reading f0 f ws0 ws buffer0 buffer done
-    → (done < length buffer0 → length ws ≡ 0) → map (segment_of f) ws ≡ without_front (length buffer0) (map (segment_of f0) ws0)
-reading_left f0 f ws0 ws buffer0 buffer done r ends = elim (cases_lt done (length buffer0)) [
-  | inl l ↦ let none : map (segment_of f) ws ≡ [] = ap (map (segment_of f)) (nil_from_length ws (ends l)) in
-      let gone : without_front done (map (segment_of f0) ws0) ≡ [] = sym r.segments ∙ none in
-      none ∙ sym (ap (λ (k : ℕ). without_front k (map (segment_of f0) ws0)) (omega (arith, l)) ∙ (sym (without_more done (length buffer0 - done) (map (segment_of f0) ws0)) ∙ ap (without_front (length buffer0 - done)) gone))
-  | inr g ↦ r.segments ∙ ap (λ (k : ℕ). without_front k (map (segment_of f0) ws0)) (omega (arith, r.within, g))
-]
 
 pub reading_buffer : (f0 f : Live) (ws0 ws : List Window) (buffer0 buffer : List ℕ) (done : ℕ) → IsSound f0 → Stands f0 ws0 → Reading f0 f ws0 ws buffer0 buffer done
     → (done < length buffer0 → length ws ≡ 0) → buffer ≡ take (length buffer0) (joined (map (segment_of f0) ws0)) ++ drop done buffer0
 reading_buffer f0 f ws0 ws buffer0 buffer done sound s r ends =
-    r.filled ∙ ap (λ (b : List ℕ). b ++ drop done buffer0) (ap (λ (k : ℕ). take k (joined (map (segment_of f0) ws0))) (reading_number f0 f ws0 ws buffer0 buffer done sound s r ends) ∙ take_min (length buffer0) (joined (map (segment_of f0) ws0)))
+    r.filled ∙ ap (λ (b : List ℕ). b ++ drop done buffer0) (going_taken f0 f ws0 ws (length buffer0) done sound s r.going ends)
+
+-- a read onto the end of a vector that has come so far
+pub record Moving (f0 f : Live) (ws0 ws : List Window) (out0 out : List ℕ) (most done : ℕ) : Type 0 where
+  pub going : Going f0 f ws0 ws most done
+  pub filled : out ≡ out0 ++ take done (joined (map (segment_of f0) ws0))
+
+pub moving_start : (f : Live) (ws : List Window) (out : List ℕ) (most : ℕ) → Stands f ws → without_front 0 (map (segment_of f) ws) ≡ map (segment_of f) ws → Moving f f ws ws out out most 0
+moving_start f ws out most s e = record { going = going_start f ws most s e; filled = sym (append-nil out) }
+
+pub moving_more : (f0 f g : Live) (ws0 ws new : List Window) (out0 out after : List ℕ) (most done n : ℕ) → Moving f0 f ws0 ws out0 out most done
+    → n ≤ most - done → after ≡ out ++ take n (joined (map (segment_of f) ws)) → map (segment_of g) new ≡ without_front n (map (segment_of f) ws)
+    → bytes_in new + n ≡ bytes_in ws → Drops ws new f g → Moving f0 g ws0 new out0 after most (done + n)
+moving_more f0 f g ws0 ws new out0 out after most done n r small filled segs bytes d =
+    let all : List ℕ = joined (map (segment_of f0) ws0) in
+    let left : joined (map (segment_of f) ws) ≡ drop done all = going_rest f0 f ws0 ws most done r.going in
+    record {
+      going = going_more f0 f g ws0 ws new most done n r.going small segs bytes d;
+      filled = filled ∙ ((λ i. r.filled i ++ take n (left i)) ∙ (append_assoc out0 (take done all) (take n (drop done all)) ∙ ap (λ (b : List ℕ). out0 ++ b) (take_both done n all)));
+    }
 
 -- an append that has come so far, with these bytes left; target: the segments after it
 pub record Appending (f0 f : Live) (ws0 ws : List Window) (slots used0 used : ℕ) (target : List Segment) (x rest : List ℕ) : Type 0 where

@@ -1,4 +1,4 @@
-ghost use Rattle.std.specs.Prelude.{◌≡◌, ℕ, ◌+◌, ◌-◌, ◌<◌, ◌≤◌, ◌^◌, [], ◌++◌, length, take, drop, IfOk};
+ghost use Rattle.std.specs.Prelude.{◌≡◌, ℕ, ◌+◌, ◌-◌, ◌<◌, ◌≤◌, ◌^◌, [], ◌++◌, length, take, drop, min, vec_len, vec_capacity, IfOk};
 ghost use Rattle.pf_base.specs.Queue.{Queue, room_of, bytes_of, put, taken, after_take, empty};
 ghost use Rattle.pf_frame.specs.Live.{Live, IsSound};
 ghost use Rattle.pf_ring.specs.Ring.{segment_of, queue_of};
@@ -145,6 +145,26 @@ impl SlotRing {
         let number = windows::take_into(&mut self.windows, f, buffer);
         self.bytes -= number;
         number
+    }
+
+    /// Moves bytes from the front onto the end of a vector that has room for them, as many as there are but at most so
+    /// many, and answers how many. The frame of a slot that is emptied is released.
+    pub fn take_onto<F: Frames>(&mut self, f: &mut F, most: usize, out: &mut Vec<u8>) -> usize
+        requires fact { F.fact f.old }
+        requires stands { Stands (F.live f.old) self.old.windows }
+        requires room { vec_len out.old + min most (bytes_in self.old.windows) ≤ vec_capacity out.old }
+        ensures fact { F.fact f.new }
+        ensures rest { F.rest f.new ≡ F.rest f.old }
+        ensures capacity { self.new.capacity ≡ self.old.capacity }
+        ensures fits { length self.new.windows ≤ self.new.capacity }
+        ensures number { result ≡ length (taken (queue_of (F.live f.old) self.old) most) }
+        ensures bytes { out.new.items ≡ out.old.items ++ taken (queue_of (F.live f.old) self.old) most }
+        ensures queue { queue_of (F.live f.new) self.new ≡ after_take (queue_of (F.live f.old) self.old) most }
+        ensures keeps { Keeps [] self.old.windows self.new.windows (F.live f.old) (F.live f.new) }
+    {
+        let moved = windows::take_onto(&mut self.windows, f, most, out);
+        self.bytes -= moved;
+        moved
     }
 
     /// Empties all slots, and releases the frame of each.

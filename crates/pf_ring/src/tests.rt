@@ -45,6 +45,13 @@ impl Lone {
         self.ring.take_into(&mut self.frames, buffer)
     }
 
+    // At most so many bytes, in a vector of their own.
+    fn take(&mut self, alloc: Global, most: usize) -> Result<Vec<u8>, AllocError> {
+        let mut bytes = Vec::with_capacity(alloc, self.ring.len())?;
+        self.ring.take_onto(&mut self.frames, most, &mut bytes);
+        Ok(bytes)
+    }
+
     fn clear(&mut self) {
         self.ring.clear(&mut self.frames);
     }
@@ -131,6 +138,22 @@ fn bytes_come_out_as_they_went_in(rt: HostRuntime) -> Result<(), Fail> {
             assert_eq!(rt; lone.write(&bytes), size);
             assert_eq!(rt; lone.drain(rt.alloc(), 1000)?, bytes, "{size} in parts");
         }
+    }
+    Ok(())
+}
+
+#[test]
+fn bytes_move_onto_a_vector(rt: HostRuntime) -> Result<(), Fail> {
+    for old in [0u8, 165, 255] {
+        let mut lone = Lone::new(rt.alloc(), 16, old)?;
+        let bytes = pattern(rt.alloc(), 0, 9000)?;
+        let (front, back) = bytes.split_at(4097);
+        assert_eq!(rt; lone.write(&bytes), 9000);
+        assert_eq!(rt; lone.take(rt.alloc(), 0)?.as_slice(), b"".as_slice());
+        assert_eq!(rt; lone.take(rt.alloc(), 4097)?.as_slice(), front);
+        assert_eq!(rt; (lone.ring.len(), lone.frames.credits()), (4903, 14));
+        assert_eq!(rt; lone.take(rt.alloc(), 70_000)?.as_slice(), back);
+        assert_eq!(rt; (lone.ring.len(), lone.frames.credits()), (0, 16));
     }
     Ok(())
 }

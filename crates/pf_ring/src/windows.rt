@@ -1,4 +1,4 @@
-ghost use Rattle.std.specs.Prelude.{◌≡◌, ℕ, ◌+◌, ◌-◌, ◌*◌, ◌<◌, ◌≤◌, [], ◌∷◌, ◌++◌, length, map, take, drop, min};
+ghost use Rattle.std.specs.Prelude.{◌≡◌, ℕ, ◌+◌, ◌-◌, ◌*◌, ◌<◌, ◌≤◌, [], ◌∷◌, ◌++◌, length, map, take, drop, min, slice_index_or, vec_len, vec_capacity};
 ghost use Rattle.std.specs.VecDeque.{deque_len, deque_capacity};
 ghost use Rattle.pf_base.specs.declared.TheConstants.{PAGE_SIZE};
 ghost use Rattle.pf_base.specs.Queue.{joined, last_room, topped_up, pieces, without_front};
@@ -154,16 +154,96 @@ fn take_front<F: Frames>(windows: &mut VecDeque<Window>, f: &mut F, buffer: &mut
     let window = windows[0];
     let number = (window.len as usize).min(buffer.len());
     buffer[..number].copy_from_slice(f.view(window.frame, window.from as usize, number));
-    if number < window.len as usize {
+    cut_front(windows, f, window, number);
+    number
+}
+
+/// Moves bytes from the front of the windows onto the end of a vector that has room for them: as many as there are, but
+/// at most so many.
+pub fn take_onto<F: Frames>(
+    windows: &mut VecDeque<Window>,
+    f: &mut F,
+    most: usize,
+    out: &mut Vec<u8>,
+) -> usize
+    requires fact { F.fact f.old }
+    requires stands { Stands (F.live f.old) windows.old.items }
+    requires room { vec_len out.old + min most (bytes_in windows.old.items) ≤ vec_capacity out.old }
+    ensures fact { F.fact f.new }
+    ensures rest { F.rest f.new ≡ F.rest f.old }
+    ensures used { deque_len windows.new ≤ deque_len windows.old }
+    ensures space { deque_capacity windows.new ≡ deque_capacity windows.old }
+    ensures number { result ≡ length (take most (joined (map (segment_of (F.live f.old)) windows.old.items))) }
+    ensures out { out.new.items ≡ out.old.items ++ take most (joined (map (segment_of (F.live f.old)) windows.old.items)) }
+    ensures segments { map (segment_of (F.live f.new)) windows.new.items ≡ without_front most (map (segment_of (F.live f.old)) windows.old.items) }
+    ensures bytes { bytes_in windows.new.items + result ≡ bytes_in windows.old.items }
+    ensures keeps { Keeps [] windows.old.items windows.new.items (F.live f.old) (F.live f.new) }
+{
+    let mut done = 0;
+    while done < most && !windows.is_empty() {
+        done += move_front(windows, f, most - done, out);
+    }
+    done
+}
+
+/// Moves bytes of the first window onto the end of a vector that has room for them: as many as the window has, but at
+/// most so many. A window that is emptied goes, and its frame is released.
+fn move_front<F: Frames>(
+    windows: &mut VecDeque<Window>,
+    f: &mut F,
+    most: usize,
+    out: &mut Vec<u8>,
+) -> usize
+    requires fact { F.fact f.old }
+    requires stands { Stands (F.live f.old) windows.old.items }
+    requires some { 0 < deque_len windows.old }
+    requires any { 0 < most }
+    requires room { vec_len out.old + min most (bytes_in windows.old.items) ≤ vec_capacity out.old }
+    ensures fact { F.fact f.new }
+    ensures rest { F.rest f.new ≡ F.rest f.old }
+    ensures used { deque_len windows.new ≤ deque_len windows.old }
+    ensures space { deque_capacity windows.new ≡ deque_capacity windows.old }
+    ensures moved { 0 < result }
+    ensures most { result ≤ most }
+    ensures out { out.new.items ≡ out.old.items ++ take result (joined (map (segment_of (F.live f.old)) windows.old.items)) }
+    ensures len { vec_len out.new ≡ vec_len out.old + result }
+    ensures capacity { vec_capacity out.old ≤ vec_capacity out.new }
+    ensures segments { map (segment_of (F.live f.new)) windows.new.items ≡ without_front result (map (segment_of (F.live f.old)) windows.old.items) }
+    ensures bytes { bytes_in windows.new.items + result ≡ bytes_in windows.old.items }
+    ensures drops { Drops windows.old.items windows.new.items (F.live f.old) (F.live f.new) }
+{
+    let window = windows[0];
+    let number = (window.len as usize).min(most);
+    out.extend_from_slice(f.view(window.frame, window.from as usize, number))
+        .unwrap();
+    cut_front(windows, f, window, number);
+    number
+}
+
+/// Drops bytes from the front of the first window. Where these are all that it has, it goes, and its frame is released.
+fn cut_front<F: Frames>(windows: &mut VecDeque<Window>, f: &mut F, first: Window, number: usize)
+    requires fact { F.fact f.old }
+    requires stands { Stands (F.live f.old) windows.old.items }
+    requires some { 0 < deque_len windows.old }
+    requires first { first ≡ slice_index_or windows.old.items 0 first }
+    requires has { number ≤ first.len }
+    ensures fact { F.fact f.new }
+    ensures rest { F.rest f.new ≡ F.rest f.old }
+    ensures used { deque_len windows.new ≤ deque_len windows.old }
+    ensures space { deque_capacity windows.new ≡ deque_capacity windows.old }
+    ensures segments { map (segment_of (F.live f.new)) windows.new.items ≡ without_front number (map (segment_of (F.live f.old)) windows.old.items) }
+    ensures bytes { bytes_in windows.new.items + number ≡ bytes_in windows.old.items }
+    ensures drops { Drops windows.old.items windows.new.items (F.live f.old) (F.live f.new) }
+{
+    if number < first.len as usize {
         windows[0] = Window {
-            from: window.from + number as u32,
-            len: window.len - number as u32,
-            ..window
+            from: first.from + number as u32,
+            len: first.len - number as u32,
+            ..first
         };
     } else {
         drop_front(windows, f);
     }
-    number
 }
 
 /// Drops the first window, and releases its frame.

@@ -36,7 +36,7 @@ descriptor_shown ps ds pipes i fd = ap (option_and_then (λ (p : machine.Process
   where
     by_place : (o : Option Process) → option_and_then (λ (p : machine.Process). at p.descriptors fd) (option_map process_of o) ≡ option_map (λ k. k.serial) (key_at fd o)
     by_place None = refl
-    by_place (Some p) = at-map (λ (k : Key). k.serial) p.descriptors.items fd
+    by_place (Some p) = at-map (λ (k : Key). k.serial) p.descriptors fd
 
 -- and of a place whose process loses a key
 pub emptied_shown : (ps : List (Option Process)) (i fd : ℕ) → processes_of (set ps i (without_key fd (at ps i))) ≡ change_at (without_descriptor fd) (processes_of ps) i
@@ -44,14 +44,14 @@ emptied_shown ps i fd = map-set (option_map process_of) ps i (without_key fd (at
   where
     by_place : (o : Option Process) → option_map process_of (without_key fd o) ≡ option_map (without_descriptor fd) (option_map process_of o)
     by_place None = refl
-    by_place (Some p) = ap (λ xs. Some (record { cred = p.cred; descriptors = xs })) (map-set (option_map (λ (k : Key). k.serial)) p.descriptors.items fd None)
+    by_place (Some p) = ap (λ xs. Some (record { cred = p.cred; descriptors = xs })) (map-set (option_map (λ (k : Key). k.serial)) p.descriptors fd None)
 
 abbrev items_or : List (Option Key) → Option Process → List (Option Key)
 items_or xs None = xs
-items_or xs (Some p) = p.descriptors.items
+items_or xs (Some p) = p.descriptors
 
 abbrev pub KeysOf : List (Option Process) → ℕ → Process → Type 0
-KeysOf ps j q = (o : Process) × (at ps j ≡ Some o) × (length q.descriptors.items ≡ length o.descriptors.items) × ((fd : ℕ) (k : Key) → at q.descriptors.items fd ≡ Some k → at o.descriptors.items fd ≡ Some k)
+KeysOf ps j q = (o : Process) × (at ps j ≡ Some o) × (length q.descriptors ≡ length o.descriptors) × ((fd : ℕ) (k : Key) → at q.descriptors fd ≡ Some k → at o.descriptors fd ≡ Some k)
 
 module _ (ps : List (Option Process)) (i fd : ℕ) (l : i < length ps) where
   pub keys : (j : ℕ) (q : Process) → at (set ps i (without_key fd (at ps i))) j ≡ Some q → KeysOf ps j q
@@ -64,10 +64,10 @@ module _ (ps : List (Option Process)) (i fd : ℕ) (l : i < length ps) where
       by_place : j ≡ i → (o : Option Process) → at ps i ≡ o → without_key fd o ≡ Some q → KeysOf ps j q
       by_place same None e g = absurd (cc)
       by_place same (Some p) e g =
-          let items : clear_at p.descriptors.items fd ≡ q.descriptors.items = ap (items_or p.descriptors.items) g in
-          (p, ap (at ps) same ∙ e, sym (ap length items) ∙ length-set p.descriptors.items fd None, λ n k a. from_cleared p.descriptors.items fd n k (ap (λ xs. at xs n) items ∙ a))
+          let items : clear_at p.descriptors fd ≡ q.descriptors = ap (items_or p.descriptors) g in
+          (p, ap (at ps) same ∙ e, sym (ap length items) ∙ length-set p.descriptors fd None, λ n k a. from_cleared p.descriptors fd n k (ap (λ xs. at xs n) items ∙ a))
 
-  pub unnamed : ((p : Process) → at ps i ≡ Some p → fd < length p.descriptors.items) → (n : ℕ) → names (processes_of (set ps i (without_key fd (at ps i)))) n + weight (λ (k : Key). one_if (nat_eq k.serial n)) (key_at fd (at ps i)) ≡ names (processes_of ps) n
+  pub unnamed : ((p : Process) → at ps i ≡ Some p → fd < length p.descriptors) → (n : ℕ) → names (processes_of (set ps i (without_key fd (at ps i)))) n + weight (λ (k : Key). one_if (nat_eq k.serial n)) (key_at fd (at ps i)) ≡ names (processes_of ps) n
   unnamed wide n =
       let sums = sum_of-set (λ (p : machine.Process). named_in n p.descriptors) (processes_of ps) i (option_map process_of (without_key fd (at ps i))) (omega (arith, length-map ps (option_map process_of))) in
       let set_shown = ap (λ qs. names qs n) (map-set (option_map process_of) ps i (without_key fd (at ps i))) in
@@ -79,9 +79,9 @@ module _ (ps : List (Option Process)) (i fd : ℕ) (l : i < length ps) where
       one_place (Some p) e =
           omega (
             arith,
-            sum_of-map (λ (k : Key). k.serial) (λ m. one_if (nat_eq m n)) (clear_at p.descriptors.items fd),
-            sum_of-map (λ (k : Key). k.serial) (λ m. one_if (nat_eq m n)) p.descriptors.items,
-            sum_of-set (λ (k : Key). one_if (nat_eq k.serial n)) p.descriptors.items fd None (wide p e),
+            sum_of-map (λ (k : Key). k.serial) (λ m. one_if (nat_eq m n)) (clear_at p.descriptors fd),
+            sum_of-map (λ (k : Key). k.serial) (λ m. one_if (nat_eq m n)) p.descriptors,
+            sum_of-set (λ (k : Key). one_if (nat_eq k.serial n)) p.descriptors fd None (wide p e),
           )
 
 -- nothing but names of no description are lost
@@ -100,7 +100,7 @@ nothing_lost ps ds pipes ps' t places keys same = record {
   pipe_stays = λ n place o h l. (o, h);
 }
 
-module _ (ps : List (Option Process)) (ds : List (Option (ℕ × Description))) (pipes : List (Option (ℕ × Pipe))) (t : Tied ps ds pipes) (i fd : ℕ) (l : i < length ps) (wide : (p : Process) → at ps i ≡ Some p → fd < length p.descriptors.items) where
+module _ (ps : List (Option Process)) (ds : List (Option (ℕ × Description))) (pipes : List (Option (ℕ × Pipe))) (t : Tied ps ds pipes) (i fd : ℕ) (l : i < length ps) (wide : (p : Process) → at ps i ≡ Some p → fd < length p.descriptors) where
   -- there was no such descriptor
   pub absent : key_at fd (at ps i) ≡ None → Shrinks ps ds pipes (set ps i (without_key fd (at ps i))) ds pipes (λ _. 0) (λ _. 0) (λ _. 0)
   absent e =

@@ -36,20 +36,20 @@ module _ (ps : List (Option Process)) (ds : List (Option (ℕ × Description))) 
     where
       same : (o : Option Process) → at ps i ≡ o → option_map (without_descriptor fd) (option_map process_of o) ≡ option_map process_of o
       same None e = refl
-      same (Some p) e = ap (λ xs. Some (record { cred = p.cred; descriptors = xs })) (set_past (process_of p).descriptors fd None (omega (arith, t.wide i p e, length-map p.descriptors.items (option_map (λ (k : Key). k.serial)))))
+      same (Some p) e = ap (λ xs. Some (record { cred = p.cred; descriptors = xs })) (set_past (process_of p).descriptors fd None (omega (arith, t.wide i p e, length-map p.descriptors (option_map (λ (k : Key). k.serial)))))
 
   pub past_none : 256 ≤ fd → descriptor (state_of ps ds pipes) i fd ≡ None
   past_none h = descriptor_shown ps ds pipes i fd ∙ ap (option_map (λ k. k.serial)) (none (at ps i) refl)
     where
       none : (o : Option Process) → at ps i ≡ o → key_at fd o ≡ None
       none None e = refl
-      none (Some p) e = at_past p.descriptors.items fd (omega (arith, t.wide i p e))
+      none (Some p) e = at_past p.descriptors fd (omega (arith, t.wide i p e))
 
   module _ (below : fd < 256) where
     within : i < length ps
     within = omega (arith, t.places)
 
-    wide : (p : Process) → at ps i ≡ Some p → fd < length p.descriptors.items
+    wide : (p : Process) → at ps i ≡ Some p → fd < length p.descriptors
     wide p e = omega (arith, t.wide i p e)
 
     -- what a call leaves: tied tables, and the machine's state without the descriptor

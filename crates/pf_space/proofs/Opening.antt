@@ -2,7 +2,6 @@
 
 use Rattle.std.proofs.Common.{◌≡◌, ◌≢◌, ℕ, ◌+◌, ◌-◌, ◌<◌, ◌≤◌, Bool, true, false, ◌&&◌, List, [], ◌∷◌, ◌++◌, length, set, Option, Some, None, IsSome, is_some, IfSome, refl, sym, ap, subst, ◌∙◌, inl, inr, arith, nat_eq, length-set, append_assoc}
 use Rattle.std.specs.Option.{option_map}
-use Rattle.std.specs.Vec.{with_item}
 use Rattle.std.proofs.lemmas.Bool.{true≢false, cases_eq, cases_lt, eq-eqb, ne_eqb}
 use Rattle.std.proofs.lemmas.List.{map-set, length-map, map_push, length_push}
 use Rattle.pf_base.specs.Numbered.{at, put_at, first_free, weight, one_if}
@@ -51,7 +50,7 @@ module _ (ps : List (Option Process)) (ds : List (Option (ℕ × Description))) 
       one_process i p h =
           sum_of-none (λ m. one_if (nat_eq m n)) (process_of p).descriptors
           (λ fd m g.
-          let k = was (λ (k : Key). k.serial) p.descriptors.items fd m g in
+          let k = was (λ (k : Key). k.serial) p.descriptors fd m g in
           let d = t.described i fd p k.0 h k.1 in
           miss m n (λ e. absurd (omega (arith, at_within ds k.0.serial (k.0.place, d.0) d.1, k.2))))
 
@@ -69,11 +68,11 @@ module _ (ps : List (Option Process)) (ds : List (Option (ℕ × Description))) 
   unwritten_past n past = sum_of-none (λ (d : machine.Description). one_if (nat_eq d.pipe n && d.writes)) (descriptions_of ds) (λ k d h. ap (λ b. one_if (b && d.writes)) (ne_eqb d.pipe n (λ e. absurd (omega (arith, pipe_drawn k d h)))))
 
   module _ (i : ℕ) (l : i < 256) (p : Process) (stands : at ps i ≡ Some p) (a b : ℕ) (a_is : a ≡ first_descriptor (process_of p)) (b_is : b ≡ second_descriptor (process_of p)) (b_in : b < 256) where
-    width : length p.descriptors.items ≡ 256
+    width : length p.descriptors ≡ 256
     width = t.wide i p stands
 
     shown_width : length (process_of p).descriptors ≡ 256
-    shown_width = length-map p.descriptors.items (option_map (λ (k : Key). k.serial)) ∙ width
+    shown_width = length-map p.descriptors (option_map (λ (k : Key). k.serial)) ∙ width
 
     a_free_shown : at (process_of p).descriptors a ≡ None
     a_free_shown = ap (at (process_of p).descriptors) a_is ∙ at-first_free (process_of p).descriptors
@@ -94,17 +93,17 @@ module _ (ps : List (Option Process)) (ds : List (Option (ℕ × Description))) 
     apart : b ≢ a
     apart same = let some : at (put_at (process_of p).descriptors a 0) b ≡ Some 0 = ap (at (put_at (process_of p).descriptors a 0)) same ∙ at-put_same (process_of p).descriptors a (Some 0) (omega (arith, shown_width, a_in)) in let none = b_free_set in cc
 
-    a_free : at p.descriptors.items a ≡ None
-    a_free = none_was (λ (k : Key). k.serial) (at p.descriptors.items a) (sym (at-map (λ (k : Key). k.serial) p.descriptors.items a) ∙ a_free_shown)
+    a_free : at p.descriptors a ≡ None
+    a_free = none_was (λ (k : Key). k.serial) (at p.descriptors a) (sym (at-map (λ (k : Key). k.serial) p.descriptors a) ∙ a_free_shown)
 
-    b_free : at p.descriptors.items b ≡ None
+    b_free : at p.descriptors b ≡ None
     b_free =
-        none_was (λ (k : Key). k.serial) (at p.descriptors.items b)
-        (sym (at-map (λ (k : Key). k.serial) p.descriptors.items b) ∙ sym (at-put_other (process_of p).descriptors a b (Some 0) apart) ∙ b_free_set)
+        none_was (λ (k : Key). k.serial) (at p.descriptors b)
+        (sym (at-map (λ (k : Key). k.serial) p.descriptors b) ∙ sym (at-put_other (process_of p).descriptors a b (Some 0) apart) ∙ b_free_set)
 
     module _ (j k r : Key) (j_is : j.serial ≡ length ds) (k_is : k.serial ≡ length ds + 1) (r_is : r.serial ≡ length pipes) (nonblocking : Bool) (queue : Ring) where
       abbrev p' : Process
-      p' = record p { descriptors = with_item (with_item p.descriptors a (Some j)) b (Some k) }
+      p' = record p { descriptors = put_at (put_at p.descriptors a j) b k }
 
       abbrev ps' : List (Option Process)
       ps' = put_at ps i p'
@@ -134,12 +133,12 @@ module _ (ps : List (Option Process)) (ds : List (Option (ℕ × Description))) 
             ap (λ qs. names qs n) (map-set (option_map process_of) ps i (Some p')),
             sum_of-set (λ (q : machine.Process). named_in n q.descriptors) (processes_of ps) i (Some (process_of p')) (omega (arith, within, length-map ps (option_map process_of))),
             ap (weight (λ (q : machine.Process). named_in n q.descriptors)) (shown process_of ps i p stands),
-            sum_of-map (λ (k : Key). k.serial) (λ m. one_if (nat_eq m n)) p.descriptors.items,
-            sum_of-map (λ (k : Key). k.serial) (λ m. one_if (nat_eq m n)) (set (set p.descriptors.items a (Some j)) b (Some k)),
-            sum_of-set (λ (x : Key). one_if (nat_eq x.serial n)) p.descriptors.items a (Some j) (omega (arith, a_in, width)),
-            sum_of-set (λ (x : Key). one_if (nat_eq x.serial n)) (set p.descriptors.items a (Some j)) b (Some k) (omega (arith, b_in, width, length-set p.descriptors.items a (Some j))),
+            sum_of-map (λ (k : Key). k.serial) (λ m. one_if (nat_eq m n)) p.descriptors,
+            sum_of-map (λ (k : Key). k.serial) (λ m. one_if (nat_eq m n)) (set (set p.descriptors a (Some j)) b (Some k)),
+            sum_of-set (λ (x : Key). one_if (nat_eq x.serial n)) p.descriptors a (Some j) (omega (arith, a_in, width)),
+            sum_of-set (λ (x : Key). one_if (nat_eq x.serial n)) (set p.descriptors a (Some j)) b (Some k) (omega (arith, b_in, width, length-set p.descriptors a (Some j))),
             ap (weight (λ (x : Key). one_if (nat_eq x.serial n))) a_free,
-            ap (weight (λ (x : Key). one_if (nat_eq x.serial n))) (at-put_other p.descriptors.items a b (Some j) apart ∙ b_free),
+            ap (weight (λ (x : Key). one_if (nat_eq x.serial n))) (at-put_other p.descriptors a b (Some j) apart ∙ b_free),
           )
 
       shown_more : descriptions_of ds' ≡ (descriptions_of ds ++ Some (description_of (j.place, reading)) ∷ []) ++ Some (description_of (k.place, writing)) ∷ []
@@ -190,31 +189,31 @@ module _ (ps : List (Option Process)) (ds : List (Option (ℕ × Description))) 
           (λ e g. let it : ◌≡◌ {A = ℕ × Description} (j.place, reading) (place, d) = cc in new_j e (ap (λ (x : ℕ × Description). x.1) it)))
           (λ e g. let it : ◌≡◌ {A = ℕ × Description} (k.place, writing) (place, d) = cc in new_k (e ∙ length_push ds (Some (j.place, reading))) (ap (λ (x : ℕ × Description). x.1) it))
 
-      key_stands : (fd : ℕ) (key : Key) → at (set (set p.descriptors.items a (Some j)) b (Some k)) fd ≡ Some key → (d : Description) × (at ds' key.serial ≡ Some (key.place, d))
+      key_stands : (fd : ℕ) (key : Key) → at (set (set p.descriptors a (Some j)) b (Some k)) fd ≡ Some key → (d : Description) × (at ds' key.serial ≡ Some (key.place, d))
       key_stands fd key g =
           elim (cases_eq fd b) [
             | inl same ↦
                 let both : ◌≡◌ {A = Option Key} (Some k) (Some key) =
-                sym (at-put_same (set p.descriptors.items a (Some j)) b (Some k) (omega (arith, b_in, width, length-set p.descriptors.items a (Some j)))) ∙ ap (at (set (set p.descriptors.items a (Some j)) b (Some k))) (sym same) ∙ g in
+                sym (at-put_same (set p.descriptors a (Some j)) b (Some k) (omega (arith, b_in, width, length-set p.descriptors a (Some j)))) ∙ ap (at (set (set p.descriptors a (Some j)) b (Some k))) (sym same) ∙ g in
                 let it : k ≡ key = cc in
                 (writing, subst (λ (x : Key). at ds' x.serial ≡ Some (x.place, writing)) it stands_k)
             | inr other_b ↦
-                let before : at (set p.descriptors.items a (Some j)) fd ≡ Some key = sym (at-put_other (set p.descriptors.items a (Some j)) b fd (Some k) other_b) ∙ g in
+                let before : at (set p.descriptors a (Some j)) fd ≡ Some key = sym (at-put_other (set p.descriptors a (Some j)) b fd (Some k) other_b) ∙ g in
                 elim (cases_eq fd a) [
                   | inl same ↦
-                      let both : ◌≡◌ {A = Option Key} (Some j) (Some key) = sym (at-put_same p.descriptors.items a (Some j) (omega (arith, a_in, width))) ∙ ap (at (set p.descriptors.items a (Some j))) (sym same) ∙ before in
+                      let both : ◌≡◌ {A = Option Key} (Some j) (Some key) = sym (at-put_same p.descriptors a (Some j) (omega (arith, a_in, width))) ∙ ap (at (set p.descriptors a (Some j))) (sym same) ∙ before in
                       let it : j ≡ key = cc in
                       (reading, subst (λ (x : Key). at ds' x.serial ≡ Some (x.place, reading)) it stands_j)
                   | inr other_a ↦
-                      let d = t.described i fd p key stands (sym (at-put_other p.descriptors.items a fd (Some j) other_a) ∙ before) in
+                      let d = t.described i fd p key stands (sym (at-put_other p.descriptors a fd (Some j) other_a) ∙ before) in
                       (d.0, kept key.serial (key.place, d.0) d.1)
                 ]
           ]
 
-      described : (n fd : ℕ) (q : Process) (key : Key) → at ps' n ≡ Some q → at q.descriptors.items fd ≡ Some key → (d : Description) × (at ds' key.serial ≡ Some (key.place, d))
+      described : (n fd : ℕ) (q : Process) (key : Key) → at ps' n ≡ Some q → at q.descriptors fd ≡ Some key → (d : Description) × (at ds' key.serial ≡ Some (key.place, d))
       described n fd q key h g =
           by_ps n q h
-          (λ e. key_stands fd key (ap (λ (x : Process). at x.descriptors.items fd) e ∙ g))
+          (λ e. key_stands fd key (ap (λ (x : Process). at x.descriptors fd) e ∙ g))
           (λ s. let d = t.described n fd q key s g in (d.0, kept key.serial (key.place, d.0) d.1))
 
       counted : (n place : ℕ) (d : Description) → at ds' n ≡ Some (place, d) → d.names ≡ names (processes_of ps') n
@@ -262,7 +261,7 @@ module _ (ps : List (Option Process)) (ds : List (Option (ℕ × Description))) 
         opened-tied = record {
           places = length-set ps i (Some p') ∙ t.places;
           wide = λ n q h. by_ps n q h
-              (λ e. ap (λ (x : Process). length x.descriptors.items) (sym e) ∙ length-set (set p.descriptors.items a (Some j)) b (Some k) ∙ length-set p.descriptors.items a (Some j) ∙ width)
+              (λ e. ap (λ (x : Process). length x.descriptors) (sym e) ∙ length-set (set p.descriptors a (Some j)) b (Some k) ∙ length-set p.descriptors a (Some j) ∙ width)
               (t.wide n q);
           described = described;
           piped = piped;
@@ -282,8 +281,8 @@ module _ (ps : List (Option Process)) (ds : List (Option (ℕ × Description))) 
             let number : length ds ≡ length (descriptions_of ds) = sym (length-map ds (option_map description_of)) in
             map-set (option_map process_of) ps i (Some p')
             ∙ ap (λ xs. put_at (processes_of ps) i (record { cred = p.cred; descriptors = xs }))
-            (map-set (option_map (λ (x : Key). x.serial)) (set p.descriptors.items a (Some j)) b (Some k)
-            ∙ ap (λ xs. set xs b (Some k.serial)) (map-set (option_map (λ (x : Key). x.serial)) p.descriptors.items a (Some j))
+            (map-set (option_map (λ (x : Key). x.serial)) (set p.descriptors a (Some j)) b (Some k)
+            ∙ ap (λ xs. set xs b (Some k.serial)) (map-set (option_map (λ (x : Key). x.serial)) p.descriptors a (Some j))
             ∙ ap (λ m. set (set (process_of p).descriptors a (Some m)) b (Some k.serial)) (j_is ∙ number)
             ∙ ap (λ m. set (set (process_of p).descriptors a (Some (length (descriptions_of ds)))) b (Some m)) (k_is ∙ ap (λ m. m + 1) number)
             ∙ ap (λ m. set (set (process_of p).descriptors m (Some (length (descriptions_of ds)))) b (Some (length (descriptions_of ds) + 1))) a_is
@@ -323,10 +322,11 @@ module _ (ps : List (Option Process)) (ds : List (Option (ℕ × Description))) 
   second_is : (b ≡ second_descriptor (process_of process_there.0)) × (b < 256)
   second_is = subst (λ o. IfSome o (λ (q : machine.Process). (b ≡ second_descriptor q) × (b < 256))) shown_there b_is
 
-  pub first_within : IfSome (at ps i) (λ p. a < length p.descriptors.items)
-  first_within =
-      subst (λ o. IfSome o (λ (p : Process). a < length p.descriptors.items)) (sym process_there.1)
-      (omega (arith, t.wide i process_there.0 process_there.1, a_in ps ds pipes t i l process_there.0 process_there.1 a b first_is second_is.0 second_is.1))
+  pub stands : IsSome (at ps i)
+  stands = ap is_some process_there.1
+
+  pub first_within : a < 256
+  first_within = a_in ps ds pipes t i l process_there.0 process_there.1 a b first_is second_is.0 second_is.1
 
   module _ (j k r : Key) (nonblocking : Bool) (queue : Ring) (owner : ℕ) (owned : IfSome (at ps i) (λ p. owner ≡ p.cred.uid))
       (ds0 ds1 ds2 : List (Option (ℕ × Description))) (rows0 rows1 : List (Option (ℕ × Pipe))) (ps2 : List (Option Process))

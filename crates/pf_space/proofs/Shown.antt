@@ -86,13 +86,13 @@ module _ (ps : List (Option Process)) (ds : List (Option (ℕ × Description))) 
       ∙ ap (option_map (λ (pipe : machine.Pipe Ring). record { description = description_of (k.place, d); pipe = pipe })) (shown pipe_of pipes d.pipe.serial (d.pipe.place, p.0) p.1)
       ∙ sym (ap end_by (find_at ds k.place k.serial d h) ∙ ap (option_map (λ (p : Pipe). record { description = description_of (0, d); pipe = pipe_of (0, p) })) (find_at pipes d.pipe.place d.pipe.serial p.0 p.1))
 
-  by_key : (i fd : ℕ) (p : Process) → at ps i ≡ Some p → (o : Option Key) → at p.descriptors.items fd ≡ o → end_below (option_map (λ k. k.serial) o) ≡ end_by (option_and_then (λ k. find ds k.place k.serial) o)
+  by_key : (i fd : ℕ) (p : Process) → at ps i ≡ Some p → (o : Option Key) → at p.descriptors fd ≡ o → end_below (option_map (λ k. k.serial) o) ≡ end_by (option_and_then (λ k. find ds k.place k.serial) o)
   by_key i fd p h None e = refl
   by_key i fd p h (Some k) e = let d = t.described i fd p k h e in by_description k d.0 d.1
 
   by_process : (i fd : ℕ) (o : Option Process) → at ps i ≡ o → option_and_then (λ p. end_of (state_of ps ds pipes) p fd) (option_map process_of o) ≡ end_by (description_at fd ds o)
   by_process i fd None h = refl
-  by_process i fd (Some p) h = ap end_below (at-map (λ (k : Key). k.serial) p.descriptors.items fd) ∙ by_key i fd p h (at p.descriptors.items fd) refl
+  by_process i fd (Some p) h = ap end_below (at-map (λ (k : Key). k.serial) p.descriptors fd) ∙ by_key i fd p h (at p.descriptors fd) refl
 
   pub end_shown : (i fd : ℕ) → end_in (state_of ps ds pipes) i fd ≡ end_by (description_at fd ds (at ps i))
   end_shown i fd = ap (option_and_then (λ p. end_of (state_of ps ds pipes) p fd)) (at-map process_of ps i) ∙ by_process i fd (at ps i) refl

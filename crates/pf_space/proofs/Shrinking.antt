@@ -19,12 +19,12 @@ use Rattle.pf_space.specs.Rows.{process_of, description_of, pipe_of, processes_o
 use Rattle.pf_space.proofs.Shown.{was, shown}
 
 -- a descriptor's key counts as a name
-pub named_at : (ps : List (Option Process)) (i fd : ℕ) (p : Process) (k : Key) → at ps i ≡ Some p → at p.descriptors.items fd ≡ Some k → 0 < names (processes_of ps) k.serial
+pub named_at : (ps : List (Option Process)) (i fd : ℕ) (p : Process) (k : Key) → at ps i ≡ Some p → at p.descriptors fd ≡ Some k → 0 < names (processes_of ps) k.serial
 named_at ps i fd p k h g =
     let by_process : weight (λ (q : machine.Process). named_in k.serial q.descriptors) (at (processes_of ps) i) ≡ named_in k.serial (process_of p).descriptors =
     ap (weight (λ (q : machine.Process). named_in k.serial q.descriptors)) (shown process_of ps i p h) in
     let by_key : weight (λ m. one_if (nat_eq m k.serial)) (at (process_of p).descriptors fd) ≡ one_if (nat_eq k.serial k.serial) =
-    ap (weight (λ m. one_if (nat_eq m k.serial))) (shown (λ (j : Key). j.serial) p.descriptors.items fd k g) in
+    ap (weight (λ m. one_if (nat_eq m k.serial))) (shown (λ (j : Key). j.serial) p.descriptors fd k g) in
     let one : one_if (nat_eq k.serial k.serial) ≡ 1 = ap one_if (eq-eqb k.serial k.serial refl) in
     omega (arith, by_process, by_key, one, weight-le-sum_of (λ (q : machine.Process). named_in k.serial q.descriptors) (processes_of ps) i, weight-le-sum_of (λ m. one_if (nat_eq m k.serial)) (process_of p).descriptors fd)
 
@@ -56,7 +56,7 @@ writes_at ds n place d h =
 pub record Shrinks (ps : List (Option Process)) (ds : List (Option (ℕ × Description))) (pipes : List (Option (ℕ × Pipe)))
     (ps' : List (Option Process)) (ds' : List (Option (ℕ × Description))) (pipes' : List (Option (ℕ × Pipe))) (gn gr gw : ℕ → ℕ) : Type 0 where
   pub places : length ps' ≡ length ps
-  pub keys : (j : ℕ) (q : Process) → at ps' j ≡ Some q → (o : Process) × (at ps j ≡ Some o) × (length q.descriptors.items ≡ length o.descriptors.items) × ((fd : ℕ) (k : Key) → at q.descriptors.items fd ≡ Some k → at o.descriptors.items fd ≡ Some k)
+  pub keys : (j : ℕ) (q : Process) → at ps' j ≡ Some q → (o : Process) × (at ps j ≡ Some o) × (length q.descriptors ≡ length o.descriptors) × ((fd : ℕ) (k : Key) → at q.descriptors fd ≡ Some k → at o.descriptors fd ≡ Some k)
   pub unnamed : (n : ℕ) → names (processes_of ps') n + gn n ≡ names (processes_of ps) n
   pub unread : (n : ℕ) → readers (descriptions_of ds') n + gr n ≡ readers (descriptions_of ds) n
   pub unwritten : (n : ℕ) → writers (descriptions_of ds') n + gw n ≡ writers (descriptions_of ds) n
@@ -70,7 +70,7 @@ pub record Shrinks (ps : List (Option Process)) (ds : List (Option (ℕ × Descr
 module _ (ps : List (Option Process)) (ds : List (Option (ℕ × Description))) (pipes : List (Option (ℕ × Pipe)))
     (ps' : List (Option Process)) (ds' : List (Option (ℕ × Description))) (pipes' : List (Option (ℕ × Pipe))) (gn gr gw : ℕ → ℕ)
     (t : Tied ps ds pipes) (s : Shrinks ps ds pipes ps' ds' pipes' gn gr gw) where
-  described : (i fd : ℕ) (p : Process) (k : Key) → at ps' i ≡ Some p → at p.descriptors.items fd ≡ Some k → (d : Description) × (at ds' k.serial ≡ Some (k.place, d))
+  described : (i fd : ℕ) (p : Process) (k : Key) → at ps' i ≡ Some p → at p.descriptors fd ≡ Some k → (d : Description) × (at ds' k.serial ≡ Some (k.place, d))
   described i fd p k h g =
       let o = s.keys i p h in
       let d = t.described i fd o.0 k o.1 (o.3 fd k g) in

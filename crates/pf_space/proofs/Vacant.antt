@@ -15,9 +15,6 @@ use Rattle.pf_space.specs.declared.tables.Pipe.{Pipe}
 use Rattle.pf_space.specs.Rows.{process_of, processes_of, descriptions_of, pipes_of, state_of, Tied}
 use Rattle.pf_space.proofs.Exiting.{set_past}
 
-pub read_at : {X : Type 0} (xs : List (Option X)) (i : ℕ) (o : Option X) → i < length xs → o ≡ get_or xs i o → at xs i ≡ o
-read_at xs i o l e = sym (get_or_read xs i o l e None)
-
 pub vacant_at : {X : Type 0} (k : ℕ) → at {X = X} vacant k ≡ None
 unfolding vacant
 vacant_at {X} k = elim (cases_lt k 256) [ inl l ↦ get_or-replicate 256 k None None l | inr past ↦ at_past {X = X} (replicate 256 None) k (omega (arith, length-replicate {A = Option X} 256 None)) ]
@@ -35,33 +32,14 @@ pub none_was : {X Y : Type 0} (f : X → Y) (o : Option X) → option_map f o �
 none_was f None h = refl
 none_was f (Some x) h = absurd (cc)
 
--- the lowest free place
-pub vacant_is : {X : Type 0} (xs ys : List (Option X)) (r : ℕ) → ys ≡ xs → r ≤ length ys → at ys r ≡ None → ((k : ℕ) → 0 ≤ k → k < r → at ys k ≢ None) → first_free xs ≡ r
-vacant_is xs ys r e l h taken = ap first_free (sym e) ∙ first_free-is ys r l h (λ j below. taken j (omega arith) below)
-
--- the lowest free place behind it
-pub next_is : {X : Type 0} (f : X → ℕ) (xs : List (Option X)) (a b : ℕ) → first_free xs ≡ a → a < length xs → a < b → b ≤ length xs → at xs b ≡ None → ((k : ℕ) → k < a → at xs k ≢ None) → ((k : ℕ) → a < k → k < b → at xs k ≢ None)
-    → first_free (put_at (map (option_map f) xs) (first_free (map (option_map f) xs)) 0) ≡ b
-next_is f xs a b first a_in apart b_in free before between =
-    ap (λ n. first_free (put_at (map (option_map f) xs) n 0)) (first_free-map f xs ∙ first)
-    ∙ first_free-is (put_at (map (option_map f) xs) a 0) b (omega (arith, length-set (map (option_map f) xs) a (Some 0), length-map xs (option_map f)))
-    (at-put_other (map (option_map f) xs) a b (Some 0) (λ e. absurd (omega arith)) ∙ at-map f xs b ∙ ap (option_map f) free)
-    taken
-  where
-    mapped : (j : ℕ) → j ≢ a → at xs j ≢ None → at (put_at (map (option_map f) xs) a 0) j ≢ None
-    mapped j other some h = some (none_was f (at xs j) (sym (at-put_other (map (option_map f) xs) a j (Some 0) other ∙ at-map f xs j) ∙ h))
-
-    taken : (j : ℕ) → j < b → at (put_at (map (option_map f) xs) a 0) j ≢ None
-    taken j below h =
-        elim (cases_eq j a) [
-          | inl same ↦
-              let some : at (put_at (map (option_map f) xs) a 0) j ≡ Some 0 = ap (at (put_at (map (option_map f) xs) a 0)) same ∙ at-put_same (map (option_map f) xs) a (Some 0) (omega (arith, length-map xs (option_map f))) in
-              cc
-          | inr other ↦ elim (cases_lt j a) [
-            | inl l ↦ mapped j other (before j l) h
-            | inr g ↦ mapped j other (between j (omega arith) below) h
-          ]
-        ]
+-- the lowest free place once a key is at the lowest
+pub next_is : (xs : List (Option Key)) (a b : ℕ) → a ≡ first_free xs → ((k : Key) → b ≡ first_free (put_at xs a k)) → first_free (put_at (map (option_map (λ (k : Key). k.serial)) xs) (first_free (map (option_map (λ (k : Key). k.serial)) xs)) 0) ≡ b
+next_is xs a b first next =
+    let zero : Key = record { place = 0; serial = 0 } in
+    ap (λ n. first_free (put_at (map (option_map (λ (k : Key). k.serial)) xs) n 0)) (first_free-map (λ (k : Key). k.serial) xs ∙ sym first)
+    ∙ ap first_free (sym (map-set (option_map (λ (k : Key). k.serial)) xs a (Some zero)))
+    ∙ first_free-map (λ (k : Key). k.serial) (put_at xs a zero)
+    ∙ sym (next zero)
 
 -- there is none
 pub next_none : {X : Type 0} (f : X → ℕ) (xs : List (Option X)) → length xs ≤ first_free xs → first_free (put_at (map (option_map f) xs) (first_free (map (option_map f) xs)) 0) ≡ first_free xs
@@ -94,7 +72,7 @@ nothing_shown ps ds pipes e f g =
 
 -- A new process
 
-module _ (ps : List (Option Process)) (ds : List (Option (ℕ × Description))) (pipes : List (Option (ℕ × Pipe))) (t : Tied ps ds pipes) (i : ℕ) (l : i < 256) (free : at (processes_of ps) i ≡ None) (p : Process) (empty : p.descriptors.items ≡ vacant) where
+module _ (ps : List (Option Process)) (ds : List (Option (ℕ × Description))) (pipes : List (Option (ℕ × Pipe))) (t : Tied ps ds pipes) (i : ℕ) (l : i < 256) (free : at (processes_of ps) i ≡ None) (p : Process) (empty : p.descriptors ≡ vacant) where
   within : i < length ps
   within = omega (arith, t.places)
 
@@ -125,9 +103,9 @@ module _ (ps : List (Option Process)) (ds : List (Option (ℕ × Description))) 
   pub spawned-tied : Tied (put_at ps i p) ds pipes
   spawned-tied = record {
     places = length-set ps i (Some p) ∙ t.places;
-    wide = λ j q h. by_place j q h (λ e. ap (λ (x : Process). length x.descriptors.items) (sym e) ∙ ap length empty ∙ length-vacant Key) (t.wide j q);
+    wide = λ j q h. by_place j q h (λ e. ap (λ (x : Process). length x.descriptors) (sym e) ∙ ap length empty ∙ length-vacant Key) (t.wide j q);
     described = λ j fd q k h g. by_place j q h
-        (λ e. let none : at q.descriptors.items fd ≡ None = ap (λ (x : Process). at x.descriptors.items fd) (sym e) ∙ ap (λ xs. at xs fd) empty ∙ vacant_at fd in absurd (cc))
+        (λ e. let none : at q.descriptors fd ≡ None = ap (λ (x : Process). at x.descriptors fd) (sym e) ∙ ap (λ xs. at xs fd) empty ∙ vacant_at fd in absurd (cc))
         (λ s. t.described j fd q k s g);
     piped = t.piped;
     counted = λ n place d h. t.counted n place d h ∙ sym (same_names n);
@@ -145,16 +123,3 @@ module _ (ps : List (Option Process)) (ds : List (Option (ℕ × Description))) 
       (map-set (option_map process_of) ps i (Some p)
       ∙ ap (λ xs. put_at (processes_of ps) i (record { cred = p.cred; descriptors = xs })) (ap (map (option_map (λ (k : Key). k.serial))) empty ∙ map-vacant (λ (k : Key). k.serial))
       ∙ ap (λ n. put_at (processes_of ps) n (record { cred = p.cred; descriptors = vacant })) place)
-
--- the two lowest free places, as a walk from the front and one from behind the first find them
-pub two_free : {X : Type 0} (f : X → ℕ) (xs ys zs : List (Option X)) (a b : ℕ) → ys ≡ xs → zs ≡ xs → a ≤ length ys → at ys a ≡ None → ((k : ℕ) → 0 ≤ k → k < a → at ys k ≢ None) → a < length xs → a + 1 ≤ b → b ≤ length zs → at zs b ≡ None → ((k : ℕ) → a + 1 ≤ k → k < b → at zs k ≢ None)
-    → (first_free (map (option_map f) xs) ≡ a) × (first_free (put_at (map (option_map f) xs) (first_free (map (option_map f) xs)) 0) ≡ b)
-two_free f xs ys zs a b e g a_le a_free before a_in apart b_le b_free between = (
-  first_free-map f xs ∙ lowest,
-  next_is f xs a b lowest a_in (omega arith) (omega (arith, ap length g)) (ap (λ us. at us b) (sym g) ∙ b_free)
-      (λ k below h. before k (omega arith) below (ap (λ us. at us k) e ∙ h))
-      (λ k above below h. between k (omega arith) below (ap (λ us. at us k) g ∙ h)),
-)
-  where
-    lowest : first_free xs ≡ a
-    lowest = vacant_is xs ys a e a_le a_free before

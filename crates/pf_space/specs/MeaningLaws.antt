@@ -1,18 +1,16 @@
 -- How the meaning of a state goes through looking up, changing and sweeping.
 
-use Rattle.std.proofs.Common.{◌≡◌, ◌≢◌, ℕ, ◌≤◌, zero, suc, ◌+◌, ◌<◌, Bool, true, false, List, [], ◌∷◌, ◌++◌, length, map, refl, ap, sym, ◌∙◌, arith, get_or, set, cond}
-use Rattle.std.specs.Prelude.{Option, Some, None, nat_lt, nat_eq, slice_index_or, slice_set}
-use Rattle.std.proofs.lemmas.List.{get_or-set_other, get_or-set_same}
-use Rattle.std.proofs.Common.{length-set, subst}
+use Rattle.std.proofs.Common.{◌≡◌, ◌≢◌, ℕ, ◌≤◌, zero, suc, ◌+◌, Bool, true, false, List, [], ◌∷◌, ◌++◌, length, map, refl, ap, sym, ◌∙◌, arith, set, cond}
+use Rattle.std.specs.Prelude.{Option, Some, None, nat_lt, slice_index_or, slice_set}
+use Rattle.std.proofs.Common.{subst}
 use Rattle.std.specs.Option.{option_map, option_and_then}
 use Rattle.pf_base.specs.Queue.{Queue}
-use Rattle.pf_base.specs.Numbered.{at, put_at, change_at, keep, keep_from, sum_of, weight}
-use Rattle.pf_base.specs.State.{State, Process, Description, Pipe, End, process, end_of, with_process, without_process, with_queue, holding, total, names, ends}
-use Rattle.pf_base.specs.Sweep.{sweep, live_descriptions, live_pipes}
-use Rattle.pf_base.specs.Pipes.{opened}
+use Rattle.pf_base.specs.Numbered.{at, change_at, keep_from, sum_of}
+use Rattle.pf_base.specs.State.{State, Process, Description, Pipe, process, end_of, with_queue, holding, total, ends}
+use Rattle.pf_base.specs.Sweep.{sweep, live_descriptions}
 use Rattle.pf_frame.specs.Live.{Live}
 use Rattle.pf_ring.specs.Ring.{Ring, queue_of, no_ring}
-use Rattle.pf_space.specs.Meaning.{meaning, pipe_meaning, end_meaning, ring_or, rings_of}
+use Rattle.pf_space.specs.Meaning.{meaning, pipe_meaning, end_meaning, ring_or}
 
 module _ {X Y : Type 0} (f : X → Y) where
   pub at-map : (xs : List (Option X)) (k : ℕ) → at (map (option_map f) xs) k ≡ option_map f (at xs k)

@@ -1,14 +1,14 @@
 -- How a namespace's frames and its rings stay together when a ring changes, a pipe comes and a pipe goes.
 
-use Rattle.std.proofs.Common.{◌≡◌, ◌≢◌, ℕ, zero, suc, ◌+◌, ◌<◌, ◌≤◌, Bool, List, [], ◌∷◌, ◌++◌, length, map, refl, ap, sym, ◌∙◌, subst, arith, get_or, set, ◌-◌, length-set}
-use Rattle.std.specs.Prelude.{Option, Some, None, slice_index_or, slice_set}
+use Rattle.std.proofs.Common.{◌≡◌, ℕ, ◌+◌, ◌<◌, ◌≤◌, Bool, List, [], ◌∷◌, ◌++◌, length, map, refl, ap, sym, ◌∙◌, subst, arith, set, ◌-◌}
+use Rattle.std.specs.Prelude.{Option, Some, None, slice_set}
 use Rattle.std.specs.List.{sum_by}
 use Rattle.std.proofs.lemmas.List.{set-set, get_or-set_same, length-map}
 use Rattle.std.specs.Option.{option_map}
 use Rattle.std.proofs.lemmas.List.Sums.{sum_by-cons}
 use Rattle.pf_base.specs.Limits.{Limits}
-use Rattle.pf_base.specs.Queue.{Queue, empty, bytes_of}
-use Rattle.pf_base.specs.Numbered.{at, put_at, clear_at, change_at, sum_of, weight}
+use Rattle.pf_base.specs.Queue.{empty, bytes_of}
+use Rattle.pf_base.specs.Numbered.{at, put_at, clear_at, sum_of, weight}
 use Rattle.pf_base.specs.NumberedLaws.{at_within, sum_of-set}
 use Rattle.pf_base.specs.State.{State, Process, Pipe, opening, with_queue, holding}
 use Rattle.pf_base.specs.Pipes.{opened, reading, writing, with_two}

@@ -2,8 +2,7 @@
 
 use Rattle.std.specs.Prelude.{◌≡◌, ℕ, ◌+◌, ◌-◌, ◌<◌, Bool, ◌||◌, List, length, map, Option, Some, None, nat_lt, if◌then◌else◌}
 use Rattle.std.specs.Option.{option_map, option_and_then}
-use Rattle.std.specs.Vec.{with_item}
-use Rattle.pf_base.specs.Numbered.{at, one_if}
+use Rattle.pf_base.specs.Numbered.{at, put_at, clear_at, one_if}
 use Rattle.pf_base.specs.State as machine
 use Rattle.pf_base.specs.State.{State, names, readers, writers}
 use Rattle.pf_fds.specs.declared.registry.Key.{Key}
@@ -18,15 +17,15 @@ use Rattle.pf_space.specs.declared.tables.Pipe.{Pipe}
 -- the key at a descriptor of what stands in a place
 abbrev pub key_at : ℕ → Option Process → Option Key
 key_at fd None = None
-key_at fd (Some p) = at p.descriptors.items fd
+key_at fd (Some p) = at p.descriptors fd
 
 abbrev pub without_key : ℕ → Option Process → Option Process
 without_key fd None = None
-without_key fd (Some p) = Some (record p { descriptors = with_item p.descriptors fd None })
+without_key fd (Some p) = Some (record p { descriptors = clear_at p.descriptors fd })
 
 abbrev pub with_keys : ℕ → Key → ℕ → Key → Option Process → Option Process
 with_keys a j b k None = None
-with_keys a j b k (Some p) = Some (record p { descriptors = with_item (with_item p.descriptors a (Some j)) b (Some k) })
+with_keys a j b k (Some p) = Some (record p { descriptors = put_at (put_at p.descriptors a j) b k })
 
 -- the description that a descriptor names
 abbrev pub description_at : ℕ → List (Option (ℕ × Description)) → Option Process → Option Description
@@ -53,7 +52,7 @@ gone reads writes p = if is_used (with_fewer reads writes p) then None else Some
 -- All rows
 
 abbrev pub process_of : Process → machine.Process
-process_of p = record { cred = p.cred; descriptors = map (option_map (λ k. k.serial)) p.descriptors.items }
+process_of p = record { cred = p.cred; descriptors = map (option_map (λ k. k.serial)) p.descriptors }
 
 abbrev pub description_of : ℕ × Description → machine.Description
 description_of e = record { pipe = e.1.pipe.serial; reads = e.1.reads; writes = e.1.writes; nonblocking = e.1.nonblocking }
@@ -76,9 +75,9 @@ state_of ps ds pipes = record { processes = processes_of ps; descriptions = desc
 module _ (ps : List (Option Process)) (ds : List (Option (ℕ × Description))) (pipes : List (Option (ℕ × Pipe))) where
   pub record Tied : Type 0 where
     pub places : length ps ≡ 256
-    pub wide : (i : ℕ) (p : Process) → at ps i ≡ Some p → length p.descriptors.items ≡ 256
+    pub wide : (i : ℕ) (p : Process) → at ps i ≡ Some p → length p.descriptors ≡ 256
     -- each descriptor's key finds a description, and each description's key a pipe
-    pub described : (i fd : ℕ) (p : Process) (k : Key) → at ps i ≡ Some p → at p.descriptors.items fd ≡ Some k → (d : Description) × (at ds k.serial ≡ Some (k.place, d))
+    pub described : (i fd : ℕ) (p : Process) (k : Key) → at ps i ≡ Some p → at p.descriptors fd ≡ Some k → (d : Description) × (at ds k.serial ≡ Some (k.place, d))
     pub piped : (n place : ℕ) (d : Description) → at ds n ≡ Some (place, d) → (p : Pipe) × (at pipes d.pipe.serial ≡ Some (d.pipe.place, p))
     -- the counts of names and of ends are those counted afresh, and none is 0
     pub counted : (n place : ℕ) (d : Description) → at ds n ≡ Some (place, d) → d.names ≡ names (processes_of ps) n

@@ -1,7 +1,7 @@
 -- What the calls of the tables do, in terms of the lone machine's state.
 
-use Rattle.std.specs.Prelude.{◌≡◌, ℕ, length, List, Option, Some, None, IsSome, nat_le}
-use Rattle.std.specs.Option.{option_map, option_and_then}
+use Rattle.std.specs.Prelude.{◌≡◌, ℕ, length, Option, Some, None, IsSome, nat_le}
+use Rattle.std.specs.Option.{option_and_then}
 use Rattle.pf_base.specs.declared.TheConstants.{MAX_PROCESSES, MAX_DESCRIPTORS}
 use Rattle.pf_base.specs.Numbered.{at, clear_at, change_at, keep}
 use Rattle.pf_base.specs.State as machine

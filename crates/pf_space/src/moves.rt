@@ -101,8 +101,9 @@ pub fn read<F: Frames>(
         }
         return Ok(Reply::Err(Errno::EAGAIN));
     }
-    let mut bytes = Vec::from_elem(alloc, 0u8, least(held, n))?;
-    tables.ring_mut(i, fd).take_into(f, bytes.as_mut_slice());
+    let count = least(held, n);
+    let mut bytes = Vec::with_capacity(alloc, count)?;
+    tables.ring_mut(i, fd).take_onto(f, count, &mut bytes);
     Ok(Reply::Bytes(ByteString::new(bytes)))
 }
 

@@ -13,7 +13,7 @@ ghost use Rattle.pf_space.specs.Rows.{key_at, without_key, with_keys, descriptio
 mod tests;
 
 use pf_base::{Cred, MAX_DESCRIPTORS, MAX_PROCESSES};
-use pf_fds::{Key, Registry};
+use pf_fds::{Key, Places, Registry};
 use pf_ring::SlotRing;
 use std::alloc::{AllocError, Global};
 use std::marker::Model;
@@ -22,7 +22,7 @@ use std::marker::Model;
 #[derive(Drop)]
 struct Process {
     cred: Cred,
-    descriptors: Vec<Option<Key>>,
+    descriptors: Places<Key>,
 }
 
 // An open file description, and how many descriptors of all processes name it.
@@ -73,7 +73,7 @@ pub enum Dropped {
 #[derive(Drop)]
 pub struct Tables {
     // 256 places: the process of a pid is in the place before it.
-    processes: Vec<Option<Process>>,
+    processes: Places<Process>,
     descriptions: Registry<Description>,
     pipes: Registry<Pipe>,
 }
@@ -86,73 +86,40 @@ impl Model for Tables {
 
     ghost use Rattle.pf_space.specs.Rows.{state_of, Tied};
 
-    ghost view = { λ t. state_of t.processes.items t.descriptions.items t.pipes.items };
+    ghost view = { λ t. state_of t.processes t.descriptions.items t.pipes.items };
 
-    ghost invariant = { λ t. Tied t.processes.items t.descriptions.items t.pipes.items };
+    ghost invariant = { λ t. Tied t.processes t.descriptions.items t.pipes.items };
 }
 
-// Empties a descriptor's place, and gives out the key that was there.
-fn take_key(place: &mut Option<Process>, fd: usize) -> Option<Key>
-    requires { IfSome place.old (λ p. fd < length p.descriptors.items) }
-    ensures key { result ≡ key_at fd place.old }
-    ensures place { place.new ≡ without_key fd place.old }
+// Empties a descriptor of the process in a place, and gives out the key that was there.
+fn take_descriptor(processes: &mut Places<Process>, i: usize, fd: usize) -> Option<Key>
+    requires fd_in { fd < 256 }
+    ensures key { result ≡ key_at fd (at processes.old i) }
+    ensures places { processes.new ≡ slice_set processes.old i (without_key fd (at processes.old i)) }
 {
-    match place {
-        None => None,
-        Some(process) => {
-            let key = process.descriptors[fd];
-            process.descriptors[fd] = None;
-            key
-        }
+    if processes.get(i).is_none() {
+        return None;
     }
+    processes.value_mut(i).descriptors.take(fd)
 }
 
-fn take_descriptor(processes: &mut Vec<Option<Process>>, i: usize, fd: usize) -> Option<Key>
-    requires i_in { i < length processes.old.items }
-    requires fd_in { IfSome (at processes.old.items i) (λ p. fd < length p.descriptors.items) }
-    ensures key { result ≡ key_at fd (at processes.old.items i) }
-    ensures places { processes.new.items ≡ slice_set processes.old.items i (without_key fd (at processes.old.items i)) }
-{
-    let place = &mut processes[i];
-    take_key(place, fd)
-}
-
-// Puts keys at two descriptors.
-fn set_keys(
-    place: &mut Option<Process>,
-    first: usize,
-    first_key: Key,
-    second: usize,
-    second_key: Key,
-)
-    requires first_in { IfSome place.old (λ p. first < length p.descriptors.items) }
-    requires second_in { IfSome place.old (λ p. second < length p.descriptors.items) }
-    ensures { place.new ≡ with_keys first first_key second second_key place.old }
-{
-    match place {
-        None => (),
-        Some(process) => {
-            process.descriptors[first] = Some(first_key);
-            process.descriptors[second] = Some(second_key);
-        }
-    }
-}
-
+// Puts keys at two descriptors of the process in a place.
 fn set_descriptors(
-    processes: &mut Vec<Option<Process>>,
+    processes: &mut Places<Process>,
     i: usize,
     first: usize,
     first_key: Key,
     second: usize,
     second_key: Key,
 )
-    requires i_in { i < length processes.old.items }
-    requires first_in { IfSome (at processes.old.items i) (λ p. first < length p.descriptors.items) }
-    requires second_in { IfSome (at processes.old.items i) (λ p. second < length p.descriptors.items) }
-    ensures { processes.new.items ≡ slice_set processes.old.items i (with_keys first first_key second second_key (at processes.old.items i)) }
+    requires there { IsSome (at processes.old i) }
+    requires first_in { first < 256 }
+    requires second_in { second < 256 }
+    ensures { processes.new ≡ slice_set processes.old i (with_keys first first_key second second_key (at processes.old i)) }
 {
-    let place = &mut processes[i];
-    set_keys(place, first, first_key, second, second_key);
+    let process = processes.value_mut(i);
+    process.descriptors.put(first, first_key);
+    process.descriptors.put(second, second_key);
 }
 
 // Takes one name from a description, and gives the description out where that was the last.
@@ -191,74 +158,37 @@ fn drop_ends(pipes: &mut Registry<Pipe>, key: Key, reads: bool, writes: bool) ->
     Some(queue)
 }
 
-// Places with nothing in them.
-fn vacant_places<T>(alloc: Global) -> Result<Vec<Option<T>>, AllocError>
-    ensures { IfOk result (λ v. v.items ≡ vacant) }
+// The key at a descriptor of the process in a place.
+fn find_key(processes: &Places<Process>, i: usize, fd: usize) -> Option<Key>
+    ensures { result ≡ key_at fd (at processes.now i) }
 {
-    let mut places = Vec::with_capacity(alloc, MAX_DESCRIPTORS)?;
-    for n in 0..MAX_DESCRIPTORS {
-        places.push_reserved(None);
-    }
-    Ok(places)
-}
-
-// The first place from `from` on with nothing in it, or the number of places.
-fn next_vacant<T>(places: &[Option<T>], from: usize) -> usize
-    requires { from ≤ length places.now }
-    ensures from { from ≤ result }
-    ensures within { result ≤ length places.now }
-    ensures free { at places.now result ≡ None }
-    ensures taken { (k : ℕ) → from ≤ k → k < result → at places.now k ≢ None }
-{
-    for i in from..places.len() {
-        let None = &places[i] else {
-            continue;
-        };
-        return i;
-    }
-    places.len()
-}
-
-// The key at a descriptor of what stands in a place.
-fn find_key(place: &Option<Process>, fd: usize) -> Option<Key>
-    ensures { result ≡ key_at fd place.now }
-{
-    match place {
-        None => None,
-        Some(process) => {
-            if fd >= process.descriptors.len() {
-                return None;
-            }
-            process.descriptors[fd]
-        }
-    }
+    let Some(process) = processes.get(i) else {
+        return None;
+    };
+    process.descriptors.get(fd).copied()
 }
 
 // The description that a descriptor names, of the process in a place.
 fn find_description(
-    processes: &Vec<Option<Process>>,
+    processes: &Places<Process>,
     descriptions: &Registry<Description>,
     i: usize,
     fd: usize,
 ) -> Option<Description>
-    requires i_in { i < length processes.now.items }
-    ensures { result ≡ description_at fd descriptions.now.items (at processes.now.items i) }
+    ensures { result ≡ description_at fd descriptions.now.items (at processes.now i) }
 {
-    let Some(key) = find_key(&processes[i], fd) else {
+    let Some(key) = find_key(processes, i, fd) else {
         return None;
     };
-    match descriptions.get(key) {
-        Some(description) => Some(*description),
-        None => None,
-    }
+    descriptions.get(key).copied()
 }
 
 // The user of the process in a place.
-fn owner_at(processes: &[Option<Process>], i: usize) -> u32
+fn owner_at(processes: &Places<Process>, i: usize) -> u32
     requires there { IsSome (at processes.now i) }
     ensures { IfSome (at processes.now i) (λ p. result ≡ p.cred.uid) }
 {
-    match &processes[i] {
+    match processes.get(i) {
         Some(process) => process.cred.uid,
         None => unreachable!(),
     }
@@ -272,7 +202,7 @@ impl Tables {
     pub fn new(alloc: Global) -> Result<Self, AllocError>
         ensures { IfOk result (λ s. s ≡ opening) }
     {
-        let processes = vacant_places(alloc)?;
+        let processes = Places::new(alloc)?;
         Ok(Tables {
             processes,
             descriptions: Registry::new(alloc),
@@ -304,7 +234,7 @@ impl Tables {
             return None;
         }
         let i = pid as usize - 1;
-        match &self.processes[i] {
+        match self.processes.get(i) {
             Some(_) => Some(i),
             None => None,
         }
@@ -315,7 +245,7 @@ impl Tables {
         ensures some { IfSome result (λ i. (i < 256) × (i ≡ first_free self.now.processes) × (at self.now.processes i ≡ None)) }
         ensures none { IfNone result (256 ≤ first_free self.now.processes) }
     {
-        let i = next_vacant(&self.processes, 0);
+        let i = self.processes.lowest();
         if i >= MAX_PROCESSES {
             return None;
         }
@@ -330,8 +260,8 @@ impl Tables {
         ensures refused { OnErr result (self.new ≡ self.old) }
     {
         let _ = &self.processes;
-        let descriptors = vacant_places(alloc)?;
-        self.processes[i] = Some(Process { cred, descriptors });
+        let descriptors = Places::new(alloc)?;
+        self.processes.put(i, Process { cred, descriptors });
         Ok(())
     }
 
@@ -419,7 +349,7 @@ impl Tables {
         ensures pipes { self.new.pipes ≡ self.old.pipes }
     {
         let _ = &self.processes;
-        self.processes[i] = None;
+        self.processes.take(i);
     }
 
     /// Whether the numbers of pipes or of open file descriptions run out: one more pipe would pass the last number.
@@ -437,14 +367,14 @@ impl Tables {
         ensures none { IfNone result (IfSome (at self.now.processes i) (λ p. 256 ≤ second_descriptor p)) }
     {
         let _ = &self.processes;
-        let Some(process) = &self.processes[i] else {
+        let Some(process) = self.processes.get(i) else {
             return None;
         };
-        let first = next_vacant(&process.descriptors, 0);
+        let first = process.descriptors.lowest();
         if first >= MAX_DESCRIPTORS {
             return None;
         }
-        let second = next_vacant(&process.descriptors, first + 1);
+        let second = process.descriptors.next_lowest(first);
         if second >= MAX_DESCRIPTORS {
             return None;
         }

@@ -1,8 +1,7 @@
-use Rattle.std.proofs.Common.{◌∙◌, arith}
+use Rattle.std.proofs.Common.{arith}
 use Rattle.std.proofs.lemmas.List.{length-take, length-drop}
 use Rattle.pf_frame.specs.Live.{Live, IsSound}
 use Rattle.pf_ring.proofs.Changes.{First, is_first}
-use Rattle.pf_ring.proofs.Segments.{cut_segments, gone_segments}
 use Rattle.pf_ring.proofs.windows.take_front.Goals as goal
 
 pub view-requires-clause-within : goal.view-requires-clause-within
@@ -18,17 +17,3 @@ copy_from_slice-requires g c =
     let sound : IsSound f = g.met.F.Frames.sound _ c.requires.fact in
     let first : First f c.args.windows.now.items c.index-window.result.now = is_first f _ c.index-window.result.now sound c.requires.stands (omega arith) c.index-window.ensures in
     rw c.view.ensures (simp (length-take, length-drop) (omega (arith, first.ends, first.whole)))
-
-pub returns-then-number-window-clause-segments : goal.returns-then-number-window-clause-segments
-returns-then-number-window-clause-segments g c =
-    let f : Live = g.F.Frames.live c.args.f.now in
-    let sound : IsSound f = g.met.F.Frames.sound _ c.requires.fact in
-    let first : First f c.args.windows.now.items c.index-window.result.now = is_first f _ c.index-window.result.now sound c.requires.stands (omega arith) c.index-window.ensures in
-    rw first.split (cut_segments f c.index-window.result.now _ c.min-number.result sound first.stands c.if-number-window.true)
-
-pub returns-else-number-window-clause-segments : goal.returns-else-number-window-clause-segments
-returns-else-number-window-clause-segments g c =
-    let f : Live = g.F.Frames.live c.args.f.now in
-    let sound : IsSound f = g.met.F.Frames.sound _ c.requires.fact in
-    let first : First f c.args.windows.now.items c.index-window.result.now = is_first f _ c.index-window.result.now sound c.requires.stands (omega arith) c.index-window.ensures in
-    c.drop_front.ensures.segments ∙ rw first.split (gone_segments f c.index-window.result.now _ c.min-number.result sound first.stands (omega arith))

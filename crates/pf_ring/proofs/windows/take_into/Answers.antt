@@ -5,7 +5,7 @@ use Rattle.pf_base.specs.Queue.{joined}
 use Rattle.pf_frame.specs.Live.{Live}
 use Rattle.pf_ring.specs.Ring.{segment_of}
 use Rattle.pf_ring.proofs.Segments.{without_none}
-use Rattle.pf_ring.proofs.Loops.{Reading, reading_start, reading_more, reading_number, reading_left, reading_buffer}
+use Rattle.pf_ring.proofs.Loops.{Reading, reading_start, reading_more, reading_buffer, going_number, going_left}
 use Rattle.pf_ring.proofs.windows.take_into.Goals as goal
 
 pub loop-done-init : goal.loop-done-init
@@ -46,7 +46,7 @@ loop-done-preserved g c =
 pub returns-else-not-is_empty-clause-number : goal.returns-else-not-is_empty-clause-number
 returns-else-not-is_empty-clause-number g c =
     let n : c.loop-done.done ≡ min (length c.args.buffer.now) (length (joined (map (segment_of (g.F.Frames.live c.args.f.now)) c.args.windows.now.items))) =
-    reading_number _ _ _ _ _ _ _ (g.met.F.Frames.sound _ c.requires.fact) c.requires.stands c.loop-done.invariant.reading (λ l. let none : deque_len c.loop-done.windows ≡ 0 = eqb-true _ _ (sym c.is_empty.ensures ∙ c.if-not-is_empty.false) in omega arith) in
+    going_number _ _ _ _ _ _ (g.met.F.Frames.sound _ c.requires.fact) c.requires.stands c.loop-done.invariant.reading.going (λ l. let none : deque_len c.loop-done.windows ≡ 0 = eqb-true _ _ (sym c.is_empty.ensures ∙ c.if-not-is_empty.false) in omega arith) in
     n ∙ sym (length-take _ _)
 
 pub returns-else-not-is_empty-clause-buffer : goal.returns-else-not-is_empty-clause-buffer
@@ -54,4 +54,4 @@ returns-else-not-is_empty-clause-buffer g c =
     reading_buffer _ _ _ _ _ _ _ (g.met.F.Frames.sound _ c.requires.fact) c.requires.stands c.loop-done.invariant.reading (λ l. let none : deque_len c.loop-done.windows ≡ 0 = eqb-true _ _ (sym c.is_empty.ensures ∙ c.if-not-is_empty.false) in omega arith)
 
 pub returns-else-not-is_empty-clause-segments : goal.returns-else-not-is_empty-clause-segments
-returns-else-not-is_empty-clause-segments g c = reading_left _ _ _ _ _ _ _ c.loop-done.invariant.reading (λ l. let none : deque_len c.loop-done.windows ≡ 0 = eqb-true _ _ (sym c.is_empty.ensures ∙ c.if-not-is_empty.false) in omega arith)
+returns-else-not-is_empty-clause-segments g c = going_left _ _ _ _ _ _ c.loop-done.invariant.reading.going (λ l. let none : deque_len c.loop-done.windows ≡ 0 = eqb-true _ _ (sym c.is_empty.ensures ∙ c.if-not-is_empty.false) in omega arith)

@@ -12,7 +12,7 @@ unreachable-requires c =
 
 pub invariant_of-self-lent : goal.invariant_of-self-lent
 invariant_of-self-lent c w =
-    requeued-tied c.self.inside.processes.items c.self.inside.descriptions.items c.self.inside.pipes.items c.self.invariant c.in-Some.description.pipe.serial c.in-Some.description.pipe.place c.value_mut-pipe.result.now (find_was c.self.inside.pipes.items c.in-Some.description.pipe.place c.in-Some.description.pipe.serial c.value_mut-pipe.result.now c.value_mut-pipe.ensures.value) w
+    requeued-tied c.self.inside.processes c.self.inside.descriptions.items c.self.inside.pipes.items c.self.invariant c.in-Some.description.pipe.serial c.in-Some.description.pipe.place c.value_mut-pipe.result.now (find_was c.self.inside.pipes.items c.in-Some.description.pipe.place c.in-Some.description.pipe.serial c.value_mut-pipe.result.now c.value_mut-pipe.ensures.value) w
 
 pub returns : goal.returns
 returns c =
@@ -21,8 +21,8 @@ returns c =
       (
         refl,
         λ w. rw (← c.self.view_is)
-            (requeued c.self.inside.processes.items c.self.inside.descriptions.items c.self.inside.pipes.items c.self.invariant c.in-Some.description.pipe.serial c.in-Some.description.pipe.place c.value_mut-pipe.result.now stands w
-            ∙ sym (ap (λ o. with_end_queue (state_of c.self.inside.processes.items c.self.inside.descriptions.items c.self.inside.pipes.items) o w) found)),
+            (requeued c.self.inside.processes c.self.inside.descriptions.items c.self.inside.pipes.items c.self.invariant c.in-Some.description.pipe.serial c.in-Some.description.pipe.place c.value_mut-pipe.result.now stands w
+            ∙ sym (ap (λ o. with_end_queue (state_of c.self.inside.processes c.self.inside.descriptions.items c.self.inside.pipes.items) o w) found)),
       ),
       record { writes_back = tt; ring = rw (← c.self.view_is, found) refl },
     )

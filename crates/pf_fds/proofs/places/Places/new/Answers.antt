@@ -1,6 +1,6 @@
 use Rattle.std.proofs.Common.{◌≡◌, replicate, None, ap, ◌∙◌, arith}
 use Rattle.pf_base.specs.State.{vacant}
-use Rattle.pf_space.proofs.tables.vacant_places.Goals as goal
+use Rattle.pf_fds.proofs.places.Places.new.Goals as goal
 
 pub returns : goal.returns
 unfolding vacant
