@@ -1,9 +1,9 @@
-ghost use Rattle.std.specs.Prelude.{◌≡◌, ◌+◌, ◌*◌, ◌≤◌, ◌<◌, map, length, slice_get, IfOk, IfSome, Ok, Some, None, option_copied};
+ghost use Rattle.std.specs.Prelude.{◌≡◌, ◌≤◌, ◌<◌, map, length, slice_get, IfOk, IfSome, Some, None};
 ghost use Rattle.std.specs.List.{list_any};
 ghost use Rattle.pf_base.specs.Script as grammar;
-ghost use Rattle.pf_base.specs.Script.{Draft, blank, place_of, reserved, read_script};
+ghost use Rattle.pf_base.specs.Script.{blank, place_of, reserved, read_script};
 ghost use Rattle.pf_hub.specs.Isolation.{first_missing};
-ghost use Rattle.pf_play.specs.Faults.{Gives, Moves, Reads};
+ghost use Rattle.pf_play.specs.Faults.{Moves, Reads};
 
 use crate::cut::{cut_at, pieces};
 use crate::fault::{LineFault, ScriptFault};

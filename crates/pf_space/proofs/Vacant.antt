@@ -1,11 +1,11 @@
 -- Places with nothing in them, the lowest free ones, and a new process in one of them.
 
-use Rattle.std.proofs.Common.{◌≡◌, ◌≢◌, ℕ, ◌+◌, ◌-◌, ◌<◌, ◌≤◌, List, [], length, map, replicate, get_or, Option, Some, None, refl, sym, ap, subst, ◌∙◌, inl, inr, arith, nat_eq, length-set}
+use Rattle.std.proofs.Common.{◌≡◌, ℕ, ◌+◌, ◌-◌, ◌<◌, ◌≤◌, List, [], length, map, replicate, Option, Some, None, refl, sym, ap, subst, ◌∙◌, inl, inr, arith, nat_eq, length-set}
 use Rattle.std.specs.Option.{option_map}
 use Rattle.std.proofs.lemmas.Bool.{cases_eq, cases_lt}
-use Rattle.std.proofs.lemmas.List.{map-set, length-map, length-replicate, get_or-replicate, get_or_read}
+use Rattle.std.proofs.lemmas.List.{map-set, length-map, length-replicate, get_or-replicate}
 use Rattle.pf_base.specs.Numbered.{at, put_at, first_free, weight, one_if}
-use Rattle.pf_base.specs.NumberedLaws.{at-map, at_past, at-put_same, at-put_other, same_at, sum_of-set, sum_of-none, first_free-is, first_free-map}
+use Rattle.pf_base.specs.NumberedLaws.{at-map, at_past, at-put_same, at-put_other, same_at, sum_of-set, sum_of-none, first_free-map}
 use Rattle.pf_base.specs.State as machine
 use Rattle.pf_base.specs.State.{State, vacant, opening, with_process, named_in, names}
 use Rattle.pf_fds.specs.declared.registry.Key.{Key}

@@ -214,6 +214,7 @@ impl Tables {
     pub fn settled(&self)
         ensures { self.now ≡ sweep self.now }
     {
+        // Whoever looks at a field knows the invariant. So it is here, and at the head of the functions below.
         let _ = &self.processes;
     }
 
