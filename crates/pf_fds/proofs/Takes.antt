@@ -1,11 +1,9 @@
 -- The marks go with the values, and the least number that isn't marked is the lowest free one.
 
-use Rattle.std.proofs.Common.{◌≡◌, ◌≢◌, ℕ, ◌<◌, ◌≤◌, true, false, List, length, set, Option, Some, None, IsSome, is_some, refl, sym, ap, ◌∙◌, inl, inr, arith, length-set}
+use Rattle.std.proofs.Common.{◌≡◌, ◌≢◌, ℕ, ◌<◌, ◌≤◌, true, false, List, set, Option, Some, None, is_some, refl, sym, ap, ◌∙◌, inl, inr, arith, length-set}
 use Rattle.std.proofs.lemmas.Bool.{true≢false, cases_eq, cases_lt}
-use Rattle.std.proofs.lemmas.List.{length-replicate, get_or-replicate}
-use Rattle.pf_base.specs.Numbered.{at, put_at, first_free}
+use Rattle.pf_base.specs.Numbered.{at, first_free}
 use Rattle.pf_base.specs.NumberedLaws.{at_past, at-put_same, at-put_other, first_free-is}
-use Rattle.pf_base.specs.State.{vacant}
 use Rattle.pf_fds.specs.declared.marks.Marks.{Marks}
 use Rattle.pf_fds.specs.Marks.{is_marked}
 use Rattle.pf_fds.specs.Taken.{IsTaken}
@@ -18,14 +16,6 @@ module _ {T : Type 0} where
   some_if : (o : Option T) → is_some o ≡ true → o ≢ None
   some_if o h none = true≢false (sym h ∙ ap is_some none)
 
-  -- nothing is marked where no number has a value
-  pub taken_new : (m : Marks) (xs : List (Option T)) → xs ≡ vacant → ((n : ℕ) → n < 256 → is_marked m n ≡ false) → IsTaken m xs
-  unfolding vacant
-  taken_new m xs e none = record {
-    places = ap length e ∙ length-replicate {A = Option T} 256 None;
-    marked = λ n l. none n l ∙ sym (ap (λ ys. is_some (at ys n)) e ∙ ap is_some (get_or-replicate {A = Option T} 256 n None None l));
-  }
-
   -- another value or none at a number
   pub taken_set : (m m' : Marks) (xs : List (Option T)) (n : ℕ) (o : Option T) → IsTaken m xs → n < 256 → is_marked m' n ≡ is_some o
       → ((k : ℕ) → k < 256 → k ≢ n → is_marked m' k ≡ is_marked m k) → IsTaken m' (set xs n o)
@@ -36,12 +26,6 @@ module _ {T : Type 0} where
       | inr other ↦ others k within other ∙ t.marked k within ∙ sym (ap is_some (at-put_other xs n k o other))
     ];
   }
-
-  -- another value where there is one
-  pub taken_still : (m : Marks) (xs : List (Option T)) (n : ℕ) (x : T) → IsTaken m xs → IsSome (at xs n) → IsTaken m (put_at xs n x)
-  taken_still m xs n x t there =
-      let l : n < 256 = elim (cases_lt n 256) [ inl below ↦ below | inr past ↦ absurd (true≢false (sym there ∙ ap is_some (at_past xs n (omega (arith, t.places))))) ] in
-      taken_set m m xs n (Some x) t l (t.marked n l ∙ there) (λ k within other. refl)
 
   pub taken_lowest : (m : Marks) (xs : List (Option T)) (r : ℕ) → IsTaken m xs → r ≤ 256 → (r < 256 → is_marked m r ≡ false) → ((k : ℕ) → k < r → is_marked m k ≡ true) → first_free xs ≡ r
   taken_lowest m xs r t most free below =

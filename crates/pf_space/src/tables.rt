@@ -1,8 +1,8 @@
-ghost use Rattle.std.specs.Prelude.{◌≡◌, ◌≢◌, ℕ, ◌+◌, ◌-◌, ◌^◌, ◌<◌, ◌≤◌, Bool, false, List, [], ◌∷◌, ◌++◌, length, slice_set, nat_eq, Option, Some, None, is_some, IsSome, IfSome, IfNone, IfOk, OnOk, OnErr};
+ghost use Rattle.std.specs.Prelude.{◌≡◌, ℕ, ◌+◌, ◌-◌, ◌<◌, ◌≤◌, false, slice_set, Option, Some, None, IsSome, IfSome, IfNone, IfOk, OnOk, OnErr};
 ghost use Rattle.std.specs.Option.{option_map};
 ghost use Rattle.std.specs.Borrow.{sem};
 ghost use Rattle.pf_base.specs.Numbered.{at, put_at, clear_at, first_free, one_if};
-ghost use Rattle.pf_base.specs.State.{State, process, end_of, with_process, opening, vacant, readers, writers};
+ghost use Rattle.pf_base.specs.State.{State, process, with_process, opening, vacant, readers, writers};
 ghost use Rattle.pf_base.specs.Pipes.{first_descriptor, second_descriptor, is_spent, opened};
 ghost use Rattle.pf_base.specs.Sweep.{sweep};
 ghost use Rattle.pf_fds.specs.Registry.{find};
