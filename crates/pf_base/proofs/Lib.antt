@@ -1,5 +1,14 @@
+pub mod QueueLaws
+pub mod TransferLaws
+pub mod NumberedLaws
+pub mod SweepLaws
+pub mod MachineLaws
+pub mod RunLaws
+pub mod EventLaws
+pub mod FileLaws
 mod WorkedQueues
 mod WorkedPages
+mod WorkedFiles
 mod WorkedScript
 pub mod ScriptLemmas
 mod ScriptExamples

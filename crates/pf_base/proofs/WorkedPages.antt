@@ -1,8 +1,8 @@
 -- Examples by computation: queues of whole pages.
 
-use Rattle.std.specs.Prelude.{◌≡◌, [], ◌∷◌, ◌++◌, replicate, refl}
+use Rattle.std.specs.Prelude.{◌≡◌, true, [], ◌∷◌, ◌++◌, replicate, refl}
 use Rattle.pf_base.specs.Queue.{Segment, Queue, empty, room_of, put, taken, after_take}
-use Rattle.pf_base.specs.Pipes.{at_once}
+use Rattle.pf_base.specs.Progress.{portion}
 
 -- a page but for one byte, then two more bytes: the first fills the page, the second begins another
 abbrev crossed : Queue
@@ -39,8 +39,8 @@ full-page = refl
 full-page-gives : taken (after_take full 1) 4095 ≡ replicate 4095 97
 full-page-gives = refl
 
--- then a byte goes in
-full-again : at_once 1 (room_of (after_take (after_take full 1) 4095)) ≡ 1
+-- then a byte goes in, whole
+full-again : portion true 1 (room_of (after_take (after_take full 1) 4095)) ≡ 1
 full-again = refl
 
 -- a pipe of two slots is filled by two pages

@@ -1,17 +1,23 @@
 -- Examples by computation: what the lone machine replies.
 
-use Rattle.std.specs.Prelude.{ℕ, ◌≡◌, false, true, List, [], ◌∷◌, refl, replicate, nat_lt, nat_eq, not, if◌then◌else◌}
+use Rattle.std.specs.Prelude.{ℕ, ◌≡◌, Bool, false, true, List, [], ◌∷◌, Some, None, refl, replicate, take, nat_lt, nat_le, nat_eq, is_some, slice_set, if◌then◌else◌, Result, Ok, Err as Refused}
 use Rattle.std.proofs.Common.{◌<◌, ◌≤◌, length, ap, ◌∙◌, arith}
 use Rattle.std.proofs.lemmas.Bool.{lt-ltb, le-ltb, ne_eqb, eq-eqb}
 use Rattle.pf_base.specs.Limits.{Limits}
+use Rattle.pf_base.specs.Refusals.{◌>>=◌, ◌>>◌, refuse_if}
 use Rattle.pf_base.specs.Queue.{Queue, empty, room_of}
-use Rattle.pf_base.specs.State.{State, End, Outcome, vacant, opening, readers, done, refuse}
-use Rattle.pf_base.specs.Pipes.{writing, at_once, write_some, write_end}
-use Rattle.pf_base.specs.Machine.{step_of, swept}
-use Rattle.pf_base.specs.declared.TheConstants.{MAX_WRITE}
+use Rattle.pf_base.specs.Progress.{Passed, moved, portion, put_some, write_now}
+use Rattle.pf_base.specs.State.{State, Process, End, Outcome, vacant, opening, settle, process, writing_end, with_queue}
+use Rattle.pf_base.specs.Counts.{readers}
+use Rattle.pf_base.specs.Pipes.{writing}
+use Rattle.pf_base.specs.Transfers.{Tried, try_write, write_told, write}
+use Rattle.pf_base.specs.Machine.{step_of, swept, may_want_memory}
+use Rattle.pf_base.specs.declared.TheConstants.{PIPE_BUF, MAX_WRITE}
 use Rattle.pf_base.specs.Runs.{run_of, lone}
+use Rattle.pf_base.specs.declared.progress.Progress.TheVariants.{Moved, NoReader}
 use Rattle.pf_base.specs.declared.step.Step.TheVariants.{Spawn, Exit, Pipe, Close, Read, Write}
 use Rattle.pf_base.specs.declared.step.Reply.TheVariants.{Num, Pid, Fds, Bytes, Err}
+use Rattle.pf_base.specs.declared.errno.Errno.{Errno}
 use Rattle.pf_base.specs.declared.errno.Errno.TheVariants.{ESRCH, EBADF, EAGAIN, EINVAL, ENFILE, EPIPE}
 
 -- a namespace of 16 frames
@@ -76,34 +82,64 @@ partly-replies = refl
 
 -- Long writes
 
--- a write of a length that is allowed
-abbrev write_kept : State Queue → List ℕ → End Queue → Outcome
-write_kept s x e =
-    if nat_eq (length x) 0 then done s 0
-    else if nat_eq (readers s.descriptions e.description.pipe) 0 then refuse s EPIPE
-    else write_some s x e (at_once (length x) (room_of e.pipe.queue))
+-- a write of bytes through an end that writes: refused where they are too many, or as far as it came
+abbrev through : State Queue → End Queue → List ℕ → Bool → Result Tried Errno
+through s e x long = do
+  refuse_if long EINVAL
+  Ok (try_write s e x)
 
--- the end that writes to it
+abbrev finish : Result Tried Errno → Result Outcome Errno
+finish tried = tried >>= (λ t. write_told t t.progress)
+
+too-long : (s : State Queue) (p : Process) (fd : ℕ) (x : List ℕ) (e : End Queue) → writing_end s p fd ≡ Ok e → MAX_WRITE < length x → write s p fd x ≡ Refused EINVAL
+too-long s p fd x e is long =
+    ap (λ (r : Result (End Queue) Errno). finish (r >>= (λ e. through s e x (nat_lt MAX_WRITE (length x))))) is
+    ∙ ap (λ b. finish (through s e x b)) (lt-ltb MAX_WRITE (length x) long)
+
+no-reader : (s : State Queue) (p : Process) (fd : ℕ) (x : List ℕ) (e : End Queue) → writing_end s p fd ≡ Ok e → 0 < length x → length x ≤ MAX_WRITE → readers s e.description.pipe ≡ 0 → write s p fd x ≡ Refused EPIPE
+no-reader s p fd x e is some most none =
+    ap (λ (r : Result (End Queue) Errno). finish (r >>= (λ e. through s e x (nat_lt MAX_WRITE (length x))))) is
+    ∙ ap (λ b. finish (through s e x b)) (le-ltb MAX_WRITE (length x) most)
+    ∙ ap (λ (w : Passed). write_told (record { state = with_queue s e.description.pipe w.queue; progress = w.progress; bytes = take (moved w.progress) x }) w.progress) (unread_now e.pipe.queue _ (nat_le (length x) PIPE_BUF) x some none)
+  where
+    unread_now : (q : Queue) (readers : ℕ) (whole : Bool) (x : List ℕ) → 0 < length x → readers ≡ 0 → write_now q readers whole x ≡ record { progress = NoReader; queue = q }
+    unread_now q readers whole x some none =
+        ap (λ t. if t then record { progress = Moved 0; queue = q } else if nat_eq readers 0 then record { progress = NoReader; queue = q } else put_some q x (portion whole (length x) (room_of q))) (ne_eqb (length x) 0 (λ n. omega (arith, some, n)))
+        ∙ ap (λ t. if t then record { progress = NoReader; queue = q } else put_some q x (portion whole (length x) (room_of q))) (eq-eqb readers 0 none)
+
+-- the process, and its end that writes to the pipe
+abbrev writer : Process
+writer = record { cred = record { uid = 5; gid = 5; groups = []; umask = 18 }; descriptors = slice_set (slice_set (slice_set vacant 0 (Some 0)) 1 (Some 1)) 0 None }
+
 abbrev unread-end : End Queue
 unread-end = record { description = writing 0 false; pipe = record { queue = empty 16; owner = 5 } }
-
-too-long : (s : State Queue) (x : List ℕ) (e : End Queue) → e.description.writes ≡ true → 1048576 < length x → write_end s x e ≡ refuse s EINVAL
-too-long s x e writes long =
-    ap (λ t. if not t then refuse s EBADF else if nat_lt MAX_WRITE (length x) then refuse s EINVAL else write_kept s x e) writes
-    ∙ ap (λ t. if t then refuse s EINVAL else write_kept s x e) (lt-ltb MAX_WRITE (length x) long)
-
-no-reader : (s : State Queue) (x : List ℕ) (e : End Queue) → e.description.writes ≡ true → 0 < length x → length x ≤ 1048576 → readers s.descriptions e.description.pipe ≡ 0 → write_end s x e ≡ refuse s EPIPE
-no-reader s x e writes some most none =
-    ap (λ t. if not t then refuse s EBADF else if nat_lt MAX_WRITE (length x) then refuse s EINVAL else write_kept s x e) writes
-    ∙ ap (λ t. if t then refuse s EINVAL else write_kept s x e) (le-ltb MAX_WRITE (length x) most)
-    ∙ ap (λ t. if t then done s 0 else if nat_eq (readers s.descriptions e.description.pipe) 0 then refuse s EPIPE else write_some s x e (at_once (length x) (room_of e.pipe.queue))) (ne_eqb (length x) 0 (λ n. omega (arith, some, n)))
-    ∙ ap (λ t. if t then refuse s EPIPE else write_some s x e (at_once (length x) (room_of e.pipe.queue))) (eq-eqb (readers s.descriptions e.description.pipe) 0 none)
 
 -- up to 1,048,576 bytes are told that nobody reads, more are refused before
 unread-write : (x : List ℕ) → 0 < length x → length x ≤ 1048576 → (step_of small unread (Write 1 1 x)).reply ≡ Err EPIPE
 unfolding vacant
-unread-write x some most = ap (λ (o : Outcome). (swept o).reply) (no-reader unread x unread-end refl some most refl)
+unread-write x some most = ap (λ (r : Result Outcome Errno). (swept (settle unread r)).reply) (no-reader unread writer 1 x unread-end refl some most refl)
 
 unread-write-long : (x : List ℕ) → 1048576 < length x → (step_of small unread (Write 1 1 x)).reply ≡ Err EINVAL
 unfolding vacant
-unread-write-long x long = ap (λ (o : Outcome). (swept o).reply) (too-long unread x unread-end refl long)
+unread-write-long x long = ap (λ (r : Result Outcome Errno). (swept (settle unread r)).reply) (too-long unread writer 1 x unread-end refl long)
+
+-- Want of memory
+
+-- Spawn may always want it, Pipe and Read where the process lives, the others never
+wanted-spawn : (s : State Queue) (uid gid umask : ℕ) (groups : List ℕ) → may_want_memory s (Spawn uid gid groups umask) ≡ true
+wanted-spawn s uid gid umask groups = refl
+
+wanted-pipe : (s : State Queue) (pid : ℕ) (nonblock : Bool) → may_want_memory s (Pipe pid nonblock) ≡ is_some (process s pid)
+wanted-pipe s pid nonblock = refl
+
+wanted-read : (s : State Queue) (pid fd n : ℕ) → may_want_memory s (Read pid fd n) ≡ is_some (process s pid)
+wanted-read s pid fd n = refl
+
+unwanted-exit : (s : State Queue) (pid : ℕ) → may_want_memory s (Exit pid) ≡ false
+unwanted-exit s pid = refl
+
+unwanted-close : (s : State Queue) (pid fd : ℕ) → may_want_memory s (Close pid fd) ≡ false
+unwanted-close s pid fd = refl
+
+unwanted-write : (s : State Queue) (pid fd : ℕ) (x : List ℕ) → may_want_memory s (Write pid fd x) ≡ false
+unwanted-write s pid fd x = refl

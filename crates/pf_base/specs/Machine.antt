@@ -1,26 +1,36 @@
 -- The lone machine: one namespace with no pool, no frames, and no other namespace. It is a function: every
 -- choice (pid, descriptor, capacity, number of bytes) is fixed.
 
-use Rattle.std.specs.Prelude.{◌≡◌, Bool, true, false, is_some}
+use Rattle.std.specs.Prelude.{◌≡◌, ℕ, Bool, true, false, ◌&&◌, Option, Some, None, is_some, Result}
+use Rattle.pf_base.specs.Refusals.{◌>>=◌}
 use Rattle.pf_base.specs.Limits.{Limits}
 use Rattle.pf_base.specs.Queue.{Queue}
+use Rattle.pf_base.specs.declared.errno.Errno.{Errno}
 use Rattle.pf_base.specs.declared.step.Step.{Step}
 use Rattle.pf_base.specs.declared.step.Step.TheVariants.{Spawn, Exit, Pipe, Close, Read, Write}
 use Rattle.pf_base.specs.declared.step.Answer.{Answer}
 use Rattle.pf_base.specs.declared.step.Answer.TheVariants.{Done, NoMemory}
-use Rattle.pf_base.specs.State.{State, Outcome, process}
-use Rattle.pf_base.specs.Processes.{spawn, exit, close}
-use Rattle.pf_base.specs.Pipes.{pipe, read, write}
+use Rattle.pf_base.specs.State.{State, Outcome, settle, process, living}
+use Rattle.pf_base.specs.Processes.{spawn, exit}
+use Rattle.pf_base.specs.Descriptors.{close}
+use Rattle.pf_base.specs.Pipes.{pipe}
+use Rattle.pf_base.specs.Transfers.{read, write}
 use Rattle.pf_base.specs.Sweep.{sweep}
 
--- what a step does and is told, before the sweep
+-- Steps
+
+-- what a step does and is told, or the first error: ESRCH where no such process lives
+abbrev pub call : Limits → State Queue → Step → Result Outcome Errno
+call c s (Spawn uid gid groups umask) = spawn s (record { uid = uid; gid = gid; groups = groups; umask = umask })
+call c s (Exit pid) = living s pid >>= (λ p. exit s pid)
+call c s (Pipe pid nonblock) = living s pid >>= (λ p. pipe c s pid p nonblock)
+call c s (Close pid fd) = living s pid >>= (λ p. close s pid p fd)
+call c s (Read pid fd n) = living s pid >>= (λ p. read s p fd n)
+call c s (Write pid fd payload) = living s pid >>= (λ p. write s p fd payload)
+
+-- before the sweep
 abbrev pub act : Limits → State Queue → Step → Outcome
-act c s (Spawn uid gid groups umask) = spawn s (record { uid = uid; gid = gid; groups = groups; umask = umask })
-act c s (Exit pid) = exit s pid
-act c s (Pipe pid nonblock) = pipe c s pid nonblock
-act c s (Close pid fd) = close s pid fd
-act c s (Read pid fd n) = read s pid fd n
-act c s (Write pid fd payload) = write s pid fd payload
+act c s step = settle s (call c s step)
 
 -- what nobody can reach any more goes
 abbrev pub swept : Outcome → Outcome
@@ -30,16 +40,42 @@ swept o = record { state = sweep o.state; reply = o.reply }
 abbrev pub step_of : Limits → State Queue → Step → Outcome
 step_of c s step = swept (act c s step)
 
+-- Answers
+
 -- an answer is the machine's, or memory was wanted and the state stays
 abbrev pub Answers : Limits → Answer → State Queue → Step → State Queue → Type 0
 Answers c (Done reply) old step new = record { state = new; reply = reply } ≡ step_of c old step
 Answers c NoMemory old step new = new ≡ old
 
--- whether a step of this kind, in this state, may want memory: a process or a pipe is to be made, or bytes are to be handed out
-abbrev pub may_want_memory : {Q : Type 0} → State Q → Step → Bool
-may_want_memory s (Spawn uid gid groups umask) = true
-may_want_memory s (Exit pid) = false
-may_want_memory s (Pipe pid nonblock) = is_some (process s pid)
-may_want_memory s (Close pid fd) = false
-may_want_memory s (Read pid fd n) = is_some (process s pid)
-may_want_memory s (Write pid fd payload) = false
+-- Want of memory
+
+-- the process that makes a step; nobody makes a Spawn
+abbrev pub pid_of : Step → Option ℕ
+pid_of (Spawn uid gid groups umask) = None
+pid_of (Exit pid) = Some pid
+pid_of (Pipe pid nonblock) = Some pid
+pid_of (Close pid fd) = Some pid
+pid_of (Read pid fd n) = Some pid
+pid_of (Write pid fd payload) = Some pid
+
+-- whether steps of a kind make a process or a pipe, or hand out bytes
+abbrev pub takes_memory : Step → Bool
+takes_memory (Spawn uid gid groups umask) = true
+takes_memory (Exit pid) = false
+takes_memory (Pipe pid nonblock) = true
+takes_memory (Close pid fd) = false
+takes_memory (Read pid fd n) = true
+takes_memory (Write pid fd payload) = false
+
+module _ {Q : Type 0} where
+  -- whether a process lives, where there is to be one
+  abbrev pub lives : State Q → Option ℕ → Bool
+  lives s None = true
+  lives s (Some pid) = is_some (process s pid)
+
+  abbrev pub caller_lives : State Q → Step → Bool
+  caller_lives s step = lives s (pid_of step)
+
+  -- whether a step of this kind, in this state, may want memory
+  abbrev pub may_want_memory : State Q → Step → Bool
+  may_want_memory s step = takes_memory step && caller_lives s step

@@ -63,7 +63,8 @@ topped_up (s ∷ t ∷ ss) x = s ∷ topped_up (t ∷ ss) x
 abbrev pub pieces : ℕ → List ℕ → List Segment
 pieces zero x = []
 pieces (suc n) [] = []
-pieces (suc n) (b ∷ x) = record { bytes = take PAGE_SIZE (b ∷ x); room = PAGE_SIZE - length (b ∷ x) } ∷ pieces n (drop PAGE_SIZE (b ∷ x))
+pieces (suc n) (b ∷ x) =
+    record { bytes = take PAGE_SIZE (b ∷ x); room = PAGE_SIZE - length (b ∷ x) } ∷ pieces n (drop PAGE_SIZE (b ∷ x))
 
 -- a queue with these bytes behind its own, of which it has the room
 abbrev pub put : Queue → List ℕ → Queue
@@ -74,7 +75,9 @@ put q x = record q { segments = topped_up q.segments x ++ pieces (free_of q) (dr
 -- the segments without their first n bytes: emptied ones go, a cut one keeps its rest and its room
 abbrev pub without_front : ℕ → List Segment → List Segment
 without_front n [] = []
-without_front n (s ∷ ss) = if nat_le (length s.bytes) n then without_front (n - length s.bytes) ss else record s { bytes = drop n s.bytes } ∷ ss
+without_front n (s ∷ ss) =
+    if nat_le (length s.bytes) n then without_front (n - length s.bytes) ss
+    else record s { bytes = drop n s.bytes } ∷ ss
 
 -- the first n bytes of a queue, or all if there are fewer
 abbrev pub taken : Queue → ℕ → List ℕ
@@ -91,7 +94,8 @@ abbrev pub copied : ℕ → ℕ → List Segment → List Segment
 copied zero n ss = []
 copied (suc k) zero ss = []
 copied (suc k) (suc n) [] = []
-copied (suc k) (suc n) (s ∷ ss) = record { bytes = take (suc n) s.bytes; room = 0 } ∷ copied k (suc n - length s.bytes) ss
+copied (suc k) (suc n) (s ∷ ss) =
+    record { bytes = take (suc n) s.bytes; room = 0 } ∷ copied k (suc n - length s.bytes) ss
 
 -- how many bytes a tee of n bytes puts
 abbrev pub tee_number : Queue → Queue → ℕ → ℕ

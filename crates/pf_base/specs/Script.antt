@@ -2,7 +2,8 @@
 
 use Rattle.std.specs.Prelude.{ℕ, ◌+◌, ◌≡◌, Bool, true, not, ◌==◌, nat_le, nat_lt, List, [], ◌∷◌, ◌++◌, length, codes, bytes_eq, sum_by, Option, is_some, Result, Ok, Err, if◌then◌else◌}
 use Rattle.std.specs.List.{list_any, position_from}
-use Rattle.pf_base.specs.declared.TheConstants.{MAX_NAMESPACES}
+use Rattle.pf_base.specs.declared.TheConstants.{MAX_NAMESPACES, MAX_FRAMES, MAX_RESERVE}
+use Rattle.pf_base.specs.declared.config.TheConstants.Config.{DEFAULT_SOFT, DEFAULT_HARD, DEFAULT_MAX}
 use Rattle.pf_base.specs.declared.config.ConfigFault.{ConfigFault}
 use Rattle.pf_base.specs.declared.script.Cause.{Cause}
 use Rattle.pf_base.specs.declared.script.Cause.TheVariants as causes
@@ -24,7 +25,7 @@ blank = record { frames = 0; spaces = []; steps = [] }
 
 unfoldable pub pool_with : Draft → List ℕ → Result Draft Cause
 pool_with d frames = do
-  n ← number_at 65536 frames
+  n ← number_at MAX_FRAMES frames
   if n == 0 then Err causes.BadNumber else Ok (record d { frames = n })
 
 -- pool FRAMES
@@ -48,7 +49,7 @@ with_limits d name (Err e) = Err causes.BadNumber
 unfoldable pub with_reserve : Draft → List ℕ → ℕ → Result Draft Cause
 with_reserve d name n =
     if nat_lt d.frames (reserved d.spaces + n) then Err (causes.ReservationsExceed (reserved d.spaces + n) d.frames)
-    else with_limits d name (config_of n 16384 0 1048576)
+    else with_limits d name (config_of n DEFAULT_SOFT DEFAULT_HARD DEFAULT_MAX)
 
 unfoldable pub space_with : Draft → List ℕ → List ℕ → Result Draft Cause
 space_with d name reserve =
@@ -56,7 +57,7 @@ space_with d name reserve =
     else if is_some (place_of name d.spaces) then Err causes.NameTwice
     else if nat_le MAX_NAMESPACES (length d.spaces) then Err causes.TooManyNamespaces
     else do
-      n ← number_at 65536 reserve
+      n ← number_at MAX_RESERVE reserve
       with_reserve d name n
 
 -- space NAME RESERVE

@@ -3,7 +3,8 @@
 
 use Rattle.std.specs.Prelude.{List, Option, nat_lt}
 use Rattle.pf_base.specs.Numbered.{keep}
-use Rattle.pf_base.specs.State.{State, Process, Description, Pipe, names, ends}
+use Rattle.pf_base.specs.State.{State, Process, Description, Pipe}
+use Rattle.pf_base.specs.Counts.{names, ends}
 
 -- the descriptions that some descriptor names
 abbrev pub live_descriptions : List (Option Process) → List (Option Description) → List (Option Description)
@@ -15,8 +16,7 @@ live_pipes ds pipes = keep (λ p. nat_lt 0 (ends ds p)) pipes
 
 -- descriptions that no descriptor names go, then pipes that no description is an end of
 abbrev pub sweep : {Q : Type 0} → State Q → State Q
-sweep s = record {
-  processes = s.processes;
+sweep s = record s {
   descriptions = live_descriptions s.processes s.descriptions;
   pipes = live_pipes (live_descriptions s.processes s.descriptions) s.pipes;
 }

@@ -1,6 +1,8 @@
 ghost use Rattle.std.specs.Prelude.{◌≡◌, ◌≤◌};
 ghost use Rattle.pf_base.specs.Limits.{config_of};
+ghost use Rattle.pf_base.specs.declared.TheConstants.{MAX_RESERVE};
 
+use crate::{LEAST_PIPE_MAX_SIZE, MAX_PIPE_MAX_SIZE, MAX_RESERVE};
 use std::marker::Model;
 use thiserror::Error;
 
@@ -42,15 +44,6 @@ pub enum ConfigFault {
 }
 
 impl Config {
-    /// The largest reservation, in frames.
-    pub const RESERVE_MOST: u32 = 65_536;
-
-    /// The least pipe-max-size, in bytes.
-    pub const MAX_LEAST: u32 = 65_536;
-
-    /// The largest pipe-max-size, in bytes.
-    pub const MAX_MOST: u32 = 268_435_456;
-
     /// pipe-user-pages-soft where nobody says otherwise, in pages.
     pub const DEFAULT_SOFT: u32 = 16_384;
 
@@ -65,10 +58,10 @@ impl Config {
     pub fn new(reserve: u32, soft: u32, hard: u32, max: u32) -> Result<Self, ConfigFault>
         ensures { result ≡ config_of reserve soft hard max }
     {
-        if reserve > Self::RESERVE_MOST {
+        if reserve > MAX_RESERVE {
             return Err(ConfigFault::ReserveTooLarge);
         }
-        if !(max >= Self::MAX_LEAST && max <= Self::MAX_MOST && max.is_power_of_two()) {
+        if !(max >= LEAST_PIPE_MAX_SIZE && max <= MAX_PIPE_MAX_SIZE && max.is_power_of_two()) {
             return Err(ConfigFault::BadMax);
         }
         Ok(Config {
@@ -79,10 +72,10 @@ impl Config {
         })
     }
 
-    /// The reservation, in frames: at most 65,536.
+    /// The reservation, in frames.
     pub fn reserve(self) -> u32
         ensures value { result ≡ self.reserve }
-        ensures most { result ≤ 65536 }
+        ensures most { result ≤ MAX_RESERVE }
     {
         self.reserve
     }

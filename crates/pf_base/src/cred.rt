@@ -2,6 +2,7 @@ ghost use Rattle.std.specs.Prelude.{◌≡◌, nat_eq};
 ghost use Rattle.std.specs.Cmp.Lexicographic.{pointwise, nat_list_eq_equiv};
 ghost use Rattle.std.specs.Cmp.{partial_equiv_from_equiv};
 
+use crate::{MAX_GROUPS, MAX_UMASK};
 use std::marker::Model;
 
 /// Supplementary group ids. A contract sees the list of them.
@@ -19,9 +20,6 @@ impl Model for Groups {
 }
 
 impl Groups {
-    /// The most supplementary groups that a process may have (this profile's limit).
-    pub const MOST: usize = 32;
-
     /// These groups, with no allocation.
     pub fn new(ids: Vec<u32>) -> Self
         ensures { result ≡ ids.items }
@@ -61,13 +59,17 @@ impl Eq for Groups {
 
 /// A process's credentials (POSIX.1-2017, 4.5 "File Access Permissions").
 ///
-/// A value may hold more groups or a larger umask than a process may have: the step that makes a process tests them by `is_valid`.
+/// A value may hold more groups or a larger umask than a process may have: the step that makes a process tests them
+/// by `is_valid`.
 #[derive(Debug, PartialEq, Eq, Drop)]
 pub struct Cred {
+    /// The user id.
     pub uid: u32,
+    /// The group id.
     pub gid: u32,
+    /// The supplementary group ids, at most `MAX_GROUPS`.
     pub groups: Groups,
-    /// The file mode creation mask, at most 0777.
+    /// The file mode creation mask (umask(2)), at most `MAX_UMASK`.
     pub umask: u32,
 }
 
@@ -75,13 +77,18 @@ impl Cred {
     ghost use Rattle.std.specs.Prelude.{◌≡◌};
     ghost use Rattle.pf_base.specs.Credentials.{is_valid};
 
-    /// The largest umask.
-    pub const UMASK_MOST: u32 = 0o777;
+    /// Whether a process may have these groups and this umask: permission bits alone, and not too many groups. A Spawn
+    /// with others is refused with EINVAL. Neither the uid nor the gid is judged.
+    pub fn may_have(groups: &Groups, umask: u32) -> bool
+        ensures { result ≡ is_valid (record { uid = 0; gid = 0; groups = groups.now; umask = umask }) }
+    {
+        umask <= MAX_UMASK && groups.as_slice().len() <= MAX_GROUPS
+    }
 
-    /// Whether a process may have these credentials: a umask of at most 0777 and at most 32 supplementary groups.
+    /// Whether a process may have these credentials.
     pub fn is_valid(&self) -> bool
         ensures { result ≡ is_valid self.now }
     {
-        self.umask <= Self::UMASK_MOST && self.groups.as_slice().len() <= Groups::MOST
+        Cred::may_have(&self.groups, self.umask)
     }
 }

@@ -5,6 +5,11 @@ pub mod bytes;
 pub mod config;
 pub mod cred;
 pub mod errno;
+pub mod fault;
+pub mod laws;
+pub mod meta;
+pub mod permissions;
+pub mod progress;
 pub mod script;
 pub mod step;
 
@@ -12,6 +17,10 @@ pub use bytes::ByteString;
 pub use config::{Config, ConfigFault};
 pub use cred::{Cred, Groups};
 pub use errno::Errno;
+pub use fault::Fault;
+pub use meta::{File, Kind, Meta, Mode};
+pub use permissions::{Class, Want, may};
+pub use progress::{Progress, Side};
 pub use script::{Cause, Refusal};
 pub use step::{Answer, Reply, Step};
 
@@ -21,14 +30,32 @@ pub const PAGE_SIZE: usize = 4096;
 /// A write of at most this many bytes is whole (pipe(7), "PIPE_BUF").
 pub const PIPE_BUF: usize = 4096;
 
+/// How many namespaces there may be at once (this profile's limit).
+pub const MAX_NAMESPACES: usize = 64;
+
+/// How many frames a pool may have (this profile's limit).
+pub const MAX_FRAMES: usize = 65_536;
+
+/// The largest reservation of a namespace, in frames (this profile's limit).
+pub const MAX_RESERVE: u32 = 65_536;
+
+/// The least pipe-max-size, in bytes (this profile's limit).
+pub const LEAST_PIPE_MAX_SIZE: u32 = 65_536;
+
+/// The largest pipe-max-size, in bytes (this profile's limit).
+pub const MAX_PIPE_MAX_SIZE: u32 = 268_435_456;
+
 /// How many processes a namespace may have at once (this profile's limit): pids are 1 to 256.
 pub const MAX_PROCESSES: usize = 256;
 
 /// How many descriptors a process may have at once (this profile's limit): 0 to 255.
 pub const MAX_DESCRIPTORS: usize = 256;
 
-/// How many namespaces there may be at once (this profile's limit).
-pub const MAX_NAMESPACES: usize = 64;
+/// How many supplementary groups a process may have (this profile's limit).
+pub const MAX_GROUPS: usize = 32;
+
+/// The largest umask: the nine permission bits (POSIX.1-2017, umask()).
+pub const MAX_UMASK: u32 = 0o777;
 
 /// The longest write in bytes (this profile's limit).
 pub const MAX_WRITE: usize = 1_048_576;

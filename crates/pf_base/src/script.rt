@@ -59,7 +59,9 @@ pub enum Cause {
 #[derive(Clone, Copy, Debug, PartialEq, Eq, Error)]
 #[error("line {line}: {cause}")]
 pub struct Refusal {
+    /// The line's number, the first is 1.
     pub line: u64,
+    /// What is wrong with it.
     pub cause: Cause,
 }
 

@@ -1,4 +1,5 @@
 use super::*;
+use std::alloc::AllocError;
 use std::test::Fail;
 
 #[test]
@@ -93,4 +94,24 @@ fn answers_compare_by_value(rt: HostRuntime) -> Result<(), Fail> {
     assert!(rt; Answer::Done(Reply::Err(Errno::EPIPE)) != Answer::NoMemory);
     assert!(rt; Step::Exit { pid: 1 } != Step::Exit { pid: 2 });
     Ok(())
+}
+
+#[test]
+fn faults_come_by_themselves(rt: HostRuntime) {
+    fn refused() -> Result<(), Fault> {
+        Err(Errno::EPIPE)?
+    }
+    fn wanting(wanted: Result<(), AllocError>) -> Result<(), Fault> {
+        Ok(wanted?)
+    }
+    assert_eq!(rt; refused(), Err(Fault::Errno(Errno::EPIPE)));
+    assert_eq!(rt; wanting(Err(AllocError)), Err(Fault::NoMemory));
+    assert!(rt; Fault::Errno(Errno::ENOMEM) != Fault::NoMemory);
+}
+
+#[test]
+fn progress_compares_by_value(rt: HostRuntime) {
+    assert!(rt; Progress::Moved(0) != Progress::WouldBlock);
+    assert_eq!(rt; Progress::Moved(3), Progress::Moved(3));
+    assert!(rt; Side::Read != Side::Write);
 }

@@ -10,7 +10,7 @@ use Rattle.pf_base.specs.State.{State, opening}
 use Rattle.pf_base.specs.Machine.{Answers}
 use Rattle.pf_base.specs.Runs.{Run, run_of, lone}
 use Rattle.pf_base.specs.Events.{mine, kept, replies, keep_step, keep_reply, IsDone, IsAmple}
-use Rattle.pf_base.specs.RunLaws.{run_of-answered}
+use Rattle.pf_base.proofs.RunLaws.{run_of-answered}
 use Rattle.pf_base.specs.declared.step.Step.{Step}
 use Rattle.pf_base.specs.declared.step.Reply.{Reply}
 use Rattle.pf_base.specs.declared.step.Answer.{Answer}

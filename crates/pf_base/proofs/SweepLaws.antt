@@ -3,8 +3,9 @@
 use Rattle.std.proofs.Common.{◌≡◌, ℕ, ◌+◌, ◌<◌, ◌≤◌, Bool, true, false, ◌&&◌, List, length, Option, Some, None, refl, ap, ◌∙◌, arith, nat_eq, nat_lt, if◌then◌else◌}
 use Rattle.std.proofs.lemmas.Bool.Decides.{nat_tests}
 use Rattle.pf_base.specs.Numbered.{at, keep, one_if}
-use Rattle.pf_base.specs.NumberedLaws.{is_kept, length-keep, at-keep, sum_of-le, sum_of-le-two, sum_of-keep}
-use Rattle.pf_base.specs.State.{State, Process, Description, Pipe, names, ends, readers, writers}
+use Rattle.pf_base.proofs.NumberedLaws.{is_kept, length-keep, at-keep, sum_of-le, sum_of-le-two, sum_of-keep}
+use Rattle.pf_base.specs.State.{State, Process, Description, Pipe}
+use Rattle.pf_base.specs.Counts.{names, ends, readers, writers}
 use Rattle.pf_base.specs.Sweep.{live_descriptions, live_pipes, sweep}
 
 -- Ends
@@ -22,19 +23,21 @@ side-le-end true true = omega arith
 side-le-end true false = omega arith
 side-le-end false side = omega arith
 
--- a pipe that nobody reads or writes has no end
-pub ends-le-sides : (ds : List (Option Description)) (p : ℕ) → IsSided ds → ends ds p ≤ readers ds p + writers ds p
-ends-le-sides ds p sided =
-    sum_of-le-two (λ d. one_if (nat_eq d.pipe p)) (λ d. one_if (nat_eq d.pipe p && d.reads)) (λ d. one_if (nat_eq d.pipe p && d.writes)) ds (λ n d e. end-le-sides (nat_eq d.pipe p) d.reads d.writes (sided n d e))
+module _ {Q : Type 0} (s : State Q) (p : ℕ) where
+  -- a pipe that nobody reads or writes has no end
+  pub ends-le-sides : IsSided s.descriptions → ends s.descriptions p ≤ readers s p + writers s p
+  ends-le-sides sided =
+      sum_of-le-two (λ d. one_if (nat_eq d.pipe p)) (λ d. one_if (nat_eq d.pipe p && d.reads)) (λ d. one_if (nat_eq d.pipe p && d.writes)) s.descriptions
+      (λ n d e. end-le-sides (nat_eq d.pipe p) d.reads d.writes (sided n d e))
 
--- who reads or writes a pipe is an end of it
-pub readers-le-ends : (ds : List (Option Description)) (p : ℕ) → readers ds p ≤ ends ds p
-readers-le-ends ds p =
-    sum_of-le (λ d. one_if (nat_eq d.pipe p && d.reads)) (λ d. one_if (nat_eq d.pipe p)) ds (λ n d e. side-le-end (nat_eq d.pipe p) d.reads)
+  -- who reads or writes a pipe is an end of it
+  pub readers-le-ends : readers s p ≤ ends s.descriptions p
+  readers-le-ends =
+      sum_of-le (λ d. one_if (nat_eq d.pipe p && d.reads)) (λ d. one_if (nat_eq d.pipe p)) s.descriptions (λ n d e. side-le-end (nat_eq d.pipe p) d.reads)
 
-pub writers-le-ends : (ds : List (Option Description)) (p : ℕ) → writers ds p ≤ ends ds p
-writers-le-ends ds p =
-    sum_of-le (λ d. one_if (nat_eq d.pipe p && d.writes)) (λ d. one_if (nat_eq d.pipe p)) ds (λ n d e. side-le-end (nat_eq d.pipe p) d.writes)
+  pub writers-le-ends : writers s p ≤ ends s.descriptions p
+  writers-le-ends =
+      sum_of-le (λ d. one_if (nat_eq d.pipe p && d.writes)) (λ d. one_if (nat_eq d.pipe p)) s.descriptions (λ n d e. side-le-end (nat_eq d.pipe p) d.writes)
 
 -- The sweep
 
@@ -70,7 +73,7 @@ module _ {Q : Type 0} where
       → length ds ≡ length s.descriptions → length pipes ≡ length s.pipes
       → ((k : ℕ) → 0 < names ps k → at ds k ≡ at s.descriptions k) → ((k : ℕ) (d : Description) → at ds k ≡ Some d → 0 < names ps k)
       → ((k : ℕ) → 0 < ends ds k → at pipes k ≡ at s.pipes k) → ((k : ℕ) (p : Pipe Q) → at pipes k ≡ Some p → 0 < ends ds k)
-      → record { processes = ps; descriptions = ds; pipes = pipes } ≡ sweep (with_processes s ps)
+      → record s { processes = ps; descriptions = ds; pipes = pipes } ≡ sweep (with_processes s ps)
   swept s ps ds pipes e f stay named keeps used =
       let first : ds ≡ live_descriptions ps s.descriptions =
       is_kept (λ n. nat_lt 0 (names ps n)) s.descriptions ds e (λ k t. stay k (positive _ t)) (λ k t. goes (at ds k) (names ps k) (named k) t) in
@@ -78,7 +81,7 @@ module _ {Q : Type 0} where
       is_kept (λ p. nat_lt 0 (ends ds p)) s.pipes pipes f (λ k t. keeps k (positive _ t)) (λ k t. goes (at pipes k) (ends ds k) (used k) t) in
       joined ds pipes first second
     where
-      joined : (xs : List (Option Description)) (ys : List (Option (Pipe Q))) → xs ≡ live_descriptions ps s.descriptions → ys ≡ live_pipes xs s.pipes → ◌≡◌ {A = State Q} (record { processes = ps; descriptions = xs; pipes = ys }) (sweep (with_processes s ps))
+      joined : (xs : List (Option Description)) (ys : List (Option (Pipe Q))) → xs ≡ live_descriptions ps s.descriptions → ys ≡ live_pipes xs s.pipes → ◌≡◌ {A = State Q} (record s { processes = ps; descriptions = xs; pipes = ys }) (sweep (with_processes s ps))
       joined xs ys p q = cc
 
   -- a state in which all that stands is named is swept
@@ -94,5 +97,5 @@ module _ {Q : Type 0} where
       fewer (ends (live_descriptions ps between)) (ends between) s.pipes (λ k. sum_of-keep (λ d. one_if (nat_eq d.pipe k)) (λ n. nat_lt 0 (names ps n)) between) in
       joined (live_descriptions ps between) _ first second
     where
-      joined : (xs : List (Option Description)) (ys : List (Option (Pipe Q))) → xs ≡ live_descriptions ps s.descriptions → ys ≡ live_pipes xs s.pipes → ◌≡◌ {A = State Q} (record { processes = ps; descriptions = xs; pipes = ys }) (sweep (with_processes s ps))
+      joined : (xs : List (Option Description)) (ys : List (Option (Pipe Q))) → xs ≡ live_descriptions ps s.descriptions → ys ≡ live_pipes xs s.pipes → ◌≡◌ {A = State Q} (record s { processes = ps; descriptions = xs; pipes = ys }) (sweep (with_processes s ps))
       joined xs ys p q = cc

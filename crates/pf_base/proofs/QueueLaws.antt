@@ -1,14 +1,14 @@
 -- Laws of queues: what put, take, tee and a new capacity do to the bytes, the segments and the room.
 
-use Rattle.std.proofs.Common.{ℕ, zero, suc, ◌+◌, ◌-◌, ◌*◌, ◌<◌, ◌≤◌, min, ◌≡◌, true, false, List, [], ◌∷◌, ◌++◌, length, take, drop, refl, ap, sym, ◌∙◌, subst, ◌⊎◌, inl, inr, ⊎_elim, arith, append-nil, append_assoc, length-append, length-take, length-drop}
+use Rattle.std.proofs.Common.{ℕ, zero, suc, ◌+◌, ◌-◌, ◌*◌, ◌<◌, ◌≤◌, ◌≡◌, Bool, true, false, List, [], ◌∷◌, ◌++◌, length, take, drop, refl, ap, sym, ◌∙◌, subst, ◌⊎◌, inl, inr, ⊎_elim, arith, append-nil, append_assoc, length-append, length-take, length-drop}
 use Rattle.std.proofs.lemmas.Bool.{leb-true, leb-false, le-leb, lt-leb, cases_lt}
 use Rattle.std.proofs.lemmas.List.{take-append-drop, take_all, take-append-le, drop_all, drop-append-le, nil_from_length}
 use Rattle.std.proofs.lemmas.List.Elements.{All-nil, All-cons, All-head, All-tail, All-append}
 use Rattle.std.proofs.Math.Seq.{drop-append-add, take-append-add}
 use Rattle.std.specs.Prelude.{All, nat_le, if◌then◌else◌}
 use Rattle.pf_base.specs.Queue.{Segment, Queue, IsSegment, IsQueue, joined, bytes_of, free_of, last_room, room_of, topped_up, pieces, put, without_front, taken, after_take, copied, tee_number, after_tee, after_splice, with_capacity}
-use Rattle.pf_base.specs.Pipes.{at_once}
-use Rattle.pf_base.specs.declared.TheConstants.{PAGE_SIZE, PIPE_BUF}
+use Rattle.pf_base.specs.Progress.{portion}
+use Rattle.pf_base.specs.declared.TheConstants.{PAGE_SIZE}
 
 -- Segments in a row
 
@@ -341,41 +341,28 @@ IsQueue-with_capacity slots q is fits = record { each = is.each; slots = fits }
 -- What goes in at once
 
 -- what fits goes whole
-pub at_once-fits : (n room : ℕ) → n ≤ room → at_once n room ≡ n
-at_once-fits n room fits =
-    elim (nat_le n PIPE_BUF) as (λ t. (if t then (if nat_le n room then n else 0) else min n room) ≡ n) [
-      | true ↦ ap (λ t. if t then n else 0) (le-leb n room fits)
-      | false ↦ omega (arith, fits)
-    ]
+pub portion-fits : (whole : Bool) (n room : ℕ) → n ≤ room → portion whole n room ≡ n
+portion-fits true n room fits = ap (λ t. if t then n else 0) (le-leb n room fits)
+portion-fits false n room fits = omega (arith, fits)
 
--- at most PIPE_BUF bytes that don't fit don't go at all
-pub at_once-short : (n room : ℕ) → n ≤ PIPE_BUF → room < n → at_once n room ≡ 0
-at_once-short n room small short =
-    ap (λ t. if t then (if nat_le n room then n else 0) else min n room) (le-leb n PIPE_BUF small)
-    ∙ ap (λ t. if t then n else 0) (lt-leb n room short)
+-- bytes that are to stay whole and don't fit don't go at all
+pub portion-short : (n room : ℕ) → room < n → portion true n room ≡ 0
+portion-short n room short = ap (λ t. if t then n else 0) (lt-leb n room short)
 
--- of more bytes goes what fits
-pub at_once-long : (n room : ℕ) → PIPE_BUF < n → at_once n room ≡ min n room
-at_once-long n room long = ap (λ t. if t then (if nat_le n room then n else 0) else min n room) (lt-leb n PIPE_BUF long)
+-- all or none where they are to stay whole
+pub portion-whole : (n room : ℕ) → (portion true n room ≡ n) ⊎ (portion true n room ≡ 0)
+portion-whole n room =
+    ⊎_elim (λ short. inr (portion-short n room short)) (λ fits. inl (portion-fits true n room fits)) (cases_lt room n)
 
--- at most PIPE_BUF bytes go whole or not at all
-pub at_once-whole : (n room : ℕ) → n ≤ PIPE_BUF → (at_once n room ≡ n) ⊎ (at_once n room ≡ 0)
-at_once-whole n room small =
-    ⊎_elim (λ short. inr (at_once-short n room small short)) (λ fits. inl (at_once-fits n room fits)) (cases_lt room n)
+pub portion-le_room : (whole : Bool) (n room : ℕ) → portion whole n room ≤ room
+portion-le_room true n room =
+    ⊎_elim (λ short. omega (arith, portion-short n room short)) (λ fits. omega (arith, fits, portion-fits true n room fits)) (cases_lt room n)
+portion-le_room false n room = omega arith
 
-pub at_once-le_room : (n room : ℕ) → at_once n room ≤ room
-at_once-le_room n room =
-    ⊎_elim
-    (λ long. omega (arith, at_once-long n room long))
-    (λ small. ⊎_elim (λ short. omega (arith, at_once-short n room small short)) (λ fits. omega (arith, fits, at_once-fits n room fits)) (cases_lt room n))
-    (cases_lt PIPE_BUF n)
-
-pub at_once-le : (n room : ℕ) → at_once n room ≤ n
-at_once-le n room =
-    ⊎_elim
-    (λ long. omega (arith, at_once-long n room long))
-    (λ small. ⊎_elim (λ short. omega (arith, at_once-short n room small short)) (λ fits. omega (arith, fits, at_once-fits n room fits)) (cases_lt room n))
-    (cases_lt PIPE_BUF n)
+pub portion-le : (whole : Bool) (n room : ℕ) → portion whole n room ≤ n
+portion-le true n room =
+    ⊎_elim (λ short. omega (arith, portion-short n room short)) (λ fits. omega (arith, fits, portion-fits true n room fits)) (cases_lt room n)
+portion-le false n room = omega arith
 
 -- What segments say of the bytes
 

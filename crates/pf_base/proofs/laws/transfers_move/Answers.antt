@@ -1,0 +1,8 @@
+use Rattle.pf_base.proofs.TransferLaws as laws
+use Rattle.pf_base.proofs.laws.transfers_move.Goals as goal
+
+pub returns : goal.returns
+returns c = record {
+  reads = λ q writers n. laws.reads q n writers;
+  writes = λ q readers whole x. laws.writes q whole x readers;
+}
