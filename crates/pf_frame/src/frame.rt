@@ -15,17 +15,19 @@ pub struct Frame {
 }
 
 impl Frame {
+    ghost use Rattle.pf_frame.specs.Pages.{page_of};
+
     /// A frame of these bytes, with no allocation.
     pub fn new(bytes: Vec<u8>) -> Frame
         requires { length bytes.items ≡ PAGE_SIZE }
-        ensures { result.bytes.items ≡ bytes.items }
+        ensures { page_of result ≡ bytes.items }
     {
         Frame { bytes }
     }
 
     /// A frame that holds one byte throughout.
     pub fn filled(alloc: Global, byte: u8) -> Result<Frame, AllocError>
-        ensures { IfOk result (λ frame. frame.bytes.items ≡ replicate PAGE_SIZE byte) }
+        ensures { IfOk result (λ frame. page_of frame ≡ replicate PAGE_SIZE byte) }
     {
         let bytes = Vec::from_elem(alloc, byte, PAGE_SIZE)?;
         Ok(Frame { bytes })
@@ -34,7 +36,7 @@ impl Frame {
     /// Sets bytes from the place `at` on.
     pub fn fill(&mut self, at: usize, bytes: &[u8])
         requires { at + length bytes.now ≤ PAGE_SIZE }
-        ensures { self.new.bytes.items ≡ filled at bytes.now self.old.bytes.items }
+        ensures { page_of self.new ≡ filled at bytes.now (page_of self.old) }
     {
         self.bytes[at..at + bytes.len()].copy_from_slice(bytes);
     }
@@ -42,7 +44,7 @@ impl Frame {
     /// `len` bytes from the place `from` on.
     pub fn view(&self, from: usize, len: usize) -> &[u8]
         requires { from + len ≤ PAGE_SIZE }
-        ensures { result.now ≡ take len (drop from self.now.bytes.items) }
+        ensures { result.now ≡ take len (drop from (page_of self.now)) }
     {
         &self.bytes[from..from + len]
     }

@@ -42,7 +42,10 @@ impl FramePool {
         frames: Vec<Frame>,
         reserves: Vec<u32>,
     ) -> Result<FramePool, PoolFault>
-        ensures { MatchResult result (λ pool. (fault_of (length frames.items) reserves.items ≡ None) × IsFresh pool (length frames.items) reserves.items) (λ fault. IsFault (fault_of (length frames.items) reserves.items) fault) }
+        ensures { MatchResult result
+            (λ pool. (fault_of (length frames.items) reserves.items ≡ None)
+            × IsFresh pool (length frames.items) reserves.items)
+            (λ fault. IsFault (fault_of (length frames.items) reserves.items) fault) }
     {
         if reserves.len() > MAX_NAMESPACES {
             return Err(PoolFault::TooManyNamespaces);
@@ -115,7 +118,8 @@ impl FramePool {
 
     /// How many slots name a frame, 0 where it is not live.
     pub fn count(&self, no: FrameNo) -> u32
-        ensures live { (ns : ℕ) → 0 < (pool_live self.now ns).count no → result ≡ (pool_live self.now ns).count no }
+        ensures live { (ns : ℕ) → 0 < (pool_live self.now ns).count no
+            → result ≡ (pool_live self.now ns).count no }
         ensures idle { ((ns : ℕ) → (pool_live self.now ns).count no ≡ 0) → result ≡ 0 }
     {
         self.table.count(no)
@@ -155,24 +159,22 @@ impl FramePool {
         }
     }
 
-    /// Sets bytes of a namespace's frame.
+    /// Sets bytes of a namespace's frame. That it is that namespace's is for the contract alone to say.
     pub(crate) fn fill_of(&mut self, ns: u32, no: FrameNo, at: usize, bytes: &[u8])
         requires is_live { 0 < (pool_live self.old ns).count no }
         requires within { at + length bytes.now ≤ PAGE_SIZE }
         ensures fills { Fills (pool_live self.old ns) (pool_live self.new ns) no at bytes.now }
         ensures rest { pool_rest self.new ns ≡ pool_rest self.old ns }
     {
-        let _ns = ns;
         self.table.fill(no, at, bytes);
     }
 
-    /// Bytes of a namespace's frame.
+    /// Bytes of a namespace's frame. That it is that namespace's is for the contract alone to say.
     pub(crate) fn view_of(&self, ns: u32, no: FrameNo, from: usize, len: usize) -> &[u8]
         requires is_live { 0 < (pool_live self.now ns).count no }
         requires within { from + len ≤ PAGE_SIZE }
         ensures { result.now ≡ take len (drop from ((pool_live self.now ns).bytes no)) }
     {
-        let _ns = ns;
         self.table.view(no, from, len)
     }
 }
