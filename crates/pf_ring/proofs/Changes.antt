@@ -1,8 +1,9 @@
 -- What each step of a ring's calls does to the windows and the frames.
 
-use Rattle.std.proofs.Common.{◌≡◌, ℕ, ◌+◌, ◌-◌, ◌<◌, ◌≤◌, min, Bool, true, false, List, [], ◌∷◌, ◌++◌, length, take, drop, set, get_or, map, if◌then◌else◌, refl, sym, ◌∙◌, ap, subst, inl, inr, arith}
+use Rattle.std.proofs.Common.{◌≡◌, ℕ, ◌+◌, ◌-◌, ◌<◌, ◌≤◌, ◌==◌, ◌&&◌, min, Bool, true, false, List, [], ◌∷◌, ◌++◌, length, take, drop, set, get_or, map, if◌then◌else◌, refl, sym, ◌∙◌, ap, subst, inl, inr, arith}
 use Rattle.std.proofs.lemmas.Bool.{cases_eq}
 use Rattle.std.proofs.lemmas.Bool.Decides.{nat_tests}
+use Rattle.std.proofs.lemmas.Slice.{drop-append-drop}
 use Rattle.std.proofs.lemmas.List.{map-append, take-take, take-append-le, take_all, take_more, take_more_set, length-take, length-append, length-set}
 use Rattle.pf_base.specs.declared.TheConstants.{PAGE_SIZE}
 use Rattle.pf_base.specs.Queue.{last_room}
@@ -10,8 +11,9 @@ use Rattle.pf_frame.specs.Live.{Live, IsSound, Takes, Fills}
 use Rattle.pf_ring.specs.declared.ring.Window.{Window}
 use Rattle.pf_ring.specs.Ring.{segment_of}
 use Rattle.pf_ring.proofs.Queues.{last_room_push}
-use Rattle.pf_ring.specs.Windows.{named, reach, opens, limit, NoEmpty, Stands, Keeps, Drops}
-use Rattle.pf_ring.specs.WindowLaws.{named-append, opens-append, reach-append, limit-append, limit_le, opens_le_named, reach_unnamed, limit_closed, NoEmpty-append, reach_here}
+use Rattle.pf_ring.specs.Steps.{Puts}
+use Rattle.pf_ring.specs.Windows.{named, reach, opens, limit, last_grows, NoEmpty, Stands, Keeps, PutsBehind, Drops}
+use Rattle.pf_ring.specs.WindowLaws.{named-append, opens-append, reach-append, limit-append, limit_le, opens_le_named, reach_unnamed, limit_closed, NoEmpty-append, bytes_in-append, reach_here, behind_nothing, drops_keep, drops_nothing}
 
 -- a window alone, by whether it is on the frame q
 pub own : (q : ℕ) (w : Window) → w.frame ≡ q → (named q (w ∷ []) ≡ 1) × (reach q (w ∷ []) ≡ w.from + w.len)
@@ -36,7 +38,7 @@ abbrev pub fresh : ℕ → ℕ → Window
 fresh frame n = record { frame = frame; from = 0; len = n; grows = true }
 
 -- a fresh frame with bytes, named by one more window at the end
-pub piece_keeps : (f g h : Live) (ws : List Window) (frame n : ℕ) (xs : List ℕ) → Stands f ws → Takes f g frame → Fills g h frame 0 xs → length xs ≡ n → 0 < n → n ≤ PAGE_SIZE
+piece_keeps : (f g h : Live) (ws : List Window) (frame n : ℕ) (xs : List ℕ) → Stands f ws → Takes f g frame → Fills g h frame 0 xs → length xs ≡ n → 0 < n → n ≤ PAGE_SIZE
     → Keeps [] ws (ws ++ fresh frame n ∷ []) f h
 piece_keeps f g h ws frame n xs s t u e some fits =
     let w : Window = fresh frame n in
@@ -95,12 +97,16 @@ take_filled m at old xs ys h l =
     let both : m ≤ length (take at old ++ xs) = omega (arith, length-append (take at old) xs) in
     take-append-le m (take at old ++ xs) ys both ∙ (take-append-le m (take at old) xs front ∙ take-take m at old h)
 
+-- and behind it
+pub drop_filled : (m at : ℕ) (old xs : List ℕ) → at ≤ length old → at + length xs ≤ m → drop m ((take at old ++ xs) ++ drop (at + length xs) old) ≡ drop m old
+drop_filled m at old xs l h = drop-append-drop (at + length xs) old (take at old ++ xs) m h (omega (arith, length-append (take at old) xs, length-take at old))
+
 -- a window that shows n more bytes
 abbrev pub longer : Window → ℕ → Window
 longer w n = record { frame = w.frame; from = w.from; len = w.len + n; grows = w.grows }
 
 -- the last window grows, and bytes are filled in behind it
-pub topped_keeps : (f g : Live) (front : List Window) (w : Window) (n : ℕ) (xs : List ℕ) → IsSound f → Stands f (front ++ w ∷ []) → w.grows ≡ true → Fills f g w.frame (w.from + w.len) xs
+topped_keeps : (f g : Live) (front : List Window) (w : Window) (n : ℕ) (xs : List ℕ) → IsSound f → Stands f (front ++ w ∷ []) → w.grows ≡ true → Fills f g w.frame (w.from + w.len) xs
     → w.from + w.len + n ≤ PAGE_SIZE → Keeps [] (front ++ w ∷ []) (front ++ longer w n ∷ []) f g
 topped_keeps f g front w n xs sound s grows u fits =
     let old : List Window = w ∷ [] in
@@ -150,6 +156,68 @@ topped_keeps f g front w n xs sound s grows u fits =
       some = NoEmpty-append front new (NoEmpty_front front old s.some) (omega (arith, (NoEmpty_end front old s.some).0), tt);
     }
 
+last_grows_push : (q : ℕ) (front : List Window) (w : Window) → last_grows q (front ++ w ∷ []) ≡ w.grows && (w.frame == q)
+last_grows_push q [] w = refl
+last_grows_push q (a ∷ []) w = refl
+last_grows_push q (a ∷ b ∷ front) w = last_grows_push q (b ∷ front) w
+
+grows_on : (b : Bool) (n q : ℕ) → n ≡ q → b ≡ true → b && (n == q) ≡ false → ⊥
+grows_on b n q e t f = grind (arith, nat_tests)
+
+-- and no byte is changed but those
+topped_behind : (f g : Live) (front : List Window) (w : Window) (n : ℕ) (xs : List ℕ) → IsSound f → Stands f (front ++ w ∷ []) → w.grows ≡ true → Fills f g w.frame (w.from + w.len) xs
+    → w.from + w.len ≤ PAGE_SIZE → length xs ≤ n → PutsBehind (front ++ w ∷ []) n f g
+topped_behind f g front w n xs sound s grows u ends least = record {
+  others = λ q a h. elim (cases_eq q w.frame) [
+    | inl d ↦ absurd (grows_on w.grows w.frame q (sym d) grows (sym (last_grows_push q front w) ∙ h))
+    | inr d ↦ u.bytes q d a
+  ];
+  behind = λ q a. elim (cases_eq q w.frame) [
+    | inl d ↦ let filled : g.bytes q ≡ (take (w.from + w.len) (f.bytes q) ++ xs) ++ drop (w.from + w.len + length xs) (f.bytes q) =
+        subst (λ (k : ℕ). g.bytes k ≡ (take (w.from + w.len) (f.bytes k) ++ xs) ++ drop (w.from + w.len + length xs) (f.bytes k)) (sym d) u.filled in
+        let last : w.from + w.len ≤ limit q (front ++ w ∷ []) = omega (arith, reach-append q front (w ∷ []), own q w (sym d), s.apart q) in
+        ap (drop (limit q (front ++ w ∷ []) + n)) filled ∙ drop_filled _ _ (f.bytes q) xs (omega (arith, sound.whole q a)) (omega (arith, last, least))
+    | inr d ↦ ap (drop (limit q (front ++ w ∷ []) + n)) (u.bytes q d a)
+  ];
+}
+
+pub topped_puts : (f g : Live) (front : List Window) (w : Window) (n : ℕ) (xs : List ℕ) → IsSound f → Stands f (front ++ w ∷ []) → w.grows ≡ true → Fills f g w.frame (w.from + w.len) xs
+    → w.from + w.len + n ≤ PAGE_SIZE → length xs ≡ n → Puts (front ++ w ∷ []) (front ++ w ∷ []) (front ++ longer w n ∷ []) n f g
+topped_puts f g front w n xs sound s grows u fits size = record {
+  keeps = topped_keeps f g front w n xs sound s grows u fits;
+  puts_behind = topped_behind f g front w n xs sound s grows u (omega (arith, fits)) (omega (arith, size));
+  more = λ q. omega (arith, u.counts q);
+  takes = omega (arith, u.held, length-append front (w ∷ []), length-append front (longer w n ∷ []));
+  bytes = omega (arith, bytes_in-append front (w ∷ []), bytes_in-append front (longer w n ∷ []));
+}
+
+-- nothing is put
+pub puts_nothing : (f : Live) (ws : List Window) → Stands f ws → Puts ws ws ws 0 f f
+puts_nothing f ws s = record {
+  keeps = drops_keep f f ws ws s (drops_nothing f ws s.some);
+  puts_behind = behind_nothing f ws;
+  more = λ q. omega arith;
+  takes = refl;
+  bytes = omega arith;
+}
+
+-- a piece of its own
+pub piece_puts : (f g h : Live) (ws : List Window) (frame n : ℕ) (xs : List ℕ) → Stands f ws → Takes f g frame → Fills g h frame 0 xs → length xs ≡ n → 0 < n → n ≤ PAGE_SIZE
+    → Puts [] ws (ws ++ fresh frame n ∷ []) n f h
+piece_puts f g h ws frame n xs s t u e some fits =
+    let other_frame : (q : ℕ) → 0 < f.count q → q ≡ frame → ⊥ = λ q a d. let z : f.count q ≡ 0 = ap f.count d ∙ t.fresh in omega (arith, z, a) in
+    let stay : (q : ℕ) → 0 < f.count q → h.bytes q ≡ f.bytes q = λ q a. u.bytes q (other_frame q a) (omega (arith, t.counts q (other_frame q a), a)) ∙ t.bytes q a in
+    record {
+      keeps = piece_keeps f g h ws frame n xs s t u e some fits;
+      puts_behind = record { others = λ q a l. stay q a; behind = λ q a. ap (drop (limit q [] + n)) (stay q a) };
+      more = λ q. elim (cases_eq q frame) [
+        | inl d ↦ let z : f.count q ≡ 0 = ap f.count d ∙ t.fresh in omega (arith, z)
+        | inr d ↦ omega (arith, t.counts q d, u.counts q)
+      ];
+      takes = omega (arith, t.held, u.held, length-append ws (fresh frame n ∷ []));
+      bytes = omega (arith, bytes_in-append ws (fresh frame n ∷ []));
+    }
+
 -- the first window without its first n bytes
 abbrev pub shorter : Window → ℕ → Window
 shorter w n = record { frame = w.frame; from = w.from + n; len = w.len - n; grows = w.grows }
@@ -167,6 +235,7 @@ cut_drops f w ws n s l = record {
   counts = λ q. refl;
   total = refl;
   contents = λ q a. refl;
+  used = omega arith;
   fewer = λ q. omega arith;
   opened = λ q. omega arith;
   reached = λ q. cut_reach q w ws n l;

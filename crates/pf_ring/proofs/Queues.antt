@@ -2,7 +2,7 @@
 
 use Rattle.std.proofs.Common.{◌≡◌, ℕ, zero, suc, ◌+◌, ◌-◌, ◌<◌, ◌≤◌, min, Bool, List, [], ◌∷◌, ◌++◌, length, take, drop, if◌then◌else◌, refl, sym, ◌∙◌, ap, inl, inr, arith}
 use Rattle.std.proofs.lemmas.Bool.Decides.{leb_tells}
-use Rattle.std.proofs.lemmas.List.{append-nil, take_min, drop-drop, drop-append-le, drop_at, drop_all, length-drop}
+use Rattle.std.proofs.lemmas.List.{append-nil, take_min, drop-drop, length-drop, length-append}
 use Rattle.pf_base.specs.declared.TheConstants.{PAGE_SIZE}
 use Rattle.pf_base.specs.Queue.{Segment, joined, last_room, topped_up, pieces, without_front}
 
@@ -57,14 +57,12 @@ without_more a b (s ∷ ss) = elim (leb_tells (length s.bytes) a) [
   | inr p ↦ ap (without_front b) (without_part a s ss p.1) ∙ without_cut a b s ss p.1
 ]
 
--- the bytes that a take leaves
-pub joined_without : (n : ℕ) (ss : List Segment) → joined (without_front n ss) ≡ drop n (joined ss)
-joined_without n [] = sym (drop_all n [] (omega arith))
-joined_without n (s ∷ ss) = elim (leb_tells (length s.bytes) n) [
-  | inl p ↦ ap joined (without_all n s ss p.1) ∙ (joined_without (n - length s.bytes) ss
-      ∙ sym (ap (λ (k : ℕ). drop k (s.bytes ++ joined ss)) (omega (arith, p.1)) ∙ (sym (drop-drop (n - length s.bytes) (length s.bytes) (s.bytes ++ joined ss)) ∙ ap (drop (n - length s.bytes)) (drop_at s.bytes (joined ss) (length s.bytes) refl))))
-  | inr p ↦ ap joined (without_part n s ss p.1) ∙ sym (drop-append-le n s.bytes (joined ss) (omega (arith, p.1)))
-]
+-- all go where so many might
+pub without_rest : (n : ℕ) (ss : List Segment) → length (joined ss) ≤ n → without_front n ss ≡ []
+without_rest n [] h = refl
+without_rest n (s ∷ ss) h =
+    let size : length (s.bytes ++ joined ss) ≡ length s.bytes + length (joined ss) = length-append s.bytes (joined ss) in
+    without_all n s ss (omega (arith, h, size)) ∙ without_rest (n - length s.bytes) ss (omega (arith, h, size))
 
 -- pieces of some bytes, and of none
 pub pieces_step : (k : ℕ) (x : List ℕ) → 0 < k → 0 < length x → pieces k x ≡ record { bytes = take PAGE_SIZE x; room = PAGE_SIZE - length x } ∷ pieces (k - 1) (drop PAGE_SIZE x)

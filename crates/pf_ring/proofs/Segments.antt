@@ -2,35 +2,17 @@
 
 use Rattle.std.proofs.Common.{◌≡◌, ℕ, ◌+◌, ◌-◌, ◌<◌, ◌≤◌, min, Bool, true, List, [], ◌∷◌, ◌++◌, length, map, take, drop, if◌then◌else◌, refl, sym, ◌∙◌, ap, subst, inl, inr, arith}
 use Rattle.std.proofs.lemmas.Bool.{cases_eq}
-use Rattle.std.proofs.lemmas.Bool.Decides.{nat_tests}
-use Rattle.std.proofs.lemmas.List.{map-append, take-take, take-append-le, take_at, take_min, drop-drop, drop-take, drop-append-le, length-take, length-drop, length-append}
+use Rattle.std.proofs.lemmas.List.{map-append, take_at, take_min, drop-drop, drop-take, drop-append-le, length-take, length-drop, length-append}
 use Rattle.pf_base.specs.declared.TheConstants.{PAGE_SIZE}
-use Rattle.pf_base.specs.Queue.{Segment, joined, last_room, topped_up, without_front}
-use Rattle.pf_frame.specs.Live.{Live, IsSound, Takes, Releases, Fills}
+use Rattle.pf_base.specs.Queue.{Segment, last_room, topped_up, without_front}
+use Rattle.pf_frame.specs.Live.{Live, IsSound, Takes, Fills}
 use Rattle.pf_ring.specs.declared.ring.Window.{Window}
-use Rattle.pf_ring.specs.Ring.{segment_of}
-use Rattle.pf_ring.specs.Windows.{named, reach, Stands}
-use Rattle.pf_ring.specs.WindowLaws.{named-append, reach-append, limit-append, named_tail, segments_stay, segments_same, window_whole, stands_rest}
+use Rattle.pf_ring.specs.Ring.{segment_of, shown}
+use Rattle.pf_ring.specs.Windows.{reach, bytes_in, Stands, Drops}
+use Rattle.pf_ring.specs.Steps.{Cut}
+use Rattle.pf_ring.specs.WindowLaws.{named-append, reach-append, limit-append, segments_stay, segments_same, drops_show, window_whole, stands_rest}
 use Rattle.pf_ring.proofs.Queues.{same_segment, topped_push, without_all, without_part}
-use Rattle.pf_ring.proofs.Changes.{last_room_at, own_open, fresh, longer, shorter, take_filled}
-
-named_own : (q : ℕ) (w : Window) (ws : List Window) → w.frame ≡ q → named q (w ∷ ws) ≡ 1 + named q ws
-named_own q w ws e = grind (arith, nat_tests)
-
--- a window that is left keeps its frame live
-still_live : (f g : Live) (w : Window) (ws : List Window) (q : ℕ) → q ≡ w.frame → Stands f (w ∷ ws) → Releases f g w.frame → 0 < named q ws → 0 < g.count q
-still_live f g w ws q e s r n =
-    let own : named q (w ∷ ws) ≡ 1 + named q ws = named_own q w ws (sym e) in
-    let now : g.count q ≡ g.count w.frame = ap g.count e in
-    let before : f.count q ≡ f.count w.frame = ap f.count e in
-    omega (arith, own, now, before, r.released, s.counted q)
-
--- the first window goes with its count
-pub dropped_segments : (f g : Live) (w : Window) (ws : List Window) → Stands f (w ∷ ws) → Releases f g w.frame → map (segment_of g) ws ≡ map (segment_of f) ws
-dropped_segments f g w ws s r = segments_same f g ws (λ q n. r.bytes q (elim (cases_eq q w.frame) [
-  | inl e ↦ still_live f g w ws q e s r n
-  | inr d ↦ omega (arith, r.counts q d, s.counted q, named_tail q w ws)
-]))
+use Rattle.pf_ring.proofs.Changes.{First, last_room_at, own_open, fresh, longer, shorter, cut_drops, take_filled}
 
 -- a fresh frame with bytes, named by one more window at the end
 pub piece_segments : (f g h : Live) (ws : List Window) (frame n : ℕ) (xs : List ℕ) → Stands f ws → Takes f g frame → Fills g h frame 0 xs → length xs ≡ n
@@ -86,7 +68,7 @@ pub without_none : (f : Live) (ws : List Window) → IsSound f → Stands f ws �
 without_none f [] s t = refl
 without_none f (w ∷ ws) s t = without_part 0 (segment_of f w) (map (segment_of f) ws) (omega (arith, window_whole f w ws s t, t.some.0))
 
-pub cut_segments : (f : Live) (w : Window) (ws : List Window) (n : ℕ) → IsSound f → Stands f (w ∷ ws) → n < w.len → map (segment_of f) (shorter w n ∷ ws) ≡ without_front n (map (segment_of f) (w ∷ ws))
+cut_segments : (f : Live) (w : Window) (ws : List Window) (n : ℕ) → IsSound f → Stands f (w ∷ ws) → n < w.len → map (segment_of f) (shorter w n ∷ ws) ≡ without_front n (map (segment_of f) (w ∷ ws))
 cut_segments f w ws n s t l =
     let whole : w.len ≡ n + (w.len - n) = omega arith in
     let bytes : take (w.len - n) (drop (w.from + n) (f.bytes w.frame)) ≡ drop n (take w.len (drop w.from (f.bytes w.frame))) =
@@ -96,12 +78,18 @@ cut_segments f w ws n s t l =
     same_segment _ _ bytes (ap (λ (k : ℕ). if w.grows then PAGE_SIZE - k else 0) ends) in
     ap (λ (x : Segment). x ∷ map (segment_of f) ws) here ∙ sym (without_part n (segment_of f w) (map (segment_of f) ws) (omega (arith, window_whole f w ws s t)))
 
-pub gone_segments : (f : Live) (w : Window) (ws : List Window) (n : ℕ) → IsSound f → Stands f (w ∷ ws) → n ≡ w.len → map (segment_of f) ws ≡ without_front n (map (segment_of f) (w ∷ ws))
+gone_segments : (f : Live) (w : Window) (ws : List Window) (n : ℕ) → IsSound f → Stands f (w ∷ ws) → n ≡ w.len → map (segment_of f) ws ≡ without_front n (map (segment_of f) (w ∷ ws))
 gone_segments f w ws n s t e =
     let size : length (segment_of f w).bytes ≡ w.len = window_whole f w ws s t in
     sym (without_all n (segment_of f w) (map (segment_of f) ws) (omega arith) ∙ (ap (λ (k : ℕ). without_front k (map (segment_of f) ws)) (omega arith) ∙ without_none f ws s (stands_rest f w ws t)))
 
--- the first bytes of the first window are the first bytes of all
-pub front_bytes : (f : Live) (w : Window) (ws : List Window) (n : ℕ) → IsSound f → Stands f (w ∷ ws) → n ≤ w.len → take n (drop w.from (f.bytes w.frame)) ≡ take n (joined (map (segment_of f) (w ∷ ws)))
-front_bytes f w ws n s t l =
-    sym (take-append-le n (segment_of f w).bytes (joined (map (segment_of f) ws)) (omega (arith, window_whole f w ws s t)) ∙ take-take n w.len (drop w.from (f.bytes w.frame)) l)
+-- the first window loses some of its bytes, or goes with all
+pub cut_first : (f : Live) (w : Window) (ws : List Window) (n : ℕ) → IsSound f → Stands f (w ∷ ws) → n < w.len → Cut (w ∷ ws) (shorter w n ∷ ws) n f f
+cut_first f w ws n s t l = record { drops = cut_drops f w ws n t l; segments = cut_segments f w ws n s t l; bytes = omega (arith, l) }
+
+pub gone_first : (f g : Live) (old new : List Window) (w : Window) (n : ℕ) → IsSound f → Stands f old → First f old w → n ≡ w.len → new ≡ drop 1 old → Drops old new f g → Cut old new n f g
+gone_first f g old new w n s t first e is d = record {
+  drops = d;
+  segments = drops_show f g old new t d ∙ (ap (shown f) is ∙ (gone_segments f w (drop 1 old) n s first.stands e ∙ ap (λ (ws : List Window). without_front n (shown f ws)) (sym first.split)));
+  bytes = let whole : bytes_in old ≡ w.len + bytes_in (drop 1 old) = ap bytes_in first.split in let left : bytes_in new ≡ bytes_in (drop 1 old) = ap bytes_in is in omega (arith, whole, left, e);
+}

@@ -1,4 +1,5 @@
 pub mod Ring
+pub mod Steps
 pub mod Table
 pub mod WindowLaws
 pub mod Windows

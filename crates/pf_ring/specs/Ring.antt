@@ -15,9 +15,13 @@ pub record Ring : Type 0 where
 abbrev pub segment_of : Live → Window → Segment
 segment_of f w = record { bytes = take w.len (drop w.from (f.bytes w.frame)); room = if w.grows then PAGE_SIZE - (w.from + w.len) else 0 }
 
+-- the segments that windows show
+abbrev pub shown : Live → List Window → List Segment
+shown f ws = map (segment_of f) ws
+
 -- the queue that a ring shows
 abbrev pub queue_of : Live → Ring → Queue
-queue_of f r = record { capacity = r.capacity; segments = map (segment_of f) r.windows }
+queue_of f r = record { capacity = r.capacity; segments = shown f r.windows }
 
 -- no slot at all
 abbrev pub no_ring : Ring

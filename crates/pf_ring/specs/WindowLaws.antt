@@ -1,15 +1,15 @@
 -- Laws of windows.
 
-use Rattle.std.proofs.Common.{◌≡◌, ℕ, ◌+◌, ◌*◌, ◌<◌, ◌≤◌, min, max, List, [], ◌∷◌, ◌++◌, length, map, take, drop, refl, sym, ◌∙◌, ap, arith}
-use Rattle.std.proofs.lemmas.List.{take-take, drop-take, length-take, length-drop, length-append}
+use Rattle.std.proofs.Common.{◌≡◌, ℕ, ◌+◌, ◌-◌, ◌*◌, ◌<◌, ◌≤◌, min, max, List, [], ◌∷◌, ◌++◌, length, map, take, drop, refl, sym, ◌∙◌, ap, subst, arith}
+use Rattle.std.proofs.lemmas.List.{take-take, drop-drop, drop-take, length-take, length-drop, length-append}
 use Rattle.std.proofs.lemmas.Bool.Decides.{nat_tests}
 use denote.Struct.Props.{props}
 use Rattle.pf_base.specs.declared.TheConstants.{PAGE_SIZE}
 use Rattle.pf_base.specs.Queue.{Segment, joined}
 use Rattle.pf_frame.specs.Live.{Live, IsSound}
 use Rattle.pf_ring.specs.declared.ring.Window.{Window}
-use Rattle.pf_ring.specs.Ring.{segment_of}
-use Rattle.pf_ring.specs.Windows.{named, reach, opens, limit, NoEmpty, bytes_in, Stands, Keeps, Drops}
+use Rattle.pf_ring.specs.Ring.{segment_of, shown}
+use Rattle.pf_ring.specs.Windows.{named, reach, opens, limit, NoEmpty, bytes_in, Stands, Keeps, PutsBehind, Drops}
 
 pub named-append : (q : ℕ) (xs ys : List Window) → named q (xs ++ ys) ≡ named q xs + named q ys
 named-append q [] ys = omega arith
@@ -120,6 +120,23 @@ keeps_then f g h src old mid new m k l = record {
   some = l.some;
 }
 
+-- a longer rest of two lists whose shorter rests are the same
+drop_further : (m n : ℕ) (xs ys : List ℕ) → m ≤ n → drop m xs ≡ drop m ys → drop n xs ≡ drop n ys
+drop_further m n xs ys h e =
+    let far : m + (n - m) ≡ n = omega (arith, h) in
+    subst (λ (k : ℕ). drop k xs ≡ drop k ys) far (sym (drop-drop (n - m) m xs) ∙ ap (drop (n - m)) e ∙ drop-drop (n - m) m ys)
+
+-- bytes put behind some windows, and then in frames that were not live
+pub behind_nothing : (f : Live) (ws : List Window) → PutsBehind ws 0 f f
+behind_nothing f ws = record { others = λ q a h. refl; behind = λ q a. refl }
+
+pub behind_then : (f g h : Live) (ws : List Window) (m n : ℕ) → PutsBehind ws m f g → ((q : ℕ) → f.count q ≤ g.count q) → PutsBehind [] n g h → PutsBehind ws (m + n) f h
+behind_then f g h ws m n p more r = record {
+  others = λ q a e. r.others q (omega (arith, more q)) refl ∙ p.others q a e;
+  behind = λ q a. ap (drop (limit q ws + (m + n))) (r.others q (omega (arith, more q)) refl)
+      ∙ drop_further (limit q ws + m) (limit q ws + (m + n)) (g.bytes q) (f.bytes q) (omega arith) (p.behind q a);
+}
+
 -- a change that only drops
 pub drops_keep : (f g : Live) (old new : List Window) → Stands f old → Drops old new f g → Keeps [] old new f g
 drops_keep f g old new s d = record {
@@ -142,6 +159,7 @@ drops_then f g h old mid new d e = record {
   counts = λ q. omega (arith, d.counts q, e.counts q);
   total = omega (arith, d.total, e.total);
   contents = λ q a. e.contents q a ∙ d.contents q (omega (arith, e.counts q, e.fewer q));
+  used = omega (arith, d.used, e.used);
   fewer = λ q. omega (arith, d.fewer q, e.fewer q);
   opened = λ q. omega (arith, d.opened q, e.opened q);
   reached = λ q. omega (arith, d.reached q, e.reached q);
@@ -155,12 +173,17 @@ drops_nothing f ws s = record {
   counts = λ q. refl;
   total = refl;
   contents = λ q a. refl;
+  used = omega arith;
   fewer = λ q. omega arith;
   opened = λ q. omega arith;
   reached = λ q. omega arith;
   limits = λ q. omega arith;
   some = s;
 }
+
+-- what is left shows what it showed
+pub drops_show : (f g : Live) (old new : List Window) → Stands f old → Drops old new f g → shown g new ≡ shown f new
+drops_show f g old new s d = segments_same f g new (λ q n. d.contents q (omega (arith, n, d.counts q, s.counted q)))
 
 -- under a page at most a window has as many bytes as it says
 pub window_length : (f : Live) (w : Window) → length (f.bytes w.frame) ≡ PAGE_SIZE → w.from + w.len ≤ PAGE_SIZE → length (segment_of f w).bytes ≡ w.len

@@ -1,6 +1,6 @@
 -- How windows lie in the frames that they name, and what a change of one ring's windows is to all others.
 
-use Rattle.std.specs.Prelude.{◌≡◌, ℕ, ◌+◌, ◌<◌, ◌≤◌, ◌==◌, ◌&&◌, min, max, List, [], ◌∷◌, length, take, if◌then◌else◌}
+use Rattle.std.specs.Prelude.{◌≡◌, ℕ, ◌+◌, ◌<◌, ◌≤◌, ◌==◌, ◌&&◌, min, max, Bool, false, List, [], ◌∷◌, length, take, drop, if◌then◌else◌}
 use Rattle.pf_base.specs.declared.TheConstants.{PAGE_SIZE}
 use Rattle.pf_frame.specs.Live.{Live}
 use Rattle.pf_ring.specs.declared.ring.Window.{Window}
@@ -60,12 +60,30 @@ pub record Keeps (src old new : List Window) (f g : Live) : Type 0 where
   pub apart : (q : ℕ) → reach q new ≤ limit q new
   pub some : NoEmpty new
 
+-- no byte of a frame that stays live changes: what every call but append leaves, in whatever frame, also where no
+-- window shows it
+abbrev pub SameBytes : Live → Live → Type 0
+SameBytes f g = (q : ℕ) → 0 < g.count q → g.bytes q ≡ f.bytes q
+
+-- whether the last window is on the frame q and grows
+abbrev pub last_grows : ℕ → List Window → Bool
+last_grows q [] = false
+last_grows q (w ∷ []) = w.grows && (w.frame == q)
+last_grows q (w ∷ v ∷ ws) = last_grows q (v ∷ ws)
+
+-- n bytes are put behind these windows: of a frame that was live no byte changes but those n behind the end of the
+-- last window, where it grows (the bytes before its end are in Keeps)
+pub record PutsBehind (ws : List Window) (n : ℕ) (f g : Live) : Type 0 where
+  pub others : (q : ℕ) → 0 < f.count q → last_grows q ws ≡ false → g.bytes q ≡ f.bytes q
+  pub behind : (q : ℕ) → 0 < f.count q → drop (limit q ws + n) (g.bytes q) ≡ drop (limit q ws + n) (f.bytes q)
+
 -- a change that only drops windows, cuts them at the front, and releases frames: no byte of a live frame changes
 pub record Drops (old new : List Window) (f g : Live) : Type 0 where
   pub reservation : g.reserved ≡ f.reserved
   pub counts : (q : ℕ) → g.count q + named q old ≡ f.count q + named q new
   pub total : g.shares + length old ≡ f.shares + length new
-  pub contents : (q : ℕ) → 0 < g.count q → g.bytes q ≡ f.bytes q
+  pub contents : SameBytes f g
+  pub used : length new ≤ length old
   pub fewer : (q : ℕ) → named q new ≤ named q old
   pub opened : (q : ℕ) → opens q new ≤ opens q old
   pub reached : (q : ℕ) → reach q new ≤ reach q old

@@ -3,7 +3,8 @@ ghost use Rattle.pf_base.specs.Queue.{Queue, room_of, bytes_of, put, taken, afte
 ghost use Rattle.pf_frame.specs.Live.{Live, IsSound};
 ghost use Rattle.pf_ring.specs.Ring.{segment_of, queue_of};
 ghost use Rattle.pf_base.specs.declared.TheConstants.{PAGE_SIZE};
-ghost use Rattle.pf_ring.specs.Windows.{Stands, Keeps, bytes_in};
+ghost use Rattle.pf_ring.specs.Windows.{Stands, Keeps, SameBytes, PutsBehind, bytes_in};
+ghost use Rattle.pf_ring.specs.Steps.{Cut};
 
 use crate::windows;
 use pf_base::PAGE_SIZE;
@@ -61,7 +62,8 @@ impl Model for SlotRing {
 
     ghost view = { λ r. record { capacity = r.slots; windows = r.windows.items } };
 
-    ghost invariant = { λ r. (deque_len r.windows ≤ r.slots) × (r.slots ≤ deque_capacity r.windows) × (r.slots < 2 ^ 32) × (r.bytes ≡ bytes_in r.windows.items) };
+    ghost invariant = { λ r. (deque_len r.windows ≤ r.slots) × (r.slots ≤ deque_capacity r.windows)
+        × (r.slots < 2 ^ 32) × (r.bytes ≡ bytes_in r.windows.items) };
 }
 
 impl SlotRing {
@@ -97,7 +99,8 @@ impl SlotRing {
     /// How many bytes there are to read.
     pub fn len(&self) -> usize
         ensures number { result ≡ bytes_in self.now.windows }
-        ensures bytes { (f : Live) → IsSound f → Stands f self.now.windows → result ≡ length (bytes_of (queue_of f self.now)) }
+        ensures bytes { (f : Live) → IsSound f → Stands f self.now.windows
+            → result ≡ length (bytes_of (queue_of f self.now)) }
     {
         self.bytes
     }
@@ -109,20 +112,27 @@ impl SlotRing {
         windows::last_window_room(&self.windows) + PAGE_SIZE * (self.slots - self.windows.len())
     }
 
-    /// Puts bytes at the end: first behind the last slot, where it grows, and then in new slots, each on a frame that is
-    /// taken for it (pipe(7)). A frame that was live is written to behind the end of this ring's last slot alone.
+    /// Puts bytes at the end: first behind the last slot, where it grows, and then in new slots, each on a frame that
+    /// is taken for it (pipe(7)).
     pub fn append<F: Frames>(&mut self, f: &mut F, bytes: &[u8])
         requires fact { F.fact f.old }
         requires stands { Stands (F.live f.old) self.old.windows }
+        // There is room for all the bytes, and a credit for each free slot: nothing can fail.
         requires room { length bytes.now ≤ room_of (queue_of (F.live f.old) self.old) }
-        requires credits { (F.live f.old).held + (self.old.capacity - length self.old.windows) ≤ (F.live f.old).reserved }
+        requires credits { (F.live f.old).held + (self.old.capacity - length self.old.windows)
+            ≤ (F.live f.old).reserved }
         ensures fact { F.fact f.new }
         ensures rest { F.rest f.new ≡ F.rest f.old }
         ensures capacity { self.new.capacity ≡ self.old.capacity }
         ensures fits { length self.new.windows ≤ self.new.capacity }
         ensures queue { queue_of (F.live f.new) self.new ≡ put (queue_of (F.live f.old) self.old) bytes.now }
-        ensures takes { (F.live f.new).held + length self.old.windows ≡ (F.live f.old).held + length self.new.windows }
+        // As many frames are taken as slots.
+        ensures takes { (F.live f.new).held + length self.old.windows
+            ≡ (F.live f.old).held + length self.new.windows }
+        // Other rings show what they showed, and a frame that was live is written to behind the last slot's end
+        // alone.
         ensures keeps { Keeps [] self.old.windows self.new.windows (F.live f.old) (F.live f.new) }
+        ensures puts_behind { PutsBehind self.old.windows (length bytes.now) (F.live f.old) (F.live f.new) }
     {
         windows::append(&mut self.windows, self.slots, f, bytes);
         self.bytes += bytes.len();
@@ -137,13 +147,19 @@ impl SlotRing {
         ensures rest { F.rest f.new ≡ F.rest f.old }
         ensures capacity { self.new.capacity ≡ self.old.capacity }
         ensures fits { length self.new.windows ≤ self.new.capacity }
+        // What is moved, and what is left.
         ensures number { result ≡ length (taken (queue_of (F.live f.old) self.old) (length buffer.old)) }
-        ensures bytes { buffer.new ≡ taken (queue_of (F.live f.old) self.old) (length buffer.old) ++ drop result buffer.old }
-        ensures queue { queue_of (F.live f.new) self.new ≡ after_take (queue_of (F.live f.old) self.old) (length buffer.old) }
+        ensures bytes { buffer.new
+            ≡ taken (queue_of (F.live f.old) self.old) (length buffer.old) ++ drop result buffer.old }
+        ensures queue { queue_of (F.live f.new) self.new
+            ≡ after_take (queue_of (F.live f.old) self.old) (length buffer.old) }
+        // Other rings show what they showed, and nothing is written.
         ensures keeps { Keeps [] self.old.windows self.new.windows (F.live f.old) (F.live f.new) }
+        ensures bytes_stay { SameBytes (F.live f.old) (F.live f.new) }
     {
-        let number = windows::take_into(&mut self.windows, f, buffer);
-        self.bytes -= number;
+        let number = self.len().min(buffer.len());
+        windows::copy_into(&self.windows, f, &mut buffer[..number]);
+        self.discard(f, number);
         number
     }
 
@@ -157,14 +173,34 @@ impl SlotRing {
         ensures rest { F.rest f.new ≡ F.rest f.old }
         ensures capacity { self.new.capacity ≡ self.old.capacity }
         ensures fits { length self.new.windows ≤ self.new.capacity }
+        // What is moved, and what is left.
         ensures number { result ≡ length (taken (queue_of (F.live f.old) self.old) most) }
         ensures bytes { out.new.items ≡ out.old.items ++ taken (queue_of (F.live f.old) self.old) most }
-        ensures queue { queue_of (F.live f.new) self.new ≡ after_take (queue_of (F.live f.old) self.old) most }
+        ensures queue { queue_of (F.live f.new) self.new
+            ≡ after_take (queue_of (F.live f.old) self.old) most }
+        // Other rings show what they showed, and nothing is written.
         ensures keeps { Keeps [] self.old.windows self.new.windows (F.live f.old) (F.live f.new) }
+        ensures bytes_stay { SameBytes (F.live f.old) (F.live f.new) }
     {
-        let moved = windows::take_onto(&mut self.windows, f, most, out);
-        self.bytes -= moved;
-        moved
+        let number = self.len().min(most);
+        windows::copy_onto(&self.windows, f, number, out);
+        self.discard(f, number);
+        number
+    }
+
+    // Drops bytes from the front, of which there are so many.
+    fn discard<F: Frames>(&mut self, f: &mut F, number: usize)
+        requires fact { F.fact f.old }
+        requires stands { Stands (F.live f.old) self.old.windows }
+        requires has { number ≤ bytes_in self.old.windows }
+        ensures fact { F.fact f.new }
+        ensures rest { F.rest f.new ≡ F.rest f.old }
+        ensures capacity { self.new.capacity ≡ self.old.capacity }
+        ensures fits { length self.new.windows ≤ self.new.capacity }
+        ensures cut { Cut self.old.windows self.new.windows number (F.live f.old) (F.live f.new) }
+    {
+        windows::discard(&mut self.windows, f, number);
+        self.bytes -= number;
     }
 
     /// Empties all slots, and releases the frame of each.
@@ -174,7 +210,9 @@ impl SlotRing {
         ensures fact { F.fact f.new }
         ensures rest { F.rest f.new ≡ F.rest f.old }
         ensures ring { self.new ≡ record { capacity = self.old.capacity; windows = [] } }
+        // Other rings show what they showed, and nothing is written.
         ensures keeps { Keeps [] self.old.windows [] (F.live f.old) (F.live f.new) }
+        ensures bytes_stay { SameBytes (F.live f.old) (F.live f.new) }
     {
         windows::clear(&mut self.windows, f);
         self.bytes = 0;

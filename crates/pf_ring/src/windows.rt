@@ -1,10 +1,11 @@
-ghost use Rattle.std.specs.Prelude.{◌≡◌, ℕ, ◌+◌, ◌-◌, ◌*◌, ◌<◌, ◌≤◌, [], ◌∷◌, ◌++◌, length, map, take, drop, min, slice_index_or, vec_len, vec_capacity};
+ghost use Rattle.std.specs.Prelude.{◌≡◌, ◌+◌, ◌-◌, ◌*◌, ◌<◌, ◌≤◌, [], ◌∷◌, ◌++◌, length, take, drop, min, vec_len, vec_capacity};
 ghost use Rattle.std.specs.VecDeque.{deque_len, deque_capacity};
 ghost use Rattle.pf_base.specs.declared.TheConstants.{PAGE_SIZE};
-ghost use Rattle.pf_base.specs.Queue.{joined, last_room, topped_up, pieces, without_front};
-ghost use Rattle.pf_frame.specs.Live.{Live, IsSound};
-ghost use Rattle.pf_ring.specs.Ring.{segment_of};
-ghost use Rattle.pf_ring.specs.Windows.{Stands, Keeps, Drops, NoEmpty, named, bytes_in};
+ghost use Rattle.pf_base.specs.Queue.{Segment, joined, last_room, topped_up, pieces};
+ghost use Rattle.pf_frame.specs.Live.{Live};
+ghost use Rattle.pf_ring.specs.Ring.{segment_of, shown};
+ghost use Rattle.pf_ring.specs.Windows.{Stands, Drops, bytes_in};
+ghost use Rattle.pf_ring.specs.Steps.{Puts, Cut};
 
 use crate::ring::Window;
 use pf_base::PAGE_SIZE;
@@ -13,7 +14,7 @@ use std::collections::VecDeque;
 
 /// How many bytes may still be written behind the last window: none if it doesn't grow.
 pub fn last_window_room(windows: &VecDeque<Window>) -> usize
-    ensures room { (f : Live) → result ≡ last_room (map (segment_of f) windows.now.items) }
+    ensures room { (f : Live) → result ≡ last_room (shown f windows.now.items) }
     ensures most { result ≤ PAGE_SIZE }
 {
     match windows.back() {
@@ -22,23 +23,28 @@ pub fn last_window_room(windows: &VecDeque<Window>) -> usize
     }
 }
 
-/// Puts bytes at the end of at most so many slots: behind the last window, where it grows, and then in pieces of a page.
+/// Puts bytes at the end of at most so many slots: behind the last window, where it grows, and then in pieces of a
+/// page.
 pub fn append<F: Frames>(windows: &mut VecDeque<Window>, slots: usize, f: &mut F, bytes: &[u8])
     requires fact { F.fact f.old }
     requires stands { Stands (F.live f.old) windows.old.items }
+    // There is room for all the bytes, and a place and a credit for each free slot.
     requires fits { deque_len windows.old ≤ slots }
+    requires room { let free = slots - deque_len windows.old in
+        length bytes.now ≤ last_room (shown (F.live f.old) windows.old.items) + PAGE_SIZE * free }
     requires space { slots ≤ deque_capacity windows.old }
-    requires room { length bytes.now ≤ last_room (map (segment_of (F.live f.old)) windows.old.items) + PAGE_SIZE * (slots - deque_len windows.old) }
     requires credits { (F.live f.old).held + (slots - deque_len windows.old) ≤ (F.live f.old).reserved }
     ensures fact { F.fact f.new }
     ensures rest { F.rest f.new ≡ F.rest f.old }
-    ensures fits { deque_len windows.new ≤ slots }
     ensures space { deque_capacity windows.new ≡ deque_capacity windows.old }
-    ensures segments { map (segment_of (F.live f.new)) windows.new.items ≡ topped_up (map (segment_of (F.live f.old)) windows.old.items) bytes.now ++ pieces (slots - deque_len windows.old) (drop (last_room (map (segment_of (F.live f.old)) windows.old.items)) bytes.now) }
-    ensures bytes { bytes_in windows.new.items ≡ bytes_in windows.old.items + length bytes.now }
+    ensures fits { deque_len windows.new ≤ slots }
     ensures most { bytes_in windows.new.items ≤ PAGE_SIZE * deque_len windows.new }
-    ensures takes { (F.live f.new).held + deque_len windows.old ≡ (F.live f.old).held + deque_len windows.new }
-    ensures keeps { Keeps [] windows.old.items windows.new.items (F.live f.old) (F.live f.new) }
+    ensures segments { let before = shown (F.live f.old) windows.old.items in
+        let free = slots - deque_len windows.old in
+        shown (F.live f.new) windows.new.items
+        ≡ topped_up before bytes.now ++ pieces free (drop (last_room before) bytes.now) }
+    ensures puts { let before = windows.old.items in
+        Puts before before windows.new.items (length bytes.now) (F.live f.old) (F.live f.new) }
 {
     let topped = top_up(windows, f, bytes);
     let mut rest = &bytes[topped..];
@@ -53,19 +59,18 @@ pub fn append<F: Frames>(windows: &mut VecDeque<Window>, slots: usize, f: &mut F
 }
 
 /// Writes bytes behind the last window, where it grows, as far as its page goes, and answers how many.
-fn top_up<F: Frames>(windows: &mut VecDeque<Window>, f: &mut F, bytes: &[u8]) -> usize
+pub fn top_up<F: Frames>(windows: &mut VecDeque<Window>, f: &mut F, bytes: &[u8]) -> usize
     requires fact { F.fact f.old }
     requires stands { Stands (F.live f.old) windows.old.items }
     ensures fact { F.fact f.new }
     ensures rest { F.rest f.new ≡ F.rest f.old }
-    ensures number { result ≡ min (last_room (map (segment_of (F.live f.old)) windows.old.items)) (length bytes.now) }
-    ensures used { deque_len windows.new ≡ deque_len windows.old }
     ensures space { deque_capacity windows.new ≡ deque_capacity windows.old }
-    ensures segments { map (segment_of (F.live f.new)) windows.new.items ≡ topped_up (map (segment_of (F.live f.old)) windows.old.items) bytes.now }
-    ensures bytes { bytes_in windows.new.items ≡ bytes_in windows.old.items + result }
-    ensures held { (F.live f.new).held ≡ (F.live f.old).held }
-    ensures more { (q : ℕ) → (F.live f.old).count q ≤ (F.live f.new).count q }
-    ensures keeps { Keeps [] windows.old.items windows.new.items (F.live f.old) (F.live f.new) }
+    ensures used { deque_len windows.new ≡ deque_len windows.old }
+    ensures number { result ≡ min (last_room (shown (F.live f.old) windows.old.items)) (length bytes.now) }
+    ensures segments { shown (F.live f.new) windows.new.items
+        ≡ topped_up (shown (F.live f.old) windows.old.items) bytes.now }
+    ensures puts { let before = windows.old.items in
+        Puts before before windows.new.items result (F.live f.old) (F.live f.new) }
 {
     let number = last_window_room(windows).min(bytes.len());
     if number > 0 {
@@ -94,13 +99,14 @@ fn push_piece<F: Frames>(windows: &mut VecDeque<Window>, f: &mut F, bytes: &[u8]
     requires credit { (F.live f.old).held < (F.live f.old).reserved }
     ensures fact { F.fact f.new }
     ensures rest { F.rest f.new ≡ F.rest f.old }
-    ensures used { deque_len windows.new ≡ deque_len windows.old + 1 }
     ensures space { deque_capacity windows.new ≡ deque_capacity windows.old }
-    ensures segments { map (segment_of (F.live f.new)) windows.new.items ≡ map (segment_of (F.live f.old)) windows.old.items ++ record { bytes = bytes.now; room = PAGE_SIZE - length bytes.now } ∷ [] }
-    ensures bytes { bytes_in windows.new.items ≡ bytes_in windows.old.items + length bytes.now }
-    ensures held { (F.live f.new).held ≡ (F.live f.old).held + 1 }
-    ensures more { (q : ℕ) → (F.live f.old).count q ≤ (F.live f.new).count q }
-    ensures keeps { Keeps [] windows.old.items windows.new.items (F.live f.old) (F.live f.new) }
+    ensures used { deque_len windows.new ≡ deque_len windows.old + 1 }
+    ensures segments { let piece : Segment =
+        record { bytes = bytes.now; room = PAGE_SIZE - length bytes.now } in
+        shown (F.live f.new) windows.new.items ≡ shown (F.live f.old) windows.old.items ++ piece ∷ [] }
+    // Behind no window: no byte of a frame that was live changes.
+    ensures puts { Puts [] windows.old.items windows.new.items (length bytes.now)
+        (F.live f.old) (F.live f.new) }
 {
     let frame = f.take();
     f.fill(frame, 0, bytes);
@@ -112,129 +118,85 @@ fn push_piece<F: Frames>(windows: &mut VecDeque<Window>, f: &mut F, bytes: &[u8]
     });
 }
 
-/// Moves bytes from the front of the windows into the buffer, as many as there are and as it has room for.
-pub fn take_into<F: Frames>(windows: &mut VecDeque<Window>, f: &mut F, buffer: &mut [u8]) -> usize
-    requires fact { F.fact f.old }
-    requires stands { Stands (F.live f.old) windows.old.items }
-    ensures fact { F.fact f.new }
-    ensures rest { F.rest f.new ≡ F.rest f.old }
-    ensures used { deque_len windows.new ≤ deque_len windows.old }
-    ensures space { deque_capacity windows.new ≡ deque_capacity windows.old }
-    ensures number { result ≡ length (take (length buffer.old) (joined (map (segment_of (F.live f.old)) windows.old.items))) }
-    ensures buffer { buffer.new ≡ take (length buffer.old) (joined (map (segment_of (F.live f.old)) windows.old.items)) ++ drop result buffer.old }
-    ensures segments { map (segment_of (F.live f.new)) windows.new.items ≡ without_front (length buffer.old) (map (segment_of (F.live f.old)) windows.old.items) }
-    ensures bytes { bytes_in windows.new.items + result ≡ bytes_in windows.old.items }
-    ensures keeps { Keeps [] windows.old.items windows.new.items (F.live f.old) (F.live f.new) }
+/// Copies the first bytes of the windows, so many as the buffer is long.
+pub fn copy_into<F: Frames>(windows: &VecDeque<Window>, f: &F, buffer: &mut [u8])
+    requires fact { F.fact f.now }
+    requires stands { Stands (F.live f.now) windows.now.items }
+    requires has { length buffer.old ≤ bytes_in windows.now.items }
+    ensures { buffer.new ≡ take (length buffer.old) (joined (shown (F.live f.now) windows.now.items)) }
+{
+    let number = buffer.len();
+    let mut done = 0;
+    let mut place = 0;
+    while done < number {
+        let part = front(f, windows[place], number - done);
+        buffer[done..done + part.len()].copy_from_slice(part);
+        done += part.len();
+        place += 1;
+    }
+}
+
+/// Copies so many of the first bytes of the windows onto the end of a vector that has room for them.
+pub fn copy_onto<F: Frames>(windows: &VecDeque<Window>, f: &F, number: usize, out: &mut Vec<u8>)
+    requires fact { F.fact f.now }
+    requires stands { Stands (F.live f.now) windows.now.items }
+    requires has { number ≤ bytes_in windows.now.items }
+    requires room { vec_len out.old + number ≤ vec_capacity out.old }
+    ensures { out.new.items ≡ out.old.items ++ take number (joined (shown (F.live f.now) windows.now.items)) }
 {
     let mut done = 0;
-    while done < buffer.len() && !windows.is_empty() {
-        done += take_front(windows, f, &mut buffer[done..]);
+    let mut place = 0;
+    while done < number {
+        let part = front(f, windows[place], number - done);
+        out.extend_from_slice(part).unwrap();
+        done += part.len();
+        place += 1;
     }
-    done
 }
 
-/// Moves bytes of the first window into the buffer, as many as it has and as the buffer has room for. A window that is
-/// emptied goes, and its frame is released.
-fn take_front<F: Frames>(windows: &mut VecDeque<Window>, f: &mut F, buffer: &mut [u8]) -> usize
-    requires fact { F.fact f.old }
-    requires stands { Stands (F.live f.old) windows.old.items }
-    requires some { 0 < deque_len windows.old }
-    requires room { 0 < length buffer.old }
-    ensures fact { F.fact f.new }
-    ensures rest { F.rest f.new ≡ F.rest f.old }
-    ensures used { deque_len windows.new ≤ deque_len windows.old }
-    ensures space { deque_capacity windows.new ≡ deque_capacity windows.old }
-    ensures moved { 0 < result }
-    ensures most { result ≤ length buffer.old }
-    ensures buffer { buffer.new ≡ take result (joined (map (segment_of (F.live f.old)) windows.old.items)) ++ drop result buffer.old }
-    ensures segments { map (segment_of (F.live f.new)) windows.new.items ≡ without_front result (map (segment_of (F.live f.old)) windows.old.items) }
-    ensures bytes { bytes_in windows.new.items + result ≡ bytes_in windows.old.items }
-    ensures drops { Drops windows.old.items windows.new.items (F.live f.old) (F.live f.new) }
+/// The first bytes of a window: as many as it has, but at most so many.
+fn front<F: Frames>(f: &F, window: Window, most: usize) -> &[u8]
+    requires fact { F.fact f.now }
+    requires is_live { 0 < (F.live f.now).count window.frame }
+    requires within { window.from + window.len ≤ PAGE_SIZE }
+    ensures { result.now ≡ take most (segment_of (F.live f.now) window).bytes }
 {
-    let window = windows[0];
-    let number = (window.len as usize).min(buffer.len());
-    buffer[..number].copy_from_slice(f.view(window.frame, window.from as usize, number));
-    cut_front(windows, f, window, number);
-    number
+    let number = (window.len as usize).min(most);
+    f.view(window.frame, window.from as usize, number)
 }
 
-/// Moves bytes from the front of the windows onto the end of a vector that has room for them: as many as there are, but
-/// at most so many.
-pub fn take_onto<F: Frames>(
-    windows: &mut VecDeque<Window>,
-    f: &mut F,
-    most: usize,
-    out: &mut Vec<u8>,
-) -> usize
+/// Drops so many bytes from the front of the windows. A window that is emptied goes, and its frame is released.
+pub fn discard<F: Frames>(windows: &mut VecDeque<Window>, f: &mut F, number: usize)
     requires fact { F.fact f.old }
     requires stands { Stands (F.live f.old) windows.old.items }
-    requires room { vec_len out.old + min most (bytes_in windows.old.items) ≤ vec_capacity out.old }
+    requires has { number ≤ bytes_in windows.old.items }
     ensures fact { F.fact f.new }
     ensures rest { F.rest f.new ≡ F.rest f.old }
-    ensures used { deque_len windows.new ≤ deque_len windows.old }
     ensures space { deque_capacity windows.new ≡ deque_capacity windows.old }
-    ensures number { result ≡ length (take most (joined (map (segment_of (F.live f.old)) windows.old.items))) }
-    ensures out { out.new.items ≡ out.old.items ++ take most (joined (map (segment_of (F.live f.old)) windows.old.items)) }
-    ensures segments { map (segment_of (F.live f.new)) windows.new.items ≡ without_front most (map (segment_of (F.live f.old)) windows.old.items) }
-    ensures bytes { bytes_in windows.new.items + result ≡ bytes_in windows.old.items }
-    ensures keeps { Keeps [] windows.old.items windows.new.items (F.live f.old) (F.live f.new) }
+    ensures cut { Cut windows.old.items windows.new.items number (F.live f.old) (F.live f.new) }
 {
     let mut done = 0;
-    while done < most && !windows.is_empty() {
-        done += move_front(windows, f, most - done, out);
+    while done < number {
+        done += cut_front(windows, f, number - done);
     }
-    done
 }
 
-/// Moves bytes of the first window onto the end of a vector that has room for them: as many as the window has, but at
-/// most so many. A window that is emptied goes, and its frame is released.
-fn move_front<F: Frames>(
-    windows: &mut VecDeque<Window>,
-    f: &mut F,
-    most: usize,
-    out: &mut Vec<u8>,
-) -> usize
+/// Drops bytes from the front of the first window: as many as it has, but at most so many. Where these are all, it
+/// goes, and its frame is released.
+fn cut_front<F: Frames>(windows: &mut VecDeque<Window>, f: &mut F, most: usize) -> usize
     requires fact { F.fact f.old }
     requires stands { Stands (F.live f.old) windows.old.items }
     requires some { 0 < deque_len windows.old }
     requires any { 0 < most }
-    requires room { vec_len out.old + min most (bytes_in windows.old.items) ≤ vec_capacity out.old }
     ensures fact { F.fact f.new }
     ensures rest { F.rest f.new ≡ F.rest f.old }
-    ensures used { deque_len windows.new ≤ deque_len windows.old }
     ensures space { deque_capacity windows.new ≡ deque_capacity windows.old }
-    ensures moved { 0 < result }
+    ensures any { 0 < result }
     ensures most { result ≤ most }
-    ensures out { out.new.items ≡ out.old.items ++ take result (joined (map (segment_of (F.live f.old)) windows.old.items)) }
-    ensures len { vec_len out.new ≡ vec_len out.old + result }
-    ensures capacity { vec_capacity out.old ≤ vec_capacity out.new }
-    ensures segments { map (segment_of (F.live f.new)) windows.new.items ≡ without_front result (map (segment_of (F.live f.old)) windows.old.items) }
-    ensures bytes { bytes_in windows.new.items + result ≡ bytes_in windows.old.items }
-    ensures drops { Drops windows.old.items windows.new.items (F.live f.old) (F.live f.new) }
+    ensures cut { Cut windows.old.items windows.new.items result (F.live f.old) (F.live f.new) }
 {
-    let window = windows[0];
-    let number = (window.len as usize).min(most);
-    out.extend_from_slice(f.view(window.frame, window.from as usize, number))
-        .unwrap();
-    cut_front(windows, f, window, number);
-    number
-}
-
-/// Drops bytes from the front of the first window. Where these are all that it has, it goes, and its frame is released.
-fn cut_front<F: Frames>(windows: &mut VecDeque<Window>, f: &mut F, first: Window, number: usize)
-    requires fact { F.fact f.old }
-    requires stands { Stands (F.live f.old) windows.old.items }
-    requires some { 0 < deque_len windows.old }
-    requires first { first ≡ slice_index_or windows.old.items 0 first }
-    requires has { number ≤ first.len }
-    ensures fact { F.fact f.new }
-    ensures rest { F.rest f.new ≡ F.rest f.old }
-    ensures used { deque_len windows.new ≤ deque_len windows.old }
-    ensures space { deque_capacity windows.new ≡ deque_capacity windows.old }
-    ensures segments { map (segment_of (F.live f.new)) windows.new.items ≡ without_front number (map (segment_of (F.live f.old)) windows.old.items) }
-    ensures bytes { bytes_in windows.new.items + number ≡ bytes_in windows.old.items }
-    ensures drops { Drops windows.old.items windows.new.items (F.live f.old) (F.live f.new) }
-{
+    let first = windows[0];
+    let number = (first.len as usize).min(most);
     if number < first.len as usize {
         windows[0] = Window {
             from: first.from + number as u32,
@@ -244,6 +206,7 @@ fn cut_front<F: Frames>(windows: &mut VecDeque<Window>, f: &mut F, first: Window
     } else {
         drop_front(windows, f);
     }
+    number
 }
 
 /// Drops the first window, and releases its frame.
@@ -253,10 +216,8 @@ fn drop_front<F: Frames>(windows: &mut VecDeque<Window>, f: &mut F)
     requires some { 0 < deque_len windows.old }
     ensures fact { F.fact f.new }
     ensures rest { F.rest f.new ≡ F.rest f.old }
-    ensures rest_windows { windows.new.items ≡ drop 1 windows.old.items }
-    ensures used { deque_len windows.new + 1 ≡ deque_len windows.old }
     ensures space { deque_capacity windows.new ≡ deque_capacity windows.old }
-    ensures segments { map (segment_of (F.live f.new)) windows.new.items ≡ drop 1 (map (segment_of (F.live f.old)) windows.old.items) }
+    ensures windows { windows.new.items ≡ drop 1 windows.old.items }
     ensures drops { Drops windows.old.items windows.new.items (F.live f.old) (F.live f.new) }
 {
     if let Some(window) = windows.pop_front() {
@@ -272,7 +233,7 @@ pub fn clear<F: Frames>(windows: &mut VecDeque<Window>, f: &mut F)
     ensures rest { F.rest f.new ≡ F.rest f.old }
     ensures space { deque_capacity windows.new ≡ deque_capacity windows.old }
     ensures empty { windows.new.items ≡ [] }
-    ensures keeps { Keeps [] windows.old.items [] (F.live f.old) (F.live f.new) }
+    ensures drops { Drops windows.old.items windows.new.items (F.live f.old) (F.live f.new) }
 {
     while !windows.is_empty() {
         drop_front(windows, f);

@@ -1,8 +1,7 @@
 use Rattle.std.proofs.Common.{◌≡◌, ℕ, ◌+◌, length, sym, ◌∙◌, eqb-true, Bool, false, ◌==◌, arith}
 use Rattle.std.proofs.lemmas.Bool.Decides.{nat_tests}
-use Rattle.std.specs.VecDeque.{deque_len}
 use Rattle.pf_ring.specs.WindowLaws.{bytes_in_le}
-use Rattle.pf_ring.proofs.Loops.{appending_next, appending_end}
+use Rattle.pf_ring.proofs.Loops.{appending_more, appending_end}
 use Rattle.pf_ring.proofs.windows.append.Goals as goal
 
 not_empty : (b : Bool) (n : ℕ) → b ≡ (n == 0) → b ≡ false → n ≡ 0 → ⊥
@@ -17,16 +16,19 @@ loop-preserved g c = record {
   appending =
       let some : length c.loop.rest.now ≡ 0 → ⊥ = λ e. not_empty c.is_empty.result (length c.loop.rest.now) c.is_empty.ensures c.if-is_empty.false e in
       let used : length c.push_piece.new.windows.items ≡ c.loop.counter + 1 = omega arith in
-      appending_next (g.F.Frames.live c.args.f.now) (g.F.Frames.live c.loop.f) (g.F.Frames.live c.push_piece.new.f) c.args.windows.now.items c.loop.windows.items c.push_piece.new.windows.items c.args.slots (deque_len c.args.windows.now) c.loop.counter c.min.result
+      appending_more (g.F.Frames.live c.args.f.now) (g.F.Frames.live c.loop.f) (g.F.Frames.live c.push_piece.new.f) c.args.windows.now.items c.loop.windows.items c.push_piece.new.windows.items c.args.slots c.loop.counter c.min.result
       _ c.args.bytes.now c.loop.rest.now c.split_at.result.0.now c.split_at.result.1.now c.loop.invariant.appending c.loop-test.true (omega arith) c.min.ensures c.split_at.ensures.front c.split_at.ensures.back used
-      c.push_piece.ensures.segments c.push_piece.ensures.bytes c.push_piece.ensures.held c.push_piece.ensures.more c.push_piece.ensures.keeps;
+      c.push_piece.ensures.segments c.push_piece.ensures.puts;
 }
 
 pub returns-after-loop-clause-most : goal.returns-after-loop-clause-most
-returns-after-loop-clause-most g c = omega (arith, bytes_in_le c.loop.windows.items c.loop.invariant.appending.keeps.within)
+returns-after-loop-clause-most g c = omega (arith, bytes_in_le c.loop.windows.items c.loop.invariant.appending.puts.keeps.within)
 
 pub returns-then-is_empty-clause-segments : goal.returns-then-is_empty-clause-segments
-returns-then-is_empty-clause-segments g c = appending_end _ _ _ _ _ _ _ _ _ _ c.loop.invariant.appending (eqb-true _ _ (sym c.is_empty.ensures ∙ c.if-is_empty.true))
+returns-then-is_empty-clause-segments g c = (appending_end _ _ _ _ _ _ _ _ _ c.loop.invariant.appending (eqb-true _ _ (sym c.is_empty.ensures ∙ c.if-is_empty.true))).0
 
 pub returns-then-is_empty-clause-most : goal.returns-then-is_empty-clause-most
-returns-then-is_empty-clause-most g c = omega (arith, bytes_in_le c.loop.windows.items c.loop.invariant.appending.keeps.within)
+returns-then-is_empty-clause-most g c = omega (arith, bytes_in_le c.loop.windows.items c.loop.invariant.appending.puts.keeps.within)
+
+pub returns-then-is_empty-clause-puts : goal.returns-then-is_empty-clause-puts
+returns-then-is_empty-clause-puts g c = (appending_end _ _ _ _ _ _ _ _ _ c.loop.invariant.appending (eqb-true _ _ (sym c.is_empty.ensures ∙ c.if-is_empty.true))).1

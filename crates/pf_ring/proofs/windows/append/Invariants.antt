@@ -1,7 +1,7 @@
-use Rattle.std.proofs.Common.{◌≡◌, ◌-◌, ◌++◌, map, drop}
+use Rattle.std.proofs.Common.{◌≡◌, ◌-◌, ◌++◌, drop}
 use Rattle.std.specs.VecDeque.{deque_len, deque_capacity}
 use Rattle.pf_base.specs.Queue.{last_room, topped_up, pieces}
-use Rattle.pf_ring.specs.Ring.{segment_of}
+use Rattle.pf_ring.specs.Ring.{shown}
 use Rattle.pf_ring.proofs.Loops.{Appending}
 use Rattle.pf_ring.proofs.windows.append.Given as goal
 
@@ -11,7 +11,7 @@ invariant-loop g l = record {
   rest : g.F.Frames.rest l.f ≡ g.F.Frames.rest l.fn.f;
   number : deque_len l.windows ≡ l.counter;
   space : deque_capacity l.windows ≡ deque_capacity l.fn.windows;
-  appending : Appending (g.F.Frames.live l.fn.f) (g.F.Frames.live l.f) l.fn.windows.items l.windows.items l.slots (deque_len l.fn.windows) l.counter
-      (topped_up (map (segment_of (g.F.Frames.live l.fn.f)) l.fn.windows.items) l.bytes ++ pieces (l.slots - deque_len l.fn.windows) (drop (last_room (map (segment_of (g.F.Frames.live l.fn.f)) l.fn.windows.items)) l.bytes))
+  appending : Appending (g.F.Frames.live l.fn.f) (g.F.Frames.live l.f) l.fn.windows.items l.windows.items l.slots l.counter
+      (topped_up (shown (g.F.Frames.live l.fn.f) l.fn.windows.items) l.bytes ++ pieces (l.slots - deque_len l.fn.windows) (drop (last_room (shown (g.F.Frames.live l.fn.f) l.fn.windows.items)) l.bytes))
       l.bytes l.rest;
 }

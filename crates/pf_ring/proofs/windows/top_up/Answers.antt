@@ -1,13 +1,12 @@
-use Rattle.std.proofs.Common.{◌≡◌, ℕ, ◌+◌, ◌-◌, min, List, [], ◌∷◌, ◌++◌, length, map, take, set, sym, ◌∙◌, ap, subst, arith}
+use Rattle.std.proofs.Common.{◌≡◌, ℕ, ◌-◌, min, List, [], ◌∷◌, ◌++◌, length, map, take, set, sym, ◌∙◌, ap, subst, arith}
 use Rattle.std.proofs.lemmas.List.{length-take}
 use Rattle.pf_base.specs.Queue.{last_room, topped_up}
 use Rattle.pf_frame.specs.Live.{Live, IsSound}
 use Rattle.pf_ring.specs.declared.ring.Window.{Window}
 use Rattle.pf_ring.specs.Ring.{segment_of}
-use Rattle.pf_ring.specs.Windows.{bytes_in, Keeps}
-use Rattle.pf_ring.specs.WindowLaws.{bytes_in-append}
+use Rattle.pf_ring.specs.Steps.{Puts}
 use Rattle.pf_ring.proofs.Queues.{topped_none}
-use Rattle.pf_ring.proofs.Changes.{Top, is_top, room_some, set_last, longer, topped_keeps}
+use Rattle.pf_ring.proofs.Changes.{Top, is_top, room_some, set_last, longer, topped_puts, puts_nothing}
 use Rattle.pf_ring.proofs.Segments.{topped_segments}
 use Rattle.pf_ring.proofs.windows.top_up.Goals as goal
 
@@ -77,35 +76,28 @@ returns-then-number-gt0-clause-segments g c =
     (least ∙ ap (λ (v : List Window). min (last_room (map (segment_of f) v)) (length c.args.bytes.now)) top.last.split) top.last.ends top.last.live
     ∙ ap (λ (v : List Window). topped_up (map (segment_of f) v) c.args.bytes.now) (sym top.last.split))
 
-pub returns-then-number-gt0-clause-bytes : goal.returns-then-number-gt0-clause-bytes
-returns-then-number-gt0-clause-bytes g c =
+pub returns-then-number-gt0-clause-puts : goal.returns-then-number-gt0-clause-puts
+returns-then-number-gt0-clause-puts g c =
     let f : Live = g.F.Frames.live c.args.f.now in
     let w : Window = c.index-window.result.now in
     let items : List Window = c.args.windows.now.items in
-    let least : c.min-number.result ≡ min (last_room (map (segment_of f) items)) (length c.args.bytes.now) = c.min-number.ensures ∙ ap (λ (k : ℕ). min k (length c.args.bytes.now)) (c.last_window_room.ensures.room f) in
-    let n : ℕ = c.len-last.result - 1 in
-    let top : Top f items n w c.min-number.result = is_top f items c.len-last.result c.min-number.result w c.args.bytes.now (g.met.F.Frames.sound _ c.requires.fact) c.requires.stands (omega arith) least (omega arith) c.index-window.ensures in
-    let before : bytes_in items ≡ bytes_in (take n items) + bytes_in (w ∷ []) = ap bytes_in top.last.split ∙ bytes_in-append (take n items) (w ∷ []) in
-    let after : bytes_in (set items n (longer w c.min-number.result)) ≡ bytes_in (take n items) + bytes_in (longer w c.min-number.result ∷ []) =
-    ap bytes_in (set_last items n (longer w c.min-number.result) (omega (arith, room_some f items))) ∙ bytes_in-append (take n items) (longer w c.min-number.result ∷ []) in
-    omega (arith, before, after)
-
-pub returns-then-number-gt0-clause-keeps : goal.returns-then-number-gt0-clause-keeps
-returns-then-number-gt0-clause-keeps g c =
-    let f : Live = g.F.Frames.live c.args.f.now in
-    let w : Window = c.index-window.result.now in
-    let items : List Window = c.args.windows.now.items in
-    let least : c.min-number.result ≡ min (last_room (map (segment_of f) items)) (length c.args.bytes.now) = c.min-number.ensures ∙ ap (λ (k : ℕ). min k (length c.args.bytes.now)) (c.last_window_room.ensures.room f) in
+    let number : ℕ = c.min-number.result in
+    let least : number ≡ min (last_room (map (segment_of f) items)) (length c.args.bytes.now) = c.min-number.ensures ∙ ap (λ (k : ℕ). min k (length c.args.bytes.now)) (c.last_window_room.ensures.room f) in
     let sound : IsSound f = g.met.F.Frames.sound _ c.requires.fact in
     let n : ℕ = c.len-last.result - 1 in
-    let top : Top f items n w c.min-number.result = is_top f items c.len-last.result c.min-number.result w c.args.bytes.now sound c.requires.stands (omega arith) least (omega arith) c.index-window.ensures in
+    let top : Top f items n w number = is_top f items c.len-last.result number w c.args.bytes.now sound c.requires.stands (omega arith) least (omega arith) c.index-window.ensures in
     let after : Live = g.F.Frames.live c.fill.new.self in
-    let keeps : Keeps [] (take n items ++ w ∷ []) (take n items ++ longer w c.min-number.result ∷ []) f after =
-    topped_keeps f after (take n items) w c.min-number.result (take c.min-number.result c.args.bytes.now) sound top.last.stands top.grows c.fill.ensures.fills top.fits in
-    subst (λ (old : List Window). Keeps [] old (set items n (longer w c.min-number.result)) f after) (sym top.last.split)
-    (subst (λ (new : List Window). Keeps [] (take n items ++ w ∷ []) new f after) (sym (set_last items n (longer w c.min-number.result) (omega (arith, room_some f items)))) keeps)
+    let puts : Puts (take n items ++ w ∷ []) (take n items ++ w ∷ []) (take n items ++ longer w number ∷ []) number f after =
+    topped_puts f after (take n items) w number (take number c.args.bytes.now) sound top.last.stands top.grows c.fill.ensures.fills top.fits (length-take number c.args.bytes.now ∙ omega (arith, least)) in
+    subst (λ (old : List Window). Puts old old (set items n (longer w number)) number f after) (sym top.last.split)
+    (subst (λ (new : List Window). Puts (take n items ++ w ∷ []) (take n items ++ w ∷ []) new number f after) (sym (set_last items n (longer w number) (omega (arith, room_some f items)))) puts)
 
 pub returns-else-number-gt0-clause-segments : goal.returns-else-number-gt0-clause-segments
 returns-else-number-gt0-clause-segments g c =
     let f : Live = g.F.Frames.live c.args.f.now in
     sym (topped_none (map (segment_of f) c.args.windows.now.items) c.args.bytes.now (omega (arith, c.last_window_room.ensures.room f)))
+
+pub returns-else-number-gt0-clause-puts : goal.returns-else-number-gt0-clause-puts
+returns-else-number-gt0-clause-puts g c =
+    subst (λ (n : ℕ). Puts c.args.windows.now.items c.args.windows.now.items c.args.windows.now.items n (g.F.Frames.live c.args.f.now) (g.F.Frames.live c.args.f.now))
+    (omega arith) (puts_nothing (g.F.Frames.live c.args.f.now) c.args.windows.now.items c.requires.stands)
