@@ -1,0 +1,256 @@
+ghost use Rattle.std.specs.Prelude.{◌≡◌, ◌+◌, ◌-◌, ◌<◌, ◌≤◌, ◌^◌, [], ◌++◌, length, drop, min, nat_eq, nat_lt, if◌then◌else◌, vec_len, vec_capacity, IfOk};
+ghost use Rattle.pf_base.specs.Progress.{moved, portion, read_now, write_now};
+ghost use Rattle.pf_base.specs.declared.progress.Progress.TheVariants.{WouldBlock, EndOfFile};
+ghost use Rattle.pf_base.specs.Queue.{room_of, bytes_of, taken};
+ghost use Rattle.pf_frame.specs.Live.{Live, IsSound};
+ghost use Rattle.pf_ring.specs.Ring.{queue_of};
+ghost use Rattle.pf_ring.specs.Windows.{Stands, Keeps, SameBytes, PutsBehind, bytes_in};
+ghost use Rattle.pf_pipe.specs.Pipe.{ends, with_ends, Passes};
+
+use pf_base::{Progress, Side};
+use pf_frame::Frames;
+use pf_ring::SlotRing;
+use std::alloc::{AllocError, Global};
+use std::marker::Model;
+
+/// A pipe (pipe(7)): a ring of slots, the user that its pages are charged to, and how many ends read and write it.
+///
+/// It holds no bytes: they stand in the frames of the door that each call is handed, which is always the same. It is
+/// cleared before it ends, or its frames stay live.
+#[derive(Drop)]
+pub struct Pipe {
+    ring: SlotRing,
+    owner: u32,
+    readers: u64,
+    writers: u64,
+}
+
+impl Model for Pipe {
+    ghost use Rattle.pf_pipe.specs.Pipe.{CountedPipe};
+
+    ghost Value = { CountedPipe };
+
+    ghost view = { λ p. record { ring = p.ring; owner = p.owner; readers = p.readers; writers = p.writers } };
+}
+
+impl Pipe {
+    /// An empty pipe of so many slots that nothing reads or writes yet. No later call takes memory.
+    pub fn new(alloc: Global, slots: usize, owner: u32) -> Result<Pipe, AllocError>
+        requires { slots < 2 ^ 32 }
+        ensures { IfOk result (λ p. p ≡ record {
+          ring = record { capacity = slots; windows = [] };
+          owner = owner;
+          readers = 0;
+          writers = 0;
+        }) }
+    {
+        let ring = SlotRing::new(alloc, slots)?;
+        Ok(Pipe {
+            ring,
+            owner,
+            readers: 0,
+            writers: 0,
+        })
+    }
+
+    /// How many slots there are: its capacity in pages.
+    pub fn slots(&self) -> usize
+        ensures number { result ≡ self.now.ring.capacity }
+        ensures most { result < 2 ^ 32 }
+    {
+        self.ring.slots()
+    }
+
+    /// How many slots are in use.
+    pub fn used(&self) -> usize
+        ensures number { result ≡ length self.now.ring.windows }
+        ensures most { result ≤ self.now.ring.capacity }
+    {
+        self.ring.used()
+    }
+
+    /// How many bytes there are to read.
+    pub fn len(&self) -> usize
+        ensures number { result ≡ bytes_in self.now.ring.windows }
+        ensures bytes { (f : Live) → IsSound f → Stands f self.now.ring.windows
+            → result ≡ length (bytes_of (queue_of f self.now.ring)) }
+    {
+        self.ring.len()
+    }
+
+    /// How many bytes may be written: those that the last slot still takes, and a page for each free slot.
+    pub fn room(&self) -> usize
+        ensures { (f : Live) → result ≡ room_of (queue_of f self.now.ring) }
+    {
+        self.ring.room()
+    }
+
+    /// The user that its pages are charged to.
+    pub fn owner(&self) -> u32
+        ensures { result ≡ self.now.owner }
+    {
+        self.owner
+    }
+
+    /// How many ends read it.
+    pub fn readers(&self) -> u64
+        ensures { result ≡ self.now.readers }
+    {
+        self.readers
+    }
+
+    /// How many ends write it.
+    pub fn writers(&self) -> u64
+        ensures { result ≡ self.now.writers }
+    {
+        self.writers
+    }
+
+    /// Whether any end is left: a pipe with none is gone (POSIX.1-2017, close()).
+    pub fn is_open(&self) -> bool
+        ensures { result ≡ nat_lt 0 (self.now.readers + self.now.writers) }
+    {
+        self.readers > 0 || self.writers > 0
+    }
+
+    /// Counts an end more of this side.
+    pub fn add_end(&mut self, side: Side)
+        requires { ends side self.old < 2 ^ 64 - 1 }
+        ensures { self.new ≡ with_ends side (ends side self.old + 1) self.old }
+    {
+        match side {
+            Side::Read => self.readers += 1,
+            Side::Write => self.writers += 1,
+        }
+    }
+
+    /// Counts an end less of this side.
+    pub fn drop_end(&mut self, side: Side)
+        requires { 0 < ends side self.old }
+        ensures { self.new ≡ with_ends side (ends side self.old - 1) self.old }
+    {
+        match side {
+            Side::Read => self.readers -= 1,
+            Side::Write => self.writers -= 1,
+        }
+    }
+
+    /// Writes what goes in now (write(2)): as many of the bytes as there is room for, or all or none of them where they
+    /// are to stay whole. It takes no frame beyond the pipe's free slots.
+    pub fn write_now<F: Frames>(&mut self, f: &mut F, bytes: &[u8], whole: bool) -> Progress
+        requires fact { F.fact f.old }
+        requires stands { Stands (F.live f.old) self.old.ring.windows }
+        // A credit for each free slot: nothing can fail.
+        requires credits { let free = self.old.ring.capacity - length self.old.ring.windows in
+            (F.live f.old).held + free ≤ (F.live f.old).reserved }
+        ensures fact { F.fact f.new }
+        ensures rest { F.rest f.new ≡ F.rest f.old }
+        ensures passes { Passes self.old self.new (F.live f.old) (F.live f.new) result
+            (write_now (queue_of (F.live f.old) self.old.ring) self.old.readers whole bytes.now) }
+        // As many frames are taken as slots.
+        ensures takes { (F.live f.new).held + length self.old.ring.windows
+            ≡ (F.live f.old).held + length self.new.ring.windows }
+        // A frame that was live is written to behind the last slot's end alone, and where no byte goes nothing is touched.
+        ensures puts_behind { PutsBehind self.old.ring.windows (moved result) (F.live f.old) (F.live f.new) }
+        ensures untouched { moved result ≡ 0 → (self.new ≡ self.old) × (f.new ≡ f.old) }
+    {
+        if bytes.is_empty() {
+            return Progress::Moved(0);
+        }
+        if self.readers == 0 {
+            return Progress::NoReader;
+        }
+        let number = portion(whole, bytes.len(), self.ring.room());
+        if number == 0 {
+            return Progress::WouldBlock;
+        }
+        self.ring.append(f, &bytes[..number]);
+        Progress::Moved(number as u64)
+    }
+
+    /// Reads what there is now into a buffer (read(2)), as many bytes as it has room for.
+    pub fn read_now<F: Frames>(&mut self, f: &mut F, buffer: &mut [u8]) -> Progress
+        requires fact { F.fact f.old }
+        requires stands { Stands (F.live f.old) self.old.ring.windows }
+        ensures fact { F.fact f.new }
+        ensures rest { F.rest f.new ≡ F.rest f.old }
+        ensures passes { Passes self.old self.new (F.live f.old) (F.live f.new) result
+            (read_now (queue_of (F.live f.old) self.old.ring) self.old.writers (length buffer.old)) }
+        ensures bytes { let number = moved result in
+            buffer.new ≡ taken (queue_of (F.live f.old) self.old.ring) number ++ drop number buffer.old }
+        // Nothing is written, and where no byte comes out nothing is touched.
+        ensures bytes_stay { SameBytes (F.live f.old) (F.live f.new) }
+        ensures untouched { moved result ≡ 0 → (self.new ≡ self.old) × (f.new ≡ f.old) }
+    {
+        if buffer.is_empty() {
+            return Progress::Moved(0);
+        }
+        if self.len() == 0 {
+            return self.empty_told();
+        }
+        let number = self.ring.take_into(f, buffer);
+        Progress::Moved(number as u64)
+    }
+
+    /// Reads what there is now onto the end of a vector that has room for it (read(2)), but at most so many bytes.
+    pub fn read_onto<F: Frames>(&mut self, f: &mut F, most: usize, out: &mut Vec<u8>) -> Progress
+        requires fact { F.fact f.old }
+        requires stands { Stands (F.live f.old) self.old.ring.windows }
+        requires room { vec_len out.old + min most (bytes_in self.old.ring.windows) ≤ vec_capacity out.old }
+        ensures fact { F.fact f.new }
+        ensures rest { F.rest f.new ≡ F.rest f.old }
+        ensures passes { Passes self.old self.new (F.live f.old) (F.live f.new) result
+            (read_now (queue_of (F.live f.old) self.old.ring) self.old.writers most) }
+        ensures bytes { out.new.items
+            ≡ out.old.items ++ taken (queue_of (F.live f.old) self.old.ring) (moved result) }
+        // Nothing is written, and where no byte comes out nothing is touched.
+        ensures bytes_stay { SameBytes (F.live f.old) (F.live f.new) }
+        ensures untouched { moved result ≡ 0 → (self.new ≡ self.old) × (f.new ≡ f.old) × (out.new ≡ out.old) }
+    {
+        if most == 0 {
+            return Progress::Moved(0);
+        }
+        if self.len() == 0 {
+            return self.empty_told();
+        }
+        let number = self.ring.take_onto(f, most, out);
+        Progress::Moved(number as u64)
+    }
+
+    // What a read is told where there is nothing: the end of file once nobody writes.
+    fn empty_told(&self) -> Progress
+        ensures { result ≡ (if nat_eq self.now.writers 0 then EndOfFile else WouldBlock) }
+    {
+        if self.writers == 0 {
+            Progress::EndOfFile
+        } else {
+            Progress::WouldBlock
+        }
+    }
+
+    /// Empties all slots, and releases the frame of each. The ends stay counted.
+    pub fn clear<F: Frames>(&mut self, f: &mut F)
+        requires fact { F.fact f.old }
+        requires stands { Stands (F.live f.old) self.old.ring.windows }
+        ensures fact { F.fact f.new }
+        ensures rest { F.rest f.new ≡ F.rest f.old }
+        ensures pipe { self.new
+            ≡ record self.old { ring = record { capacity = self.old.ring.capacity; windows = [] } } }
+        // Other rings show what they showed, and nothing is written.
+        ensures keeps { Keeps [] self.old.ring.windows [] (F.live f.old) (F.live f.new) }
+        ensures bytes_stay { SameBytes (F.live f.old) (F.live f.new) }
+    {
+        self.ring.clear(f);
+    }
+}
+
+/// How many of so many bytes go in where there is this room: all or none where they are to stay whole (pipe(7)).
+fn portion(whole: bool, number: usize, room: usize) -> usize
+    ensures { result ≡ portion whole number room }
+{
+    if whole && room < number {
+        0
+    } else {
+        number.min(room)
+    }
+}
