@@ -1,14 +1,16 @@
 -- A slab's slots seen by number: how each change of one slot changes what stands at the numbers.
 
-use Rattle.std.proofs.Common.{◌≡◌, ◌≢◌, ℕ, zero, suc, ◌+◌, ◌<◌, ◌≤◌, List, [], ◌∷◌, ◌++◌, length, set, Option, Some, None, IsSome, is_some, cond, count_by, refl, sym, ap, subst, ◌∙◌, arith, length-set, nat_eq, if◌then◌else◌, inl, inr}
+use Rattle.std.proofs.Common.{◌≡◌, ◌≢◌, ℕ, zero, suc, ◌+◌, ◌-◌, ◌^◌, ◌<◌, ◌≤◌, List, [], ◌∷◌, ◌++◌, length, set, Option, Some, None, IsSome, is_some, cond, count_by, refl, sym, ap, subst, ◌∙◌, arith, length-set, nat_eq, if◌then◌else◌, inl, inr}
 use Rattle.std.proofs.lemmas.Bool.{true≢false, cases_eq, cases_lt, eq-eqb, ne_eqb}
 use Rattle.std.proofs.lemmas.List.{length_push}
 use Rattle.std.proofs.lemmas.List.Sums.{sum_by-set}
 use Rattle.pf_base.specs.Numbered.{at, put_at, clear_at}
-use Rattle.pf_base.specs.NumberedLaws.{at_within, at_past, at-put_same, at-put_other, at-push_old, at-push_new, same_at}
+use Rattle.pf_base.proofs.NumberedLaws.{at_within, at_past, at-put_same, at-put_other, at-push_old, at-push_new, same_at}
 use Rattle.pf_fds.specs.declared.registry.Entry.{Entry}
+use Rattle.pf_fds.specs.declared.registry.Key.{Key}
 use Rattle.pf_fds.specs.Registry.{Registry, if_placed, find}
-use Rattle.pf_fds.specs.Slots.{scan, numbers, by_number, IsSound}
+use Rattle.pf_fds.specs.Slots.{scan, numbers, by_number, IsSound, IsOut, IsKept}
+use Rattle.slab.specs.Slab.{Slab, slab_len}
 
 module _ {T : Type 0} where
   length-numbers : (count n : ℕ) (xs : List (Option (Entry T))) → length (numbers count n xs) ≡ count
@@ -146,79 +148,125 @@ module _ {T : Type 0} where
     apart = λ j k d e g h s. let o = was j d g in let p = was k e h in sound.apart j k o.0 p.0 o.1 p.1 (sym o.2 ∙ s ∙ p.2);
   }
 
-  sound_inserted : (drawn place : ℕ) (old new : List (Option (Entry T))) (v : T) → IsSound old drawn → at new place ≡ Some (record { serial = drawn; value = v }) → ((j : ℕ) → j ≢ place → at new j ≡ at old j) → IsSound new (drawn + 1)
-  sound_inserted drawn place old new v sound changed others = record {
-    below = λ k e h.
-        elim (cases_eq k place) [
-          | inl same ↦ omega (arith, fresh k e h same)
-          | inr differs ↦ omega (arith, sound.below k e (sym (others k differs) ∙ h))
-        ];
-    apart = λ j k d e g h s.
-        elim (cases_eq j place) [
-          | inl j_same ↦ elim (cases_eq k place) [
-            | inl k_same ↦ j_same ∙ sym k_same
-            | inr k_differs ↦ absurd (omega (arith, fresh j d g j_same, s, sound.below k e (sym (others k k_differs) ∙ h)))
-          ]
-          | inr j_differs ↦ elim (cases_eq k place) [
-            | inl k_same ↦ absurd (omega (arith, fresh k e h k_same, s, sound.below j d (sym (others j j_differs) ∙ g)))
-            | inr k_differs ↦ sound.apart j k d e (sym (others j j_differs) ∙ g) (sym (others k k_differs) ∙ h) s
-          ]
-        ];
-  }
-    where
-      fresh : (k : ℕ) (e : Entry T) → at new k ≡ Some e → k ≡ place → e.serial ≡ drawn
-      fresh k e h same =
-          let it : ◌≡◌ {A = Option (Entry T)} (Some e) (Some (record { serial = drawn; value = v })) = sym h ∙ ap (at new) same ∙ changed in
-          let it_is : ◌≡◌ {A = Entry T} e (record { serial = drawn; value = v }) = cc in
-          ap (λ (x : Entry T). x.serial) it_is
+  -- a number that isn't among those that stand is in no slot
+  absent_at : (drawn n : ℕ) (xs : List (Option (Entry T))) → IsSound xs drawn → at (by_number drawn xs) n ≡ None → Absent n xs
+  absent_at drawn n xs sound none k e h s =
+      let stands : at (by_number drawn xs) n ≡ Some (k, e.value) = ap (at (by_number drawn xs)) (sym s) ∙ at_slot drawn xs k e sound h in
+      absurd (cc)
+
+  absent_past : (drawn n : ℕ) (xs : List (Option (Entry T))) → IsSound xs drawn → drawn ≤ n → Absent n xs
+  absent_past drawn n xs sound past k e h s = absurd (omega (arith, sound.below k e h, s, past))
+
+  -- a number that is in no slot comes into a vacant one
+  module _ (drawn drawn' place n : ℕ) (old new : List (Option (Entry T))) (v : T) (sound : IsSound old drawn) (more : drawn ≤ drawn') (n_below : n < drawn') (absent : Absent n old)
+      (vacant : at old place ≡ None) (changed : at new place ≡ Some (record { serial = n; value = v })) (others : (j : ℕ) → j ≢ place → at new j ≡ at old j) where
+    fresh : (k : ℕ) (e : Entry T) → at new k ≡ Some e → k ≡ place → e.serial ≡ n
+    fresh k e h same =
+        let it : ◌≡◌ {A = Option (Entry T)} (Some e) (Some (record { serial = n; value = v })) = sym h ∙ ap (at new) same ∙ changed in
+        let it_is : ◌≡◌ {A = Entry T} e (record { serial = n; value = v }) = cc in
+        ap (λ (x : Entry T). x.serial) it_is
+
+    was : (k : ℕ) (e : Entry T) → at new k ≡ Some e → k ≢ place → at old k ≡ Some e
+    was k e h differs = sym (others k differs) ∙ h
+
+    pub sound-filled : IsSound new drawn'
+    sound-filled = record {
+      below = λ k e h.
+          elim (cases_eq k place) [
+            | inl same ↦ omega (arith, fresh k e h same, n_below)
+            | inr differs ↦ omega (arith, sound.below k e (was k e h differs), more)
+          ];
+      apart = λ j k d e g h s.
+          elim (cases_eq j place) [
+            | inl j_same ↦ elim (cases_eq k place) [
+              | inl k_same ↦ j_same ∙ sym k_same
+              | inr k_differs ↦ absurd (absent k e (was k e h k_differs) (sym s ∙ fresh j d g j_same))
+            ]
+            | inr j_differs ↦ elim (cases_eq k place) [
+              | inl k_same ↦ absurd (absent j d (was j d g j_differs) (s ∙ fresh k e h k_same))
+              | inr k_differs ↦ sound.apart j k d e (was j d g j_differs) (was k e h k_differs) s
+            ]
+          ];
+    }
+
+    at-filled : at (by_number drawn' new) n ≡ Some (place, v)
+    at-filled = at_slot drawn' new place (record { serial = n; value = v }) sound-filled changed
+
+    scan-filled : (k : ℕ) → k ≢ n → scan k 0 new ≡ scan k 0 old
+    scan-filled k differs = scan_kept k old new drawn drawn' sound sound-filled there back
+      where
+        there : (j : ℕ) (e : Entry T) → at old j ≡ Some e → e.serial ≡ k → at new j ≡ Some e
+        there j e h s =
+            elim (cases_eq j place) [
+              | inl same ↦ let both : at old place ≡ Some e = ap (at old) (sym same) ∙ h in absurd (cc)
+              | inr apart ↦ others j apart ∙ h
+            ]
+
+        back : (j : ℕ) (e : Entry T) → at new j ≡ Some e → e.serial ≡ k → at old j ≡ Some e
+        back j e h s =
+            elim (cases_eq j place) [
+              | inl same ↦ absurd (differs (sym s ∙ fresh j e h same))
+              | inr apart ↦ was j e h apart
+            ]
 
   -- a value in a vacant slot, under the next number
-  pub inserted : (drawn place : ℕ) (old new : List (Option (Entry T))) (v : T) → IsSound old drawn → at old place ≡ None → at new place ≡ Some (record { serial = drawn; value = v }) → ((j : ℕ) → j ≢ place → at new j ≡ at old j) → by_number (drawn + 1) new ≡ by_number drawn old ++ Some (place, v) ∷ []
-  inserted drawn place old new v sound vacant changed others =
-      same_at (by_number (drawn + 1) new) (by_number drawn old ++ Some (place, v) ∷ []) (omega (arith, length-by_number (drawn + 1) new, length-by_number drawn old, length_push (by_number drawn old) (Some (place, v)))) at_each
-    where
-      after : IsSound new (drawn + 1)
-      after = sound_inserted drawn place old new v sound changed others
+  module _ (drawn place : ℕ) (old new : List (Option (Entry T))) (v : T) (sound : IsSound old drawn)
+      (vacant : at old place ≡ None) (changed : at new place ≡ Some (record { serial = drawn; value = v })) (others : (j : ℕ) → j ≢ place → at new j ≡ at old j) where
+    none_yet : Absent drawn old
+    none_yet = absent_past drawn drawn old sound (omega arith)
 
-      there : (k : ℕ) → k < drawn → (j : ℕ) (e : Entry T) → at old j ≡ Some e → e.serial ≡ k → at new j ≡ Some e
-      there k below j e h s =
-          elim (cases_eq j place) [
-            | inl same ↦ let both : at old place ≡ Some e = ap (at old) (sym same) ∙ h in absurd (cc)
-            | inr differs ↦ others j differs ∙ h
-          ]
+    pub sound-inserted : IsSound new (drawn + 1)
+    sound-inserted = sound-filled drawn (drawn + 1) place drawn old new v sound (omega arith) (omega arith) none_yet vacant changed others
 
-      back : (k : ℕ) → k < drawn → (j : ℕ) (e : Entry T) → at new j ≡ Some e → e.serial ≡ k → at old j ≡ Some e
-      back k below j e h s =
-          elim (cases_eq j place) [
-            | inl same ↦ absurd (omega (arith, after.apart j place e (record { serial = drawn; value = v }) h changed, drawn_is j e h same, s))
-            | inr differs ↦ sym (others j differs) ∙ h
-          ]
-        where
-          drawn_is : (j : ℕ) (e : Entry T) → at new j ≡ Some e → j ≡ place → e.serial ≡ drawn
-          drawn_is j e h same =
-              let it : ◌≡◌ {A = Option (Entry T)} (Some e) (Some (record { serial = drawn; value = v })) = sym h ∙ ap (at new) same ∙ changed in
-              let it_is : ◌≡◌ {A = Entry T} e (record { serial = drawn; value = v }) = cc in
-              ap (λ (x : Entry T). x.serial) it_is
-
-      at_each : (k : ℕ) → at (by_number (drawn + 1) new) k ≡ at (by_number drawn old ++ Some (place, v) ∷ []) k
-      at_each k =
-          elim (cases_lt k drawn) [
-            | inl below ↦
-                at_drawn (drawn + 1) new k (omega arith)
-                ∙ scan_kept k old new drawn (drawn + 1) sound after (there k below) (back k below)
-                ∙ sym (at_drawn drawn old k below)
-                ∙ sym (at-push_old (by_number drawn old) (Some (place, v)) k (omega (arith, length-by_number drawn old)))
-            | inr past ↦ elim (cases_eq k drawn) [
-              | inl same ↦
-                  let here : k ≡ length (by_number drawn old) = same ∙ sym (length-by_number drawn old) in
-                  ap (at (by_number (drawn + 1) new)) same
-                  ∙ at_slot (drawn + 1) new place (record { serial = drawn; value = v }) after changed
-                  ∙ sym (ap (at (by_number drawn old ++ Some (place, v) ∷ [])) here ∙ at-push_new (by_number drawn old) (Some (place, v)))
-              | inr differs ↦
-                  at_undrawn (drawn + 1) new k (omega arith)
-                  ∙ sym (at_past (by_number drawn old ++ Some (place, v) ∷ []) k (omega (arith, length_push (by_number drawn old) (Some (place, v)), length-by_number drawn old)))
+    pub inserted : by_number (drawn + 1) new ≡ by_number drawn old ++ Some (place, v) ∷ []
+    inserted = same_at _ _ (omega (arith, length-by_number (drawn + 1) new, length-by_number drawn old, length_push (by_number drawn old) (Some (place, v)))) at_each
+      where
+        at_each : (k : ℕ) → at (by_number (drawn + 1) new) k ≡ at (by_number drawn old ++ Some (place, v) ∷ []) k
+        at_each k =
+            elim (cases_lt k drawn) [
+              | inl below ↦
+                  at_drawn (drawn + 1) new k (omega arith)
+                  ∙ scan-filled drawn (drawn + 1) place drawn old new v sound (omega arith) (omega arith) none_yet vacant changed others k (λ e. absurd (omega arith))
+                  ∙ sym (at_drawn drawn old k below)
+                  ∙ sym (at-push_old (by_number drawn old) (Some (place, v)) k (omega (arith, length-by_number drawn old)))
+              | inr past ↦ elim (cases_eq k drawn) [
+                | inl same ↦
+                    let here : k ≡ length (by_number drawn old) = same ∙ sym (length-by_number drawn old) in
+                    ap (at (by_number (drawn + 1) new)) same
+                    ∙ at-filled drawn (drawn + 1) place drawn old new v sound (omega arith) (omega arith) none_yet vacant changed others
+                    ∙ sym (ap (at (by_number drawn old ++ Some (place, v) ∷ [])) here ∙ at-push_new (by_number drawn old) (Some (place, v)))
+                | inr differs ↦
+                    at_undrawn (drawn + 1) new k (omega arith)
+                    ∙ sym (at_past (by_number drawn old ++ Some (place, v) ∷ []) k (omega (arith, length_push (by_number drawn old) (Some (place, v)), length-by_number drawn old)))
+              ]
             ]
-          ]
+
+  -- a value in a vacant slot, under a number that was drawn and stands no more
+  module _ (drawn place n : ℕ) (old new : List (Option (Entry T))) (v : T) (sound : IsSound old drawn) (n_below : n < drawn) (none : at (by_number drawn old) n ≡ None)
+      (vacant : at old place ≡ None) (changed : at new place ≡ Some (record { serial = n; value = v })) (others : (j : ℕ) → j ≢ place → at new j ≡ at old j) where
+    pub sound-returned : IsSound new drawn
+    sound-returned = sound-filled drawn drawn place n old new v sound (omega arith) n_below (absent_at drawn n old sound none) vacant changed others
+
+    pub returned : by_number drawn new ≡ put_at (by_number drawn old) n (place, v)
+    returned = same_at _ _ (length-by_number drawn new ∙ sym (length-by_number drawn old) ∙ sym (length-set (by_number drawn old) n (Some (place, v)))) at_each
+      where
+        at_each : (k : ℕ) → at (by_number drawn new) k ≡ at (put_at (by_number drawn old) n (place, v)) k
+        at_each k =
+            elim (cases_eq k n) [
+              | inl same ↦
+                  ap (at (by_number drawn new)) same
+                  ∙ at-filled drawn drawn place n old new v sound (omega arith) n_below (absent_at drawn n old sound none) vacant changed others
+                  ∙ sym (ap (at (put_at (by_number drawn old) n (place, v))) same ∙ at-put_same (by_number drawn old) n (Some (place, v)) (omega (arith, length-by_number drawn old, n_below)))
+              | inr differs ↦
+                  elim (cases_lt k drawn) [
+                    | inl below ↦
+                        at_drawn drawn new k below
+                        ∙ scan-filled drawn drawn place n old new v sound (omega arith) n_below (absent_at drawn n old sound none) vacant changed others k differs
+                        ∙ sym (at_drawn drawn old k below)
+                    | inr past ↦ at_undrawn drawn new k past ∙ sym (at_undrawn drawn old k past)
+                  ]
+                  ∙ sym (at-put_other (by_number drawn old) n k (Some (place, v)) differs)
+            ]
 
   -- an entry that is removed or has another value
   module _ (drawn place n : ℕ) (old : List (Option (Entry T))) (e : Entry T) (sound : IsSound old drawn) (h : at old place ≡ Some e) (s : e.serial ≡ n) where
@@ -313,5 +361,84 @@ count-same {X = X} xs i x y h =
     let was : cond {A = ℕ} (is_some (at xs i)) 1 0 ≡ 1 = ap (λ (o : Option X). cond {A = ℕ} (is_some o) 1 0) h in
     omega arith
 
-pub same_registry : {T : Type 0} (xs ys : List (Option (ℕ × T))) (m n : ℕ) → xs ≡ ys → m ≡ n → ◌≡◌ {A = Registry T} (record { items = xs; room = m }) (record { items = ys; room = n })
-same_registry xs ys m n p q = cc
+-- What a registry's fields keep
+
+module _ {T : Type 0} (slab : Slab (Entry T)) (drawn room : ℕ) (out : Option Key) (kept : IsKept slab drawn room out) where
+  -- more room, or more capacity
+  pub kept-grown : (slab' : Slab (Entry T)) (room' : ℕ) → slab'.slots ≡ slab.slots → slab'.vacant_key ≡ slab.vacant_key → room ≤ room' → slab_len slab + room' ≤ slab'.capacity → slab_len slab + room' < 2 ^ 64 → IsKept slab' drawn room' out
+  kept-grown slab' room' slots next more fits counted =
+      let len : slab_len slab' ≡ slab_len slab = ap (λ (xs : List (Option (Entry T))). count_by is_some xs) slots in
+      record {
+        sound = subst (λ xs. IsSound xs drawn) (sym slots) kept.sound;
+        fits = omega (arith, len, fits);
+        counted = omega (arith, len, counted);
+        returns = λ key is. let was = kept.returns key is in record {
+          next = next ∙ was.next;
+          below = was.below;
+          absent = ap (λ xs. at (by_number drawn xs) key.serial) slots ∙ was.absent;
+          has_room = omega (arith, was.has_room, more);
+        };
+      }
+
+  -- another value of an entry
+  module _ (place n : ℕ) (e : Entry T) (h : at slab.slots place ≡ Some e) (s : e.serial ≡ n) (w : T) where
+    pub kept-rewritten : IsKept (record slab { slots = set slab.slots place (Some (record e { value = w })) }) drawn room out
+    kept-rewritten =
+        let len = count-same slab.slots place e (record e { value = w }) h in
+        record {
+          sound = sound-rewritten drawn place n slab.slots e kept.sound h s w;
+          fits = omega (arith, len, kept.fits);
+          counted = omega (arith, len, kept.counted);
+          returns = λ key is. let was = kept.returns key is in record {
+            next = was.next;
+            below = was.below;
+            absent =
+                ap (λ xs. at xs key.serial) (rewritten drawn place n slab.slots e kept.sound h s w)
+                ∙ at-put_other (by_number drawn slab.slots) n key.serial (Some (place, w)) (differs key was.absent)
+                ∙ was.absent;
+            has_room = was.has_room;
+          };
+        }
+      where
+        differs : (key : Key) → at (by_number drawn slab.slots) key.serial ≡ None → key.serial ≢ n
+        differs key none same =
+            let stands = at_slot drawn slab.slots place e kept.sound h in
+            let here : at (by_number drawn slab.slots) e.serial ≡ None = ap (at (by_number drawn slab.slots)) (s ∙ sym same) ∙ none in
+            absurd (cc)
+
+  -- an entry's value is taken out
+  pub kept-taken : (key : Key) (e : Entry T) → at slab.slots key.place ≡ Some e → e.serial ≡ key.serial → (slab' : Slab (Entry T)) → slab'.slots ≡ set slab.slots key.place None → slab'.vacant_key ≡ key.place
+      → slab'.capacity ≡ slab.capacity → slab_len slab' + 1 ≡ slab_len slab → IsKept slab' drawn (room + 1) (Some key)
+  kept-taken key e h s slab' slots next capacity len = record {
+    sound = subst (λ xs. IsSound xs drawn) (sym slots) (sound-removed drawn key.place key.serial slab.slots e kept.sound h s);
+    fits = omega (arith, kept.fits, capacity, len);
+    counted = omega (arith, kept.counted, len);
+    returns = λ k is. out_is k is;
+  }
+    where
+      below : key.serial < drawn
+      below = omega (arith, kept.sound.below key.place e h, s)
+
+      absent : at (by_number drawn slab'.slots) key.serial ≡ None
+      absent =
+          ap (λ xs. at (by_number drawn xs) key.serial) slots
+          ∙ ap (λ xs. at xs key.serial) (removed drawn key.place key.serial slab.slots e kept.sound h s)
+          ∙ at-put_same (by_number drawn slab.slots) key.serial None (omega (arith, length-by_number drawn slab.slots, below))
+
+      out_is : (k : Key) → Some key ≡ Some k → IsOut slab' drawn (room + 1) k
+      out_is k is =
+          let same : key ≡ k = cc in
+          subst (λ x. IsOut slab' drawn (room + 1) x) same (record { next = next; below = below; absent = absent; has_room = omega arith })
+
+  -- a value under a number that stood in no slot
+  pub kept-filled : (drawn' : ℕ) (slab' : Slab (Entry T)) → IsSound slab'.slots drawn' → slab'.capacity ≡ slab.capacity → slab_len slab' ≡ slab_len slab + 1 → 0 < room → IsKept slab' drawn' (room - 1) None
+  kept-filled drawn' slab' sound capacity len has_room = record {
+    sound = sound;
+    fits = omega (arith, kept.fits, capacity, len, has_room);
+    counted = omega (arith, kept.counted, len, has_room);
+    returns = λ key is. absurd (cc);
+  }
+
+-- the registry as a contract sees it, with these items and no other change
+pub same_registry : {T : Type 0} (xs ys : List (Option (ℕ × T))) (room : ℕ) (out : Option Key) → xs ≡ ys → ◌≡◌ {A = Registry T} (record { items = xs; room = room; out = out }) (record { items = ys; room = room; out = out })
+same_registry xs ys room out p = cc

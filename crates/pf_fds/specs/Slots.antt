@@ -1,8 +1,10 @@
 -- How a slab's slots are seen by number. No public clause cites this module.
 
-use Rattle.std.specs.Prelude.{◌≡◌, ℕ, zero, suc, ◌<◌, List, [], ◌∷◌, Option, Some, None, nat_eq, if◌then◌else◌}
+use Rattle.std.specs.Prelude.{◌≡◌, ℕ, zero, suc, ◌+◌, ◌^◌, ◌<◌, ◌≤◌, List, [], ◌∷◌, Option, Some, None, nat_eq, if◌then◌else◌}
 use Rattle.pf_base.specs.Numbered.{at}
 use Rattle.pf_fds.specs.declared.registry.Entry.{Entry}
+use Rattle.pf_fds.specs.declared.registry.Key.{Key}
+use Rattle.slab.specs.Slab.{Slab, slab_len}
 
 module _ {T : Type 0} where
   -- the first slot from place i on whose entry has the number
@@ -24,3 +26,17 @@ module _ {T : Type 0} where
   pub record IsSound (xs : List (Option (Entry T))) (drawn : ℕ) : Type 0 where
     pub below : (k : ℕ) (e : Entry T) → at xs k ≡ Some e → e.serial < drawn
     pub apart : (j k : ℕ) (d e : Entry T) → at xs j ≡ Some d → at xs k ≡ Some e → d.serial ≡ e.serial → j ≡ k
+
+  -- the key's number was drawn and nothing stands there, its place is the next to be filled, and there is room
+  pub record IsOut (slab : Slab (Entry T)) (drawn room : ℕ) (key : Key) : Type 0 where
+    pub next : slab.vacant_key ≡ key.place
+    pub below : key.serial < drawn
+    pub absent : at (by_number drawn slab.slots) key.serial ≡ None
+    pub has_room : 0 < room
+
+  -- a registry's fields: the room is there and can be counted, and a key that is out can be put back
+  pub record IsKept (slab : Slab (Entry T)) (drawn room : ℕ) (out : Option Key) : Type 0 where
+    pub sound : IsSound slab.slots drawn
+    pub fits : slab_len slab + room ≤ slab.capacity
+    pub counted : slab_len slab + room < 2 ^ 64
+    pub returns : (key : Key) → out ≡ Some key → IsOut slab drawn room key

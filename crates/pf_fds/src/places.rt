@@ -2,16 +2,17 @@ ghost use Rattle.std.specs.Prelude.{◌≡◌, ℕ, ◌<◌, ◌≤◌, List, Op
 ghost use Rattle.std.specs.Borrow.{sem};
 ghost use Rattle.pf_base.specs.Numbered.{at, put_at, clear_at, first_free};
 ghost use Rattle.pf_base.specs.State.{vacant};
+ghost use Rattle.pf_fds.specs.declared.places.TheConstants.{PLACES};
 
 use crate::marks::Marks;
 use std::alloc::{AllocError, Global};
 use std::marker::Model;
 
 /// How many places there are.
-const PLACES: usize = 256;
+pub const PLACES: usize = 256;
 
 /// Places with the numbers from 0 to 255, each with a value or with none. Each call takes constant time, and none but
-/// `new` takes memory.
+/// `new` and `copy` takes memory.
 ///
 /// A contract sees what stands at each number.
 #[derive(Drop)]
@@ -53,6 +54,19 @@ impl<T> Places<T> {
         })
     }
 
+    /// The same values again.
+    pub fn copy(&self, alloc: Global) -> Result<Self, AllocError>
+    where
+        T: Copy,
+        ensures { IfOk result (λ p. p ≡ self.now) }
+    {
+        let values = Vec::from_slice(alloc, &self.values)?;
+        Ok(Places {
+            values,
+            taken: self.taken,
+        })
+    }
+
     /// The value at a number.
     pub fn get(&self, n: usize) -> Option<&T>
         ensures { option_copied result ≡ at self.now n }
@@ -79,7 +93,7 @@ impl<T> Places<T> {
     pub fn put(&mut self, n: usize, value: T)
     where
         T: Drop,
-        requires { n < 256 }
+        requires { n < PLACES }
         ensures { self.new ≡ put_at self.old n value }
     {
         self.taken.mark(n);
@@ -88,27 +102,29 @@ impl<T> Places<T> {
 
     /// Takes the value at a number away.
     pub fn take(&mut self, n: usize) -> Option<T>
-        requires { n < 256 }
         ensures value { result ≡ at self.old n }
         ensures places { self.new ≡ clear_at self.old n }
     {
+        if n >= self.values.len() {
+            return None;
+        }
         self.taken.unmark(n);
         self.values[n].take()
     }
 
-    /// The lowest number that has no value, 256 where all have one.
+    /// The lowest number that has no value, `PLACES` where all have one.
     pub fn lowest(&self) -> usize
         ensures lowest { result ≡ first_free self.now }
-        ensures most { result ≤ 256 }
+        ensures most { result ≤ PLACES }
     {
         self.taken.lowest()
     }
 
     /// The lowest number that has no value but for this one.
     pub fn next_lowest(&self, but: usize) -> usize
-        requires { but < 256 }
+        requires { but < PLACES }
         ensures lowest { (x : T) → result ≡ first_free (put_at self.now but x) }
-        ensures most { result ≤ 256 }
+        ensures most { result ≤ PLACES }
     {
         let mut taken = self.taken;
         taken.mark(but);

@@ -1,7 +1,8 @@
-ghost use Rattle.std.specs.Prelude.{◌≡◌, ℕ, ◌+◌, ◌-◌, ◌^◌, ◌<◌, ◌≤◌, List, [], ◌∷◌, ◌++◌, length, Some, None, IsSome, OnOk, slice_set, option_copied};
+ghost use Rattle.std.specs.Prelude.{◌≡◌, ℕ, ◌+◌, ◌-◌, ◌^◌, ◌<◌, ◌≤◌, List, [], ◌∷◌, ◌++◌, length, Some, None, IsSome, IsOk, OnOk, OnErr, IfOk, IfErr, option_copied};
+ghost use Rattle.std.specs.Option.{option_copied_mut};
 ghost use Rattle.std.specs.Borrow.{sem};
 ghost use Rattle.pf_base.specs.Numbered.{put_at, clear_at};
-ghost use Rattle.pf_fds.specs.Registry.{find};
+ghost use Rattle.pf_fds.specs.Registry.{find, IsInsertFault};
 
 use slab::Slab;
 use std::alloc::{AllocError, Global};
@@ -16,6 +17,15 @@ pub struct Key {
     pub serial: u64,
 }
 
+/// Why a value was not inserted. It is handed back, and nothing changed.
+#[derive(Debug, Drop)]
+pub enum InsertFault<T> {
+    /// Every number is drawn: the last one is 2^64 - 2.
+    Spent(T),
+    /// Memory has run out.
+    NoMemory(T),
+}
+
 // A value with its number.
 #[derive(Drop)]
 struct Entry<T> {
@@ -24,45 +34,48 @@ struct Entry<T> {
 }
 
 /// Values by number. The numbers are drawn in order, from 0 on, and each only once; each call takes constant time,
-/// besides a `reserve` that moves the values.
+/// besides one that takes memory and moves the values there.
 ///
-/// A contract sees what stands at each number that was ever drawn, with its place, and how many more values fit with
-/// no allocation.
+/// A contract sees what stands at each number that was ever drawn, with its place, how many more values are sure to
+/// fit with no allocation, and the key whose value was taken out and can be put back.
 #[derive(Drop)]
 pub struct Registry<T> {
     slab: Slab<Entry<T>>,
     drawn: u64,
+    // How many more values are sure to fit.
+    room: usize,
+    // The key whose value was taken out, while its place is the slab's next.
+    out: Option<Key>,
 }
 
 impl<T> Model for Registry<T> {
-    ghost use Rattle.std.specs.Prelude.{◌-◌};
-    ghost use Rattle.slab.specs.Slab.{slab_len};
     ghost use Rattle.pf_fds.specs.Registry.{Registry as Seen, registry_code};
 
     ghost Value = { Seen T };
 
     ghost coded = { registry_code T.code };
 
-    ghost use Rattle.pf_fds.specs.Slots.{by_number, IsSound};
+    ghost use Rattle.pf_fds.specs.Slots.{by_number, IsKept};
 
-    ghost view = { λ r. record {
-      items = by_number r.drawn r.slab.slots;
-      room = r.slab.capacity - slab_len r.slab;
-    } };
+    ghost view = { λ r. record { items = by_number r.drawn r.slab.slots; room = r.room; out = r.out } };
 
-    ghost invariant = { λ r. IsSound r.slab.slots r.drawn };
+    ghost invariant = { λ r. IsKept r.slab r.drawn r.room r.out };
 }
 
 impl<T> Registry<T> {
-    ghost use Rattle.pf_fds.specs.Lends.{lends_value};
+    ghost use Rattle.pf_fds.specs.Lends.{lends_value, lends_found};
 
     /// No value, and no allocation.
     pub fn new(alloc: Global) -> Self
-        ensures { result.items ≡ [] }
+        ensures items { result.items ≡ [] }
+        ensures room { result.room ≡ 0 }
+        ensures out { result.out ≡ None }
     {
         Registry {
             slab: Slab::new(alloc),
             drawn: 0,
+            room: 0,
+            out: None,
         }
     }
 
@@ -73,25 +86,60 @@ impl<T> Registry<T> {
         self.drawn
     }
 
-    /// Makes room for more values.
+    /// Makes room for more values, so that as many inserts take no memory.
     pub fn reserve(&mut self, more: usize) -> Result<(), AllocError>
+        // Only the room changes. It grows where it has to, and stays where memory is wanted.
         ensures room { OnOk result (more ≤ self.new.room) }
-        ensures same { self.new.items ≡ self.old.items }
+        ensures least { self.old.room ≤ self.new.room }
+        ensures rest { self.new ≡ record self.old { room = self.new.room } }
+        ensures refused { OnErr result (self.new ≡ self.old) }
+
+        // Where there is room, no memory is wanted.
+        ensures succeeds { more ≤ self.old.room → IsOk result }
+        ensures had_room { more ≤ self.old.room → self.new ≡ self.old }
     {
-        self.slab.reserve(more)
+        if more > self.room {
+            self.slab.reserve(more)?;
+            self.room = self.slab.capacity() - self.slab.len();
+        }
+        Ok(())
     }
 
-    /// Stores a value under the next number.
+    /// Stores a value under the next number, or hands it back.
+    pub fn insert(&mut self, value: T) -> Result<Key, InsertFault<T>>
+        ensures serial { IfOk result (λ key. key.serial ≡ length self.old.items) }
+        ensures items { IfOk result (λ key. self.new.items ≡ self.old.items ++ Some (key.place, value) ∷ []) }
+        ensures room { OnOk result (0 < self.old.room → self.new.room + 1 ≡ self.old.room) }
+        ensures out { OnOk result (self.new.out ≡ None) }
+        ensures unspent { OnOk result (length self.old.items < 2 ^ 64 - 1) }
+
+        // It refuses where every number is drawn, or where there was no room and memory is wanted.
+        ensures refused { OnErr result (self.new ≡ self.old) }
+        ensures fault { IfErr result (λ fault. IsInsertFault self.old value fault) }
+    {
+        if self.drawn() == u64::MAX {
+            return Err(InsertFault::Spent(value));
+        }
+        match self.reserve(1) {
+            Ok(()) => Ok(self.insert_reserved(value)),
+            Err(_) => Err(InsertFault::NoMemory(value)),
+        }
+    }
+
+    /// Stores a value under the next number. It takes no memory.
     pub fn insert_reserved(&mut self, value: T) -> Key
         requires room { 0 < self.old.room }
         requires unspent { length self.old.items < 2 ^ 64 - 1 }
         ensures serial { result.serial ≡ length self.old.items }
         ensures items { self.new.items ≡ self.old.items ++ Some (result.place, value) ∷ [] }
         ensures room { self.new.room + 1 ≡ self.old.room }
+        ensures out { self.new.out ≡ None }
     {
         let serial = self.drawn;
         let place = self.slab.insert_reserved(Entry { serial, value });
         self.drawn += 1;
+        self.room -= 1;
+        self.out = None;
         Key { place, serial }
     }
 
@@ -106,6 +154,18 @@ impl<T> Registry<T> {
             return None;
         }
         Some(&entry.value)
+    }
+
+    /// The value of a key, if it was not removed, for writing.
+    pub fn get_mut(&mut self, key: Key) -> Option<&mut T>
+        ensures* writes_back { sem 𝓛 (lends_found T.row self.entry key.place key.serial result) }
+        ensures value { option_copied_mut result ≡ find self.old.items key.place key.serial }
+    {
+        if self.get(key).is_some() {
+            Some(self.value_mut(key))
+        } else {
+            None
+        }
     }
 
     /// The value of a key, for writing.
@@ -123,8 +183,39 @@ impl<T> Registry<T> {
         requires stands { IsSome (find self.old.items key.place key.serial) }
         ensures value { find self.old.items key.place key.serial ≡ Some result }
         ensures items { self.new.items ≡ clear_at self.old.items key.serial }
+        ensures room { self.new.room ≡ self.old.room + 1 }
+        ensures out { self.new.out ≡ None }
+    {
+        let value = self.take_out(key);
+        self.out = None;
+        value
+    }
+
+    /// Takes the value of a key out, to be worked on beside another value of the registry: `put_back` puts it under
+    /// the same key again, if there were only calls of `get`, `get_mut` and `value_mut` in between.
+    pub fn take_out(&mut self, key: Key) -> T
+        requires stands { IsSome (find self.old.items key.place key.serial) }
+        ensures value { find self.old.items key.place key.serial ≡ Some result }
+        ensures items { self.new.items ≡ clear_at self.old.items key.serial }
+        ensures room { self.new.room ≡ self.old.room + 1 }
+        ensures out { self.new.out ≡ Some key }
     {
         let Entry { serial: _, value } = self.slab.remove(key.place);
+        self.room += 1;
+        self.out = Some(key);
         value
+    }
+
+    /// Puts a value under the key whose value was taken out, at the same place. It takes no memory.
+    pub fn put_back(&mut self, key: Key, value: T)
+        requires out { self.old.out ≡ Some key }
+        ensures items { self.new.items ≡ put_at self.old.items key.serial (key.place, value) }
+        ensures room { self.new.room + 1 ≡ self.old.room }
+        ensures out { self.new.out ≡ None }
+    {
+        let Key { place: _, serial } = key;
+        self.slab.insert_reserved(Entry { serial, value });
+        self.room -= 1;
+        self.out = None;
     }
 }
