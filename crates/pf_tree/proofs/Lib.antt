@@ -1,0 +1,10 @@
+pub mod Names
+pub mod Places
+pub mod Levels
+pub mod Paths
+pub mod Inserts
+pub mod Locals
+pub mod Removes
+pub mod Listing
+pub mod Walking
+pub mod Alone

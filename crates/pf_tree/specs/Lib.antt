@@ -1,0 +1,6 @@
+pub mod Subtrees
+pub mod SubtreeLaws
+pub mod Node
+pub mod NodeFalls
+pub mod Place
+pub mod Visits
