@@ -1,13 +1,14 @@
-pub mod Shown
-pub mod Shrinking
-pub mod Exiting
-pub mod Closing
-pub mod Vacant
-pub mod Opening
-pub mod Dropping
-pub mod Shapes
-pub mod Steps
-pub mod Moving
-pub mod Departures
-pub mod Running
-pub mod Piping
+mod Callers
+mod Closing
+mod Ends
+mod Exiting
+mod Going
+mod Held
+mod Making
+mod Opening
+mod Small
+mod Shown
+mod Steps
+mod Swept
+mod Transfers
+mod Vacating

@@ -1,16 +1,21 @@
 -- How the meaning of a state goes through looking up, changing and sweeping.
 
 use Rattle.std.proofs.Common.{◌≡◌, ◌≢◌, ℕ, ◌≤◌, zero, suc, ◌+◌, Bool, true, false, List, [], ◌∷◌, ◌++◌, length, map, refl, ap, sym, ◌∙◌, arith, set, cond}
-use Rattle.std.specs.Prelude.{Option, Some, None, nat_lt, slice_index_or, slice_set}
+use Rattle.std.specs.Prelude.{Option, Some, None, nat_lt, slice_index_or, slice_set, is_some, unwrap_or}
+use Rattle.std.proofs.lemmas.List.{length-map}
 use Rattle.std.proofs.Common.{subst}
 use Rattle.std.specs.Option.{option_map, option_and_then}
-use Rattle.pf_base.specs.Queue.{Queue}
+use Rattle.pf_base.specs.Machine.{may_want_memory}
+use Rattle.pf_base.proofs.MachineLaws.{may_want-same}
+use Rattle.pf_base.specs.Queue.{Queue, bytes_of}
 use Rattle.pf_base.specs.Numbered.{at, change_at, keep_from, sum_of}
-use Rattle.pf_base.specs.State.{State, Process, Description, Pipe, process, end_of, with_queue, holding, total, ends}
+use Rattle.pf_base.specs.Counts.{total, ends}
+use Rattle.pf_base.specs.State.{State, Process, Description, Pipe, process, end_at, with_queue, holding}
 use Rattle.pf_base.specs.Sweep.{sweep, live_descriptions}
+use Rattle.pf_base.specs.declared.step.Step.{Step}
 use Rattle.pf_frame.specs.Live.{Live}
-use Rattle.pf_ring.specs.Ring.{Ring, queue_of, no_ring}
-use Rattle.pf_space.specs.Meaning.{meaning, pipe_meaning, end_meaning, ring_or}
+use Rattle.pf_ring.specs.Ring.{Ring, queue_of, no_ring, segment_of}
+use Rattle.pf_space.specs.Meaning.{meaning, pipe_meaning, ring_or, occupied, AreEmpty}
 
 module _ {X Y : Type 0} (f : X → Y) where
   pub at-map : (xs : List (Option X)) (k : ℕ) → at (map (option_map f) xs) k ≡ option_map f (at xs k)
@@ -49,25 +54,29 @@ module _ (f : Live) where
   process-meaning s zero = refl
   process-meaning s (suc i) = refl
 
-  pub total-meaning : (s : State Ring) → total (meaning f s).pipes ≡ sum_of (λ p. p.queue.capacity) s.pipes
-  total-meaning s = sum_of-map (pipe_meaning f) (λ p. p.queue.capacity) s.pipes
+  -- a step may want memory of a namespace where it may of the lone machine's state that it means: only the processes matter
+  pub may_want-meaning : (s : State Ring) (step : Step) → may_want_memory (meaning f s) step ≡ may_want_memory s step
+  may_want-meaning s step = may_want-same (meaning f s) s step (λ pid. ap is_some (process-meaning s pid))
 
-  pub end_of-meaning : (s : State Ring) (p : Process) (fd : ℕ) → end_of (meaning f s) p fd ≡ option_map (end_meaning f) (end_of s p fd)
-  end_of-meaning s p fd =
-      elim (at p.descriptors fd) as (λ o. option_and_then (λ n. option_and_then (λ d. option_map (λ (pipe : Pipe Queue). record { description = d; pipe = pipe }) (at (meaning f s).pipes d.pipe)) (at s.descriptions n)) o
-      ≡ option_map (end_meaning f) (option_and_then (λ n. option_and_then (λ d. option_map (λ (pipe : Pipe Ring). record { description = d; pipe = pipe }) (at s.pipes d.pipe)) (at s.descriptions n)) o)) [
-        | None ↦ refl
-        | Some n ↦ elim (at s.descriptions n) as (λ o. option_and_then (λ d. option_map (λ (pipe : Pipe Queue). record { description = d; pipe = pipe }) (at (meaning f s).pipes d.pipe)) o
-            ≡ option_map (end_meaning f) (option_and_then (λ d. option_map (λ (pipe : Pipe Ring). record { description = d; pipe = pipe }) (at s.pipes d.pipe)) o)) [
-              | None ↦ refl
-              | Some d ↦ ap (option_map (λ (pipe : Pipe Queue). record { description = d; pipe = pipe })) (at-map (pipe_meaning f) s.pipes d.pipe) ∙ pipes d (at s.pipes d.pipe)
-            ]
-      ]
+  -- the segments of all queues are the slots in use of all rings
+  pub occupied-meaning : (s : State Ring) → sum_of (λ p. length p.queue.segments) (meaning f s).pipes ≡ occupied s
+  occupied-meaning s = segments s.pipes
     where
-      pipes : (d : Description) (o : Option (Pipe Ring)) → option_map (λ (pipe : Pipe Queue). record { description = d; pipe = pipe }) (option_map (pipe_meaning f) o)
-          ≡ option_map (end_meaning f) (option_map (λ (pipe : Pipe Ring). record { description = d; pipe = pipe }) o)
-      pipes d None = refl
-      pipes d (Some p) = refl
+      segments : (ps : List (Option (Pipe Ring))) → sum_of (λ p. length p.queue.segments) (map (option_map (pipe_meaning f)) ps) ≡ sum_of (λ p. length p.queue.windows) ps
+      segments [] = refl
+      segments (None ∷ ps) = omega (arith, segments ps)
+      segments (Some p ∷ ps) = omega (arith, length-map p.queue.windows (segment_of f), segments ps)
+
+  -- where no ring shows a byte, no queue has one
+  pub empty-meaning : (s : State Ring) → AreEmpty f s → (n : ℕ) (p : Pipe Queue) → at (meaning f s).pipes n ≡ Some p → bytes_of p.queue ≡ []
+  empty-meaning s empty n p there = found (at s.pipes n) refl (sym (at-map (pipe_meaning f) s.pipes n) ∙ there)
+    where
+      found : (o : Option (Pipe Ring)) → at s.pipes n ≡ o → option_map (pipe_meaning f) o ≡ Some p → bytes_of p.queue ≡ []
+      found None is none = absurd (cc)
+      found (Some q) is some = ap (λ (o : Option (Pipe Queue)). bytes_of (unwrap_or o p).queue) (sym some) ∙ empty n q is
+
+  pub total-meaning : (s : State Ring) → total (meaning f s) ≡ sum_of (λ p. p.queue.capacity) s.pipes
+  total-meaning s = sum_of-map (pipe_meaning f) (λ p. p.queue.capacity) s.pipes
 
   pub sweep-meaning : (s : State Ring) → sweep (meaning f s) ≡ meaning f (sweep s)
   sweep-meaning s = λ i. record {

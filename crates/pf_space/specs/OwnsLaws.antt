@@ -9,7 +9,7 @@ use Rattle.std.proofs.lemmas.List.Sums.{sum_by-cons}
 use Rattle.pf_base.specs.Limits.{Limits}
 use Rattle.pf_base.specs.Queue.{empty, bytes_of}
 use Rattle.pf_base.specs.Numbered.{at, put_at, clear_at, sum_of, weight}
-use Rattle.pf_base.specs.NumberedLaws.{at_within, sum_of-set}
+use Rattle.pf_base.proofs.NumberedLaws.{at_within, sum_of-set, sum_of-le}
 use Rattle.pf_base.specs.State.{State, Process, Pipe, opening, with_queue, holding}
 use Rattle.pf_base.specs.Pipes.{opened, reading, writing, with_two}
 use Rattle.pf_frame.specs.Live.{Live, IsSound}
@@ -33,18 +33,6 @@ slots-rings (Some p ∷ ps) = sum_by-cons slots_of p.queue (map ring_or ps) ∙ 
 -- at the opening state nothing is live
 pub owns_opening : (f : Live) (limits : Limits) → ((q : ℕ) → f.count q ≡ 0) → f.shares ≡ 0 → limits.reserve ≡ f.reserved → Owns f (record { limits = limits; state = opening })
 owns_opening f limits counts shares reserve = record { joined = joined_nothing f counts shares; reserve = reserve }
-
--- another namespace's door was used in between
-
-pub owns_same : (f g : Live) (n : Namespace) → Owns f n → SameLive f g → Owns g n
-owns_same f g n o s = record { joined = joined_same f g (rings_of n.state) o.joined s; reserve = o.reserve ∙ sym s.reserved }
-
-pub meaning_same : (f g : Live) (n : Namespace) → Owns f n → SameLive f g → meaning g n.state ≡ meaning f n.state
-meaning_same f g n o s = λ i. record {
-  processes = n.state.processes;
-  descriptions = n.state.descriptions;
-  pipes = all_stay f g n.state.pipes (λ k. pipe_stays f g n.state.pipes k (subst (λ (r : Ring). queue_of g r ≡ queue_of f r) (ring_at-rings n.state.pipes k) (queue_same f g (rings_of n.state) k o.joined s))) i;
-}
 
 -- the ring of a pipe has changed
 
@@ -129,3 +117,8 @@ held_occupied f n sound o = subst (λ (k : ℕ). f.held ≤ k) (used-rings n.sta
 
 pub none_empty : (f : Live) (n : Namespace) → IsSound f → Owns f n → f.held ≡ 0 → AreEmpty f n.state
 none_empty f n sound o none k p there = subst (λ (r : Ring). bytes_of (queue_of f r) ≡ []) (ring_at-pipe n.state.pipes k p there) (none_held_bytes f (rings_of n.state) sound o.joined none k)
+
+-- no ring has more slots in use than it has slots, so the slots in use are within the pages
+pub occupied_pages : (f : Live) (n : Namespace) → Owns f n → occupied n.state ≤ pages n.state
+occupied_pages f n o = sum_of-le (λ p. length p.queue.windows) (λ p. p.queue.capacity) n.state.pipes
+    (λ k p there. subst (λ (r : Ring). slots_used r ≤ slots_of r) (ring_at-pipe n.state.pipes k p there) (o.joined.fits k))

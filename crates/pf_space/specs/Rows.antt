@@ -1,18 +1,44 @@
 -- What the tables mean to the lone machine, and how their counters are tied to it. No public clause cites this module.
 
-use Rattle.std.specs.Prelude.{◌≡◌, ℕ, ◌+◌, ◌-◌, ◌<◌, Bool, ◌||◌, List, length, map, Option, Some, None, nat_lt, if◌then◌else◌}
+use Rattle.std.specs.Prelude.{◌≡◌, ℕ, zero, suc, ◌+◌, ◌-◌, ◌<◌, Bool, not, ◌&&◌, List, [], ◌∷◌, length, map, Option, Some, None, nat_lt, nat_eq, ⊤, if◌then◌else◌, Result, Ok, Err}
 use Rattle.std.specs.Option.{option_map, option_and_then}
-use Rattle.pf_base.specs.Numbered.{at, put_at, clear_at, one_if}
+use Rattle.pf_base.specs.Refusals.{◌>>=◌, ◌>>◌, refuse_if, or_refuse}
+use Rattle.pf_base.specs.Numbered.{at, put_at, clear_at, sum_of, weight, one_if}
 use Rattle.pf_base.specs.State as machine
-use Rattle.pf_base.specs.State.{State, names, readers, writers}
-use Rattle.pf_fds.specs.declared.registry.Key.{Key}
+use Rattle.pf_base.specs.State.{State}
+use Rattle.pf_base.specs.declared.TheConstants.{MAX_PROCESSES, MAX_DESCRIPTORS}
+use Rattle.pf_base.specs.declared.errno.Errno.{Errno}
+use Rattle.pf_base.specs.declared.errno.Errno.TheVariants.{ESRCH, EBADF}
+use Rattle.pf_base.specs.declared.progress.Side.{Side}
+use Rattle.pf_base.specs.declared.progress.Side.TheVariants as sides
+pub use Rattle.pf_fds.specs.declared.registry.Key.{Key}
+pub use Rattle.pf_fds.specs.declared.descriptions.Named.{Named}
 use Rattle.pf_fds.specs.Registry.{find}
-use Rattle.pf_ring.specs.Ring.{Ring}
-use Rattle.pf_space.specs.declared.tables.Process.{Process}
-use Rattle.pf_space.specs.declared.tables.Description.{Description}
-use Rattle.pf_space.specs.declared.tables.Pipe.{Pipe}
+pub use Rattle.pf_ring.specs.Ring.{Ring}
+pub use Rattle.pf_pipe.specs.Pipe.{CountedPipe as Pipe}
+pub use Rattle.pf_space.specs.declared.tables.Process.{Process}
+pub use Rattle.pf_space.specs.declared.tables.Description.{Description}
+use Rattle.pf_space.specs.Meaning.{pages}
+
+-- The rows of the tables: what stands at each number, with the place that a registry keeps it in
+abbrev pub ProcessRows : Type 0
+ProcessRows = List (Option Process)
+
+abbrev pub DescriptionRows : Type 0
+DescriptionRows = List (Option (ℕ × Named Description))
+
+abbrev pub PipeRows : Type 0
+PipeRows = List (Option (ℕ × Pipe))
 
 -- One row
+
+-- the process of a pid
+abbrev pub process_at : ProcessRows → ℕ → Option Process
+process_at ps zero = None
+process_at ps (suc i) = at ps i
+
+abbrev pub process_in : ProcessRows → ℕ → Result Process Errno
+process_in ps pid = or_refuse ESRCH (process_at ps pid)
 
 -- the key at a descriptor of what stands in a place
 abbrev pub key_at : ℕ → Option Process → Option Key
@@ -27,62 +53,150 @@ abbrev pub with_keys : ℕ → Key → ℕ → Key → Option Process → Option
 with_keys a j b k None = None
 with_keys a j b k (Some p) = Some (record p { descriptors = put_at (put_at p.descriptors a j) b k })
 
--- the description that a descriptor names
-abbrev pub description_at : ℕ → List (Option (ℕ × Description)) → Option Process → Option Description
-description_at fd ds place = option_and_then (λ k. find ds k.place k.serial) (key_at fd place)
+-- whether a description is for a side
+abbrev pub has : Side → Description → Bool
+has sides.Read d = d.reads
+has sides.Write d = d.writes
 
-abbrev pub one_name_less : Description → Description
-one_name_less d = record d { names = d.names - 1 }
+-- the description of a key
+abbrev pub description_in : DescriptionRows → Key → Option Description
+description_in ds k = option_map (λ n. n.value) (find ds k.place k.serial)
 
--- a pipe whose description with these sides goes
-abbrev pub with_fewer : Bool → Bool → Pipe → Pipe
-with_fewer reads writes p = record p { readers = p.readers - one_if reads; writers = p.writers - one_if writes }
+-- the description of an end of a side that a process's descriptor names
+abbrev pub end_in : Side → ProcessRows → DescriptionRows → ℕ → ℕ → Result Description Errno
+end_in side ps ds pid fd = do
+  p ← process_in ps pid
+  k ← or_refuse EBADF (at p.descriptors fd)
+  d ← or_refuse EBADF (description_in ds k)
+  refuse_if (not (has side d)) EBADF
+  Ok d
+
+-- a pipe that an end has gone from
+abbrev pub with_fewer : Description → Pipe → Pipe
+with_fewer d p = record p { readers = p.readers - one_if d.reads; writers = p.writers - one_if d.writes }
 
 -- some description is still an end of it
 abbrev pub is_used : Pipe → Bool
-is_used p = nat_lt 0 p.readers || nat_lt 0 p.writers
+is_used p = nat_lt 0 (p.readers + p.writers)
 
--- what is left of a pipe, and the ring of one that is gone
-abbrev pub left : Bool → Bool → ℕ → Pipe → Option (ℕ × Pipe)
-left reads writes place p = if is_used (with_fewer reads writes p) then Some (place, with_fewer reads writes p) else None
+-- what is left of a pipe, and the pipe that is gone
+abbrev pub left : Description → Pipe → Option (ℕ × Pipe)
+left d p = if is_used (with_fewer d p) then Some (d.pipe.place, with_fewer d p) else None
 
-abbrev pub gone : Bool → Bool → Pipe → Option Ring
-gone reads writes p = if is_used (with_fewer reads writes p) then None else Some p.queue
+abbrev pub gone : Description → Pipe → Option Pipe
+gone d p = if is_used (with_fewer d p) then None else Some (with_fewer d p)
 
 -- All rows
 
 abbrev pub process_of : Process → machine.Process
 process_of p = record { cred = p.cred; descriptors = map (option_map (λ k. k.serial)) p.descriptors }
 
-abbrev pub description_of : ℕ × Description → machine.Description
-description_of e = record { pipe = e.1.pipe.serial; reads = e.1.reads; writes = e.1.writes; nonblocking = e.1.nonblocking }
+abbrev pub description_of : ℕ × Named Description → machine.Description
+description_of e = record {
+  pipe = e.1.value.pipe.serial;
+  reads = e.1.value.reads;
+  writes = e.1.value.writes;
+  nonblocking = e.1.value.nonblocking;
+}
 
 abbrev pub pipe_of : ℕ × Pipe → machine.Pipe Ring
-pipe_of e = record { queue = e.1.queue; owner = e.1.owner }
+pipe_of e = record { queue = e.1.ring; owner = e.1.owner }
 
-abbrev pub processes_of : List (Option Process) → List (Option machine.Process)
+abbrev pub processes_of : ProcessRows → List (Option machine.Process)
 processes_of ps = map (option_map process_of) ps
 
-abbrev pub descriptions_of : List (Option (ℕ × Description)) → List (Option machine.Description)
+abbrev pub descriptions_of : DescriptionRows → List (Option machine.Description)
 descriptions_of ds = map (option_map description_of) ds
 
-abbrev pub pipes_of : List (Option (ℕ × Pipe)) → List (Option (machine.Pipe Ring))
+abbrev pub pipes_of : PipeRows → List (Option (machine.Pipe Ring))
 pipes_of ps = map (option_map pipe_of) ps
 
-abbrev pub state_of : List (Option Process) → List (Option (ℕ × Description)) → List (Option (ℕ × Pipe)) → State Ring
+abbrev pub state_of : ProcessRows → DescriptionRows → PipeRows → State Ring
 state_of ps ds pipes = record { processes = processes_of ps; descriptions = descriptions_of ds; pipes = pipes_of pipes }
 
-module _ (ps : List (Option Process)) (ds : List (Option (ℕ × Description))) (pipes : List (Option (ℕ × Pipe))) where
-  pub record Tied : Type 0 where
-    pub places : length ps ≡ 256
-    pub wide : (i : ℕ) (p : Process) → at ps i ≡ Some p → length p.descriptors ≡ 256
-    -- each descriptor's key finds a description, and each description's key a pipe
-    pub described : (i fd : ℕ) (p : Process) (k : Key) → at ps i ≡ Some p → at p.descriptors fd ≡ Some k → (d : Description) × (at ds k.serial ≡ Some (k.place, d))
-    pub piped : (n place : ℕ) (d : Description) → at ds n ≡ Some (place, d) → (p : Pipe) × (at pipes d.pipe.serial ≡ Some (d.pipe.place, p))
-    -- the counts of names and of ends are those counted afresh, and none is 0
-    pub counted : (n place : ℕ) (d : Description) → at ds n ≡ Some (place, d) → d.names ≡ names (processes_of ps) n
-    pub named : (n place : ℕ) (d : Description) → at ds n ≡ Some (place, d) → 0 < d.names
-    pub sided : (n place : ℕ) (d : Description) → at ds n ≡ Some (place, d) → 0 < one_if d.reads + one_if d.writes
-    pub reading : (n place : ℕ) (p : Pipe) → at pipes n ≡ Some (place, p) → p.readers ≡ readers (descriptions_of ds) n
-    pub writing : (n place : ℕ) (p : Pipe) → at pipes n ≡ Some (place, p) → p.writers ≡ writers (descriptions_of ds) n
-    pub used : (n place : ℕ) (p : Pipe) → at pipes n ≡ Some (place, p) → 0 < p.readers + p.writers
+-- Counted afresh over the rows, and over what the code holds in its hand
+
+-- how often a key names the description of a number
+abbrev pub names_it : ℕ → Key → ℕ
+names_it n k = one_if (nat_eq k.serial n)
+
+-- All keys of a process. The first is that of the description which a parked call has made, and which no descriptor
+-- names yet: none, as long as no call parks. The others are those of its descriptors.
+abbrev pub keys_of : Process → List (Option Key)
+keys_of p = None ∷ p.descriptors
+
+-- how many keys of a process name it, and how many of all processes
+abbrev pub keys_to : ℕ → Process → ℕ
+keys_to n p = sum_of (names_it n) (keys_of p)
+
+abbrev pub named : ProcessRows → ℕ → ℕ
+named ps n = sum_of (keys_to n) ps
+
+-- whether a description reads the pipe of a number, and whether it writes it
+abbrev pub reads_it : ℕ → Description → ℕ
+reads_it n d = one_if (nat_eq d.pipe.serial n && d.reads)
+
+abbrev pub writes_it : ℕ → Description → ℕ
+writes_it n d = one_if (nat_eq d.pipe.serial n && d.writes)
+
+abbrev pub read_by : DescriptionRows → ℕ → ℕ
+read_by ds n = sum_of (λ e. reads_it n e.1.value) ds
+
+abbrev pub written_by : DescriptionRows → ℕ → ℕ
+written_by ds n = sum_of (λ e. writes_it n e.1.value) ds
+
+-- over what is in the hand
+abbrev pub held : {X : Type 0} → (X → ℕ) → List X → ℕ
+held h [] = 0
+held h (x ∷ xs) = h x + held h xs
+
+abbrev pub Each : {X : Type 0} → (X → Type 0) → List X → Type 0
+Each P [] = ⊤
+Each P (x ∷ xs) = P x × Each P xs
+
+-- an optional thing is in the hand too
+abbrev pub holding : {X : Type 0} → Option X → List X → List X
+holding None xs = xs
+holding (Some x) xs = x ∷ xs
+
+-- Tied
+
+-- a key finds something: what stands at its number stands in its place
+abbrev pub Finds : {T : Type 0} → List (Option (ℕ × T)) → Key → Type 0
+Finds rows k = option_map (λ e. e.0) (at rows k.serial) ≡ Some k.place
+
+-- a description row by how many name it: nothing stands where nothing names it
+abbrev pub NamedRow : ℕ → Option (ℕ × Named Description) → Type 0
+NamedRow c None = c ≡ 0
+NamedRow c (Some e) = (e.1.names ≡ c) × (0 < c)
+
+-- a pipe row by how many read and write it
+abbrev pub UsedRow : ℕ → ℕ → Option (ℕ × Pipe) → Type 0
+UsedRow r w None = (r ≡ 0) × (w ≡ 0)
+UsedRow r w (Some e) = (e.1.readers ≡ r) × (e.1.writers ≡ w) × (0 < r + w)
+
+-- a description is an end of a pipe that stands
+abbrev pub IsEnd : PipeRows → Description → Type 0
+IsEnd pipes d = Finds pipes d.pipe × (0 < one_if d.reads + one_if d.writes)
+
+-- The counters, with keys in the hand that count as names, and descriptions in the hand that count as ends: what the
+-- code has taken out of a table and not yet put down. Between two calls nothing is in the hand.
+module _ (keys : List Key) (ends : List Description) (ps : ProcessRows) (ds : DescriptionRows) (pipes : PipeRows) where
+  pub record TiedWith : Type 0 where
+    pub places : length ps ≡ MAX_PROCESSES
+    pub wide : (i : ℕ) (p : Process) → at ps i ≡ Some p → length p.descriptors ≡ MAX_DESCRIPTORS
+    pub finds : (i m : ℕ) (p : Process) (k : Key) → at ps i ≡ Some p → at (keys_of p) m ≡ Some k → Finds ds k
+    pub in_hand : Each (Finds ds) keys
+    pub names : (n : ℕ) → NamedRow (named ps n + held (names_it n) keys) (at ds n)
+    pub is_end : (n : ℕ) (e : ℕ × Named Description) → at ds n ≡ Some e → IsEnd pipes e.1.value
+    pub ends_in_hand : Each (IsEnd pipes) ends
+    pub uses : (n : ℕ) → UsedRow (read_by ds n + held (reads_it n) ends) (written_by ds n + held (writes_it n) ends) (at pipes n)
+
+-- nothing in the hand
+abbrev pub Tied : ProcessRows → DescriptionRows → PipeRows → Type 0
+Tied ps ds pipes = TiedWith [] [] ps ds pipes
+
+-- the counters are tied, and the running total is the pages of all pipes
+pub record Kept (charge : ℕ) (ps : ProcessRows) (ds : DescriptionRows) (pipes : PipeRows) : Type 0 where
+  pub tied : Tied ps ds pipes
+  pub total : charge ≡ pages (state_of ps ds pipes)

@@ -1,16 +1,23 @@
 -- What the calls of the tables do, in terms of the lone machine's state.
 
-use Rattle.std.specs.Prelude.{◌≡◌, ℕ, length, Option, Some, None, IsSome, nat_le}
+use Rattle.std.specs.Prelude.{◌≡◌, ℕ, ◌<◌, Bool, List, Option, Some, None, Result, Ok, Err, nat_le}
 use Rattle.std.specs.Option.{option_and_then}
-use Rattle.pf_base.specs.declared.TheConstants.{MAX_PROCESSES, MAX_DESCRIPTORS}
+use Rattle.pf_base.specs.Refusals.{◌>>=◌, refuse_if}
+use Rattle.pf_base.specs.Queue.{Queue, empty}
 use Rattle.pf_base.specs.Numbered.{at, clear_at, change_at, keep}
-use Rattle.pf_base.specs.State as machine
-use Rattle.pf_base.specs.State.{State, Process, Pipe, end_of, with_queue, readers, writers}
-use Rattle.pf_base.specs.Processes.{without_descriptor}
+use Rattle.pf_base.specs.State.{State, Process, Pipe, living, with_process, without_process}
+use Rattle.pf_base.specs.Descriptors.{named, without_descriptor}
+use Rattle.pf_base.specs.Sweep.{sweep}
+use Rattle.pf_base.specs.Pipes.{first_descriptor, second_descriptor, opened}
+use Rattle.pf_base.specs.declared.TheConstants.{MAX_DESCRIPTORS}
+use Rattle.pf_base.specs.declared.errno.Errno.{Errno}
+use Rattle.pf_base.specs.declared.errno.Errno.TheVariants.{EMFILE}
+use Rattle.pf_frame.specs.Live.{Live}
 use Rattle.pf_ring.specs.Ring.{Ring}
-use Rattle.pf_space.specs.declared.tables.End.{End}
-use Rattle.pf_space.specs.declared.tables.Dropped.{Dropped}
-use Rattle.pf_space.specs.declared.tables.Dropped.TheVariants.{Absent, Closed, LastEnd}
+use Rattle.pf_space.specs.Meaning.{Namespace, meaning}
+use Rattle.pf_space.specs.Rows as rows
+use Rattle.pf_space.specs.Rows.{ProcessRows, DescriptionRows, PipeRows, state_of, Tied}
+use Rattle.pf_space.specs.Told.{Becomes}
 
 -- a process without its first n descriptors
 abbrev pub empty_first : ℕ → Process → Process
@@ -20,26 +27,6 @@ module _ {Q : Type 0} where
   -- the description's number at a descriptor of the process in place i
   abbrev pub descriptor : State Q → ℕ → ℕ → Option ℕ
   descriptor s i fd = option_and_then (λ p. at p.descriptors fd) (at s.processes i)
-
-  -- the end that a descriptor of the process in place i names
-  abbrev pub end_in : State Q → ℕ → ℕ → Option (machine.End Q)
-  end_in s i fd = option_and_then (λ p. end_of s p fd) (at s.processes i)
-
-  -- what the tables tell of an end: its description's, and how many descriptions read and write its pipe
-  abbrev pub seen : State Q → machine.End Q → End
-  seen s e = record {
-    pipe = e.description.pipe;
-    reads = e.description.reads;
-    writes = e.description.writes;
-    nonblocking = e.description.nonblocking;
-    readers = readers s.descriptions e.description.pipe;
-    writers = writers s.descriptions e.description.pipe;
-  }
-
-  -- the pipe of an end holds something else
-  abbrev pub with_end_queue : State Q → Option (machine.End Q) → Q → State Q
-  with_end_queue s None q = s
-  with_end_queue s (Some e) q = with_queue s e.description.pipe q
 
   -- the process in place i has no descriptor fd
   abbrev pub emptied : State Q → ℕ → ℕ → State Q
@@ -53,13 +40,43 @@ module _ {Q : Type 0} where
   abbrev pub without_first : State Q → ℕ → ℕ → State Q
   without_first s i n = record s { processes = change_at (empty_first n) s.processes i }
 
--- whether there was a descriptor, and which pipe went with it, if one did
-abbrev pub LetsGo : State Ring → State Ring → Option ℕ → Dropped → Type 0
-LetsGo old new d Absent = (d ≡ None) × (new.pipes ≡ old.pipes)
-LetsGo old new d Closed = IsSome d × (new.pipes ≡ old.pipes)
-LetsGo old new d (LastEnd ring) = IsSome d × ((n : ℕ) × (p : Pipe Ring) × (at old.pipes n ≡ Some p) × (p.queue ≡ ring) × (new.pipes ≡ clear_at old.pipes n))
+-- a living process loses a descriptor, or goes
+abbrev pub closed : State Queue → ℕ → ℕ → Result (State Queue) Errno
+closed s pid fd = do
+  p ← living s pid
+  n ← named p fd
+  Ok (with_process s pid (without_descriptor fd p))
 
--- there are 256 places for processes, and each process has 256 for descriptors
-pub record IsShaped (s : State Ring) : Type 0 where
-  pub places : length s.processes ≡ MAX_PROCESSES
-  pub wide : (i : ℕ) (p : Process) → at s.processes i ≡ Some p → length p.descriptors ≡ MAX_DESCRIPTORS
+abbrev pub exited : State Queue → ℕ → Result (State Queue) Errno
+exited s pid = do
+  p ← living s pid
+  Ok (without_process s pid)
+
+-- a process lives, and these are its two lowest free descriptors
+pub record HasTwo (s : State Queue) (pid : ℕ) (free : ℕ × ℕ) : Type 0 where
+  pub p : Process
+  pub lives : living s pid ≡ Ok p
+  pub first : free.0 ≡ first_descriptor p
+  pub second : free.1 ≡ second_descriptor p
+  pub within : free.1 < MAX_DESCRIPTORS
+
+-- or this is why it has not two
+abbrev pub FindsTwo : State Queue → ℕ → Result (ℕ × ℕ) Errno → Type 0
+FindsTwo s pid (Ok free) = HasTwo s pid free
+FindsTwo s pid (Err e) = (living s pid >>= (λ p. refuse_if (nat_le MAX_DESCRIPTORS (second_descriptor p)) EMFILE)) ≡ Err e
+
+-- one more pipe, of so many slots, owned by a process that has its two ends
+pub record Opens (f : Live) (old new : Namespace) (pid : ℕ) (nonblocking : Bool) (slots : ℕ) : Type 0 where
+  pub p : Process
+  pub lives : living (meaning f old.state) pid ≡ Ok p
+  pub becomes : Becomes f f old new (opened (meaning f old.state) pid nonblocking (empty slots) p)
+
+-- the rows that are left are tied, and show the state without a descriptor and without what nobody can reach any more
+pub record Left (ps : ProcessRows) (ds : DescriptionRows) (pipes : PipeRows) (ps' : ProcessRows) (ds' : DescriptionRows) (pipes' : PipeRows) (i fd : ℕ) : Type 0 where
+  pub tied : Tied ps' ds' pipes'
+  pub state : state_of ps' ds' pipes' ≡ sweep (emptied (state_of ps ds pipes) i fd)
+
+-- which pipe went, if one did
+abbrev pub LetsGo : List (Option (Pipe Ring)) → List (Option (Pipe Ring)) → Option rows.Pipe → Type 0
+LetsGo old new None = new ≡ old
+LetsGo old new (Some pipe) = (n : ℕ) × (p : Pipe Ring) × (at old n ≡ Some p) × (p.queue ≡ pipe.ring) × (new ≡ clear_at old n)

@@ -1,9 +1,6 @@
-//! One namespace: its processes, their descriptors, and its pipes.
+//! One namespace: its processes, their descriptors, and its pipes, over any door to frames.
 #![tactic(auto)]
 
-mod going;
-mod making;
-mod moves;
 pub mod space;
 mod tables;
 

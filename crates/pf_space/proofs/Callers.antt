@@ -1,0 +1,40 @@
+-- Who makes a step, as the tables find it and as the machine does.
+
+use Rattle.std.proofs.Common.{◌≡◌, ℕ, zero, suc, ◌+◌, ◌-◌, List, Option, Some, None, Result, Ok, Err, refl, sym, ap, subst, ◌∙◌, arith}
+use Rattle.std.specs.Option.{option_map}
+use Rattle.pf_base.specs.Refusals.{◌>>=◌, or_refuse}
+use Rattle.pf_base.specs.Queue.{Queue}
+use Rattle.pf_base.specs.Numbered.{at}
+use Rattle.pf_base.proofs.NumberedLaws.{at-map}
+use Rattle.pf_base.specs.State as machine
+use Rattle.pf_base.specs.State.{State, living}
+use Rattle.pf_base.specs.declared.errno.Errno.{Errno}
+use Rattle.pf_base.specs.declared.errno.Errno.TheVariants.{ESRCH}
+use Rattle.pf_frame.specs.Live.{Live}
+use Rattle.pf_space.specs.Meaning.{meaning}
+use Rattle.pf_space.specs.Rows.{ProcessRows, DescriptionRows, PipeRows, Process, process_of, state_of, process_at, process_in}
+use Rattle.pf_space.proofs.Shown.{shown}
+
+module _ (f : Live) (ps : ProcessRows) (ds : DescriptionRows) (pipes : PipeRows) (pid : ℕ) where
+  -- the machine's process is the one that the tables show
+  pub living_shown : living (meaning f (state_of ps ds pipes)) pid ≡ or_refuse ESRCH (option_map process_of (process_at ps pid))
+  living_shown = by_pid pid
+    where
+      by_pid : (n : ℕ) → living (meaning f (state_of ps ds pipes)) n ≡ or_refuse ESRCH (option_map process_of (process_at ps n))
+      by_pid zero = refl
+      by_pid (suc i) = ap (or_refuse ESRCH) (at-map process_of ps i)
+
+  found : (o : Option Process) (p : Process) → or_refuse ESRCH o ≡ Ok p → o ≡ Some p
+  found None p h = absurd (cc)
+  found (Some q) p h = cc
+
+  pub lives : (p : Process) → process_in ps pid ≡ Ok p → living (meaning f (state_of ps ds pipes)) pid ≡ Ok (process_of p)
+  lives p h = living_shown ∙ ap (λ o. or_refuse ESRCH (option_map process_of o)) (found (process_at ps pid) p h)
+
+  -- its place is one below its pid
+  pub place_is : (p : Process) → process_in ps pid ≡ Ok p → at ps (pid - 1) ≡ Some p
+  place_is p h = by_pid pid (found (process_at ps pid) p h)
+    where
+      by_pid : (n : ℕ) → process_at ps n ≡ Some p → at ps (n - 1) ≡ Some p
+      by_pid zero h = absurd (cc)
+      by_pid (suc i) h = let same : suc i - 1 ≡ i = omega arith in ap (at ps) same ∙ h

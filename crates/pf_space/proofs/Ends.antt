@@ -1,0 +1,153 @@
+-- The end of a pipe that a descriptor names, as the tables find it and as the machine does.
+
+use Rattle.std.proofs.Common.{◌≡◌, ℕ, zero, suc, ◌+◌, Bool, true, false, not, ◌&&◌, List, [], Option, Some, None, IsSome, is_some, Result, Ok, Err, refl, sym, ap, subst, ◌∙◌, arith, nat_eq}
+use Rattle.std.specs.Option.{option_map, option_and_then}
+use Rattle.pf_base.specs.Refusals.{◌>>=◌, ◌>>◌, refuse_if, or_refuse}
+use Rattle.pf_base.specs.Queue.{Queue}
+use Rattle.pf_base.specs.Numbered.{at, one_if}
+use Rattle.pf_base.proofs.NumberedLaws.{at-map, sum_of-map}
+use Rattle.pf_base.specs.State as machine
+use Rattle.pf_base.specs.State.{State, End, living, end_at, reading_end, writing_end}
+use Rattle.pf_base.specs.Counts.{readers, writers}
+use Rattle.pf_base.specs.declared.errno.Errno.{Errno}
+use Rattle.pf_base.specs.declared.errno.Errno.TheVariants.{ESRCH, EBADF}
+use Rattle.pf_base.specs.declared.progress.Side.{Side}
+use Rattle.pf_base.specs.declared.progress.Side.TheVariants as sides
+use Rattle.pf_fds.specs.Registry.{find}
+use Rattle.pf_frame.specs.Live.{Live}
+use Rattle.pf_space.specs.Meaning.{meaning, pipe_meaning}
+use Rattle.pf_space.specs.Rows.{ProcessRows, DescriptionRows, PipeRows, Key, Named, Process, Description, Pipe, process_of, description_of, pipe_of, descriptions_of, pipes_of, state_of, process_at, process_in, has, description_in, end_in, read_by, written_by, UsedRow, Tied}
+use Rattle.pf_space.proofs.Callers.{living_shown}
+use Rattle.pf_space.proofs.Held.{finds}
+use Rattle.pf_space.proofs.Shown.{shown, find_at}
+use Rattle.pf_space.proofs.Swept.{readers_shown, writers_shown}
+
+-- the machine's end of a side
+abbrev pub side_end : Side → State Queue → machine.Process → ℕ → Result (End Queue) Errno
+side_end sides.Read s p fd = reading_end s p fd
+side_end sides.Write s p fd = writing_end s p fd
+
+-- the machine's end that two rows show
+abbrev pub end_of_rows : Live → Description → Pipe → End Queue
+end_of_rows f d r = record {
+  description = description_of (0, record { value = d; names = 0 });
+  pipe = pipe_meaning f (pipe_of (0, r));
+}
+
+-- what is known of an end that the tables found: its pipe, and that the machine finds the same
+pub record Found (f : Live) (side : Side) (ps : ProcessRows) (ds : DescriptionRows) (pipes : PipeRows) (pid fd : ℕ) (d : Description) : Type 0 where
+  pub pipe : Pipe
+  pub stands : at pipes d.pipe.serial ≡ Some (d.pipe.place, pipe)
+  pub is : (living (meaning f (state_of ps ds pipes)) pid >>= (λ p. side_end side (meaning f (state_of ps ds pipes)) p fd)) ≡ Ok (end_of_rows f d pipe)
+  pub lives : IsSome (process_at ps pid)
+
+module _ (f : Live) (side : Side) (ps : ProcessRows) (ds : DescriptionRows) (pipes : PipeRows) (t : Tied ps ds pipes) (pid fd : ℕ) where
+  abbrev s : State Queue
+  s = meaning f (state_of ps ds pipes)
+
+  -- whether an end is of the side
+  abbrev sided : Bool → End Queue → Result (End Queue) Errno
+  sided b e = refuse_if (not b) EBADF >> Ok e
+
+  -- the machine's test of the side is that of the rows
+  by_side : (p : machine.Process) (d : Description) (r : Pipe) → option_and_then (end_at s) (at p.descriptors fd) ≡ Some (end_of_rows f d r) → side_end side s p fd ≡ sided (has side d) (end_of_rows f d r)
+  by_side p d r h = of_side side
+    where
+      of_side : (x : Side) → side_end x s p fd ≡ sided (has x d) (end_of_rows f d r)
+      of_side sides.Read = ap (λ o. or_refuse EBADF o >>= (λ e. refuse_if (not e.description.reads) EBADF >> Ok e)) h
+      of_side sides.Write = ap (λ o. or_refuse EBADF o >>= (λ e. refuse_if (not e.description.writes) EBADF >> Ok e)) h
+
+  no_side : (p : machine.Process) → at p.descriptors fd ≡ None → side_end side s p fd ≡ Err EBADF
+  no_side p h = of_side side
+    where
+      of_side : (x : Side) → side_end x s p fd ≡ Err EBADF
+      of_side sides.Read = ap (λ o. or_refuse EBADF (option_and_then (end_at s) o) >>= (λ e. refuse_if (not e.description.reads) EBADF >> Ok e)) h
+      of_side sides.Write = ap (λ o. or_refuse EBADF (option_and_then (end_at s) o) >>= (λ e. refuse_if (not e.description.writes) EBADF >> Ok e)) h
+
+  -- a description's end of its pipe
+  end_shown : (k : Key) (e : Named Description) (r : Pipe) → at ds k.serial ≡ Some (k.place, e) → at pipes e.value.pipe.serial ≡ Some (e.value.pipe.place, r) → end_at s k.serial ≡ Some (end_of_rows f e.value r)
+  end_shown k e r h g =
+      ap (option_and_then (λ (d : machine.Description). option_map (λ (pipe : machine.Pipe Queue). record { description = d; pipe = pipe }) (at s.pipes d.pipe))) (shown description_of ds k.serial (k.place, e) h)
+      ∙ ap (option_map (λ (pipe : machine.Pipe Queue). record { description = description_of (k.place, e); pipe = pipe }))
+      (at-map (pipe_meaning f) (pipes_of pipes) e.value.pipe.serial ∙ ap (option_map (pipe_meaning f)) (shown pipe_of pipes e.value.pipe.serial (e.value.pipe.place, r) g))
+
+  -- what the rows find, and what the machine does, at each process and key
+  abbrev rest : Process → Result Description Errno
+  rest p = or_refuse EBADF (at p.descriptors fd) >>= (λ k. or_refuse EBADF (description_in ds k) >>= (λ d. refuse_if (not (has side d)) EBADF >> Ok d))
+
+  pub record At (p : Process) (k : Key) : Type 0 where
+    pub e : Named Description
+    pub r : Pipe
+    pub found : description_in ds k ≡ Some e.value
+    pub stands : at pipes e.value.pipe.serial ≡ Some (e.value.pipe.place, r)
+    pub ends : side_end side s (process_of p) fd ≡ sided (has side e.value) (end_of_rows f e.value r)
+
+  at_key : (i : ℕ) (p : Process) (k : Key) → at ps i ≡ Some p → at p.descriptors fd ≡ Some k → At p k
+  at_key i p k h g =
+      let e = finds ds k (t.finds i (suc fd) p k h g) in
+      let r = finds pipes e.0.value.pipe (t.is_end k.serial (k.place, e.0) e.1).0 in
+      record {
+        e = e.0;
+        r = r.0;
+        found = ap (option_map (λ (n : Named Description). n.value)) (find_at ds k.place k.serial e.0 e.1);
+        stands = r.1;
+        ends = by_side (process_of p) e.0.value r.0
+            (ap (option_and_then (end_at s)) (at-map (λ (k : Key). k.serial) p.descriptors fd ∙ ap (option_map (λ (k : Key). k.serial)) g) ∙ end_shown k e.0 r.0 e.1 r.1);
+      }
+
+  -- The machine refuses what the tables refuse
+  pub refused : (err : Errno) → end_in side ps ds pid fd ≡ Err err → (living s pid >>= (λ p. side_end side s p fd)) ≡ Err err
+  refused err h = ap (λ r. r >>= (λ p. side_end side s p fd)) (living_shown f ps ds pipes pid) ∙ by_pid pid h
+    where
+      by_sides : (b : Bool) (d : Description) (e : End Queue) → (refuse_if (not b) EBADF >> Ok d) ≡ Err err → sided b e ≡ Err err
+      by_sides true d e g = absurd (cc)
+      by_sides false d e g = let same : EBADF ≡ err = cc in ap Err same
+
+      by_key : (i : ℕ) (p : Process) → at ps i ≡ Some p → (o : Option Key) → at p.descriptors fd ≡ o → (or_refuse EBADF o >>= (λ k. or_refuse EBADF (description_in ds k) >>= (λ d. refuse_if (not (has side d)) EBADF >> Ok d))) ≡ Err err → side_end side s (process_of p) fd ≡ Err err
+      by_key i p here None g h = let same : EBADF ≡ err = cc in no_side (process_of p) (at-map (λ (k : Key). k.serial) p.descriptors fd ∙ ap (option_map (λ (k : Key). k.serial)) g) ∙ ap Err same
+      by_key i p here (Some k) g h =
+          let a = at_key i p k here g in
+          a.ends ∙ by_sides (has side a.e.value) a.e.value (end_of_rows f a.e.value a.r) (sym (ap (λ o. or_refuse EBADF o >>= (λ d. refuse_if (not (has side d)) EBADF >> Ok d)) a.found) ∙ h)
+
+      by_place : (i : ℕ) (o : Option Process) → at ps i ≡ o → (or_refuse ESRCH o >>= rest) ≡ Err err → (or_refuse ESRCH (option_map process_of o) >>= (λ p. side_end side s p fd)) ≡ Err err
+      by_place i None here h = let same : ESRCH ≡ err = cc in ap Err same
+      by_place i (Some p) here h = by_key i p here (at p.descriptors fd) refl h
+
+      by_pid : (n : ℕ) → (process_in ps n >>= rest) ≡ Err err → (or_refuse ESRCH (option_map process_of (process_at ps n)) >>= (λ p. side_end side s p fd)) ≡ Err err
+      by_pid zero h = let same : ESRCH ≡ err = cc in ap Err same
+      by_pid (suc i) h = by_place i (at ps i) refl h
+
+  -- and finds what they find
+  pub found : (d : Description) → end_in side ps ds pid fd ≡ Ok d → Found f side ps ds pipes pid fd d
+  found d h = by_pid pid refl h
+    where
+      by_sides : (b : Bool) (x : Description) (e : End Queue) → (refuse_if (not b) EBADF >> Ok x) ≡ Ok d → (x ≡ d) × (sided b e ≡ Ok e)
+      by_sides true x e g = (cc, refl)
+      by_sides false x e g = absurd (cc)
+
+      give : (n : ℕ) → pid ≡ n → (x : Description) (r : Pipe) → x ≡ d → at pipes x.pipe.serial ≡ Some (x.pipe.place, r) → (living s pid >>= (λ p. side_end side s p fd)) ≡ Ok (end_of_rows f x r) → IsSome (process_at ps pid) → Found f side ps ds pipes pid fd d
+      give n e x r same stands is lives = subst (λ y. Found f side ps ds pipes pid fd y) same (record { pipe = r; stands = stands; is = is; lives = lives })
+
+      by_key : (i : ℕ) (p : Process) → at ps i ≡ Some p → pid ≡ suc i → (o : Option Key) → at p.descriptors fd ≡ o → (or_refuse EBADF o >>= (λ k. or_refuse EBADF (description_in ds k) >>= (λ d. refuse_if (not (has side d)) EBADF >> Ok d))) ≡ Ok d → Found f side ps ds pipes pid fd d
+      by_key i p here n None g h = absurd (cc)
+      by_key i p here n (Some k) g h =
+          let a = at_key i p k here g in
+          let w = by_sides (has side a.e.value) a.e.value (end_of_rows f a.e.value a.r) (sym (ap (λ o. or_refuse EBADF o >>= (λ d. refuse_if (not (has side d)) EBADF >> Ok d)) a.found) ∙ h) in
+          let place : process_at ps pid ≡ Some p = ap (process_at ps) n ∙ here in
+          give (suc i) n a.e.value a.r w.0 a.stands
+          (ap (λ r. r >>= (λ p. side_end side s p fd)) (living_shown f ps ds pipes pid ∙ ap (λ o. or_refuse ESRCH (option_map process_of o)) place) ∙ a.ends ∙ w.1)
+          (ap is_some place)
+
+      by_place : (i : ℕ) → pid ≡ suc i → (o : Option Process) → at ps i ≡ o → (or_refuse ESRCH o >>= rest) ≡ Ok d → Found f side ps ds pipes pid fd d
+      by_place i n None here h = absurd (cc)
+      by_place i n (Some p) here h = by_key i p here n (at p.descriptors fd) refl h
+
+      by_pid : (n : ℕ) → pid ≡ n → (process_in ps n >>= rest) ≡ Ok d → Found f side ps ds pipes pid fd d
+      by_pid zero e h = absurd (cc)
+      by_pid (suc i) e h = by_place i e (at ps i) refl h
+
+  -- the counts of a pipe are the machine's
+  pub counted : (n place : ℕ) (r : Pipe) → at pipes n ≡ Some (place, r) → (readers s n ≡ r.readers) × (writers s n ≡ r.writers)
+  counted n place r h =
+      let row = subst (UsedRow (read_by ds n + 0) (written_by ds n + 0)) h (t.uses n) in
+      (omega (arith, row.0, readers_shown ps ds pipes n), omega (arith, row.1, writers_shown ps ds pipes n))

@@ -1,0 +1,142 @@
+-- What goes, in the meaning of the state that it leaves: a descriptor with whatever nobody can reach any more, and a
+-- process.
+
+use Rattle.std.proofs.Common.{◌≡◌, ℕ, zero, suc, ◌+◌, ◌-◌, ◌<◌, List, [], map, set, Option, Some, None, Result, Ok, Err, refl, ap, sym, ◌∙◌, subst, arith}
+use Rattle.std.specs.Option.{option_map}
+use Rattle.std.proofs.lemmas.List.{map-set}
+use Rattle.pf_base.specs.Refusals.{◌>>=◌, or_refuse}
+use Rattle.pf_base.specs.Limits.{Limits}
+use Rattle.pf_base.specs.Numbered.{at, clear_at, sum_of}
+use Rattle.pf_base.proofs.NumberedLaws.{at-map}
+use Rattle.pf_base.specs.State.{State, Pipe, with_process, without_process}
+use Rattle.pf_base.specs.Descriptors.{named, without_descriptor}
+use Rattle.pf_base.specs.declared.errno.Errno.TheVariants.{EBADF}
+use Rattle.pf_base.specs.Sweep.{sweep}
+use Rattle.pf_base.proofs.SweepLaws.{with_processes}
+use Rattle.pf_base.specs.declared.TheConstants.{MAX_PROCESSES}
+use Rattle.pf_frame.specs.Live.{Live}
+use Rattle.pf_ring.specs.Ring.{Ring}
+use Rattle.pf_ring.specs.Windows.{Keeps, Stands}
+use Rattle.pf_ring.specs.Table.{Joined}
+use Rattle.pf_space.specs.Meaning.{Namespace, meaning, pipe_meaning, ring_or, rings_of, pages}
+use Rattle.pf_space.specs.MeaningLaws.{sweep-meaning, pipes-without, set-map}
+use Rattle.pf_space.specs.Owns.{Owns}
+use Rattle.pf_space.specs.OwnsLaws.{stands_at, joined_gone, others_written, pages-without}
+use Rattle.pf_space.specs.Rows.{ProcessRows, DescriptionRows, PipeRows, Key, Process, process_in, key_at, keys_of, process_of, processes_of, descriptions_of, pipes_of, state_of, Tied, Kept}
+use Rattle.pf_space.specs.Tables.{closed, exited, descriptor, emptied, without_place, Left}
+use Rattle.pf_space.specs.Told.{Becomes}
+use Rattle.pf_space.proofs.Callers.{lives, place_is}
+use Rattle.pf_space.proofs.Closing.{descriptor_shown}
+use Rattle.pf_space.proofs.Shown.{shown, none_was, set_same}
+use Rattle.pf_space.proofs.Swept.{changed-swept, within_same}
+use Rattle.pf_space.proofs.Vacating.{gone}
+
+-- the pages of some pipes
+abbrev pages_in : List (Option (Pipe Ring)) → ℕ
+pages_in pipes = sum_of (λ (p : Pipe Ring). p.queue.capacity) pipes
+
+module _ (f : Live) (limits : Limits) (charge : ℕ) (ps : ProcessRows) (ds : DescriptionRows) (pipes : PipeRows) (k : Kept charge ps ds pipes)
+    (n : Namespace) (view : record { limits = limits; state = state_of ps ds pipes } ≡ n) (owns : Owns f n)
+    (i fd : ℕ) (ps' : ProcessRows) (ds' : DescriptionRows) (pipes' : PipeRows) (l : Left ps ds pipes ps' ds' pipes' i fd) where
+  old : Namespace
+  old = record { limits = limits; state = state_of ps ds pipes }
+
+  abbrev new : Namespace
+  new = record { limits = limits; state = state_of ps' ds' pipes' }
+
+  owned : Owns f (record { limits = limits; state = state_of ps ds pipes })
+  owned = subst (Owns f) (sym view) owns
+
+  -- the state by the meaning of the one before, where the pipes that are left mean the same
+  away : (g : Live) → Owns g new → map (option_map (pipe_meaning g)) (pipes_of pipes') ≡ map (option_map (pipe_meaning f)) (pipes_of pipes') → Becomes f g n new (emptied (meaning f n.state) i fd)
+  away g own same =
+      subst (λ (m : Namespace). Becomes f g m new (emptied (meaning f m.state) i fd)) view
+      (record {
+        owns = own;
+        limits = refl;
+        state = ap (λ xs. record { processes = processes_of ps'; descriptions = descriptions_of ds'; pipes = xs }) same ∙ ap (meaning f) l.state ∙ sym (sweep-meaning f (emptied (state_of ps ds pipes) i fd));
+      })
+
+  -- No pipe went
+  module _ (same : pipes_of pipes' ≡ pipes_of pipes) where
+    pub pipes_stay : Becomes f f n new (emptied (meaning f n.state) i fd)
+    pipes_stay = away f (record { joined = subst (λ xs. Joined f (map ring_or xs)) (sym same) owned.joined; reserve = owned.reserve }) refl
+
+  -- A pipe went, and its ring was cleared
+  module _ (m : ℕ) (p : Pipe Ring) (there : at (pipes_of pipes) m ≡ Some p) (ring : Ring) (is : p.queue ≡ ring) (left : pipes_of pipes' ≡ clear_at (pipes_of pipes) m) where
+    pub gone_stands : Stands f ring.windows
+    gone_stands = subst (λ (r : Ring). Stands f r.windows) is (stands_at f (state_of ps ds pipes) m p owned.joined there)
+
+    pub gone_pages : pages_in (pipes_of pipes') + ring.capacity ≡ charge
+    gone_pages =
+        ap (λ xs. pages_in xs + ring.capacity) left ∙ ap (λ (r : Ring). pages_in (clear_at (pipes_of pipes) m) + r.capacity) (sym is)
+        ∙ pages-without (pipes_of pipes) m p there ∙ sym k.total
+
+    pub gone_kept : (charge' : ℕ) → charge' ≡ charge - ring.capacity → Kept charge' ps' ds' pipes'
+    gone_kept charge' e = record { tied = l.tied; total = omega (arith, e, gone_pages) }
+
+    module _ (g : Live) (keeps : Keeps [] ring.windows [] f g) where
+      changes : Keeps [] p.queue.windows [] f g
+      changes = subst (λ (r : Ring). Keeps [] r.windows [] f g) (sym is) keeps
+
+      same_meaning : map (option_map (pipe_meaning g)) (clear_at (pipes_of pipes) m) ≡ map (option_map (pipe_meaning f)) (clear_at (pipes_of pipes) m)
+      same_meaning =
+          pipes-without f g (pipes_of pipes) m (others_written f g (state_of ps ds pipes) m p (record { capacity = p.queue.capacity; windows = [] }) owned.joined there changes)
+          ∙ set-map (pipe_meaning f) (pipes_of pipes) m None
+
+      pub gone_becomes : Becomes f g n new (emptied (meaning f n.state) i fd)
+      gone_becomes =
+          away g
+          (record {
+            joined = subst (λ xs. Joined g (map ring_or xs)) (sym left) (joined_gone f g (state_of ps ds pipes) m p (record { capacity = p.queue.capacity; windows = [] }) owned.joined there changes refl);
+            reserve = owned.reserve ∙ sym keeps.reservation;
+          })
+          (subst (λ xs. map (option_map (pipe_meaning g)) xs ≡ map (option_map (pipe_meaning f)) xs) (sym left) same_meaning)
+
+-- A process that has no descriptors
+
+module _ (f : Live) (limits : Limits) (charge : ℕ) (ps : ProcessRows) (ds : DescriptionRows) (pipes : PipeRows) (k : Kept charge ps ds pipes)
+    (n : Namespace) (view : record { limits = limits; state = state_of ps ds pipes } ≡ n)
+    (i : ℕ) (i_in : i < MAX_PROCESSES) (bare : (fd : ℕ) → descriptor n.state i fd ≡ None) (ps' : ProcessRows) (is : ps' ≡ clear_at ps i) where
+  bare_key : (fd : ℕ) → key_at fd (at ps i) ≡ None
+  bare_key fd = none_was (λ (k : Key). k.serial) (key_at fd (at ps i)) (sym (descriptor_shown ps ds pipes i fd) ∙ ap (λ (m : Namespace). descriptor m.state i fd) view ∙ bare fd)
+
+  vacated : Tied ps' ds pipes
+  vacated = subst (λ x. Tied x ds pipes) (sym is) (by_place (at ps i) refl)
+    where
+      bare_all : (p : Process) → at ps i ≡ Some p → (m : ℕ) → at (keys_of p) m ≡ None
+      bare_all p e zero = refl
+      bare_all p e (suc m) = sym (ap (key_at m) e) ∙ bare_key m
+
+      by_place : (o : Option Process) → at ps i ≡ o → Tied (clear_at ps i) ds pipes
+      by_place None e = subst (λ x. Tied x ds pipes) (sym (set_same ps i None (sym e))) k.tied
+      by_place (Some p) e = gone ps ds pipes k.tied i i_in p e (bare_all p e)
+
+  pub vacated-kept : Kept charge ps' ds pipes
+  vacated-kept = record { tied = vacated; total = k.total }
+
+  pub vacated-becomes : Owns f n → Becomes f f n (record { limits = limits; state = state_of ps' ds pipes }) (without_place (meaning f n.state) i)
+  vacated-becomes owns =
+      subst (λ (m : Namespace). Owns f m → Becomes f f m (record { limits = limits; state = state_of ps' ds pipes }) (without_place (meaning f m.state) i)) view
+      (λ o. record {
+        owns = record { joined = o.joined; reserve = o.reserve };
+        limits = refl;
+        state = ap (meaning f)
+            (changed-swept ps' ds pipes vacated (state_of ps ds pipes) (within_same (descriptions_of ds)) (within_same (pipes_of pipes))
+            ∙ ap (λ qs. sweep (with_processes (state_of ps ds pipes) qs)) (ap processes_of is ∙ map-set (option_map process_of) ps i None))
+            ∙ sym (sweep-meaning f (without_place (state_of ps ds pipes) i));
+      }) owns
+
+-- What the machine does, from what the tables find
+
+module _ (f : Live) (ps : ProcessRows) (ds : DescriptionRows) (pipes : PipeRows) (limits : Limits) (n : Namespace) (view : record { limits = limits; state = state_of ps ds pipes } ≡ n)
+    (pid : ℕ) (p : Process) (caller : process_in ps pid ≡ Ok p) where
+  pub closed_is : (fd : ℕ) (k : Key) → at p.descriptors fd ≡ Some k → closed (meaning f n.state) pid fd ≡ Ok (emptied (meaning f n.state) (pid - 1) fd)
+  closed_is fd k h =
+      subst (λ (m : Namespace). closed (meaning f m.state) pid fd ≡ Ok (emptied (meaning f m.state) (pid - 1) fd)) view
+      (ap (λ r. r >>= (λ q. named q fd >>= (λ _. Ok (with_process (meaning f (state_of ps ds pipes)) pid (without_descriptor fd q))))) (lives f ps ds pipes pid p caller)
+      ∙ ap (λ o. or_refuse EBADF o >>= (λ _. Ok (with_process (meaning f (state_of ps ds pipes)) pid (without_descriptor fd (process_of p))))) (at-map (λ (k : Key). k.serial) p.descriptors fd ∙ ap (option_map (λ (k : Key). k.serial)) h)
+      ∙ ap (λ o. Ok (record (meaning f (state_of ps ds pipes)) { processes = set (processes_of ps) (pid - 1) (option_map (without_descriptor fd) o) })) (sym (shown process_of ps (pid - 1) p (place_is f ps ds pipes pid p caller))))
+
+  pub exited_is : exited (meaning f n.state) pid ≡ Ok (without_place (meaning f n.state) (pid - 1))
+  exited_is = subst (λ (m : Namespace). exited (meaning f m.state) pid ≡ Ok (without_place (meaning f m.state) (pid - 1))) view (ap (λ r. r >>= (λ _. Ok (without_process (meaning f (state_of ps ds pipes)) pid))) (lives f ps ds pipes pid p caller))

@@ -1,0 +1,59 @@
+-- What comes: a process, and a pipe with its two ends.
+
+use Rattle.std.proofs.Common.{◌≡◌, ℕ, zero, suc, ◌+◌, ◌-◌, ◌<◌, ◌≤◌, map, length, Option, Some, None, refl, sym, ap, subst, ◌∙◌, arith}
+use Rattle.std.specs.Option.{option_map}
+use Rattle.std.proofs.lemmas.List.{map-set}
+use Rattle.pf_base.specs.Limits.{Limits}
+use Rattle.pf_base.specs.Queue.{Queue}
+use Rattle.pf_base.specs.Numbered.{at, put_at, first_free}
+use Rattle.pf_base.proofs.NumberedLaws.{at-first_free, first_free-map}
+use Rattle.pf_base.specs.State.{State, vacant, with_process}
+use Rattle.pf_base.specs.Sweep.{sweep}
+use Rattle.pf_base.specs.declared.TheConstants.{MAX_PROCESSES}
+use Rattle.pf_base.specs.declared.cred.Cred.{Cred}
+use Rattle.pf_frame.specs.Live.{Live}
+use Rattle.pf_space.specs.Meaning.{Namespace, meaning}
+use Rattle.pf_space.specs.MeaningLaws.{settled-meaning}
+use Rattle.pf_space.specs.Owns.{Owns}
+use Rattle.pf_space.specs.Rows.{ProcessRows, DescriptionRows, PipeRows, Key, Process, keys_of, process_of, processes_of, descriptions_of, pipes_of, state_of, Tied, Kept}
+use Rattle.pf_space.specs.Told.{Becomes}
+use Rattle.pf_space.proofs.Swept.{settled}
+use Rattle.pf_space.proofs.Vacating.{vacant_at, length-vacant, map-vacant, made}
+
+-- a change that leaves nothing that nobody can reach
+pub becomes : (f g : Live) (old new : Namespace) (s : State Queue) → Owns g new → new.limits ≡ old.limits → meaning g new.state ≡ s → new.state ≡ sweep new.state → Becomes f g old new s
+becomes f g old new s owns limits is still = record { owns = owns; limits = limits; state = settled-meaning g new.state still ∙ ap sweep is }
+
+-- A process under the lowest free pid
+
+module _ (charge : ℕ) (ps : ProcessRows) (ds : DescriptionRows) (pipes : PipeRows) (k : Kept charge ps ds pipes)
+    (pid : ℕ) (lowest : pid ≡ first_free (processes_of ps) + 1) (within : pid ≤ MAX_PROCESSES) (p : Process) (empty : p.descriptors ≡ vacant) where
+  place : pid - 1 ≡ first_free ps
+  place = omega (arith, first_free-map process_of ps)
+
+  abbrev after : ProcessRows
+  after = put_at ps (pid - 1) p
+
+  bare : (m : ℕ) → at (keys_of p) m ≡ None
+  bare zero = refl
+  bare (suc m) = ap (λ xs. at xs m) empty ∙ vacant_at m
+
+  pub spawned-kept : (ps' : ProcessRows) → ps' ≡ after → Kept charge ps' ds pipes
+  spawned-kept ps' is =
+      subst (λ x. Kept charge x ds pipes) (sym is) (record {
+        tied = made ps ds pipes k.tied (pid - 1) (omega arith) (ap (at ps) place ∙ at-first_free ps) p bare (ap length empty ∙ length-vacant Key);
+        total = k.total;
+      })
+
+  spawned-shown : state_of after ds pipes ≡ with_process (state_of ps ds pipes) pid (record { cred = p.cred; descriptors = vacant })
+  spawned-shown =
+      ap (λ qs. record { processes = qs; descriptions = descriptions_of ds; pipes = pipes_of pipes })
+      (map-set (option_map process_of) ps (pid - 1) (Some p)
+      ∙ ap (λ xs. put_at (processes_of ps) (pid - 1) (record { cred = p.cred; descriptors = xs })) (ap (map (option_map (λ (k : Key). k.serial))) empty ∙ map-vacant (λ (k : Key). k.serial)))
+
+  pub spawned-becomes : (f : Live) (limits : Limits) (n : Namespace) → record { limits = limits; state = state_of ps ds pipes } ≡ n → Owns f n → (ps' : ProcessRows) → ps' ≡ after
+      → Becomes f f n (record { limits = limits; state = state_of ps' ds pipes }) (with_process (meaning f n.state) pid (record { cred = p.cred; descriptors = vacant }))
+  spawned-becomes f limits n view owns ps' is =
+      subst (λ (m : Namespace). Owns f m → Becomes f f m (record { limits = limits; state = state_of ps' ds pipes }) (with_process (meaning f m.state) pid (record { cred = p.cred; descriptors = vacant }))) view
+      (λ o. becomes f f (record { limits = limits; state = state_of ps ds pipes }) (record { limits = limits; state = state_of ps' ds pipes }) _ (record { joined = o.joined; reserve = o.reserve }) refl
+      (ap (λ x. meaning f (state_of x ds pipes)) is ∙ ap (meaning f) spawned-shown) (settled ps' ds pipes (spawned-kept ps' is).tied)) owns

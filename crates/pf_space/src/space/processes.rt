@@ -1,0 +1,58 @@
+//! Processes: Spawn and Exit (the profile's own).
+
+ghost use Rattle.std.specs.Prelude.{◌≡◌, ◌≢◌, Err};
+ghost use Rattle.pf_base.specs.Machine.{call};
+ghost use Rattle.pf_space.specs.Meaning.{meaning};
+ghost use Rattle.pf_space.specs.Owns.{Owns};
+ghost use Rattle.pf_space.specs.Told.{Told};
+
+use super::Space;
+use pf_base::{Cred, Errno, Fault, Groups, Reply, Step};
+use pf_frame::Frames;
+
+impl Space {
+    /// Makes a process with these credentials and no descriptors, under the lowest free pid.
+    pub(super) fn spawn<F: Frames>(
+        &mut self,
+        door: &F,
+        uid: u32,
+        gid: u32,
+        groups: &Groups,
+        umask: u32,
+    ) -> Result<Reply, Fault>
+        requires owns { Owns (F.live door.now) self.old }
+        ensures told { Told (F.live door.now) (F.live door.now) self.old self.new result
+            (call self.old.limits (meaning (F.live door.now) self.old.state) (Step.Spawn uid gid groups.now umask)) }
+        ensures unchanged { result ≡ Err Fault.NoMemory → self.new ≡ self.old }
+    {
+        if !Cred::may_have(groups, umask) {
+            return Err(Errno::EINVAL.into());
+        }
+        let Some(pid) = self.tables.free_pid() else {
+            return Err(Errno::EAGAIN.into());
+        };
+        let ids = Vec::from_slice(self.alloc, groups.as_slice())?;
+        let cred = Cred {
+            uid,
+            gid,
+            groups: Groups::new(ids),
+            umask,
+        };
+        self.tables.put_process(door, self.alloc, pid, cred)?;
+        Ok(Reply::Pid(pid))
+    }
+
+    /// A process goes, with its descriptors.
+    pub(super) fn exit<F: Frames>(&mut self, door: &mut F, pid: u32) -> Result<Reply, Fault>
+        requires fact { F.fact door.old }
+        requires owns { Owns (F.live door.old) self.old }
+        ensures fact { F.fact door.new }
+        ensures rest { F.rest door.new ≡ F.rest door.old }
+        ensures told { Told (F.live door.old) (F.live door.new) self.old self.new result
+            (call self.old.limits (meaning (F.live door.old) self.old.state) (Step.Exit pid)) }
+        ensures succeeds { result ≢ Err Fault.NoMemory }
+    {
+        self.tables.drop_process(door, pid)?;
+        Ok(Reply::Num(0))
+    }
+}

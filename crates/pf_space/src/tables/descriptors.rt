@@ -1,0 +1,137 @@
+//! Descriptors: what drops one. Where a description's last name goes, so does its end of the pipe; where a pipe's last
+//! end goes, so does the pipe: its slots are released, and its pages are charged no more.
+
+ghost use Rattle.std.specs.Prelude.{◌≡◌, ℕ, ◌<◌, ◌≤◌, None, IsSome, IfSome, slice_set};
+ghost use Rattle.pf_base.specs.Numbered.{at, one_if};
+ghost use Rattle.pf_fds.specs.Registry.{find};
+ghost use Rattle.pf_space.specs.Meaning.{meaning};
+ghost use Rattle.pf_space.specs.Owns.{Owns};
+ghost use Rattle.pf_space.specs.Rows.{key_at, without_key, with_fewer, left, gone, pipes_of, state_of, Tied};
+ghost use Rattle.pf_space.specs.Tables.{closed, descriptor, emptied, without_place, Left, LetsGo};
+ghost use Rattle.pf_space.specs.Told.{Becomes, Leaves};
+
+use super::{Description, Process, Tables, caller};
+use pf_base::{Errno, Side};
+use pf_fds::{Descriptions, Key, Places, Registry};
+use pf_frame::Frames;
+use pf_pipe::Pipe;
+
+// Empties a descriptor of the process in a place, and gives out the key that was there.
+fn take_key(processes: &mut Places<Process>, i: usize, fd: usize) -> Option<Key>
+    ensures key { result ≡ key_at fd (at processes.old i) }
+    ensures places { processes.new ≡ slice_set processes.old i (without_key fd (at processes.old i)) }
+{
+    if processes.get(i).is_none() {
+        return None;
+    }
+    processes.value_mut(i).descriptors.clear(fd)
+}
+
+// Counts an end of a pipe no more.
+fn uncount(pipe: &mut Pipe, end: Description)
+    requires reads { one_if end.reads ≤ pipe.old.readers }
+    requires writes { one_if end.writes ≤ pipe.old.writers }
+    ensures { pipe.new ≡ with_fewer end pipe.old }
+{
+    if end.reads {
+        pipe.drop_end(Side::Read);
+    }
+    if end.writes {
+        pipe.drop_end(Side::Write);
+    }
+}
+
+// Takes an end from its pipe. The pipe goes where that was its last, and is given out.
+fn drop_end(pipes: &mut Registry<Pipe>, end: Description) -> Option<Pipe>
+    requires stands { IsSome (find pipes.old.items end.pipe.place end.pipe.serial) }
+    requires counted { IfSome (find pipes.old.items end.pipe.place end.pipe.serial)
+        (λ p. (one_if end.reads ≤ p.readers) × (one_if end.writes ≤ p.writers)) }
+    ensures items { IfSome (find pipes.old.items end.pipe.place end.pipe.serial)
+        (λ p. pipes.new.items ≡ slice_set pipes.old.items end.pipe.serial (left end p)) }
+    ensures pipe { IfSome (find pipes.old.items end.pipe.place end.pipe.serial) (λ p. result ≡ gone end p) }
+{
+    let pipe = pipes.value_mut(end.pipe);
+    uncount(pipe, end);
+    if pipe.is_open() {
+        return None;
+    }
+    Some(pipes.remove(end.pipe))
+}
+
+// Drops a descriptor of the process in a place, if there is one, and what nobody can reach any more. A pipe that goes is
+// given out.
+fn let_go(
+    processes: &mut Places<Process>,
+    descriptions: &mut Descriptions<Description>,
+    pipes: &mut Registry<Pipe>,
+    i: usize,
+    fd: usize,
+) -> Option<Pipe>
+    requires { Tied processes.old descriptions.old.items pipes.old.items }
+    ensures left { Left processes.old descriptions.old.items pipes.old.items
+        processes.new descriptions.new.items pipes.new.items i fd }
+    ensures pipe { LetsGo (pipes_of pipes.old.items) (pipes_of pipes.new.items) result }
+{
+    let key = take_key(processes, i, fd)?;
+    let end = descriptions.unname(key)?;
+    drop_end(pipes, end)
+}
+
+impl Tables {
+    // Drops a descriptor of the process in a place, if there is one, and what nobody can reach any more.
+    pub(super) fn empty<F: Frames>(&mut self, door: &mut F, i: usize, fd: usize)
+        requires fact { F.fact door.old }
+        requires owns { Owns (F.live door.old) self.old }
+        ensures fact { F.fact door.new }
+        ensures rest { F.rest door.new ≡ F.rest door.old }
+        ensures emptied { Becomes (F.live door.old) (F.live door.new) self.old self.new
+            (emptied (meaning (F.live door.old) self.old.state) i fd) }
+    {
+        let _ = &self.total;
+        let gone = let_go(
+            &mut self.processes,
+            &mut self.descriptions,
+            &mut self.pipes,
+            i,
+            fd,
+        );
+        if let Some(mut pipe) = gone {
+            self.total -= pipe.slots();
+            pipe.clear(door);
+        }
+    }
+
+    /// Drops a process's descriptor (close(2)), and what nobody can reach any more.
+    pub fn drop_descriptor<F: Frames>(
+        &mut self,
+        door: &mut F,
+        pid: u32,
+        fd: u32,
+    ) -> Result<(), Errno>
+        requires fact { F.fact door.old }
+        requires owns { Owns (F.live door.old) self.old }
+        ensures fact { F.fact door.new }
+        ensures rest { F.rest door.new ≡ F.rest door.old }
+        ensures left { Leaves (F.live door.old) (F.live door.new) self.old self.new result
+            (closed (meaning (F.live door.old) self.old.state) pid fd) }
+    {
+        let process = caller(&self.processes, pid)?;
+        let Some(_) = process.descriptors.get(fd as usize) else {
+            return Err(Errno::EBADF);
+        };
+        self.empty(door, pid as usize - 1, fd as usize);
+        Ok(())
+    }
+
+    // Takes a process away that has no descriptors.
+    pub(super) fn take_process<F: Frames>(&mut self, door: &F, i: usize)
+        requires i_in { i < 256 }
+        requires owns { Owns (F.live door.now) self.old }
+        requires bare { (fd : ℕ) → descriptor self.old.state i fd ≡ None }
+        ensures gone { Becomes (F.live door.now) (F.live door.now) self.old self.new
+            (without_place (meaning (F.live door.now) self.old.state) i) }
+    {
+        let _door = door;
+        self.processes.take(i);
+    }
+}

@@ -1,0 +1,90 @@
+//! Bytes into pipes and out of them: one look-up each, and one borrow of the pipe that is found.
+
+ghost use Rattle.std.specs.Prelude.{◌≡◌, Err, IfOk, IsSome, OnErr};
+ghost use Rattle.pf_base.specs.Progress.{moved};
+ghost use Rattle.pf_base.specs.State.{process};
+ghost use Rattle.pf_space.specs.Meaning.{meaning};
+ghost use Rattle.pf_space.specs.Owns.{Owns};
+ghost use Rattle.pf_space.specs.Told.{attempted_read, attempted_write, HasRead, Wrote};
+
+use super::{Tables, end};
+use pf_base::{Errno, Fault, MAX_WRITE, PIPE_BUF, Progress, Side};
+use pf_frame::Frames;
+use std::alloc::Global;
+
+/// What a read came to: how far, and the bytes.
+#[derive(Debug, Drop)]
+pub struct Taken {
+    /// How far it came.
+    pub progress: Progress,
+    /// The bytes that were taken.
+    pub bytes: Vec<u8>,
+}
+
+impl Tables {
+    /// Puts bytes at the end of the pipe that a process's descriptor writes, as many as go in now.
+    pub fn write_now<F: Frames>(
+        &mut self,
+        door: &mut F,
+        pid: u32,
+        fd: u32,
+        bytes: &[u8],
+    ) -> Result<Progress, Errno>
+        requires fact { F.fact door.old }
+        requires owns { Owns (F.live door.old) self.old }
+        ensures fact { F.fact door.new }
+        ensures rest { F.rest door.new ≡ F.rest door.old }
+        ensures owns { Owns (F.live door.new) self.new }
+        ensures limits { self.new.limits ≡ self.old.limits }
+        // It came as far as the machine's write, or is refused as that is.
+        ensures wrote { Wrote (F.live door.new) self.new bytes.now result
+            (attempted_write (meaning (F.live door.old) self.old.state) pid fd bytes.now) }
+
+        // Where no byte went in, nothing has changed.
+        ensures untouched { IfOk result
+            (λ progress. moved progress ≡ 0 → (self.new ≡ self.old) × (door.new ≡ door.old)) }
+        ensures refused { OnErr result ((self.new ≡ self.old) × (door.new ≡ door.old)) }
+    {
+        let end = end(&self.processes, &self.descriptions, pid, fd, Side::Write)?;
+        if bytes.len() > MAX_WRITE {
+            return Err(Errno::EINVAL);
+        }
+        let whole = bytes.len() <= PIPE_BUF;
+        let pipe = self.pipes.value_mut(end.pipe);
+        Ok(pipe.write_now(door, bytes, whole))
+    }
+
+    /// Takes at most n bytes from the front of the pipe that a process's descriptor reads. Their memory is made first,
+    /// at its exact size.
+    pub fn read_now<F: Frames>(
+        &mut self,
+        alloc: Global,
+        door: &mut F,
+        pid: u32,
+        fd: u32,
+        n: u64,
+    ) -> Result<Taken, Fault>
+        requires fact { F.fact door.old }
+        requires owns { Owns (F.live door.old) self.old }
+        ensures fact { F.fact door.new }
+        ensures rest { F.rest door.new ≡ F.rest door.old }
+        ensures owns { Owns (F.live door.new) self.new }
+        ensures limits { self.new.limits ≡ self.old.limits }
+        // It came as far as the machine's read, or is refused as that is, or memory was wanted for a process that lives.
+        ensures read { HasRead (F.live door.new) self.new result
+            (attempted_read (meaning (F.live door.old) self.old.state) pid fd n) }
+        ensures lives { result ≡ Err Fault.NoMemory → IsSome (process self.old.state pid) }
+
+        // Where no byte came out, nothing has changed.
+        ensures untouched { IfOk result
+            (λ t. moved t.progress ≡ 0 → (self.new ≡ self.old) × (door.new ≡ door.old)) }
+        ensures refused { OnErr result ((self.new ≡ self.old) × (door.new ≡ door.old)) }
+    {
+        let end = end(&self.processes, &self.descriptions, pid, fd, Side::Read)?;
+        let pipe = self.pipes.value_mut(end.pipe);
+        let count = pipe.len().min(n as usize);
+        let mut bytes = Vec::with_capacity(alloc, count)?;
+        let progress = pipe.read_onto(door, n as usize, &mut bytes);
+        Ok(Taken { progress, bytes })
+    }
+}
