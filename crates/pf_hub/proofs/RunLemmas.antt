@@ -8,10 +8,11 @@ use Rattle.pf_base.specs.Limits.{Limits}
 use Rattle.pf_base.specs.Machine.{Answers}
 use Rattle.pf_base.specs.Runs.{Run, run_of, lone}
 use Rattle.pf_base.specs.Events.{kept, replies}
-use Rattle.pf_base.specs.EventLaws.{told-own, told-other, kept-mine}
+use Rattle.pf_base.proofs.EventLaws.{told-own, told-other, kept-mine}
 use Rattle.pf_base.specs.declared.step.Step.{Step}
 use Rattle.pf_base.specs.declared.step.Answer.{Answer}
-use Rattle.pf_hub.specs.Tenants.{Tenants, Tenant, tenant_at, limits_at, state_at, frames_in}
+use Rattle.pf_hub.specs.Tenants.{Tenants, Tenant, limits_at, state_at}
+use Rattle.pf_hub.specs.Stepped.{Stepped}
 use Rattle.pf_hub.specs.Isolation.{Ran, first_missing, AreAlone, TwoWorlds}
 
 -- no event has been answered
@@ -20,15 +21,12 @@ at_start h events = record { number = refl; tenants = refl; frames = refl; limit
 
 -- one more event was answered
 pub at_next : (old mid new : Tenants) (es : List (ℕ × Step)) (e : ℕ × Step) (as' : List Answer) (a : Answer)
-    → Ran old es as' mid → length new.tenants ≡ length mid.tenants → frames_in new ≡ frames_in mid → limits_at new e.0 ≡ limits_at mid e.0
-    → Answers (limits_at mid e.0) a (state_at mid e.0) e.1 (state_at new e.0)
-    → ((m : ℕ) → m ≢ e.0 → tenant_at new m ≡ tenant_at mid m)
-    → Ran old (es ++ e ∷ []) (as' ++ a ∷ []) new
-at_next old mid new es e as' a so number frames limits made others = record {
+    → Ran old es as' mid → Stepped mid new e.0 e.1 a → Ran old (es ++ e ∷ []) (as' ++ a ∷ []) new
+at_next old mid new es e as' a so made = record {
   number = length-append as' (a ∷ []) ∙ ap (λ n. n + 1) so.number ∙ sym (length-append es (e ∷ []));
-  tenants = number ∙ so.tenants;
-  frames = frames ∙ so.frames;
-  limits = λ n. by_own (λ n. limits_at new n ≡ limits_at old n) (limits ∙ so.limits e.0) (λ m ne. ap (λ (t : Tenant). t.limits) (others m ne) ∙ so.limits m) n;
+  tenants = made.number ∙ so.tenants;
+  frames = made.frames ∙ so.frames;
+  limits = λ n. by_own (λ n. limits_at new n ≡ limits_at old n) (made.limits ∙ so.limits e.0) (λ m ne. ap (λ (t : Tenant). t.limits) (made.others m ne) ∙ so.limits m) n;
   own = λ n. by_own (λ n. run_of (limits_at old n) (state_at old n) (kept (es ++ e ∷ []) (as' ++ a ∷ []) n) ≡ record { state = state_at new n; replies = replies (es ++ e ∷ []) (as' ++ a ∷ []) n }) own_next others_next n;
 }
   where
@@ -39,12 +37,12 @@ at_next old mid new es e as' a so number frames limits made others = record {
     own_next : run_of (limits_at old e.0) (state_at old e.0) (kept (es ++ e ∷ []) (as' ++ a ∷ []) e.0) ≡ record { state = state_at new e.0; replies = replies (es ++ e ∷ []) (as' ++ a ∷ []) e.0 }
     own_next =
         told-own (limits_at old e.0) (state_at old e.0) (state_at mid e.0) (state_at new e.0) es e as' a e.0 (sym so.number) refl (so.own e.0)
-        (subst (λ (c : Limits). Answers c a (state_at mid e.0) e.1 (state_at new e.0)) (so.limits e.0) made)
+        (subst (λ (c : Limits). Answers c a (state_at mid e.0) e.1 (state_at new e.0)) (so.limits e.0) made.answers)
 
     others_next : (n : ℕ) → n ≢ e.0 → run_of (limits_at old n) (state_at old n) (kept (es ++ e ∷ []) (as' ++ a ∷ []) n) ≡ record { state = state_at new n; replies = replies (es ++ e ∷ []) (as' ++ a ∷ []) n }
     others_next n ne =
         told-other (limits_at old n) (state_at old n) (state_at mid n) es e as' a n (sym so.number) (λ (o : e.0 ≡ n). ne (sym o)) (so.own n)
-        ∙ (λ i. record { state = (sym (others n ne) i).state; replies = replies (es ++ e ∷ []) (as' ++ a ∷ []) n })
+        ∙ (λ i. record { state = (sym (made.others n ne) i).state; replies = replies (es ++ e ∷ []) (as' ++ a ∷ []) n })
 
 -- all events were answered, so who was at the opening state was told what its lone machine is
 pub are_alone : (old new : Tenants) (es : List (ℕ × Step)) (as' : List Answer) → Ran old es as' new → AreAlone old es as'

@@ -1,6 +1,6 @@
 -- The isolation theorem: what each namespace is told is what its lone machine is told on its own steps alone.
 
-use Rattle.std.specs.Prelude.{◌≡◌, ℕ, ◌≤◌, List, length, take, nat_le, Some, Option, None}
+use Rattle.std.specs.Prelude.{◌≡◌, ℕ, ◌≤◌, List, length, take, nat_le, Some, Option, None, ⊤}
 use Rattle.std.specs.List.{position_from}
 use Rattle.pf_base.specs.State.{opening}
 use Rattle.pf_base.specs.Runs.{run_of, lone}
@@ -16,29 +16,43 @@ use Rattle.pf_hub.specs.declared.hub.RunFault.TheVariants.{NoSuchNamespace, NoMe
 abbrev pub first_missing : ℕ → List (ℕ × Step) → Option ℕ
 first_missing number events = position_from (λ e. nat_le number e.0) 0 events
 
--- an answer for each event; no frame comes or goes; and each namespace's replies and its end state are those of the lone machine's run, from
--- the state that it was in, on its own steps but for those that memory was wanted for
+-- an answer for each event; no frame comes or goes; and each namespace's replies and its end state are those of the
+-- lone machine's run, from the state that it was in, on its own steps but for those that memory was wanted for
 pub record Ran (old : Tenants) (events : List (ℕ × Step)) (answers : List Answer) (new : Tenants) : Type 0 where
   pub number : length answers ≡ length events
   pub tenants : length new.tenants ≡ length old.tenants
   pub frames : frames_in new ≡ frames_in old
   pub limits : (n : ℕ) → limits_at new n ≡ limits_at old n
-  pub own : (n : ℕ) → run_of (limits_at old n) (state_at old n) (kept events answers n) ≡ record { state = state_at new n; replies = replies events answers n }
+  pub own : (n : ℕ) → run_of (limits_at old n) (state_at old n) (kept events answers n)
+      ≡ record { state = state_at new n; replies = replies events answers n }
 
 -- a namespace that was at its opening state is told what its lone machine is told
 abbrev pub AreAlone : Tenants → List (ℕ × Step) → List Answer → Type 0
-AreAlone old events answers = (n : ℕ) → state_at old n ≡ opening → replies events answers n ≡ lone (limits_at old n) (kept events answers n)
+AreAlone old events answers = (n : ℕ) → state_at old n ≡ opening →
+    replies events answers n ≡ lone (limits_at old n) (kept events answers n)
 
 -- refused before the first step, or the run of the events answered so far
 abbrev pub IsRunFault : Tenants → List (ℕ × Step) → Tenants → RunFault → Type 0
 IsRunFault old events new (NoSuchNamespace at) = (first_missing (length old.tenants) events ≡ Some at) × (new ≡ old)
-IsRunFault old events new (NoMemory answers) = (first_missing (length old.tenants) events ≡ None) × (length answers.items ≤ length events) × Ran old (take (length answers.items) events) answers.items new
+IsRunFault old events new (NoMemory answers) =
+    (first_missing (length old.tenants) events ≡ None)
+    × (length answers.items ≤ length events)
+    × Ran old (take (length answers.items) events) answers.items new
 
--- Two worlds: where two hubs give n the same limits at its opening state, and two lists of events have the same steps
--- of n, n is told the same, whatever the others do, if no step of n met want of memory
-abbrev pub TwoWorlds : Type 0
-TwoWorlds = (first second : Tenants) (es fs : List (ℕ × Step)) (as' bs : List Answer) (first' second' : Tenants) (n : ℕ) →
+-- Two worlds, of which a premise holds: where two hubs give n the same limits at its opening state, and two lists of
+-- events have the same steps of n, n is told the same, whatever the others do
+abbrev pub TwoWorldsWhere : (List (ℕ × Step) → List Answer → ℕ → Type 0) → Type 0
+TwoWorldsWhere premise =
+    (first second : Tenants) (es fs : List (ℕ × Step)) (as' bs : List Answer) (first' second' : Tenants) (n : ℕ) →
     Ran first es as' first' → Ran second fs bs second' →
     state_at first n ≡ opening → state_at second n ≡ opening → limits_at first n ≡ limits_at second n →
-    mine es n ≡ mine fs n → IsAmple es as' n → IsAmple fs bs n →
+    mine es n ≡ mine fs n → premise es as' n → premise fs bs n →
     replies es as' n ≡ replies fs bs n
+
+-- it is so if no step of n met want of memory in either
+abbrev pub TwoWorlds : Type 0
+TwoWorlds = TwoWorldsWhere IsAmple
+
+-- and not without this: the premise is needed
+abbrev pub MemoryMatters : Type 0
+MemoryMatters = ¬ TwoWorldsWhere (λ events answers n. ⊤)

@@ -1,5 +1,6 @@
 pub mod Tenants
-pub mod TenantLaws
+pub mod Covered
 pub mod Shared
+pub mod Stepped
 pub mod Isolation
 pub mod Opening

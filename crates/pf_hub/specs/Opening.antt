@@ -1,10 +1,10 @@
 -- How a hub opens.
 
-use Rattle.std.specs.Prelude.{◌≡◌, ◌⊎◌, ℕ, List, map, Option, Some}
+use Rattle.std.specs.Prelude.{ℕ, List, map, Option}
 use Rattle.pf_base.specs.Limits.{Limits}
 use Rattle.pf_base.specs.State.{opening}
 use Rattle.pf_frame.specs.declared.fault.PoolFault.{PoolFault}
-use Rattle.pf_frame.specs.declared.fault.PoolFault.TheVariants.{NoMemory}
+use Rattle.pf_pool.specs.Faults.{fault_of}
 use Rattle.pf_space.specs.Meaning.{Namespace}
 use Rattle.pf_hub.specs.Tenants.{Tenant, Tenants}
 
@@ -20,6 +20,6 @@ new_tenant limits = record { limits = limits; state = opening; held = 0 }
 abbrev pub new_hub : List Limits → ℕ → Tenants
 new_hub configs frames = record { tenants = map new_tenant configs; free = frames }
 
--- memory ran out, or this is the first test that fails
-abbrev pub IsRefusal : Option PoolFault → PoolFault → Type 0
-IsRefusal first fault = (fault ≡ NoMemory) ⊎ (first ≡ Some fault)
+-- the first test that so many frames and these limits fail, if any
+abbrev pub first_fault : ℕ → List Limits → Option PoolFault
+first_fault frames configs = fault_of frames (map (λ l. l.reserve) configs)

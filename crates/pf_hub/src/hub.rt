@@ -1,8 +1,11 @@
-ghost use Rattle.std.specs.Prelude.{◌≡◌, ◌≢◌, ℕ, ◌+◌, ◌<◌, ◌≤◌, List, length, map, IfOk, IfErr};
-ghost use Rattle.pf_hub.specs.Opening.{new_space};
+ghost use Rattle.std.specs.Prelude.{◌≡◌, ◌<◌, ◌≤◌, length, map, sum, IfOk};
+ghost use Rattle.pf_hub.specs.Opening.{new_space, first_fault};
+ghost use Rattle.pf_hub.specs.Shared.{space_at};
+ghost use Rattle.pf_hub.specs.Stepped.{Moved};
+ghost use Rattle.pf_space.specs.Owns.{Owns};
 
-use pf_base::{Answer, Config, Step};
-use pf_frame::{Frame, PoolFault};
+use pf_base::{Answer, Config, MAX_NAMESPACES, Step};
+use pf_frame::{Frame, FrameTable, Frames, PoolFault};
 use pf_pool::FramePool;
 use pf_space::Space;
 use std::alloc::{AllocError, Global};
@@ -40,6 +43,35 @@ pub enum RunFault {
     NoMemory { answers: Vec<Answer> },
 }
 
+// The sum of the reservations of some limits.
+fn sum_of(configs: &[Config]) -> u64
+    requires { length configs.now ≤ 64 }
+    ensures { result ≡ sum (map (λ l. l.reserve) configs.now) }
+{
+    configs
+        .iter()
+        .map(|config| u64::from(config.reserve()))
+        .sum()
+}
+
+// The first test that so many frames and these limits fail. It takes no memory, so none is wanted before it.
+fn first_fault(frames: usize, configs: &[Config]) -> Option<PoolFault>
+    ensures { result ≡ first_fault frames configs.now }
+{
+    if configs.len() > MAX_NAMESPACES {
+        return Some(PoolFault::TooManyNamespaces);
+    }
+    if frames > FrameTable::MOST {
+        return Some(PoolFault::TooManyFrames);
+    }
+    let sum = sum_of(configs);
+    let frames = frames as u32;
+    if sum > u64::from(frames) {
+        return Some(PoolFault::ReservesExceed { sum, frames });
+    }
+    None
+}
+
 // The reservations of some limits.
 fn reserves_of(alloc: Global, configs: &[Config]) -> Result<Vec<u32>, AllocError>
     ensures { IfOk result (λ v. v.items ≡ map (λ l. l.reserve) configs.now) }
@@ -59,28 +91,60 @@ fn spaces_of(alloc: Global, configs: &[Config]) -> Result<Vec<Space>, AllocError
     Ok(spaces)
 }
 
+// A step of one of some namespaces, through the door of its own frames.
+fn step_over<F: Frames>(spaces: &mut [Space], ns: usize, door: &mut F, step: &Step) -> Answer
+    requires exists { ns < length spaces.old }
+    requires fact { F.fact door.old }
+    requires owns { Owns (F.live door.old) (space_at spaces.old ns) }
+    ensures rest { F.rest door.new ≡ F.rest door.old }
+    ensures moved { Moved (F.live door.old) (F.live door.new) spaces.old spaces.new ns step.now result }
+    ensures unchanged { result ≡ Answer.NoMemory → (spaces.new ≡ spaces.old) × (door.new ≡ door.old) }
+{
+    spaces[ns].step(door, step)
+}
+
 impl Hub {
-    ghost use Rattle.std.specs.Prelude.{◌≡◌, ◌≢◌, ℕ, ◌+◌, ◌<◌, ◌≤◌, length, map, IfOk, IfErr, IsOk, None, false, MatchResult};
+    ghost use Rattle.std.specs.Prelude.{◌≡◌, ◌≢◌, ℕ, ◌<◌, length, IfOk, IfErr, IsOk, None, false};
     ghost use Rattle.pf_base.specs.Machine.{Answers, may_want_memory};
     ghost use Rattle.pf_base.specs.Events.{IsDone};
-    ghost use Rattle.pf_pool.specs.Faults.{fault_of};
+    ghost use Rattle.pf_pool.specs.Faults.{IsFault};
     ghost use Rattle.pf_hub.specs.Tenants.{tenant_at, limits_at, state_at, held_at, frames_in};
-    ghost use Rattle.pf_hub.specs.Opening.{new_hub, IsRefusal};
+    ghost use Rattle.pf_hub.specs.Covered.{IsCovered};
+    ghost use Rattle.pf_hub.specs.Opening.{new_hub, first_fault};
+    ghost use Rattle.pf_hub.specs.Stepped.{Stepped};
     ghost use Rattle.pf_hub.specs.Isolation.{Ran, first_missing, IsRunFault, AreAlone};
 
     /// A hub of these frames, with a namespace of each of these limits: their numbers are their places.
     ///
-    /// The frames keep the bytes that they have; no read of a pipe shows them.
+    /// The frames keep the bytes that they have; no read of a pipe shows them. The frames and limits are tested
+    /// before any memory is asked for.
     pub fn new(alloc: Global, frames: Vec<Frame>, configs: Vec<Config>) -> Result<Hub, PoolFault>
-        ensures { MatchResult result (λ hub. (fault_of (length frames.items) (map (λ l. l.reserve) configs.items) ≡ None) × (hub ≡ new_hub configs.items (length frames.items))) (IsRefusal (fault_of (length frames.items) (map (λ l. l.reserve) configs.items))) }
+        ensures tested { IsOk result → first_fault (length frames.items) configs.items ≡ None }
+        ensures opened { IfOk result (λ hub. hub ≡ new_hub configs.items (length frames.items)) }
+        ensures covered { IfOk result IsCovered }
+        // the first test that fails, and want of memory only where none does
+        ensures fault { IfErr result (IsFault (first_fault (length frames.items) configs.items)) }
     {
-        let Ok(reserves) = reserves_of(alloc, &configs) else {
-            return Err(PoolFault::NoMemory);
+        if let Some(fault) = first_fault(frames.len(), &configs) {
+            return Err(fault);
+        }
+        match Hub::within(alloc, frames, &configs) {
+            Ok(hub) => Ok(hub),
+            Err(_) => Err(PoolFault::NoMemory),
+        }
+    }
+
+    // The hub of frames and limits that pass each test.
+    fn within(alloc: Global, frames: Vec<Frame>, configs: &[Config]) -> Result<Hub, AllocError>
+        requires { first_fault (length frames.items) configs.now ≡ None }
+        ensures opened { IfOk result (λ hub. hub ≡ new_hub configs.now (length frames.items)) }
+        ensures covered { IfOk result IsCovered }
+    {
+        let reserves = reserves_of(alloc, configs)?;
+        let Ok(pool) = FramePool::new(alloc, frames, reserves) else {
+            return Err(AllocError);
         };
-        let pool = FramePool::new(alloc, frames, reserves)?;
-        let Ok(spaces) = spaces_of(alloc, &configs) else {
-            return Err(PoolFault::NoMemory);
-        };
+        let spaces = spaces_of(alloc, configs)?;
         Ok(Hub {
             alloc,
             pool,
@@ -108,13 +172,26 @@ impl Hub {
         ensures number { length self.new.tenants ≡ length self.old.tenants }
         ensures frames { frames_in self.new ≡ frames_in self.old }
         ensures limits { limits_at self.new ns ≡ limits_at self.old ns }
-        ensures answers { Answers (limits_at self.old ns) result (state_at self.old ns) step.now (state_at self.new ns) }
+        // its answer and its state are the lone machine's, and nobody else is told, or has, anything else
+        ensures answers { Answers (limits_at self.old ns) result
+            (state_at self.old ns) step.now (state_at self.new ns) }
         ensures others { (m : ℕ) → m ≢ ns → tenant_at self.new m ≡ tenant_at self.old m }
+        // want of memory changes nothing, and comes of no step that needs none
         ensures unchanged { result ≡ Answer.NoMemory → self.new ≡ self.old }
         ensures succeeds { may_want_memory (state_at self.old ns) step.now ≡ false → IsDone result }
+        ensures covered { IsCovered self.new }
+    {
+        self.step_in(ns, step)
+    }
+
+    // The same, as one fact.
+    fn step_in(&mut self, ns: u32, step: &Step) -> Answer
+        requires exists { ns < length self.old.tenants }
+        ensures stepped { Stepped self.old self.new ns step.now result }
+        ensures unchanged { result ≡ Answer.NoMemory → self.new ≡ self.old }
     {
         let mut door = self.pool.door(ns);
-        self.spaces[ns as usize].step(&mut door, step)
+        step_over(&mut self.spaces, ns as usize, &mut door, step)
     }
 
     /// How many namespaces there are.
@@ -138,17 +215,19 @@ impl Hub {
         ensures ran { IfOk result (λ answers. Ran self.old events.now answers.items self.new) }
         ensures alone { IfOk result (λ answers. AreAlone self.old events.now answers.items) }
         ensures fault { IfErr result (IsRunFault self.old events.now self.new) }
+        ensures covered { IsCovered self.new }
     {
+        let alloc = self.alloc;
         if let Some(at) = self.missing(events) {
             return Err(RunFault::NoSuchNamespace { at });
         }
-        let Ok(mut answers) = Vec::with_capacity(self.alloc, events.len()) else {
+        let Ok(mut answers) = Vec::with_capacity(alloc, events.len()) else {
             return Err(RunFault::NoMemory {
-                answers: Vec::new(self.alloc),
+                answers: Vec::new(alloc),
             });
         };
         for event in events {
-            let answer = self.step(event.0, &event.1);
+            let answer = self.step_in(event.0, &event.1);
             answers.push_reserved(answer);
         }
         Ok(answers)

@@ -1,5 +1,5 @@
 -- What all namespaces hold and what nobody holds are all frames.
-use Rattle.pf_hub.proofs.OpeningLemmas as lemmas
+use Rattle.pf_hub.proofs.PoolLemmas as lemmas
 use Rattle.pf_hub.proofs.hub.Hub.free.Goals as goal
 
 pub returns : goal.returns

@@ -1,6 +1,6 @@
 -- There are as many namespaces as spaces.
 use Rattle.std.proofs.Common.{◌≡◌, length, sym, ◌∙◌, rules}
-use Rattle.pf_hub.proofs.StepLemmas as lemmas
+use Rattle.pf_hub.proofs.PoolLemmas as lemmas
 use Rattle.pf_hub.proofs.hub.Hub.namespaces.Goals as goal
 
 pub returns : goal.returns

@@ -1,6 +1,7 @@
 -- The events so far were run, and there is room for the other answers.
 use Rattle.std.proofs.Common.{◌≡◌, length, take}
 use Rattle.std.specs.Vec.{vec_capacity}
+use Rattle.pf_hub.specs.Covered.{IsCovered}
 use Rattle.pf_hub.specs.Isolation.{Ran}
 use Rattle.pf_hub.proofs.hub.Hub.run.Given as goal
 
@@ -9,4 +10,5 @@ invariant-loop-event l = record {
   ran : Ran l.fn.self (take l.event-index l.events) l.answers.items l.self;
   made : length l.answers.items ≡ l.event-index;
   room : vec_capacity l.answers ≡ length l.events;
+  covered : IsCovered l.self;
 }

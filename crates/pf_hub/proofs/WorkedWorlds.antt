@@ -1,0 +1,56 @@
+-- Two worlds that tell one namespace different things: the same spawn, for which memory was wanted in one of them.
+
+use Rattle.std.proofs.Common.{◌≡◌, ℕ, zero, suc, List, [], ◌∷◌, refl, arith}
+use Rattle.std.proofs.lemmas.Bool.{ne_eqb}
+use Rattle.pf_base.specs.Limits.{Limits}
+use Rattle.pf_base.specs.Machine.{step_of}
+use Rattle.pf_base.specs.Runs.{run_of}
+use Rattle.pf_base.specs.Events.{kept, replies}
+use Rattle.pf_base.specs.State.{State, Outcome, opening}
+use Rattle.pf_base.specs.Queue.{Queue}
+use Rattle.pf_base.specs.declared.step.Step.{Step}
+use Rattle.pf_base.specs.declared.step.Step.TheVariants.{Spawn}
+use Rattle.pf_base.specs.declared.step.Answer.TheVariants.{Done, NoMemory}
+use Rattle.pf_hub.specs.Isolation.{Ran, MemoryMatters}
+use Rattle.pf_hub.specs.Tenants.{Tenants, limits_at, state_at}
+
+abbrev limits : Limits
+limits = record { reserve = 0; soft = 0; hard = 0; max = 65536 }
+
+abbrev spawn : Step
+spawn = Spawn 5 5 [] 18
+
+abbrev told : Outcome
+told = step_of limits opening spawn
+
+-- a hub of one namespace in this state
+abbrev hub : State Queue → Tenants
+hub s = record { tenants = record { limits = limits; state = s; held = 0 } ∷ []; free = 0 }
+
+abbrev events : List (ℕ × Step)
+events = (0, spawn) ∷ []
+
+-- both are runs, of the one step and of none
+made : Ran (hub opening) events (Done told.reply ∷ []) (hub told.state)
+made = record { number = refl; tenants = refl; frames = refl; limits = same; own = own }
+  where
+    same : (n : ℕ) → limits_at (hub told.state) n ≡ limits_at (hub opening) n
+    same zero = refl
+    same (suc n) = refl
+
+    own : (n : ℕ) → run_of (limits_at (hub opening) n) (state_at (hub opening) n) (kept events (Done told.reply ∷ []) n) ≡ record { state = state_at (hub told.state) n; replies = replies events (Done told.reply ∷ []) n }
+    own zero = refl
+    own (suc n) = rw (ne_eqb 0 (suc n) (λ (e : 0 ≡ suc n). omega arith)) refl
+
+refused : Ran (hub opening) events (NoMemory ∷ []) (hub opening)
+refused = record { number = refl; tenants = refl; frames = refl; limits = λ n. refl; own = own }
+  where
+    own : (n : ℕ) → run_of (limits_at (hub opening) n) (state_at (hub opening) n) (kept events (NoMemory ∷ []) n) ≡ record { state = state_at (hub opening) n; replies = replies events (NoMemory ∷ []) n }
+    own zero = refl
+    own (suc n) = rw (ne_eqb 0 (suc n) (λ (e : 0 ≡ suc n). omega arith)) refl
+
+-- a reply in the one, and none in the other
+pub memory_matters : MemoryMatters
+memory_matters same =
+    let both : told.reply ∷ [] ≡ [] = same (hub opening) (hub opening) events events (Done told.reply ∷ []) (NoMemory ∷ []) (hub told.state) (hub opening) 0 made refused refl refl refl refl tt tt in
+    cc

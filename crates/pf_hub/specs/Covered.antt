@@ -1,0 +1,29 @@
+-- What carries the isolation: what a namespace holds is what its own pipes hold, and what it may still take is there.
+
+use Rattle.std.specs.Prelude.{◌≡◌, ℕ, ◌-◌, ◌≤◌, [], length, map, sum, Some}
+use Rattle.pf_base.specs.Numbered.{at, sum_of}
+use Rattle.pf_base.specs.Queue.{Queue, bytes_of}
+use Rattle.pf_base.specs.Counts.{total}
+use Rattle.pf_base.specs.State.{State, Pipe}
+use Rattle.pf_hub.specs.Tenants.{Tenant, Tenants, tenant_at}
+
+-- how many slots of all pipes are in use: one for each segment
+abbrev pub occupied : State Queue → ℕ
+occupied s = sum_of (λ p. length p.queue.segments) s.pipes
+
+-- the frames that a namespace holds, its slots in use, the pages that its pipes are charged with, and its reservation
+-- stand in rising order; and it holds none only where no pipe has a byte
+pub record IsRising (t : Tenant) : Type 0 where
+  pub frames : t.held ≤ occupied t.state
+  pub slots : occupied t.state ≤ total t.state
+  pub pages : total t.state ≤ t.limits.reserve
+  pub none : t.held ≡ 0 → (n : ℕ) (p : Pipe Queue) → at t.state.pipes n ≡ Some p → bytes_of p.queue ≡ []
+
+-- how many more frames a namespace may take
+abbrev pub unspent : Tenant → ℕ
+unspent t = t.limits.reserve - t.held
+
+-- each namespace is so, and as many frames as all of them together may still take are held by nobody
+pub record IsCovered (h : Tenants) : Type 0 where
+  pub each : (n : ℕ) → IsRising (tenant_at h n)
+  pub credits : sum (map unspent h.tenants) ≤ h.free
