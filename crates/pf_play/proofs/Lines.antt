@@ -28,7 +28,7 @@ goes_on d e k rest text j all first is taken same = sym (at_front d k rest text 
 -- a line that is refused
 pub fails : (d : Draft) (k : ℕ) (rest text : List ℕ) (j : ℕ) (fault : LineFault) (all : Result Draft Refusal) → IsFirstByte (is_byte 10) rest (Some j) → text ≡ take j rest → Fails fault (line_of d text) →
     lines_from d k (pieces_of 10 rest) ≡ all → Reads (Err (at_line k fault)) all
-fails d k rest text j faults.Memory all first is refused same = tt
+fails d k rest text j faults.NoMemory all first is refused same = tt
 fails d k rest text j (faults.Refused cause) all first is refused same = sym same ∙ (at_front d k rest text j first is ∙ rw refused refl)
 
 last_line : (d : Draft) (k : ℕ) (rest : List ℕ) → IsFirstByte (is_byte 10) rest None → lines_from d k (pieces_of 10 rest) ≡ numbered k (rest_of d rest) (λ e. Ok e)
@@ -38,7 +38,7 @@ last_line d k rest none = rw (whole 10 rest none) refl
 -- what stands behind the last line feed is refused
 pub fails_at_end : (d : Draft) (k : ℕ) (rest : List ℕ) (fault : LineFault) (all : Result Draft Refusal) → IsFirstByte (is_byte 10) rest None → Fails fault (rest_of d rest) →
     lines_from d k (pieces_of 10 rest) ≡ all → Reads (Err (at_line k fault)) all
-fails_at_end d k rest faults.Memory all none refused same = tt
+fails_at_end d k rest faults.NoMemory all none refused same = tt
 fails_at_end d k rest (faults.Refused cause) all none refused same = sym same ∙ (last_line d k rest none ∙ rw refused refl)
 
 -- nothing stands there

@@ -11,7 +11,7 @@ use Rattle.pf_play.specs.declared.fault.ScriptFault.TheVariants as script_faults
 
 -- the grammar gives this fault, unless memory ran out
 abbrev pub Fails : {Y : Type 0} → LineFault → Result Y Cause → Type 0
-Fails faults.Memory read = Unit {0}
+Fails faults.NoMemory read = Unit {0}
 Fails (faults.Refused cause) read = read ≡ Err cause
 
 -- the grammar gives the same, unless memory ran out
@@ -26,11 +26,11 @@ Moves (Err e) new read = Fails e read
 
 -- a line's fault with the line's number
 abbrev pub at_line : ℕ → LineFault → ScriptFault
-at_line k faults.Memory = script_faults.Memory
+at_line k faults.NoMemory = script_faults.NoMemory
 at_line k (faults.Refused cause) = script_faults.Refused (record { line = k; cause = cause })
 
 -- the same for a whole script
 abbrev pub Reads : Result Draft ScriptFault → Result Draft Refusal → Type 0
 Reads (Ok script) read = read ≡ Ok script
-Reads (Err script_faults.Memory) read = Unit {0}
+Reads (Err script_faults.NoMemory) read = Unit {0}
 Reads (Err (script_faults.Refused refusal)) read = read ≡ Err refusal

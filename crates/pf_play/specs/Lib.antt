@@ -1,4 +1,6 @@
 pub mod Faults
+pub mod Filled
+pub mod Inputs
 pub mod Named
 pub mod Ports
 pub mod Played

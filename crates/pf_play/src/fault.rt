@@ -8,7 +8,7 @@ use std::alloc::{AllocError, AllocFailed};
 #[derive(Debug, Clone, Copy)]
 pub enum LineFault {
     /// A growth of memory was refused.
-    Memory,
+    NoMemory,
     /// The line is faulty.
     Refused(Cause),
 }
@@ -17,7 +17,7 @@ pub enum LineFault {
 #[derive(Debug, Clone, Copy)]
 pub enum ScriptFault {
     /// A growth of memory was refused.
-    Memory,
+    NoMemory,
     /// A line is faulty.
     Refused(Refusal),
 }
@@ -28,38 +28,38 @@ impl LineFault {
         ensures { result ≡ at_line line self }
     {
         match self {
-            LineFault::Memory => ScriptFault::Memory,
+            LineFault::NoMemory => ScriptFault::NoMemory,
             LineFault::Refused(cause) => ScriptFault::Refused(Refusal { line, cause }),
         }
     }
 }
 
 impl From<AllocError> for LineFault {
-    ghost use Rattle.pf_play.specs.declared.fault.LineFault.TheVariants.{Memory};
+    ghost use Rattle.pf_play.specs.declared.fault.LineFault.TheVariants.{NoMemory};
 
-    ghost from_gives = { λ _ e. e ≡ Memory };
+    ghost from_gives = { λ _ e. e ≡ NoMemory };
 
     fn from(_: AllocError) -> Self {
-        LineFault::Memory
+        LineFault::NoMemory
     }
 }
 
 impl<T: Drop> From<AllocFailed<T>> for LineFault {
-    ghost use Rattle.pf_play.specs.declared.fault.LineFault.TheVariants.{Memory};
+    ghost use Rattle.pf_play.specs.declared.fault.LineFault.TheVariants.{NoMemory};
 
-    ghost from_gives = { λ _ e. e ≡ Memory };
+    ghost from_gives = { λ _ e. e ≡ NoMemory };
 
     fn from(_: AllocFailed<T>) -> Self {
-        LineFault::Memory
+        LineFault::NoMemory
     }
 }
 
 impl From<AllocError> for ScriptFault {
-    ghost use Rattle.pf_play.specs.declared.fault.ScriptFault.TheVariants.{Memory};
+    ghost use Rattle.pf_play.specs.declared.fault.ScriptFault.TheVariants.{NoMemory};
 
-    ghost from_gives = { λ _ e. e ≡ Memory };
+    ghost from_gives = { λ _ e. e ≡ NoMemory };
 
     fn from(_: AllocError) -> Self {
-        ScriptFault::Memory
+        ScriptFault::NoMemory
     }
 }

@@ -1,8 +1,7 @@
-ghost use Rattle.std.specs.Prelude.{◌≡◌, IfOk, IfErr, OnOk};
-ghost use Rattle.std.specs.Io.KnownBytes.{IsAtEnd};
+ghost use Rattle.std.specs.Prelude.{◌≡◌, IfOk, IfErr};
 ghost use Rattle.pf_play.specs.Replays.{IsReplayed, IsFault};
 
-use crate::engine::play;
+use crate::engine::{Options, frames_of, play};
 use crate::fault::ScriptFault;
 use crate::port::{InputFault, Sink, Source, WriteFault, read_all, write_out};
 use crate::script::read_text;
@@ -10,13 +9,6 @@ use crate::text::{count_nomem, text_of};
 use pf_base::Refusal;
 use std::alloc::{AllocError, Global};
 use thiserror::Error;
-
-/// How a script is run.
-#[derive(Debug, Clone, Copy)]
-pub struct Options {
-    /// The byte that every frame holds at the start. No text depends on it.
-    pub fill: u8,
-}
 
 /// What a run met.
 #[derive(Debug, Clone, Copy, Drop)]
@@ -28,13 +20,13 @@ pub struct Replayed {
 /// Why a run ended before its end.
 #[derive(Debug, Clone, Copy, Error)]
 pub enum ReplayFault {
-    /// The script was refused. Nothing was written.
+    /// The script was refused, after the whole of it was read. Nothing was written.
     #[error("{0}")]
     Script(Refusal),
     /// A growth of memory was refused outside a step. Nothing was written.
     #[error("no memory")]
     NoMemory,
-    /// The reader failed, or gave more than 67,108,864 bytes. Nothing was written.
+    /// The reader failed, or gave one byte more than `INPUT_LIMIT`. Nothing was written.
     #[error("read fault")]
     ReadFault,
     /// The writer failed, or took none of some bytes. A front of the text was written.
@@ -49,8 +41,8 @@ impl From<InputFault> for ReplayFault {
 
     fn from(fault: InputFault) -> Self {
         match fault {
-            InputFault::Memory => ReplayFault::NoMemory,
-            InputFault::Read => ReplayFault::ReadFault,
+            InputFault::NoMemory => ReplayFault::NoMemory,
+            InputFault::ReadFault => ReplayFault::ReadFault,
         }
     }
 }
@@ -62,7 +54,7 @@ impl From<ScriptFault> for ReplayFault {
 
     fn from(fault: ScriptFault) -> Self {
         match fault {
-            ScriptFault::Memory => ReplayFault::NoMemory,
+            ScriptFault::NoMemory => ReplayFault::NoMemory,
             ScriptFault::Refused(refusal) => ReplayFault::Script(refusal),
         }
     }
@@ -90,21 +82,24 @@ impl From<WriteFault> for ReplayFault {
 
 /// Reads a script to its end, runs its steps, and writes the text of the answers.
 ///
-/// All faults but `WriteFault` come before the first byte is written.
+/// All faults but `WriteFault` come before the writer is asked for anything. A read or a write fault comes with the
+/// first call that fails, and nothing is asked after it.
 pub fn replay<R: Source, W: Sink>(
     alloc: Global,
     reader: &mut R,
     writer: &mut W,
     options: &Options,
 ) -> Result<Replayed, ReplayFault>
-    ensures end { OnOk result (IsAtEnd (R.remaining reader.new)) }
-    ensures played { IfOk result (λ r. IsReplayed (R.remaining reader.old) (W.contents writer.old) (W.contents writer.new) r.nomem) }
-    ensures fault { IfErr result (IsFault (R.remaining reader.old) (R.remaining reader.new) (W.contents writer.old) (W.contents writer.new) (R.HasFailed reader.new) (W.HasRefused writer.new)) }
+    ensures played { IfOk result (λ r.
+        IsReplayed (R.input reader.old) (R.input reader.new) (W.output writer.old) (W.output writer.new) r.nomem) }
+    ensures fault { IfErr result
+        (IsFault (R.input reader.old) (R.input reader.new) (W.output writer.old) (W.output writer.new)) }
 {
     let input = read_all(alloc, reader)?;
     let script = read_text(alloc, input.as_slice())?;
     drop(input);
-    let answers = play(alloc, &script, options.fill)?;
+    let frames = frames_of(alloc, script.frames(), options)?;
+    let answers = play(alloc, &script, frames)?;
     let nomem = count_nomem(answers.as_slice());
     let text = text_of(alloc, &script, answers.as_slice())?;
     write_out(writer, text.as_slice())?;

@@ -37,9 +37,11 @@ impl Model for Script {
 
     ghost Value = { Draft };
 
-    ghost view = { λ s. record { frames = s.frames; spaces = named s.spaces.entries; steps = s.steps.items } };
+    ghost view = { λ s.
+        record { frames = s.frames; spaces = named s.spaces.entries; steps = s.steps.items } };
 
-    ghost invariant = { λ s. IsSound (record { frames = s.frames; spaces = named s.spaces.entries; steps = s.steps.items }) };
+    ghost invariant = { λ s.
+        IsSound (record { frames = s.frames; spaces = named s.spaces.entries; steps = s.steps.items }) };
 }
 
 /// Whether a line is empty or begins with `#`.
@@ -78,16 +80,14 @@ impl Script {
 
     /// The pool's frames, 0 where there is no pool line.
     pub fn frames(&self) -> u32
-        ensures frames { result ≡ self.now.frames }
-        ensures most { result ≤ 65536 }
-        ensures fits { reserved self.now.spaces ≤ result }
+        ensures { result ≡ self.now.frames }
     {
         self.frames
     }
 
     /// How many namespaces there are.
-    pub fn number(&self) -> usize
-        ensures number { result ≡ length self.now.spaces }
+    pub fn count_spaces(&self) -> usize
+        ensures count { result ≡ length self.now.spaces }
         ensures most { result ≤ 64 }
     {
         self.spaces.len()
@@ -102,11 +102,13 @@ impl Script {
         name.as_slice()
     }
 
-    /// The limits of each namespace, in the order of their numbers.
+    /// The limits of each namespace, in the order of their numbers. They reserve no more frames than the pool has.
     #[tactic(auto, using(crate::proofs::Naming::limits_of))]
     pub fn configs(&self, alloc: Global) -> Result<Vec<Config>, AllocError>
         ensures limits { IfOk result (λ configs. configs.items ≡ map (λ s. s.1) self.now.spaces) }
         ensures most { IfOk result (λ configs. length configs.items ≤ 64) }
+        ensures small { self.now.frames ≤ 65536 }
+        ensures fits { reserved self.now.spaces ≤ self.now.frames }
     {
         self.spaces.values().copied().collect(alloc)
     }
@@ -250,7 +252,8 @@ impl Script {
         first: &[u8],
         words: &[&[u8]],
     ) -> Result<(), LineFault>
-        ensures { Moves result self.new (grammar.first_word_line self.old first.now (map (λ w. w.now) words.now)) }
+        ensures { Moves result self.new
+            (grammar.first_word_line self.old first.now (map (λ w. w.now) words.now)) }
     {
         if first == b"pool".as_slice() {
             if self.frames == 0 {

@@ -1,73 +1,133 @@
-use crate::{Collected, Failed, MemoryBytes, Options, ReplayFault, Sink, Source, replay};
+use crate::engine::frames_of;
+use crate::{
+    Collected, Failed, INPUT_LIMIT, MemoryBytes, Options, Reading, ReplayFault, Replayed, Sink,
+    Source, Writing, replay,
+};
 use pf_base::MAX_NAMESPACES;
+use std::alloc::Global;
+use std::io::{self, ErrorKind, Read};
 use std::test::Fail;
 
 const OPTIONS: Options = Options { fill: 165 };
 
-/// Gives some bytes and then fails.
+/// Gives line feeds, a byte at a time, and fails at one read. Whoever asks it once more finds the end.
 #[derive(Debug, Drop)]
 struct Breaking {
-    reads: u32,
-    failed: bool,
+    fails_at: u32,
+    asked: u32,
+    failures: u64,
 }
 
 impl Source for Breaking {
-    ghost use Rattle.std.specs.Prelude.{IsTrue, None};
+    ghost use Rattle.std.specs.Prelude.{None};
 
-    ghost remaining = { λ _. None };
-
-    ghost HasFailed = { λ r. IsTrue r.failed };
+    ghost input = { λ r. record { remaining = None; failures = r.failures } };
 
     fn read(&mut self, buffer: &mut [u8]) -> Result<usize, Failed> {
-        if self.reads == 0 || buffer.is_empty() {
-            self.failed = true;
+        self.asked = self.asked.saturating_add(1);
+        if self.asked == self.fails_at {
+            self.failures = self.failures.saturating_add(1);
             return Err(Failed);
         }
-        self.reads -= 1;
+        if self.asked > self.fails_at || buffer.is_empty() {
+            return Ok(0);
+        }
         buffer[0] = b'\n';
         Ok(1)
     }
 }
 
-/// Gives bytes without an end.
+/// Gives lines of comment as long as what it is asked for, but for its first byte, as far as it has bytes left.
 #[derive(Debug, Drop)]
-struct Endless;
+struct Comments {
+    first: u8,
+    left: usize,
+}
 
-impl Source for Endless {
+impl Source for Comments {
     ghost use Rattle.std.specs.Prelude.{None};
 
-    ghost remaining = { λ _. None };
-
-    ghost HasFailed = { λ _. ⊥ };
+    ghost input = { λ _. record { remaining = None; failures = 0 } };
 
     fn read(&mut self, buffer: &mut [u8]) -> Result<usize, Failed> {
-        buffer.fill(b'\n');
-        Ok(buffer.len())
+        let n = self.left.min(buffer.len());
+        let (front, _) = buffer.split_at_mut(n);
+        front.fill(b'#');
+        if let [first, .., last] = front {
+            *first = self.first;
+            *last = b'\n';
+        }
+        self.first = b'#';
+        self.left -= n;
+        Ok(n)
     }
 }
 
-/// Takes some bytes, and then fails or takes none.
+/// Takes some bytes, one at a time, and then refuses once: it fails, or takes none. Whoever asks it once more finds
+/// that it takes all.
 #[derive(Debug, Drop)]
 pub(crate) struct Full {
-    pub(crate) room: usize,
-    pub(crate) fails: bool,
-    pub(crate) refused: bool,
+    room: u32,
+    fails: bool,
+    pub(crate) asked: u32,
+    refusals: u64,
+}
+
+impl Full {
+    pub(crate) fn new(room: u32, fails: bool) -> Self {
+        Full {
+            room,
+            fails,
+            asked: 0,
+            refusals: 0,
+        }
+    }
 }
 
 impl Sink for Full {
-    ghost use Rattle.std.specs.Prelude.{IsTrue, None};
+    ghost use Rattle.std.specs.Prelude.{None};
 
-    ghost contents = { λ _. None };
-
-    ghost HasRefused = { λ w. IsTrue w.refused };
+    ghost output = { λ w. record { contents = None; refusals = w.refusals } };
 
     fn write(&mut self, bytes: &[u8]) -> Result<usize, Failed> {
-        if self.room > 0 && !bytes.is_empty() {
-            self.room -= 1;
+        self.asked = self.asked.saturating_add(1);
+        if bytes.is_empty() {
+            return Ok(0);
+        }
+        if self.asked <= self.room {
             return Ok(1);
         }
-        self.refused = true;
+        if self.asked - self.room > 1 {
+            return Ok(bytes.len());
+        }
+        self.refusals = self.refusals.saturating_add(1);
         if self.fails { Err(Failed) } else { Ok(0) }
+    }
+}
+
+/// A reader of std that gives some bytes a read, and fails at one read. Whoever asks it once more finds the end.
+#[derive(Debug, Drop)]
+struct Stopping<'a> {
+    rest: &'a [u8],
+    fails_at: u32,
+    asked: u32,
+}
+
+impl<'a> Read for Stopping<'a> {
+    fn read(&mut self, buffer: &mut [u8]) -> io::Result<usize> {
+        self.asked = self.asked.saturating_add(1);
+        if self.asked == self.fails_at {
+            return Err(io::Error::from(ErrorKind::Interrupted));
+        }
+        if self.asked > self.fails_at {
+            return Ok(0);
+        }
+        let n = self.rest.len().min(buffer.len()).min(1000);
+        let (front, back) = self.rest.split_at(n);
+        let (room, _) = buffer.split_at_mut(n);
+        room.copy_from_slice(front);
+        self.rest = back;
+        Ok(n)
     }
 }
 
@@ -196,20 +256,45 @@ fn accepted_scripts(rt: HostRuntime) -> Result<(), Fail> {
 #[test]
 fn readers_that_fail(rt: HostRuntime) -> Result<(), Fail> {
     let alloc = rt.alloc();
-    for reads in [0, 1, 70_000] {
+    for fails_at in [1, 2, 70_000] {
         let mut reader = Breaking {
-            reads,
-            failed: false,
+            fails_at,
+            asked: 0,
+            failures: 0,
         };
         let mut writer = Collected::new(alloc);
         let result = replay(alloc, &mut reader, &mut writer, &OPTIONS);
         assert!(rt; matches!(result, Err(ReplayFault::ReadFault)));
+        assert_eq!(rt; reader.asked, fails_at);
         assert!(rt; writer.as_slice().is_empty());
     }
-    let mut writer = Collected::new(alloc);
-    let result = replay(alloc, &mut Endless, &mut writer, &OPTIONS);
-    assert!(rt; matches!(result, Err(ReplayFault::ReadFault)));
     Ok(())
+}
+
+/// What a replay of so many bytes of comment answers, whose first byte is this one, and how many it left.
+fn replay_comments(
+    alloc: Global,
+    first: u8,
+    left: usize,
+) -> (Result<Replayed, ReplayFault>, usize) {
+    let mut reader = Comments { first, left };
+    let mut writer = Collected::new(alloc);
+    let result = replay(alloc, &mut reader, &mut writer, &OPTIONS);
+    (result, reader.left)
+}
+
+#[test]
+fn the_longest_input(rt: HostRuntime) {
+    let (result, left) = replay_comments(rt.alloc(), b'#', INPUT_LIMIT);
+    assert!(rt; result.is_ok());
+    assert_eq!(rt; left, 0);
+}
+
+#[test]
+fn a_byte_more_than_the_longest_input(rt: HostRuntime) {
+    let (result, left) = replay_comments(rt.alloc(), b'x', INPUT_LIMIT + 1);
+    assert!(rt; matches!(result, Err(ReplayFault::ReadFault)));
+    assert_eq!(rt; left, 0);
 }
 
 #[test]
@@ -217,14 +302,76 @@ fn writers_that_fail(rt: HostRuntime) -> Result<(), Fail> {
     let alloc = rt.alloc();
     for (room, fails) in [(0, true), (0, false), (3, true), (3, false)] {
         let mut reader = MemoryBytes::new(b"pool 4\nspace a 1\n");
-        let mut writer = Full {
-            room,
-            fails,
-            refused: false,
-        };
+        let mut writer = Full::new(room, fails);
         let result = replay(alloc, &mut reader, &mut writer, &OPTIONS);
         assert!(rt; matches!(result, Err(ReplayFault::WriteFault)));
-        assert_eq!(rt; writer.room, 0);
+        assert_eq!(rt; writer.asked, room + 1);
+    }
+    Ok(())
+}
+
+#[test]
+fn readers_of_std(rt: HostRuntime) -> Result<(), Fail> {
+    let alloc = rt.alloc();
+    let mut script = String::from_str(alloc, "pool 4\nspace a 1\n")?;
+    let mut whole = String::from_str(alloc, "== a\n")?;
+    for number in 1..=20_000 {
+        script.push_str("a exit 1\n")?;
+        whole.push_str(format!(in alloc; "{number}: err ESRCH\n")?.as_str())?;
+    }
+    for (fails_at, asked) in [(1, 1), (2, 2), (100, 100), (1000, 182)] {
+        let mut stopping = Stopping {
+            rest: script.as_bytes(),
+            fails_at,
+            asked: 0,
+        };
+        let mut text = Vec::new(alloc);
+        let result = replay(
+            alloc,
+            &mut Reading::new(&mut stopping),
+            &mut Writing::new(&mut text),
+            &OPTIONS,
+        );
+        let is_whole = asked < fails_at;
+        assert_eq!(rt; matches!(result, Err(ReplayFault::ReadFault)), !is_whole);
+        assert_eq!(rt; result.is_ok(), is_whole);
+        assert_eq!(rt; stopping.asked, asked);
+        assert!(rt;
+            text.as_slice()
+                == if is_whole {
+                    whole.as_bytes()
+                } else {
+                    b"".as_slice()
+                }
+        );
+    }
+    Ok(())
+}
+
+#[test]
+fn writers_of_std(rt: HostRuntime) -> Result<(), Fail> {
+    let alloc = rt.alloc();
+    for room in 0..6 {
+        let mut text = *b"......";
+        let (front, _) = text.split_at_mut(room);
+        let mut reader = Reading::new(b"pool 4\nspace a 1\n".as_slice());
+        let result = replay(alloc, &mut reader, &mut Writing::new(front), &OPTIONS);
+        assert_eq!(rt; matches!(result, Err(ReplayFault::WriteFault)), room < 5);
+        assert_eq!(rt; result.is_ok(), room == 5);
+        assert!(rt; text[..room] == b"== a\n"[..room]);
+    }
+    Ok(())
+}
+
+#[test]
+fn frames_hold_the_fill(rt: HostRuntime) -> Result<(), Fail> {
+    let alloc = rt.alloc();
+    for fill in [0, 165, 255] {
+        let frames = frames_of(alloc, 3, &Options { fill })?;
+        assert_eq!(rt; frames.len(), 3);
+        for frame in &frames {
+            assert!(rt; frame.view(0, 4096).iter().all(|byte| *byte == fill));
+        }
     }
     Ok(())
 }

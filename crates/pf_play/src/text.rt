@@ -18,10 +18,10 @@ fn push_piece(text: &mut Vec<u8>, bytes: &[u8]) -> Result<(), AllocError>
 {
     let mut digits = [0u8; 2 * PIECE];
     let (room, _) = digits.split_at_mut(2 * bytes.len());
-    if hex::encode_to_slice(bytes, room).is_err() {
-        return Err(AllocError);
+    match hex::encode_to_slice(bytes, room) {
+        Ok(()) => text.extend_from_slice(room),
+        Err(_) => unreachable!(),
     }
-    text.extend_from_slice(room)
 }
 
 /// Pushes the digits of these bytes, in lower case.
@@ -121,7 +121,8 @@ fn push_lines(
     answers: &[Answer],
 ) -> Result<(), AllocError>
     requires { length steps.now ≡ length answers.now }
-    ensures { OnOk result (text.new.items ≡ text.old.items ++ lines_text 1 (answers_of steps.now answers.now place)) }
+    ensures { OnOk result
+        (text.new.items ≡ text.old.items ++ lines_text 1 (answers_of steps.now answers.now place)) }
 {
     let mut number: u64 = 1;
     for i in 0..steps.len() {
@@ -143,7 +144,8 @@ fn push_section(
     answers: &[Answer],
 ) -> Result<(), AllocError>
     requires { length steps.now ≡ length answers.now }
-    ensures { OnOk result (text.new.items ≡ text.old.items ++ section name.now (answers_of steps.now answers.now place)) }
+    ensures { OnOk result
+        (text.new.items ≡ text.old.items ++ section name.now (answers_of steps.now answers.now place)) }
 {
     push_header(text, name)?;
     push_lines(text, place, steps, answers)
@@ -155,7 +157,7 @@ pub fn text_of(alloc: Global, script: &Script, answers: &[Answer]) -> Result<Vec
     ensures { IfOk result (λ text. text.items ≡ print script.now answers.now) }
 {
     let mut text = Vec::new(alloc);
-    for place in 0..script.number() {
+    for place in 0..script.count_spaces() {
         push_section(
             &mut text,
             place as u32,

@@ -76,7 +76,8 @@ fn spawn_with(
     umask: &[u8],
     group_word: Option<&[u8]>,
 ) -> Result<Step, LineFault>
-    ensures { Gives result (ScriptVerbs.spawn_with uid.now gid.now umask.now (option_copied group_word.entry)) }
+    ensures { Gives result
+        (ScriptVerbs.spawn_with uid.now gid.now umask.now (option_copied group_word.entry)) }
 {
     let uid = number_of_32(uid)?;
     let gid = number_of_32(gid)?;
@@ -179,12 +180,12 @@ fn read_step(words: &[&[u8]]) -> Result<Step, LineFault>
 }
 
 #[tactic(auto, unfolding(pf_base::specs::ScriptVerbs::write_with))]
-fn write_with(alloc: Global, pid: &[u8], fd: &[u8], bytes: &[u8]) -> Result<Step, LineFault>
-    ensures { Gives result (ScriptVerbs.write_with pid.now fd.now bytes.now) }
+fn write_with(alloc: Global, pid: &[u8], fd: &[u8], digits: &[u8]) -> Result<Step, LineFault>
+    ensures { Gives result (ScriptVerbs.write_with pid.now fd.now digits.now) }
 {
     let pid = number_of_32(pid)?;
     let fd = number_of_32(fd)?;
-    let payload = data_of(alloc, bytes)?;
+    let payload = data_of(alloc, digits)?;
     Ok(Step::Write { pid, fd, payload })
 }
 
@@ -193,7 +194,7 @@ fn write_step(alloc: Global, words: &[&[u8]]) -> Result<Step, LineFault>
     ensures { Gives result (ScriptVerbs.write_step (map (λ w. w.now) words.now)) }
 {
     match words {
-        [pid, fd, bytes] => write_with(alloc, pid, fd, bytes),
+        [pid, fd, digits] => write_with(alloc, pid, fd, digits),
         _ => Err(LineFault::Refused(Cause::WrongWords)),
     }
 }

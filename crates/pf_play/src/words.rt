@@ -103,7 +103,7 @@ pub fn data_of(alloc: Global, word: &[u8]) -> Result<ByteString, LineFault>
     }
     match hex::decode(alloc, word) {
         Ok(bytes) => Ok(ByteString::new(bytes)),
-        Err(FromHexError::OutOfMemory) => Err(LineFault::Memory),
+        Err(FromHexError::OutOfMemory) => Err(LineFault::NoMemory),
         Err(_) => Err(LineFault::Refused(Cause::BadData)),
     }
 }

@@ -1,9 +1,11 @@
 use Rattle.std.proofs.Common.{◌≡◌, length}
 use Rattle.std.specs.Vec.{vec_capacity}
+use Rattle.pf_play.specs.Filled.{AreFilled}
 use Rattle.pf_play.proofs.engine.frames_of.Given as goal
 
 abbrev pub invariant-loop : goal.invariant-loop
 invariant-loop l = record {
   made : length l.frames.items ≡ l.counter;
   room : vec_capacity l.frames ≡ l.count;
+  filled : AreFilled l.options.fill l.frames.items;
 }
