@@ -2,7 +2,7 @@
 
 use Rattle.std.specs.Prelude.{◌≡◌, ℕ, ◌+◌, ◌-◌, ◌*◌, ◌≤◌, ◌<◌, Bool, true, List, ◌++◌, length, take, ◌⊎◌}
 use Rattle.pf_base.specs.Queue.{Queue, IsQueue, bytes_of, free_of, room_of, put, taken, after_take, tee_number, after_tee, after_splice}
-use Rattle.pf_base.specs.Progress.{Passed, moved, read_now, write_now}
+use Rattle.pf_base.specs.Progress.{Passed, Crossed, moved, read_now, write_now, tee_now, splice_now}
 use Rattle.pf_base.specs.Events.{mine, kept, IsAmple}
 use Rattle.pf_base.specs.declared.TheConstants.{PAGE_SIZE}
 use Rattle.pf_base.specs.declared.step.Step.{Step}
@@ -60,9 +60,29 @@ pub record Writes (q : Queue) (whole : Bool) (x : List ℕ) (r : Passed) : Type 
   pub queue : IsQueue q → IsQueue r.queue
   pub together : whole ≡ true → (moved r.progress ≡ length x) ⊎ (moved r.progress ≡ 0)
 
+-- what a tee or a splice of n bytes brings to the sink is the front of the source, at the end of what was there. A tee
+-- leaves the source as it is, a splice without those bytes
+pub record Crosses (source sink : Queue) (n : ℕ) (r : Crossed) : Type 0 where
+  pub number : moved r.progress ≤ n
+  pub bytes : bytes_of r.sink ≡ bytes_of sink ++ taken source (moved r.progress)
+  pub queue : IsQueue source → IsQueue sink → IsQueue r.sink
+
+pub record Tees (source sink : Queue) (n : ℕ) (r : Crossed) : Type 0 where
+  pub crosses : Crosses source sink n r
+  pub left : r.source ≡ source
+
+pub record Splices (source sink : Queue) (n : ℕ) (r : Crossed) : Type 0 where
+  pub crosses : Crosses source sink n r
+  pub left : taken source (moved r.progress) ++ bytes_of r.source ≡ bytes_of source
+  pub rest : IsQueue source → IsQueue r.source
+
 pub record TransfersMove : Type 0 where
   pub reads : (q : Queue) (writers n : ℕ) → Reads q n (read_now q writers n)
   pub writes : (q : Queue) (readers : ℕ) (whole : Bool) (x : List ℕ) → Writes q whole x (write_now q readers whole x)
+  pub tees : (source sink : Queue) (writers readers n : ℕ)
+      → Tees source sink n (tee_now source sink writers readers n)
+  pub splices : (source sink : Queue) (writers readers n : ℕ)
+      → Splices source sink n (splice_now source sink writers readers n)
 
 -- Events
 

@@ -7,14 +7,14 @@ use Rattle.pf_base.specs.Limits.{Limits}
 use Rattle.pf_base.specs.Queue.{Queue}
 use Rattle.pf_base.specs.declared.errno.Errno.{Errno}
 use Rattle.pf_base.specs.declared.step.Step.{Step}
-use Rattle.pf_base.specs.declared.step.Step.TheVariants.{Spawn, Exit, Pipe, Close, Read, Write}
+use Rattle.pf_base.specs.declared.step.Step.TheVariants.{Spawn, Exit, Pipe, Close, Read, Write, Tee, Splice}
 use Rattle.pf_base.specs.declared.step.Answer.{Answer}
 use Rattle.pf_base.specs.declared.step.Answer.TheVariants.{Done, NoMemory}
 use Rattle.pf_base.specs.State.{State, Outcome, settle, process, living}
 use Rattle.pf_base.specs.Processes.{spawn, exit}
 use Rattle.pf_base.specs.Descriptors.{close}
 use Rattle.pf_base.specs.Pipes.{pipe}
-use Rattle.pf_base.specs.Transfers.{read, write}
+use Rattle.pf_base.specs.Transfers.{read, write, tee, splice}
 use Rattle.pf_base.specs.Sweep.{sweep}
 
 -- Steps
@@ -27,6 +27,8 @@ call c s (Pipe pid nonblock) = living s pid >>= (λ p. pipe c s pid p nonblock)
 call c s (Close pid fd) = living s pid >>= (λ p. close s pid p fd)
 call c s (Read pid fd n) = living s pid >>= (λ p. read s p fd n)
 call c s (Write pid fd payload) = living s pid >>= (λ p. write s p fd payload)
+call c s (Tee pid source sink n nonblock) = living s pid >>= (λ p. tee s p source sink n)
+call c s (Splice pid source sink n nonblock) = living s pid >>= (λ p. splice s p source sink n)
 
 -- before the sweep
 abbrev pub act : Limits → State Queue → Step → Outcome
@@ -57,6 +59,8 @@ pid_of (Pipe pid nonblock) = Some pid
 pid_of (Close pid fd) = Some pid
 pid_of (Read pid fd n) = Some pid
 pid_of (Write pid fd payload) = Some pid
+pid_of (Tee pid source sink n nonblock) = Some pid
+pid_of (Splice pid source sink n nonblock) = Some pid
 
 -- whether steps of a kind make a process or a pipe, or hand out bytes
 abbrev pub takes_memory : Step → Bool
@@ -66,6 +70,8 @@ takes_memory (Pipe pid nonblock) = true
 takes_memory (Close pid fd) = false
 takes_memory (Read pid fd n) = true
 takes_memory (Write pid fd payload) = false
+takes_memory (Tee pid source sink n nonblock) = false
+takes_memory (Splice pid source sink n nonblock) = false
 
 module _ {Q : Type 0} where
   -- whether a process lives, where there is to be one

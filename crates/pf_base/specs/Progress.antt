@@ -1,8 +1,8 @@
--- How far a transfer comes, over what a pipe holds and how many read and write it: the rules of pipe(7) for
--- read(2) and write(2), before anybody waits or is told.
+-- How far a transfer comes, over what the pipes hold and how many read and write them: the rules of pipe(7) for
+-- read(2) and write(2), and of tee(2) and splice(2), before anybody waits or is told.
 
-use Rattle.std.specs.Prelude.{ℕ, min, Bool, List, length, take, nat_eq, nat_lt, nat_le, if◌then◌else◌}
-use Rattle.pf_base.specs.Queue.{Queue, bytes_of, room_of, put, after_take}
+use Rattle.std.specs.Prelude.{ℕ, min, Bool, ◌&&◌, ◌||◌, List, length, take, nat_eq, nat_lt, nat_le, if◌then◌else◌}
+use Rattle.pf_base.specs.Queue.{Queue, bytes_of, room_of, free_of, put, after_take, tee_number, after_tee, after_splice}
 use Rattle.pf_base.specs.declared.progress.Progress.{Progress}
 use Rattle.pf_base.specs.declared.progress.Progress.TheVariants.{Moved, WouldBlock, EndOfFile, NoReader}
 
@@ -48,3 +48,34 @@ write_now q readers whole x =
     if nat_eq (length x) 0 then record { progress = Moved 0; queue = q }
     else if nat_eq readers 0 then record { progress = NoReader; queue = q }
     else put_some q x (portion whole (length x) (room_of q))
+
+-- Tee (tee(2)) and Splice (splice(2))
+
+-- how far it came, and what the two pipes hold then
+pub record Crossed : Type 0 where
+  pub progress : Progress
+  pub source : Queue
+  pub sink : Queue
+
+abbrev pub is_empty : Queue → Bool
+is_empty q = nat_eq (length (bytes_of q)) 0
+
+-- n bytes from a pipe that so many write to one that so many read; `after` is what the source holds then. Nothing goes
+-- where the sink has no free slot, also where its last one has room
+abbrev pub cross_now : Queue → Queue → Queue → ℕ → ℕ → ℕ → Crossed
+cross_now after source sink writers readers n =
+    if nat_eq n 0 then record { progress = Moved 0; source = source; sink = sink }
+    else if nat_eq readers 0 then record { progress = NoReader; source = source; sink = sink }
+    else if is_empty source && nat_eq writers 0
+    then record { progress = EndOfFile; source = source; sink = sink }
+    else if is_empty source || nat_eq (free_of sink) 0
+    then record { progress = WouldBlock; source = source; sink = sink }
+    else record { progress = Moved (tee_number source sink n); source = after; sink = after_tee source sink n }
+
+-- a copy of them
+abbrev pub tee_now : Queue → Queue → ℕ → ℕ → ℕ → Crossed
+tee_now source sink writers readers n = cross_now source source sink writers readers n
+
+-- the bytes themselves
+abbrev pub splice_now : Queue → Queue → ℕ → ℕ → ℕ → Crossed
+splice_now source sink writers readers n = cross_now (after_splice source sink n) source sink writers readers n

@@ -1,10 +1,10 @@
--- Transfers: Read (read(2)) and Write (write(2)), as pipe(7) says of O_NONBLOCK: a call that would wait is told
--- EAGAIN. In this stage every description counts as nonblocking.
+-- Transfers: Read (read(2)), Write (write(2)), Tee (tee(2)) and Splice (splice(2)), as pipe(7) says of O_NONBLOCK: a
+-- call that would wait is told EAGAIN. In this stage every description counts as nonblocking.
 
-use Rattle.std.specs.Prelude.{ℕ, List, [], length, take, nat_lt, nat_le, Result, Ok, Err}
+use Rattle.std.specs.Prelude.{ℕ, List, [], length, take, nat_eq, nat_lt, nat_le, Result, Ok, Err}
 use Rattle.pf_base.specs.Refusals.{◌>>=◌, ◌>>◌, refuse_if}
 use Rattle.pf_base.specs.Queue.{Queue, taken}
-use Rattle.pf_base.specs.Progress.{moved, read_now, write_now}
+use Rattle.pf_base.specs.Progress.{Crossed, moved, read_now, write_now, tee_now, splice_now}
 use Rattle.pf_base.specs.State.{State, Process, End, Outcome, reading_end, writing_end, with_queue, told}
 use Rattle.pf_base.specs.Counts.{readers, writers}
 use Rattle.pf_base.specs.declared.TheConstants.{PIPE_BUF, MAX_WRITE}
@@ -79,3 +79,68 @@ abbrev pub write : State Queue → Process → ℕ → List ℕ → Result Outco
 write s p fd x = do
   t ← tried_write s p fd x
   write_told t t.progress
+
+-- Tee and Splice
+
+-- the end that a transfer between two pipes takes bytes from, and the end that it brings them to
+pub record Ends : Type 0 where
+  pub source : End Queue
+  pub sink : End Queue
+
+-- they are no ends of one pipe, whichever descriptors and descriptions name it
+abbrev pub two_ends : State Queue → Process → ℕ → ℕ → Result Ends Errno
+two_ends s p source sink = do
+  i ← reading_end s p source
+  o ← writing_end s p sink
+  refuse_if (nat_eq i.description.pipe o.description.pipe) EINVAL
+  Ok (record { source = i; sink = o })
+
+-- what is left when both pipes hold what they hold then
+abbrev pub crossed : State Queue → Ends → Crossed → Tried
+crossed s e r = record {
+  state = with_queue (with_queue s e.sink.description.pipe r.sink) e.source.description.pipe r.source;
+  progress = r.progress;
+  bytes = taken e.source.pipe.queue (moved r.progress);
+}
+
+abbrev pub try_tee : State Queue → Ends → ℕ → Tried
+try_tee s e n =
+    crossed s e (
+      tee_now e.source.pipe.queue e.sink.pipe.queue (writers s e.source.description.pipe)
+      (readers s e.sink.description.pipe) n
+    )
+
+abbrev pub try_splice : State Queue → Ends → ℕ → Tried
+try_splice s e n =
+    crossed s e (
+      splice_now e.source.pipe.queue e.sink.pipe.queue (writers s e.source.description.pipe)
+      (readers s e.sink.description.pipe) n
+    )
+
+-- both are told how many bytes went: 0 at the end of file, and EPIPE where nobody reads the sink
+abbrev pub cross_told : Tried → Progress → Result Outcome Errno
+cross_told t (Moved n) = Ok (told t.state (Num n))
+cross_told t EndOfFile = Ok (told t.state (Num 0))
+cross_told t NoReader = Err EPIPE
+cross_told t WouldBlock = Err EAGAIN
+
+-- a tee or a splice with its refusals
+abbrev pub tried_tee : State Queue → Process → ℕ → ℕ → ℕ → Result Tried Errno
+tried_tee s p source sink n = do
+  e ← two_ends s p source sink
+  Ok (try_tee s e n)
+
+abbrev pub tried_splice : State Queue → Process → ℕ → ℕ → ℕ → Result Tried Errno
+tried_splice s p source sink n = do
+  e ← two_ends s p source sink
+  Ok (try_splice s e n)
+
+abbrev pub tee : State Queue → Process → ℕ → ℕ → ℕ → Result Outcome Errno
+tee s p source sink n = do
+  t ← tried_tee s p source sink n
+  cross_told t t.progress
+
+abbrev pub splice : State Queue → Process → ℕ → ℕ → ℕ → Result Outcome Errno
+splice s p source sink n = do
+  t ← tried_splice s p source sink n
+  cross_told t t.progress

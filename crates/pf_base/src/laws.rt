@@ -18,7 +18,7 @@ pub fn tee_copies()
     ensures { TeeCopies }
 {}
 
-/// A read or a write loses no byte and makes none up, and a write that is to be whole is.
+/// No transfer loses a byte or makes one up, and a write that is to be whole is.
 pub fn transfers_move()
     ensures { TransfersMove }
 {}

@@ -38,6 +38,22 @@ pub enum Step {
         fd: u32,
         payload: ByteString,
     },
+    /// At most `n` bytes of one pipe copied to the end of another (tee(2)). `source` and `sink` are descriptors.
+    Tee {
+        pid: u32,
+        source: u32,
+        sink: u32,
+        n: u64,
+        nonblock: bool,
+    },
+    /// At most `n` bytes of one pipe moved to the end of another (splice(2)). `source` and `sink` are descriptors.
+    Splice {
+        pid: u32,
+        source: u32,
+        sink: u32,
+        n: u64,
+        nonblock: bool,
+    },
 }
 
 /// What a process is told.

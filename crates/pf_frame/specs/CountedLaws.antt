@@ -23,6 +23,12 @@ pub positives-le-sum : (cs : List ℕ) → positives cs ≤ sum cs
 positives-le-sum [] = omega arith
 positives-le-sum (c ∷ cs) = let more : sum (c ∷ cs) ≡ c + sum cs = sum_by-cons (λ (x : ℕ). x) c cs in rw more (grind (arith, nat_tests, positives-le-sum cs))
 
+-- no count is above the sum of all
+pub counted-le-sum : (cs : List ℕ) (q : ℕ) → slice_index cs q ≤ sum cs
+counted-le-sum [] q = omega arith
+counted-le-sum (c ∷ cs) zero = omega (arith, sum_by-cons (λ (x : ℕ). x) c cs)
+counted-le-sum (c ∷ cs) (suc q) = omega (arith, sum_by-cons (λ (x : ℕ). x) c cs, counted-le-sum cs q)
+
 pub positives_more : (cs : List ℕ) (i v : ℕ) → i < length cs → slice_index cs i ≡ 0 → 0 < v → positives (slice_set cs i v) ≡ positives cs + 1
 positives_more [] i v h z s = omega arith
 positives_more (c ∷ cs) zero v h z s = grind (arith, nat_tests)
@@ -111,8 +117,9 @@ table_room counts vacant nr frames capacity t some = omega (arith, t.number, t.r
 pub table_has : (counts vacant : List ℕ) (frames capacity : ℕ) → IsTable counts vacant frames capacity → positives counts < length counts → 0 < length vacant
 table_has counts vacant frames capacity t spare = omega (arith, t.number)
 
-pub table_releases_more : (counts vacant : List ℕ) (nr v frames capacity : ℕ) → IsTable counts vacant frames capacity → 0 < slice_index counts nr → 0 < v → IsTable (slice_set counts nr v) vacant frames capacity
-table_releases_more counts vacant nr v frames capacity t some left =
+-- another count above 0 leaves the stack as it is
+pub table_counts : (counts vacant : List ℕ) (nr v frames capacity : ℕ) → IsTable counts vacant frames capacity → 0 < slice_index counts nr → 0 < v → IsTable (slice_set counts nr v) vacant frames capacity
+table_counts counts vacant nr v frames capacity t some left =
     let size : length (slice_set counts nr v) ≡ length counts = length-set counts nr v in
     let same : positives (slice_set counts nr v) ≡ positives counts = positives_same counts nr v some left in
     let absent : (q : ℕ) → 0 < occurs q vacant → q ≢ nr = λ q h e. let idle : slice_index counts q ≡ 0 = t.idle q h in let at : slice_index counts q ≡ slice_index counts nr = ap (λ (k : ℕ). slice_index counts k) e in omega arith in

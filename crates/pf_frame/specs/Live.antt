@@ -17,6 +17,7 @@ pub record Live : Type 0 where
 pub record IsSound (f : Live) : Type 0 where
   pub credit : f.held ≤ f.reserved
   pub spread : f.held ≤ f.shares
+  pub most : (q : ℕ) → f.count q ≤ f.shares
   pub none : f.held ≡ 0 → f.shares ≡ 0
   pub whole : (q : ℕ) → 0 < f.count q → length (f.bytes q) ≡ PAGE_SIZE
 
@@ -35,6 +36,15 @@ pub record Takes (old new : Live) (no : ℕ) : Type 0 where
   pub shares : new.shares ≡ old.shares + 1
   pub fresh : old.count no ≡ 0
   pub taken : new.count no ≡ 1
+  pub counts : (q : ℕ) → q ≢ no → new.count q ≡ old.count q
+  pub bytes : (q : ℕ) → 0 < old.count q → new.bytes q ≡ old.bytes q
+
+-- a live frame's count is one higher: one more slot names it
+pub record Shares (old new : Live) (no : ℕ) : Type 0 where
+  pub reserved : new.reserved ≡ old.reserved
+  pub held : new.held ≡ old.held
+  pub shares : new.shares ≡ old.shares + 1
+  pub shared : new.count no ≡ old.count no + 1
   pub counts : (q : ℕ) → q ≢ no → new.count q ≡ old.count q
   pub bytes : (q : ℕ) → 0 < old.count q → new.bytes q ≡ old.bytes q
 

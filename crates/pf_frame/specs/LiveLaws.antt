@@ -7,8 +7,8 @@ use Rattle.std.proofs.lemmas.Bool.Decides.{nat_tests}
 use Rattle.pf_base.specs.declared.TheConstants.{PAGE_SIZE}
 use Rattle.pf_frame.specs.Bytes.{filled}
 use Rattle.pf_frame.specs.Counted.{positives, live_by}
-use Rattle.pf_frame.specs.CountedLaws.{positives-le-sum, positives_more, positives_less, positives_same, positives_zero, positives_none, sum_none, sum_set, counted_within}
-use Rattle.pf_frame.specs.Live.{Census, IsSound, Takes, Releases, Fills, IsIdle}
+use Rattle.pf_frame.specs.CountedLaws.{positives-le-sum, counted-le-sum, positives_more, positives_less, positives_same, positives_zero, positives_none, sum_none, sum_set, counted_within}
+use Rattle.pf_frame.specs.Live.{Census, IsSound, Takes, Shares, Releases, Fills, IsIdle}
 
 -- a live frame's bytes are its page
 pub page_shown : (count : ℕ) (page : List ℕ) → 0 < count → (if count == 0 then [] else page) ≡ page
@@ -18,6 +18,7 @@ pub is_sound : (reserved : ℕ) (counts : List ℕ) (pages : List (List ℕ)) �
 is_sound reserved counts pages credit whole = record {
   credit = credit;
   spread = positives-le-sum counts;
+  most = counted-le-sum counts;
   none = λ e. positives_zero counts e;
   whole = λ q some. rw (page_shown (slice_index counts q) (slice_index_or pages q []) some) (whole q (counted_within counts q some));
 }
@@ -46,6 +47,25 @@ is_taken reserved counts pages nr less none =
       taken = get_or-set_same counts nr 1 0 less;
       counts = other;
       bytes = λ q some. ap (λ (n : ℕ). if n == 0 then [] else slice_index_or pages q []) (other q (λ e. let same : slice_index counts q ≡ slice_index counts nr = ap (λ (k : ℕ). slice_index counts k) e in omega arith));
+    }
+
+pub is_shared : (reserved : ℕ) (counts : List ℕ) (pages : List (List ℕ)) (nr : ℕ) → 0 < slice_index counts nr → Shares (live_by reserved counts pages) (live_by reserved (slice_set counts nr (slice_index counts nr + 1)) pages) nr
+is_shared reserved counts pages nr some =
+    let less : nr < length counts = counted_within counts nr some in
+    let here : slice_index (slice_set counts nr (slice_index counts nr + 1)) nr ≡ slice_index counts nr + 1 = get_or-set_same counts nr (slice_index counts nr + 1) 0 less in
+    let other : (q : ℕ) → q ≢ nr → slice_index (slice_set counts nr (slice_index counts nr + 1)) q ≡ slice_index counts q = λ q ne. get_or-set_other counts nr q (slice_index counts nr + 1) 0 ne in
+    record {
+      reserved = refl;
+      held = positives_same counts nr (slice_index counts nr + 1) some (omega arith);
+      shares = omega (arith, sum_set counts nr (slice_index counts nr + 1) less);
+      shared = here;
+      counts = other;
+      bytes = λ q live. elim (cases_eq q nr) [
+        | inl e ↦ let same : slice_index counts q ≡ slice_index counts nr = ap (λ (k : ℕ). slice_index counts k) e in
+            let later : slice_index (slice_set counts nr (slice_index counts nr + 1)) q ≡ slice_index counts nr + 1 = ap (λ (k : ℕ). slice_index (slice_set counts nr (slice_index counts nr + 1)) k) e ∙ here in
+            page_shown _ (slice_index_or pages q []) (omega arith) ∙ sym (page_shown _ (slice_index_or pages q []) live)
+        | inr ne ↦ ap (λ (n : ℕ). if n == 0 then [] else slice_index_or pages q []) (other q ne)
+      ];
     }
 
 pub is_released : (reserved : ℕ) (counts : List ℕ) (pages : List (List ℕ)) (nr : ℕ) → 0 < slice_index counts nr → Releases (live_by reserved counts pages) (live_by reserved (slice_set counts nr (slice_index counts nr - 1)) pages) nr
@@ -158,6 +178,9 @@ is_census reserved counts pages = record {
 -- the same, where the code names the counts after the call
 pub takes_as : (reserved later : ℕ) (counts after : List ℕ) (pages shown : List (List ℕ)) (nr : ℕ) → later ≡ reserved → after ≡ slice_set counts nr 1 → shown ≡ pages → nr < length counts → slice_index counts nr ≡ 0 → Takes (live_by reserved counts pages) (live_by later after shown) nr
 takes_as reserved later counts after pages shown nr r e p less none = rw (r, e, p) (is_taken reserved counts pages nr less none)
+
+pub shares_as : (reserved later : ℕ) (counts after : List ℕ) (pages shown : List (List ℕ)) (nr : ℕ) → later ≡ reserved → after ≡ slice_set counts nr (slice_index counts nr + 1) → shown ≡ pages → 0 < slice_index counts nr → Shares (live_by reserved counts pages) (live_by later after shown) nr
+shares_as reserved later counts after pages shown nr r e p some = rw (r, e, p) (is_shared reserved counts pages nr some)
 
 pub releases_as : (reserved later : ℕ) (counts after : List ℕ) (pages shown : List (List ℕ)) (nr : ℕ) → later ≡ reserved → after ≡ slice_set counts nr (slice_index counts nr - 1) → shown ≡ pages → 0 < slice_index counts nr → Releases (live_by reserved counts pages) (live_by later after shown) nr
 releases_as reserved later counts after pages shown nr r e p some = rw (r, e, p) (is_released reserved counts pages nr some)

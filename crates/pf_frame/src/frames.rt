@@ -1,6 +1,6 @@
-ghost use Rattle.std.specs.Prelude.{◌≡◌, ℕ, ◌+◌, ◌<◌, ◌≤◌, length, take, drop};
+ghost use Rattle.std.specs.Prelude.{◌≡◌, ℕ, ◌+◌, ◌<◌, ◌≤◌, ◌^◌, length, take, drop};
 ghost use Rattle.pf_base.specs.declared.TheConstants.{PAGE_SIZE};
-ghost use Rattle.pf_frame.specs.Live.{Live, Takes, Releases, Fills, IsSound, Census};
+ghost use Rattle.pf_frame.specs.Live.{Live, Takes, Shares, Releases, Fills, IsSound, Census};
 
 /// The number of a frame, as its door gives it. Two doors may give one number to two frames.
 pub type FrameNo = u32;
@@ -9,6 +9,10 @@ pub type FrameNo = u32;
 ///
 /// A frame is live with its bytes and a count: how many slots name it. Each call changes its own frame alone.
 /// No call takes memory, and each takes constant time, besides the time to copy the bytes of a `fill`.
+///
+/// `take` makes a frame live with count 1, `share` counts one more slot and `release` one less. So `share`, `release`,
+/// `fill` and `view` may find a count above 1: then a `release` frees nothing, and a `fill` is seen by every slot that
+/// names the frame. Whoever fills a frame that is shared sees to it that no other slot shows the bytes that change.
 ///
 /// A door has besides a fact, which is a condition of each call and kept by each, and a part that none of its
 /// calls changes (as another namespace's frames): what a call says of it is one equation of before and after, so
@@ -37,6 +41,15 @@ pub trait Frames {
         ensures fact { fact self.new }
         ensures rest { rest self.new ≡ rest self.old }
         ensures takes { Takes (live self.old) (live self.new) result };
+
+    /// Makes the count of a live frame one higher, which is below 2^32 - 1: one more slot names it.
+    fn share(&mut self, no: FrameNo)
+        requires fact { fact self.old }
+        requires is_live { 0 < (live self.old).count no }
+        requires few { (live self.old).count no + 1 < 2 ^ 32 }
+        ensures fact { fact self.new }
+        ensures rest { rest self.new ≡ rest self.old }
+        ensures shares { Shares (live self.old) (live self.new) no };
 
     /// Makes the count of a live frame one lower. At 0 it is live no more, and its credit is back.
     fn release(&mut self, no: FrameNo)

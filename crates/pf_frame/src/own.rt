@@ -44,6 +44,10 @@ impl Frames for OwnFrames {
         self.table.take()
     }
 
+    fn share(&mut self, no: FrameNo) {
+        self.table.share(no);
+    }
+
     fn release(&mut self, no: FrameNo) {
         self.table.release(no);
     }

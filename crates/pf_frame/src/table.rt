@@ -1,4 +1,4 @@
-ghost use Rattle.std.specs.Prelude.{◌≡◌, ℕ, ◌+◌, ◌<◌, ◌≤◌, length, take, drop, replicate, map, sum, slice_index, slice_index_or, slice_set, [], ◌-◌, IfOk, vec_capacity, vec_len};
+ghost use Rattle.std.specs.Prelude.{◌≡◌, ℕ, ◌+◌, ◌<◌, ◌≤◌, ◌^◌, length, take, drop, replicate, map, sum, slice_index, slice_index_or, slice_set, [], ◌-◌, IfOk, vec_capacity, vec_len};
 ghost use Rattle.pf_base.specs.declared.TheConstants.{PAGE_SIZE};
 ghost use Rattle.pf_frame.specs.Bytes.{filled};
 ghost use Rattle.pf_frame.specs.Pages.{page_of};
@@ -71,6 +71,17 @@ impl FrameTable {
         let no = self.vacant.pop().unwrap();
         self.counts[no as usize] = 1;
         no
+    }
+
+    /// Makes the count of a frame one higher, which is above 0 and below 2^32 - 1.
+    pub fn share(&mut self, no: FrameNo)
+        requires is_live { 0 < slice_index self.old.counts.items no }
+        requires few { slice_index self.old.counts.items no + 1 < 2 ^ 32 }
+        ensures counts { self.new.counts.items
+            ≡ slice_set self.old.counts.items no (slice_index self.old.counts.items no + 1) }
+        ensures frames { self.new.frames.items ≡ self.old.frames.items }
+    {
+        self.counts[no as usize] += 1;
     }
 
     /// Makes the count of a frame one lower; at 0 it is vacant.

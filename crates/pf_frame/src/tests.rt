@@ -25,7 +25,7 @@ fn write<F: Frames>(frames: &mut F, at: usize, bytes: &[u8]) -> FrameNo
     requires credit { (F.live frames.old).held < (F.live frames.old).reserved }
     requires within { at + length bytes.now ≤ PAGE_SIZE }
     ensures fact { F.fact frames.new }
-    ensures is_live { 0 < (F.live frames.new).count result }
+    ensures counted { (F.live frames.new).count result ≡ 1 }
     ensures one_more { (F.live frames.new).held ≡ (F.live frames.old).held + 1 }
     ensures reserved { (F.live frames.new).reserved ≡ (F.live frames.old).reserved }
 {
@@ -53,6 +53,21 @@ fn own_frames_serve_their_namespace(rt: HostRuntime) -> Result<(), Fail> {
     assert_eq!(rt; own.view(last, 4093, 3), [OLD, OLD, 9].as_slice());
     assert_eq!(rt; own.credits(), 1);
     own.release(last);
+    assert_eq!(rt; own.credits(), 2);
+    Ok(())
+}
+
+#[test]
+fn a_shared_frame_stays_until_its_last_release(rt: HostRuntime) -> Result<(), Fail> {
+    let mut own = OwnFrames::new(rt.alloc(), old_frames(rt.alloc(), 2)?)?;
+    let no = write(&mut own, 0, &[7]);
+    own.share(no);
+    assert_eq!(rt; own.credits(), 1);
+    own.release(no);
+    assert_eq!(rt; own.credits(), 1);
+    own.fill(no, 1, &[8]);
+    assert_eq!(rt; own.view(no, 0, 3), [7u8, 8, OLD].as_slice());
+    own.release(no);
     assert_eq!(rt; own.credits(), 2);
     Ok(())
 }

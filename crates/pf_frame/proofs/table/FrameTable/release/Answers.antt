@@ -1,5 +1,5 @@
 use Rattle.std.proofs.Common.{arith}
-use Rattle.pf_frame.specs.CountedLaws.{table_releases_last, table_releases_more, table_room}
+use Rattle.pf_frame.specs.CountedLaws.{table_releases_last, table_counts, table_room}
 use Rattle.pf_frame.proofs.table.FrameTable.release.Goals as goal
 
 pub push_reserved-requires : goal.push_reserved-requires
@@ -9,4 +9,4 @@ pub invariant_of-self : goal.invariant_of-self
 invariant_of-self c = record { kept = table_releases_last _ _ _ _ _ _ _ _ c.if-count-eq0.true c.push_reserved.ensures.items c.push_reserved.ensures.capacity c.args.self.now.kept c.requires }
 
 pub invariant_of-self-else-count-eq0 : goal.invariant_of-self-else-count-eq0
-invariant_of-self-else-count-eq0 c = record { kept = table_releases_more _ _ _ _ _ _ c.args.self.now.kept c.requires (omega arith) }
+invariant_of-self-else-count-eq0 c = record { kept = table_counts _ _ _ _ _ _ c.args.self.now.kept c.requires (omega arith) }
