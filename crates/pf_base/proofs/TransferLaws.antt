@@ -5,9 +5,11 @@ use Rattle.std.specs.Prelude.{◌&&◌, ◌||◌}
 use Rattle.std.proofs.lemmas.Bool.{cases_lt}
 use Rattle.std.proofs.lemmas.List.{take-append-drop, take_all, drop_all}
 use Rattle.pf_base.specs.Queue.{Queue, IsQueue, bytes_of, room_of, free_of, put, taken, after_take, tee_number, after_tee, after_splice}
-use Rattle.pf_base.specs.Progress.{Passed, Crossed, moved, portion, read_now, write_now, is_empty, cross_now, tee_now, splice_now}
+use Rattle.pf_base.specs.Progress.{Passed, Crossed, moved, portion, read_now, write_now, is_empty, source_after, cross_now}
+use Rattle.pf_base.specs.declared.progress.Crossing.{Crossing}
+use Rattle.pf_base.specs.declared.progress.Crossing.TheVariants.{Tee, Splice}
 use Rattle.pf_base.specs.declared.progress.Progress.TheVariants.{Moved}
-use Rattle.pf_base.specs.Laws.{Reads, Writes, Crosses, Tees, Splices}
+use Rattle.pf_base.specs.Laws.{Reads, Writes, Crosses}
 use Rattle.pf_base.proofs.QueueLaws.{bytes_of-put, IsQueue-put, bytes_of-after_take, IsQueue-after_take, taken-bytes_of, length-joined-copied, bytes_of-after_tee, IsQueue-after_tee, portion-le, portion-le_room, portion-whole}
 
 -- P holds of both branches
@@ -87,45 +89,34 @@ module _ (q : Queue) (whole : Bool) (x : List ℕ) where
 -- Tee and Splice
 
 module _ (source sink : Queue) (n : ℕ) where
-  uncrossed : (r : Crossed) → r.sink ≡ sink → moved r.progress ≡ 0 → Crosses source sink n r
-  uncrossed r e m = record {
+  uncrossed : (c : Crossing) (r : Crossed) → r.source ≡ source → r.sink ≡ sink → moved r.progress ≡ 0 → Crosses c source sink n r
+  uncrossed c r e f m = record {
     number = omega (arith, m);
-    bytes = ap bytes_of e ∙ sym (append-nil (bytes_of sink)) ∙ ap (λ k. bytes_of sink ++ taken source k) (sym m);
-    queue = λ is-source is-sink. subst IsQueue (sym e) is-sink;
+    bytes = ap bytes_of f ∙ sym (append-nil (bytes_of sink)) ∙ ap (λ k. bytes_of sink ++ taken source k) (sym m);
+    queue = λ is-source is-sink. subst IsQueue (sym f) is-sink;
+    copied = λ _. e;
+    gone = λ _. ap (λ k. taken source k ++ bytes_of r.source) m ∙ ap bytes_of e;
+    left = λ is. subst IsQueue (sym e) is;
   }
 
-  some_crossed : (r : Crossed) → r.sink ≡ after_tee source sink n → moved r.progress ≡ tee_number source sink n → Crosses source sink n r
-  some_crossed r e m = record {
-    number = omega (arith, m, length-joined-copied (free_of sink) n source.segments);
-    bytes = ap bytes_of e ∙ bytes_of-after_tee source sink n ∙ ap (λ k. bytes_of sink ++ taken source k) (sym m);
-    queue = λ is-source is-sink. subst IsQueue (sym e) (IsQueue-after_tee source sink n is-source is-sink);
+  some_crossed : (c : Crossing) → Crosses c source sink n (record { progress = Moved (tee_number source sink n); source = source_after c source sink n; sink = after_tee source sink n })
+  some_crossed c = record {
+    number = length-joined-copied (free_of sink) n source.segments;
+    bytes = bytes_of-after_tee source sink n;
+    queue = IsQueue-after_tee source sink n;
+    copied = λ e. ap (λ k. source_after k source sink n) e;
+    gone = λ e. ap (λ k. taken source (tee_number source sink n) ++ bytes_of (source_after k source sink n)) e ∙ taken-bytes_of source (tee_number source sink n);
+    left = left c;
   }
+    where
+      left : (k : Crossing) → IsQueue source → IsQueue (source_after k source sink n)
+      left Tee is = is
+      left Splice is = IsQueue-after_take source (tee_number source sink n) is
 
-  -- what holds where nothing goes, and where something does
-  crossing : (P : Crossed → Type 0) (after : Queue) (writers readers : ℕ) → ((r : Crossed) → r.source ≡ source → r.sink ≡ sink → moved r.progress ≡ 0 → P r)
-      → P (record { progress = Moved (tee_number source sink n); source = after; sink = after_tee source sink n }) → P (cross_now after source sink writers readers n)
-  crossing P after writers readers none some =
-      branch P (nat_eq n 0) _ _ (λ _. none _ refl refl refl) (λ _.
-      branch P (nat_eq readers 0) _ _ (λ _. none _ refl refl refl) (λ _.
-      branch P (is_empty source && nat_eq writers 0) _ _ (λ _. none _ refl refl refl) (λ _.
-      branch P (is_empty source || nat_eq (free_of sink) 0) _ _ (λ _. none _ refl refl refl) (λ _. some))))
-
-  pub tees : (writers readers : ℕ) → Tees source sink n (tee_now source sink writers readers n)
-  tees writers readers =
-      crossing (Tees source sink n) source writers readers
-      (λ r e f m. record { crosses = uncrossed r f m; left = e })
-      (record { crosses = some_crossed _ refl refl; left = refl })
-
-  pub splices : (writers readers : ℕ) → Splices source sink n (splice_now source sink writers readers n)
-  splices writers readers =
-      crossing (Splices source sink n) (after_splice source sink n) writers readers
-      (λ r e f m. record {
-        crosses = uncrossed r f m;
-        left = ap (λ k. taken source k ++ bytes_of r.source) m ∙ ap bytes_of e;
-        rest = λ is. subst IsQueue (sym e) is;
-      })
-      (record {
-        crosses = some_crossed _ refl refl;
-        left = taken-bytes_of source (tee_number source sink n);
-        rest = IsQueue-after_take source (tee_number source sink n);
-      })
+  pub crosses : (c : Crossing) (writers readers : ℕ) → Crosses c source sink n (cross_now c source sink writers readers n)
+  crosses c writers readers =
+      let P : Crossed → Type 0 = Crosses c source sink n in
+      branch P (nat_eq n 0) _ _ (λ _. uncrossed c _ refl refl refl) (λ _.
+      branch P (nat_eq readers 0) _ _ (λ _. uncrossed c _ refl refl refl) (λ _.
+      branch P (is_empty source && nat_eq writers 0) _ _ (λ _. uncrossed c _ refl refl refl) (λ _.
+      branch P (is_empty source || nat_eq (free_of sink) 0) _ _ (λ _. uncrossed c _ refl refl refl) (λ _. some_crossed c))))

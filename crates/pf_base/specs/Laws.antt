@@ -2,9 +2,11 @@
 
 use Rattle.std.specs.Prelude.{◌≡◌, ℕ, ◌+◌, ◌-◌, ◌*◌, ◌≤◌, ◌<◌, Bool, true, List, ◌++◌, length, take, ◌⊎◌}
 use Rattle.pf_base.specs.Queue.{Queue, IsQueue, bytes_of, free_of, room_of, put, taken, after_take, tee_number, after_tee, after_splice}
-use Rattle.pf_base.specs.Progress.{Passed, Crossed, moved, read_now, write_now, tee_now, splice_now}
+use Rattle.pf_base.specs.Progress.{Passed, Crossed, moved, read_now, write_now, cross_now}
 use Rattle.pf_base.specs.Events.{mine, kept, IsAmple}
 use Rattle.pf_base.specs.declared.TheConstants.{PAGE_SIZE}
+use Rattle.pf_base.specs.declared.progress.Crossing.{Crossing}
+use Rattle.pf_base.specs.declared.progress.Crossing.TheVariants.{Tee, Splice}
 use Rattle.pf_base.specs.declared.step.Step.{Step}
 use Rattle.pf_base.specs.declared.step.Answer.{Answer}
 
@@ -62,27 +64,19 @@ pub record Writes (q : Queue) (whole : Bool) (x : List ℕ) (r : Passed) : Type 
 
 -- what a tee or a splice of n bytes brings to the sink is the front of the source, at the end of what was there. A tee
 -- leaves the source as it is, a splice without those bytes
-pub record Crosses (source sink : Queue) (n : ℕ) (r : Crossed) : Type 0 where
+pub record Crosses (c : Crossing) (source sink : Queue) (n : ℕ) (r : Crossed) : Type 0 where
   pub number : moved r.progress ≤ n
   pub bytes : bytes_of r.sink ≡ bytes_of sink ++ taken source (moved r.progress)
   pub queue : IsQueue source → IsQueue sink → IsQueue r.sink
-
-pub record Tees (source sink : Queue) (n : ℕ) (r : Crossed) : Type 0 where
-  pub crosses : Crosses source sink n r
-  pub left : r.source ≡ source
-
-pub record Splices (source sink : Queue) (n : ℕ) (r : Crossed) : Type 0 where
-  pub crosses : Crosses source sink n r
-  pub left : taken source (moved r.progress) ++ bytes_of r.source ≡ bytes_of source
-  pub rest : IsQueue source → IsQueue r.source
+  pub copied : c ≡ Tee → r.source ≡ source
+  pub gone : c ≡ Splice → taken source (moved r.progress) ++ bytes_of r.source ≡ bytes_of source
+  pub left : IsQueue source → IsQueue r.source
 
 pub record TransfersMove : Type 0 where
   pub reads : (q : Queue) (writers n : ℕ) → Reads q n (read_now q writers n)
   pub writes : (q : Queue) (readers : ℕ) (whole : Bool) (x : List ℕ) → Writes q whole x (write_now q readers whole x)
-  pub tees : (source sink : Queue) (writers readers n : ℕ)
-      → Tees source sink n (tee_now source sink writers readers n)
-  pub splices : (source sink : Queue) (writers readers n : ℕ)
-      → Splices source sink n (splice_now source sink writers readers n)
+  pub crosses : (c : Crossing) (source sink : Queue) (writers readers n : ℕ)
+      → Crosses c source sink n (cross_now c source sink writers readers n)
 
 -- Events
 

@@ -6,6 +6,7 @@ use Rattle.pf_base.specs.Refusals.{◌>>=◌}
 use Rattle.pf_base.specs.Limits.{Limits}
 use Rattle.pf_base.specs.Queue.{Queue}
 use Rattle.pf_base.specs.declared.errno.Errno.{Errno}
+use Rattle.pf_base.specs.declared.progress.Crossing.TheVariants as crossings
 use Rattle.pf_base.specs.declared.step.Step.{Step}
 use Rattle.pf_base.specs.declared.step.Step.TheVariants.{Spawn, Exit, Pipe, Close, Read, Write, Tee, Splice}
 use Rattle.pf_base.specs.declared.step.Answer.{Answer}
@@ -14,7 +15,7 @@ use Rattle.pf_base.specs.State.{State, Outcome, settle, process, living}
 use Rattle.pf_base.specs.Processes.{spawn, exit}
 use Rattle.pf_base.specs.Descriptors.{close}
 use Rattle.pf_base.specs.Pipes.{pipe}
-use Rattle.pf_base.specs.Transfers.{read, write, tee, splice}
+use Rattle.pf_base.specs.Transfers.{read, write, cross}
 use Rattle.pf_base.specs.Sweep.{sweep}
 
 -- Steps
@@ -27,8 +28,8 @@ call c s (Pipe pid nonblock) = living s pid >>= (λ p. pipe c s pid p nonblock)
 call c s (Close pid fd) = living s pid >>= (λ p. close s pid p fd)
 call c s (Read pid fd n) = living s pid >>= (λ p. read s p fd n)
 call c s (Write pid fd payload) = living s pid >>= (λ p. write s p fd payload)
-call c s (Tee pid source sink n nonblock) = living s pid >>= (λ p. tee s p source sink n)
-call c s (Splice pid source sink n nonblock) = living s pid >>= (λ p. splice s p source sink n)
+call c s (Tee pid source sink n nonblock) = living s pid >>= (λ p. cross crossings.Tee s p source sink n)
+call c s (Splice pid source sink n nonblock) = living s pid >>= (λ p. cross crossings.Splice s p source sink n)
 
 -- before the sweep
 abbrev pub act : Limits → State Queue → Step → Outcome

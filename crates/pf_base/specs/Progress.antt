@@ -3,6 +3,8 @@
 
 use Rattle.std.specs.Prelude.{ℕ, min, Bool, ◌&&◌, ◌||◌, List, length, take, nat_eq, nat_lt, nat_le, if◌then◌else◌}
 use Rattle.pf_base.specs.Queue.{Queue, bytes_of, room_of, free_of, put, after_take, tee_number, after_tee, after_splice}
+use Rattle.pf_base.specs.declared.progress.Crossing.{Crossing}
+use Rattle.pf_base.specs.declared.progress.Crossing.TheVariants.{Tee, Splice}
 use Rattle.pf_base.specs.declared.progress.Progress.{Progress}
 use Rattle.pf_base.specs.declared.progress.Progress.TheVariants.{Moved, WouldBlock, EndOfFile, NoReader}
 
@@ -60,22 +62,23 @@ pub record Crossed : Type 0 where
 abbrev pub is_empty : Queue → Bool
 is_empty q = nat_eq (length (bytes_of q)) 0
 
--- n bytes from a pipe that so many write to one that so many read; `after` is what the source holds then. Nothing goes
--- where the sink has no free slot, also where its last one has room
-abbrev pub cross_now : Queue → Queue → Queue → ℕ → ℕ → ℕ → Crossed
-cross_now after source sink writers readers n =
+-- what the source holds after n bytes of it have come to the sink
+abbrev pub source_after : Crossing → Queue → Queue → ℕ → Queue
+source_after Tee source sink n = source
+source_after Splice source sink n = after_splice source sink n
+
+-- n bytes from a pipe that so many write to one that so many read. Nothing goes where the sink has no free slot, also
+-- where its last one has room
+abbrev pub cross_now : Crossing → Queue → Queue → ℕ → ℕ → ℕ → Crossed
+cross_now c source sink writers readers n =
     if nat_eq n 0 then record { progress = Moved 0; source = source; sink = sink }
     else if nat_eq readers 0 then record { progress = NoReader; source = source; sink = sink }
     else if is_empty source && nat_eq writers 0
     then record { progress = EndOfFile; source = source; sink = sink }
     else if is_empty source || nat_eq (free_of sink) 0
     then record { progress = WouldBlock; source = source; sink = sink }
-    else record { progress = Moved (tee_number source sink n); source = after; sink = after_tee source sink n }
-
--- a copy of them
-abbrev pub tee_now : Queue → Queue → ℕ → ℕ → ℕ → Crossed
-tee_now source sink writers readers n = cross_now source source sink writers readers n
-
--- the bytes themselves
-abbrev pub splice_now : Queue → Queue → ℕ → ℕ → ℕ → Crossed
-splice_now source sink writers readers n = cross_now (after_splice source sink n) source sink writers readers n
+    else record {
+      progress = Moved (tee_number source sink n);
+      source = source_after c source sink n;
+      sink = after_tee source sink n;
+    }

@@ -4,12 +4,13 @@
 use Rattle.std.specs.Prelude.{ℕ, List, [], length, take, nat_eq, nat_lt, nat_le, Result, Ok, Err}
 use Rattle.pf_base.specs.Refusals.{◌>>=◌, ◌>>◌, refuse_if}
 use Rattle.pf_base.specs.Queue.{Queue, taken}
-use Rattle.pf_base.specs.Progress.{Crossed, moved, read_now, write_now, tee_now, splice_now}
+use Rattle.pf_base.specs.Progress.{moved, read_now, write_now, cross_now}
 use Rattle.pf_base.specs.State.{State, Process, End, Outcome, reading_end, writing_end, with_queue, told}
 use Rattle.pf_base.specs.Counts.{readers, writers}
 use Rattle.pf_base.specs.declared.TheConstants.{PIPE_BUF, MAX_WRITE}
 use Rattle.pf_base.specs.declared.errno.Errno.{Errno}
 use Rattle.pf_base.specs.declared.errno.Errno.TheVariants.{EAGAIN, EINVAL, EPIPE}
+use Rattle.pf_base.specs.declared.progress.Crossing.{Crossing}
 use Rattle.pf_base.specs.declared.progress.Progress.{Progress}
 use Rattle.pf_base.specs.declared.progress.Progress.TheVariants.{Moved, WouldBlock, EndOfFile, NoReader}
 use Rattle.pf_base.specs.declared.step.Reply.TheVariants.{Num, Bytes}
@@ -87,7 +88,7 @@ pub record Ends : Type 0 where
   pub source : End Queue
   pub sink : End Queue
 
--- they are no ends of one pipe, whichever descriptors and descriptions name it
+-- no two ends of one pipe, whichever descriptors and descriptions name it
 abbrev pub two_ends : State Queue → Process → ℕ → ℕ → Result Ends Errno
 two_ends s p source sink = do
   i ← reading_end s p source
@@ -95,52 +96,33 @@ two_ends s p source sink = do
   refuse_if (nat_eq i.description.pipe o.description.pipe) EINVAL
   Ok (record { source = i; sink = o })
 
--- what is left when both pipes hold what they hold then
-abbrev pub crossed : State Queue → Ends → Crossed → Tried
-crossed s e r = record {
-  state = with_queue (with_queue s e.sink.description.pipe r.sink) e.source.description.pipe r.source;
-  progress = r.progress;
-  bytes = taken e.source.pipe.queue (moved r.progress);
-}
+-- n bytes come from one to the other
+abbrev pub try_cross : Crossing → State Queue → Ends → ℕ → Tried
+try_cross c s e n =
+    let i = e.source in
+    let o = e.sink in
+    let r =
+    cross_now c i.pipe.queue o.pipe.queue (writers s i.description.pipe) (readers s o.description.pipe) n in
+    record {
+      state = with_queue (with_queue s o.description.pipe r.sink) i.description.pipe r.source;
+      progress = r.progress;
+      bytes = taken i.pipe.queue (moved r.progress);
+    }
 
-abbrev pub try_tee : State Queue → Ends → ℕ → Tried
-try_tee s e n =
-    crossed s e (
-      tee_now e.source.pipe.queue e.sink.pipe.queue (writers s e.source.description.pipe)
-      (readers s e.sink.description.pipe) n
-    )
-
-abbrev pub try_splice : State Queue → Ends → ℕ → Tried
-try_splice s e n =
-    crossed s e (
-      splice_now e.source.pipe.queue e.sink.pipe.queue (writers s e.source.description.pipe)
-      (readers s e.sink.description.pipe) n
-    )
-
--- both are told how many bytes went: 0 at the end of file, and EPIPE where nobody reads the sink
+-- both kinds are told how many bytes came: 0 at the end of file, and EPIPE where nobody reads the sink
 abbrev pub cross_told : Tried → Progress → Result Outcome Errno
 cross_told t (Moved n) = Ok (told t.state (Num n))
 cross_told t EndOfFile = Ok (told t.state (Num 0))
 cross_told t NoReader = Err EPIPE
 cross_told t WouldBlock = Err EAGAIN
 
--- a tee or a splice with its refusals
-abbrev pub tried_tee : State Queue → Process → ℕ → ℕ → ℕ → Result Tried Errno
-tried_tee s p source sink n = do
+-- with their refusals
+abbrev pub tried_cross : Crossing → State Queue → Process → ℕ → ℕ → ℕ → Result Tried Errno
+tried_cross c s p source sink n = do
   e ← two_ends s p source sink
-  Ok (try_tee s e n)
+  Ok (try_cross c s e n)
 
-abbrev pub tried_splice : State Queue → Process → ℕ → ℕ → ℕ → Result Tried Errno
-tried_splice s p source sink n = do
-  e ← two_ends s p source sink
-  Ok (try_splice s e n)
-
-abbrev pub tee : State Queue → Process → ℕ → ℕ → ℕ → Result Outcome Errno
-tee s p source sink n = do
-  t ← tried_tee s p source sink n
-  cross_told t t.progress
-
-abbrev pub splice : State Queue → Process → ℕ → ℕ → ℕ → Result Outcome Errno
-splice s p source sink n = do
-  t ← tried_splice s p source sink n
+abbrev pub cross : Crossing → State Queue → Process → ℕ → ℕ → ℕ → Result Outcome Errno
+cross c s p source sink n = do
+  t ← tried_cross c s p source sink n
   cross_told t t.progress

@@ -20,7 +20,7 @@ pub use errno::Errno;
 pub use fault::Fault;
 pub use meta::{File, Kind, Meta, Mode};
 pub use permissions::{Class, Want, may};
-pub use progress::{Progress, Side};
+pub use progress::{Crossing, Progress, Side};
 pub use script::{Cause, Refusal};
 pub use step::{Answer, Reply, Step};
 

@@ -19,3 +19,12 @@ pub enum Side {
     /// Bytes go into it.
     Write,
 }
+
+/// How bytes come from one pipe to another.
+#[derive(Clone, Copy, Debug, PartialEq, Eq)]
+pub enum Crossing {
+    /// A copy of them comes, and they stay (tee(2)).
+    Tee,
+    /// They come themselves, and are gone from where they were (splice(2)).
+    Splice,
+}

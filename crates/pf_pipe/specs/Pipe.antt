@@ -1,13 +1,16 @@
 -- What a pipe means, and what a transfer through it leaves.
 
-use Rattle.std.specs.Prelude.{◌≡◌, ℕ, ◌≤◌, [], length}
-use Rattle.pf_base.specs.Progress.{Passed}
+use Rattle.std.specs.Prelude.{◌≡◌, ℕ, ◌<◌, ◌≤◌, [], length}
+use Rattle.pf_base.specs.Progress.{Passed, Crossed, source_after, cross_now}
+use Rattle.pf_base.specs.Queue.{tee_number, after_tee}
+use Rattle.pf_base.specs.declared.progress.Crossing.{Crossing}
 use Rattle.pf_base.specs.declared.progress.Progress.{Progress}
+use Rattle.pf_base.specs.declared.progress.Progress.TheVariants.{Moved}
 use Rattle.pf_base.specs.declared.progress.Side.{Side}
 use Rattle.pf_base.specs.declared.progress.Side.TheVariants.{Read, Write}
-use Rattle.pf_frame.specs.Live.{Live}
+use Rattle.pf_frame.specs.Live.{Live, IsSound}
 use Rattle.pf_ring.specs.Ring.{Ring, queue_of}
-use Rattle.pf_ring.specs.Windows.{Keeps}
+use Rattle.pf_ring.specs.Windows.{Stands, Keeps, Moves}
 
 -- a ring with the user that its pages are charged to, and how many ends read and write it
 pub record CountedPipe : Type 0 where
@@ -36,3 +39,40 @@ pub record Passes (old new : CountedPipe) (f g : Live) (progress : Progress) (ma
   pub capacity : new.ring.capacity ≡ old.ring.capacity
   pub fits : length old.ring.windows ≤ old.ring.capacity → length new.ring.windows ≤ new.ring.capacity
   pub keeps : Keeps [] old.ring.windows new.ring.windows f g
+
+-- all of a pipe is as it was but its windows, which are no more than its slots
+pub record SameButWindows (old new : CountedPipe) : Type 0 where
+  pub owner : new.owner ≡ old.owner
+  pub readers : new.readers ≡ old.readers
+  pub writers : new.writers ≡ old.writers
+  pub capacity : new.ring.capacity ≡ old.ring.capacity
+  pub fits : length old.ring.windows ≤ old.ring.capacity → length new.ring.windows ≤ new.ring.capacity
+
+-- a transfer from a pipe to another came as far as the machine says, and left the queues that it says. No more than the
+-- two rings have changed, and all other rings in the frames show what they showed
+pub record Crosses (source source' sink sink' : CountedPipe) (f g : Live) (progress : Progress) (machine : Crossed) : Type 0 where
+  pub told : machine ≡ record { progress = progress; source = queue_of g source'.ring; sink = queue_of g sink'.ring }
+  pub source_is : SameButWindows source source'
+  pub sink_is : SameButWindows sink sink'
+  pub moves : Moves source.ring.windows source'.ring.windows sink.ring.windows sink'.ring.windows f g
+
+-- in whatever frames the two pipes stand, no byte goes from one to the other, and this is why
+abbrev pub Stops : CountedPipe → CountedPipe → ℕ → Progress → Type 0
+Stops source sink n progress =
+    (f : Live) (c : Crossing) → IsSound f → Stands f source.ring.windows
+    → cross_now c (queue_of f source.ring) (queue_of f sink.ring) source.writers sink.readers n
+    ≡ record { progress = progress; source = queue_of f source.ring; sink = queue_of f sink.ring }
+
+-- some bytes go
+pub record GoesIn (f : Live) (c : Crossing) (source sink : CountedPipe) (n : ℕ) : Type 0 where
+  pub some : 0 < tee_number (queue_of f source.ring) (queue_of f sink.ring) n
+  pub machine : cross_now c (queue_of f source.ring) (queue_of f sink.ring) source.writers sink.readers n
+      ≡ record {
+        progress = Moved (tee_number (queue_of f source.ring) (queue_of f sink.ring) n);
+        source = source_after c (queue_of f source.ring) (queue_of f sink.ring) n;
+        sink = after_tee (queue_of f source.ring) (queue_of f sink.ring) n;
+      }
+
+abbrev pub Goes : CountedPipe → CountedPipe → ℕ → Type 0
+Goes source sink n =
+    (f : Live) (c : Crossing) → IsSound f → Stands f source.ring.windows → GoesIn f c source sink n

@@ -1,13 +1,14 @@
-ghost use Rattle.std.specs.Prelude.{◌≡◌, ◌+◌, ◌-◌, ◌<◌, ◌≤◌, ◌^◌, [], ◌++◌, length, drop, min, nat_eq, nat_lt, if◌then◌else◌, vec_len, vec_capacity, IfOk};
-ghost use Rattle.pf_base.specs.Progress.{moved, portion, read_now, write_now};
+ghost use Rattle.std.specs.Prelude.{◌≡◌, ◌+◌, ◌-◌, ◌<◌, ◌≤◌, ◌^◌, [], ◌++◌, length, drop, min, nat_eq, nat_lt, if◌then◌else◌, vec_len, vec_capacity, IfOk, IfSome, IfNone};
+ghost use Rattle.pf_base.specs.Progress.{moved, portion, read_now, write_now, cross_now};
+ghost use Rattle.pf_base.specs.declared.progress.Crossing.TheVariants.{Tee, Splice};
 ghost use Rattle.pf_base.specs.declared.progress.Progress.TheVariants.{WouldBlock, EndOfFile};
 ghost use Rattle.pf_base.specs.Queue.{room_of, bytes_of, taken};
 ghost use Rattle.pf_frame.specs.Live.{Live, IsSound};
 ghost use Rattle.pf_ring.specs.Ring.{queue_of};
 ghost use Rattle.pf_ring.specs.Windows.{Stands, Keeps, SameBytes, PutsBehind, bytes_in};
-ghost use Rattle.pf_pipe.specs.Pipe.{ends, with_ends, Passes};
+ghost use Rattle.pf_pipe.specs.Pipe.{ends, with_ends, Passes, Crosses, Stops, Goes};
 
-use pf_base::{Progress, Side};
+use pf_base::{Crossing, Progress, Side};
 use pf_frame::Frames;
 use pf_ring::SlotRing;
 use std::alloc::{AllocError, Global};
@@ -215,6 +216,101 @@ impl Pipe {
         }
         let number = self.ring.take_onto(f, most, out);
         Progress::Moved(number as u64)
+    }
+
+    /// Puts a copy of the first bytes into another pipe (tee(2)): at most `n`, and at most as many slots as are free
+    /// there, at least a byte where it moves any. No byte is copied: each slot that is put names a frame once more.
+    pub fn tee_now<F: Frames>(&self, f: &mut F, sink: &mut Pipe, n: usize) -> Progress
+        requires fact { F.fact f.old }
+        // The two pipes are two in the same frames, and no count can pass the end of its type.
+        requires stands { Stands (F.live f.old) (self.now.ring.windows ++ sink.old.ring.windows) }
+        requires few { (F.live f.old).shares + sink.old.ring.capacity < 2 ^ 32 }
+        ensures fact { F.fact f.new }
+        ensures rest { F.rest f.new ≡ F.rest f.old }
+        ensures crosses { let source = queue_of (F.live f.old) self.now.ring in
+            let queue = queue_of (F.live f.old) sink.old.ring in
+            Crosses self.now self.now sink.old sink.new (F.live f.old) (F.live f.new) result
+            (cross_now Tee source queue self.now.writers sink.old.readers n) }
+        // No frame is taken and nothing is written, and where no byte goes nothing is touched.
+        ensures takes { (F.live f.new).held ≡ (F.live f.old).held }
+        ensures bytes_stay { SameBytes (F.live f.old) (F.live f.new) }
+        ensures untouched { moved result ≡ 0 → (sink.new ≡ sink.old) × (f.new ≡ f.old) }
+    {
+        if let Some(progress) = self.stopped(sink, n) {
+            return progress;
+        }
+        let number = self.ring.tee_into(f, &mut sink.ring, n);
+        Progress::Moved(number as u64)
+    }
+
+    /// Moves the first bytes into another pipe (splice(2)): as many as `tee_now` puts there. No byte is copied: each
+    /// slot that is put names a frame once more, and each that is emptied once less.
+    pub fn splice_now<F: Frames>(&mut self, f: &mut F, sink: &mut Pipe, n: usize) -> Progress
+        requires fact { F.fact f.old }
+        // The two pipes are two in the same frames, and no count can pass the end of its type.
+        requires stands { Stands (F.live f.old) (self.old.ring.windows ++ sink.old.ring.windows) }
+        requires few { (F.live f.old).shares + sink.old.ring.capacity < 2 ^ 32 }
+        ensures fact { F.fact f.new }
+        ensures rest { F.rest f.new ≡ F.rest f.old }
+        ensures crosses { let source = queue_of (F.live f.old) self.old.ring in
+            let queue = queue_of (F.live f.old) sink.old.ring in
+            Crosses self.old self.new sink.old sink.new (F.live f.old) (F.live f.new) result
+            (cross_now Splice source queue self.old.writers sink.old.readers n) }
+        // No frame is taken and nothing is written, and where no byte goes nothing is touched.
+        ensures takes { (F.live f.new).held ≤ (F.live f.old).held }
+        ensures bytes_stay { SameBytes (F.live f.old) (F.live f.new) }
+        ensures untouched { moved result ≡ 0
+            → (self.new ≡ self.old) × (sink.new ≡ sink.old) × (f.new ≡ f.old) }
+    {
+        if let Some(progress) = self.stopped(sink, n) {
+            return progress;
+        }
+        let number = self.ring.splice_into(f, &mut sink.ring, n);
+        Progress::Moved(number as u64)
+    }
+
+    /// Brings the first bytes into another pipe, by `tee_now` or by `splice_now`.
+    pub fn cross_now<F: Frames>(&mut self, f: &mut F, crossing: Crossing, sink: &mut Pipe, n: usize) -> Progress
+        requires fact { F.fact f.old }
+        // The two pipes are two in the same frames, and no count can pass the end of its type.
+        requires stands { Stands (F.live f.old) (self.old.ring.windows ++ sink.old.ring.windows) }
+        requires few { (F.live f.old).shares + sink.old.ring.capacity < 2 ^ 32 }
+        ensures fact { F.fact f.new }
+        ensures rest { F.rest f.new ≡ F.rest f.old }
+        ensures crosses { let source = queue_of (F.live f.old) self.old.ring in
+            let queue = queue_of (F.live f.old) sink.old.ring in
+            Crosses self.old self.new sink.old sink.new (F.live f.old) (F.live f.new) result
+            (cross_now crossing source queue self.old.writers sink.old.readers n) }
+        // No frame is taken and nothing is written, and where no byte goes nothing is touched.
+        ensures takes { (F.live f.new).held ≤ (F.live f.old).held }
+        ensures bytes_stay { SameBytes (F.live f.old) (F.live f.new) }
+        ensures untouched { moved result ≡ 0
+            → (self.new ≡ self.old) × (sink.new ≡ sink.old) × (f.new ≡ f.old) }
+    {
+        match crossing {
+            Crossing::Tee => self.tee_now(f, sink, n),
+            Crossing::Splice => self.splice_now(f, sink, n),
+        }
+    }
+
+    // Why no byte goes from this pipe to another now, if none does.
+    fn stopped(&self, sink: &Pipe, n: usize) -> Option<Progress>
+        ensures stops { IfSome result (λ progress. Stops self.now sink.now n progress) }
+        ensures goes { IfNone result (Goes self.now sink.now n) }
+    {
+        if n == 0 {
+            return Some(Progress::Moved(0));
+        }
+        if sink.readers == 0 {
+            return Some(Progress::NoReader);
+        }
+        if self.len() == 0 {
+            return Some(self.empty_told());
+        }
+        if sink.used() == sink.slots() {
+            return Some(Progress::WouldBlock);
+        }
+        None
     }
 
     // What a read is told where there is nothing: the end of file once nobody writes.

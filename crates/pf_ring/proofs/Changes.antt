@@ -235,6 +235,7 @@ cut_drops f w ws n s l = record {
   counts = λ q. refl;
   total = refl;
   contents = λ q a. refl;
+  held = omega arith;
   used = omega arith;
   fewer = λ q. omega arith;
   opened = λ q. omega arith;

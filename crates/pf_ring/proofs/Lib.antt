@@ -1,4 +1,5 @@
 pub mod Changes
+pub mod Copying
 pub mod Loops
 pub mod Queues
 pub mod Segments

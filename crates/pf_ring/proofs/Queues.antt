@@ -4,7 +4,7 @@ use Rattle.std.proofs.Common.{◌≡◌, ℕ, zero, suc, ◌+◌, ◌-◌, ◌<�
 use Rattle.std.proofs.lemmas.Bool.Decides.{leb_tells}
 use Rattle.std.proofs.lemmas.List.{append-nil, take_min, drop-drop, length-drop, length-append}
 use Rattle.pf_base.specs.declared.TheConstants.{PAGE_SIZE}
-use Rattle.pf_base.specs.Queue.{Segment, joined, last_room, topped_up, pieces, without_front}
+use Rattle.pf_base.specs.Queue.{Segment, joined, last_room, topped_up, pieces, without_front, copied}
 
 -- two segments are the same by their parts
 pub same_segment : (s t : Segment) → s.bytes ≡ t.bytes → s.room ≡ t.room → s ≡ t
@@ -76,3 +76,22 @@ pub pieces_none : (k : ℕ) (x : List ℕ) → length x ≡ 0 → pieces k x ≡
 pieces_none zero x h = refl
 pieces_none (suc k) [] h = refl
 pieces_none (suc k) (b ∷ x) h = absurd (omega arith)
+
+-- a copied segment is in front of the others
+pub copied_step : (k n : ℕ) (s : Segment) (ss : List Segment) → 0 < k → 0 < n → copied k n (s ∷ ss) ≡ record { bytes = take n s.bytes; room = 0 } ∷ copied (k - 1) (n - length s.bytes) ss
+copied_step zero n s ss h l = absurd (omega arith)
+copied_step (suc k) zero s ss h l = absurd (omega arith)
+copied_step (suc k) (suc n) s ss h l = let e : k ≡ suc k - 1 = omega arith in ap (λ (m : ℕ). let t : Segment = record { bytes = take (suc n) s.bytes; room = 0 } in t ∷ copied m (suc n - length s.bytes) ss) e
+
+-- no segment is copied where no slot is free, no byte is left, or no segment
+pub copied_no_slot : (n : ℕ) (ss : List Segment) → copied 0 n ss ≡ []
+copied_no_slot n ss = refl
+
+pub copied_no_byte : (k : ℕ) (ss : List Segment) → copied k 0 ss ≡ []
+copied_no_byte zero ss = refl
+copied_no_byte (suc k) ss = refl
+
+pub copied_no_segment : (k n : ℕ) → copied k n [] ≡ []
+copied_no_segment zero n = refl
+copied_no_segment (suc k) zero = refl
+copied_no_segment (suc k) (suc n) = refl

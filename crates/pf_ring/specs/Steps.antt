@@ -1,7 +1,7 @@
 -- What one step of a ring's call does to its windows and to the frames, from f to g: for the contracts of the crate's
 -- own functions.
 
-use Rattle.std.specs.Prelude.{◌≡◌, ℕ, ◌+◌, ◌≤◌, List, [], length}
+use Rattle.std.specs.Prelude.{◌≡◌, ℕ, ◌+◌, ◌<◌, ◌≤◌, List, [], length}
 use Rattle.pf_base.specs.Queue.{without_front}
 use Rattle.pf_frame.specs.Live.{Live}
 use Rattle.pf_ring.specs.declared.ring.Window.{Window}
@@ -22,3 +22,13 @@ pub record Cut (old new : List Window) (n : ℕ) (f g : Live) : Type 0 where
   pub drops : Drops old new f g
   pub segments : shown g new ≡ without_front n (shown f old)
   pub bytes : bytes_in new + n ≡ bytes_in old
+
+-- windows on the first n bytes of the windows src are put at the end of the windows old: no frame is taken, and no byte
+-- changes
+pub record Copies (src old new : List Window) (n : ℕ) (f g : Live) : Type 0 where
+  pub keeps : Keeps src old new f g
+  pub more : (q : ℕ) → f.count q ≤ g.count q
+  pub live : (q : ℕ) → 0 < g.count q → 0 < f.count q
+  pub same : (q : ℕ) → 0 < f.count q → g.bytes q ≡ f.bytes q
+  pub held : g.held ≡ f.held
+  pub bytes : bytes_in new ≡ bytes_in old + n

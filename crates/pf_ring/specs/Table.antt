@@ -16,7 +16,7 @@ pub use Rattle.pf_frame.specs.Live.{SameLive}
 use Rattle.pf_ring.specs.declared.ring.Window.{Window}
 use Rattle.pf_ring.specs.Ring.{Ring, segment_of, queue_of, no_ring}
 use Rattle.pf_ring.specs.Windows.{named, reach, opens, limit, NoEmpty, bytes_in, Stands, Keeps}
-use Rattle.pf_ring.specs.WindowLaws.{NoEmpty-prop, opens_le_named, reach_unnamed, limit_closed, reach_here, take_less, segments_stay, segments_same, window_whole, stands_rest, segments_length}
+use Rattle.pf_ring.specs.WindowLaws.{NoEmpty-prop, NoEmpty-append, named-append, opens-append, reach-append, limit-append, opens_le_named, reach_unnamed, limit_closed, reach_here, take_less, segments_stay, segments_same, window_whole, stands_rest, segments_length}
 
 -- the ring at a place of a table, no ring past its end
 abbrev pub ring_at : List Ring → ℕ → Ring
@@ -194,6 +194,21 @@ no_source rings q j = omega arith
 
 pub source_at : (f : Live) (rings : List Ring) (i : ℕ) → Joined f rings → (q j : ℕ) → reach q (ring_at rings i).windows ≤ limit q (ring_at rings j).windows
 source_at f rings i j q k = j.apart q i k
+
+-- Two rings of a table
+
+-- their windows stand in the frames together
+pub rings_stand : (f : Live) (rings : List Ring) (i j : ℕ) → j ≢ i → Joined f rings → Stands f ((ring_at rings i).windows ++ (ring_at rings j).windows)
+rings_stand f rings i j n is =
+    let a : List Window = (ring_at rings i).windows in
+    let b : List Window = (ring_at rings j).windows in
+    record {
+      counted = λ q. omega (arith, named-append q a b, two_le (named_by q) rings i j refl n, is.counts q);
+      within = λ q. omega (arith, reach-append q a b, is.within q i, is.within q j);
+      single = λ q. omega (arith, opens-append q a b, two_le (opens_by q) rings i j refl n, is.single q);
+      apart = λ q. omega (arith, reach-append q a b, limit-append q a b, is.apart q i i, is.apart q i j, is.apart q j i, is.apart q j j);
+      some = NoEmpty-append a b (is.some i) (is.some j);
+    }
 
 -- a call on another namespace's door in between
 pub joined_same : (f g : Live) (rings : List Ring) → Joined f rings → SameLive f g → Joined g rings

@@ -1,7 +1,8 @@
 -- Laws of windows.
 
-use Rattle.std.proofs.Common.{◌≡◌, ℕ, ◌+◌, ◌-◌, ◌*◌, ◌<◌, ◌≤◌, min, max, List, [], ◌∷◌, ◌++◌, length, map, take, drop, refl, sym, ◌∙◌, ap, subst, arith}
+use Rattle.std.proofs.Common.{◌≡◌, ℕ, ◌+◌, ◌-◌, ◌*◌, ◌<◌, ◌≤◌, min, max, List, [], ◌∷◌, ◌++◌, length, map, take, drop, refl, sym, ◌∙◌, ap, subst, inl, inr, arith}
 use Rattle.std.proofs.lemmas.List.{take-take, drop-drop, drop-take, length-take, length-drop, length-append}
+use Rattle.std.proofs.lemmas.Bool.{cases_lt}
 use Rattle.std.proofs.lemmas.Bool.Decides.{nat_tests}
 use denote.Struct.Props.{props}
 use Rattle.pf_base.specs.declared.TheConstants.{PAGE_SIZE}
@@ -159,6 +160,7 @@ drops_then f g h old mid new d e = record {
   counts = λ q. omega (arith, d.counts q, e.counts q);
   total = omega (arith, d.total, e.total);
   contents = λ q a. e.contents q a ∙ d.contents q (omega (arith, e.counts q, e.fewer q));
+  held = omega (arith, d.held, e.held);
   used = omega (arith, d.used, e.used);
   fewer = λ q. omega (arith, d.fewer q, e.fewer q);
   opened = λ q. omega (arith, d.opened q, e.opened q);
@@ -173,6 +175,7 @@ drops_nothing f ws s = record {
   counts = λ q. refl;
   total = refl;
   contents = λ q a. refl;
+  held = omega arith;
   used = omega arith;
   fewer = λ q. omega arith;
   opened = λ q. omega arith;
@@ -221,3 +224,85 @@ bytes_in_le (w ∷ ws) h =
 pub NoEmpty-prop : (ws : List Window) → IsProp (NoEmpty ws)
 NoEmpty-prop [] = hlevel props
 NoEmpty-prop (w ∷ ws) = hlevel (props, NoEmpty-prop ws)
+
+-- two rings whose windows stand in the frames together
+
+pub stands_first : (f : Live) (xs ys : List Window) → Stands f (xs ++ ys) → Stands f xs
+stands_first f xs ys s = record {
+  counted = λ q. omega (arith, named-append q xs ys, s.counted q);
+  within = λ q. omega (arith, reach-append q xs ys, s.within q);
+  single = λ q. omega (arith, opens-append q xs ys, s.single q);
+  apart = λ q. omega (arith, reach-append q xs ys, limit-append q xs ys, s.apart q);
+  some = some_first xs ys s.some;
+}
+  where
+    some_first : (us vs : List Window) → NoEmpty (us ++ vs) → NoEmpty us
+    some_first [] vs h = tt
+    some_first (u ∷ us) vs h = (h.0, some_first us vs h.1)
+
+pub stands_second : (f : Live) (xs ys : List Window) → Stands f (xs ++ ys) → Stands f ys
+stands_second f xs ys s = record {
+  counted = λ q. omega (arith, named-append q xs ys, s.counted q);
+  within = λ q. omega (arith, reach-append q xs ys, s.within q);
+  single = λ q. omega (arith, opens-append q xs ys, s.single q);
+  apart = λ q. omega (arith, reach-append q xs ys, limit-append q xs ys, s.apart q);
+  some = some_second xs ys s.some;
+}
+  where
+    some_second : (us vs : List Window) → NoEmpty (us ++ vs) → NoEmpty vs
+    some_second [] vs h = h
+    some_second (u ∷ us) vs h = some_second us vs h.1
+
+-- what the second may reach of the first, and the first of the second
+pub reach_first : (f : Live) (xs ys : List Window) → Stands f (xs ++ ys) → (q : ℕ) → (reach q ys ≤ limit q xs) × (reach q xs ≤ limit q ys)
+reach_first f xs ys s q = (
+  omega (arith, reach-append q xs ys, limit-append q xs ys, s.apart q),
+  omega (arith, reach-append q xs ys, limit-append q xs ys, s.apart q),
+)
+
+-- windows of the first are copied to the end of the second: they still stand together
+both_limit : (f g : Live) (src old new : List Window) → Stands f (src ++ old) → Keeps src old new f g → (q : ℕ) → reach q new ≤ limit q src
+both_limit f g src old new s k q = elim (cases_lt 0 (opens q src)) [
+  | inl some ↦
+      let live : 0 < f.count q = omega (arith, some, opens_le_named q src, named-append q src old, s.counted q) in
+      let shut : opens q old ≡ 0 = omega (arith, some, opens-append q src old, s.single q) in
+      omega (arith, k.reached q live shut, (reach_first f src old s q).0, (stands_first f src old s).apart q)
+  | inr none ↦ omega (arith, limit_closed q src (omega (arith, none)), k.within q)
+]
+
+both_reach : (f g : Live) (src old new : List Window) → Stands f (src ++ old) → Keeps src old new f g → (q : ℕ) → reach q src ≤ limit q new
+both_reach f g src old new s k q = elim (cases_lt 0 (f.count q)) [
+  | inl live ↦ omega (arith, k.limits q live, (reach_first f src old s q).1)
+  | inr none ↦ omega (arith, none, reach_unnamed q src (omega (arith, none, named-append q src old, s.counted q)))
+]
+
+both_single : (f g : Live) (src old new : List Window) → Stands f (src ++ old) → Keeps src old new f g → (q : ℕ) → opens q src + opens q new ≤ 1
+both_single f g src old new s k q = elim (cases_lt 0 (f.count q)) [
+  | inl live ↦ omega (arith, k.opened q live, opens-append q src old, s.single q)
+  | inr none ↦ omega (arith, none, k.single q, opens_le_named q src, named-append q src old, s.counted q)
+]
+
+pub both_stand : (f g : Live) (src old new : List Window) → Stands f (src ++ old) → Keeps src old new f g → Stands g (src ++ new)
+both_stand f g src old new s k = record {
+  counted = λ q. omega (arith, named-append q src old, named-append q src new, s.counted q, k.counts q);
+  within = λ q. omega (arith, reach-append q src new, (stands_first f src old s).within q, k.within q);
+  single = λ q. omega (arith, opens-append q src new, both_single f g src old new s k q);
+  apart = λ q. omega (arith, reach-append q src new, limit-append q src new, (stands_first f src old s).apart q, k.apart q, both_reach f g src old new s k q, both_limit f g src old new s k q);
+  some = NoEmpty-append src new (stands_first f src old s).some k.some;
+}
+
+-- nothing has changed
+pub keeps_same : (f : Live) (src ws : List Window) → Stands f ws → Keeps src ws ws f f
+keeps_same f src ws s = record {
+  reservation = refl;
+  counts = λ q. refl;
+  total = refl;
+  contents = λ q a b. refl;
+  opened = λ q a. omega arith;
+  reached = λ q a o. omega arith;
+  limits = λ q a. omega arith;
+  within = s.within;
+  single = s.single;
+  apart = s.apart;
+  some = s.some;
+}

@@ -83,9 +83,17 @@ pub record Drops (old new : List Window) (f g : Live) : Type 0 where
   pub counts : (q : ℕ) → g.count q + named q old ≡ f.count q + named q new
   pub total : g.shares + length old ≡ f.shares + length new
   pub contents : SameBytes f g
+  pub held : g.held ≤ f.held
   pub used : length new ≤ length old
   pub fewer : (q : ℕ) → named q new ≤ named q old
   pub opened : (q : ℕ) → opens q new ≤ opens q old
   pub reached : (q : ℕ) → reach q new ≤ reach q old
   pub limits : (q : ℕ) → limit q old ≤ limit q new
   pub some : NoEmpty new
+
+-- bytes come from the windows src to the end of the windows old. First windows on them are put there; then src' is what
+-- is left of src, all of it for a tee
+pub record Moves (src src' old new : List Window) (f g : Live) : Type 0 where
+  pub between : Live
+  pub copied : Keeps src old new f between
+  pub dropped : Keeps [] src src' between g

@@ -1,9 +1,9 @@
 ghost use Rattle.std.specs.Prelude.{◌≡◌, ℕ, ◌+◌, ◌-◌, ◌<◌, ◌≤◌, ◌^◌, [], ◌++◌, length, take, drop, min, vec_len, vec_capacity, IfOk};
-ghost use Rattle.pf_base.specs.Queue.{Queue, room_of, bytes_of, put, taken, after_take, empty};
+ghost use Rattle.pf_base.specs.Queue.{Queue, room_of, bytes_of, put, taken, after_take, tee_number, after_tee, after_splice, empty};
 ghost use Rattle.pf_frame.specs.Live.{Live, IsSound};
 ghost use Rattle.pf_ring.specs.Ring.{segment_of, queue_of};
 ghost use Rattle.pf_base.specs.declared.TheConstants.{PAGE_SIZE};
-ghost use Rattle.pf_ring.specs.Windows.{Stands, Keeps, SameBytes, PutsBehind, bytes_in};
+ghost use Rattle.pf_ring.specs.Windows.{Stands, Keeps, Moves, SameBytes, PutsBehind, bytes_in};
 ghost use Rattle.pf_ring.specs.Steps.{Cut};
 
 use crate::windows;
@@ -184,6 +184,70 @@ impl SlotRing {
     {
         let number = self.len().min(most);
         windows::copy_onto(&self.windows, f, number, out);
+        self.discard(f, number);
+        number
+    }
+
+    /// Puts a copy of the first bytes at the end of another ring (tee(2)): at most `n` bytes, and at most as many slots
+    /// as the other ring has free. Answers how many bytes they are.
+    ///
+    /// No byte is copied or looked at, and no frame is taken: each slot that is put names a frame of this ring once
+    /// more, and never grows. It takes constant time for each.
+    pub fn tee_into<F: Frames>(&self, f: &mut F, sink: &mut SlotRing, n: usize) -> usize
+        requires fact { F.fact f.old }
+        // The two rings are two in the same frames, and no count can pass the end of its type.
+        requires stands { Stands (F.live f.old) (self.now.windows ++ sink.old.windows) }
+        requires few { (F.live f.old).shares + sink.old.capacity < 2 ^ 32 }
+        ensures fact { F.fact f.new }
+        ensures rest { F.rest f.new ≡ F.rest f.old }
+        ensures capacity { sink.new.capacity ≡ sink.old.capacity }
+        ensures fits { length sink.new.windows ≤ sink.new.capacity }
+        // What is put, and what this ring has then: what it had.
+        ensures number { result
+            ≡ tee_number (queue_of (F.live f.old) self.now) (queue_of (F.live f.old) sink.old) n }
+        ensures queue { queue_of (F.live f.new) sink.new
+            ≡ after_tee (queue_of (F.live f.old) self.now) (queue_of (F.live f.old) sink.old) n }
+        ensures source { queue_of (F.live f.new) self.now ≡ queue_of (F.live f.old) self.now }
+        // No frame is taken. Other rings show what they showed, and nothing is written.
+        ensures takes { (F.live f.new).held ≡ (F.live f.old).held }
+        ensures keeps { Keeps self.now.windows sink.old.windows sink.new.windows (F.live f.old) (F.live f.new) }
+        ensures bytes_stay { SameBytes (F.live f.old) (F.live f.new) }
+    {
+        let number = windows::share(&self.windows, &mut sink.windows, sink.slots, f, n);
+        sink.bytes += number;
+        number
+    }
+
+    /// Moves the first bytes to the end of another ring (splice(2)): as many as `tee_into` puts there. Answers how many
+    /// they are.
+    ///
+    /// No byte is copied or looked at, and no frame is taken. A slot that is cut keeps its room; the frame of one that
+    /// is emptied stays, under the name of the slot that is put. It takes constant time for each slot.
+    pub fn splice_into<F: Frames>(&mut self, f: &mut F, sink: &mut SlotRing, n: usize) -> usize
+        requires fact { F.fact f.old }
+        // The two rings are two in the same frames, and no count can pass the end of its type.
+        requires stands { Stands (F.live f.old) (self.old.windows ++ sink.old.windows) }
+        requires few { (F.live f.old).shares + sink.old.capacity < 2 ^ 32 }
+        ensures fact { F.fact f.new }
+        ensures rest { F.rest f.new ≡ F.rest f.old }
+        ensures capacity { self.new.capacity ≡ self.old.capacity }
+        ensures fits { length self.new.windows ≤ self.new.capacity }
+        ensures sink_capacity { sink.new.capacity ≡ sink.old.capacity }
+        ensures sink_fits { length sink.new.windows ≤ sink.new.capacity }
+        // What is put, and what is left.
+        ensures number { result
+            ≡ tee_number (queue_of (F.live f.old) self.old) (queue_of (F.live f.old) sink.old) n }
+        ensures queue { queue_of (F.live f.new) sink.new
+            ≡ after_tee (queue_of (F.live f.old) self.old) (queue_of (F.live f.old) sink.old) n }
+        ensures source { queue_of (F.live f.new) self.new
+            ≡ after_splice (queue_of (F.live f.old) self.old) (queue_of (F.live f.old) sink.old) n }
+        // No frame is taken. Other rings show what they showed, and nothing is written.
+        ensures takes { (F.live f.new).held ≤ (F.live f.old).held }
+        ensures moves { Moves self.old.windows self.new.windows sink.old.windows sink.new.windows
+            (F.live f.old) (F.live f.new) }
+        ensures bytes_stay { SameBytes (F.live f.old) (F.live f.new) }
+    {
+        let number = self.tee_into(f, sink, n);
         self.discard(f, number);
         number
     }

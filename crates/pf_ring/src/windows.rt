@@ -1,11 +1,11 @@
-ghost use Rattle.std.specs.Prelude.{◌≡◌, ◌+◌, ◌-◌, ◌*◌, ◌<◌, ◌≤◌, [], ◌∷◌, ◌++◌, length, take, drop, min, vec_len, vec_capacity};
+ghost use Rattle.std.specs.Prelude.{◌≡◌, ◌+◌, ◌-◌, ◌*◌, ◌<◌, ◌≤◌, ◌^◌, [], ◌∷◌, ◌++◌, length, take, drop, min, vec_len, vec_capacity};
 ghost use Rattle.std.specs.VecDeque.{deque_len, deque_capacity};
 ghost use Rattle.pf_base.specs.declared.TheConstants.{PAGE_SIZE};
-ghost use Rattle.pf_base.specs.Queue.{Segment, joined, last_room, topped_up, pieces};
+ghost use Rattle.pf_base.specs.Queue.{Segment, joined, last_room, topped_up, pieces, copied};
 ghost use Rattle.pf_frame.specs.Live.{Live};
 ghost use Rattle.pf_ring.specs.Ring.{segment_of, shown};
 ghost use Rattle.pf_ring.specs.Windows.{Stands, Drops, bytes_in};
-ghost use Rattle.pf_ring.specs.Steps.{Puts, Cut};
+ghost use Rattle.pf_ring.specs.Steps.{Puts, Copies, Cut};
 
 use crate::ring::Window;
 use pf_base::PAGE_SIZE;
@@ -238,4 +238,48 @@ pub fn clear<F: Frames>(windows: &mut VecDeque<Window>, f: &mut F)
     while !windows.is_empty() {
         drop_front(windows, f);
     }
+}
+
+/// Puts windows at the end of the sink's that show the first bytes of the source's: at most so many bytes, and at most
+/// so many windows that the sink has as many as it has slots. Answers how many bytes they show.
+///
+/// Each of them is one more on its frame. None of them grows.
+pub fn share<F: Frames>(
+    source: &VecDeque<Window>,
+    sink: &mut VecDeque<Window>,
+    slots: usize,
+    f: &mut F,
+    n: usize,
+) -> usize
+    requires fact { F.fact f.old }
+    requires stands { Stands (F.live f.old) (source.now.items ++ sink.old.items) }
+    requires fits { deque_len sink.old ≤ slots }
+    requires space { slots ≤ deque_capacity sink.old }
+    requires few { (F.live f.old).shares + slots < 2 ^ 32 }
+    ensures fact { F.fact f.new }
+    ensures rest { F.rest f.new ≡ F.rest f.old }
+    ensures space { deque_capacity sink.new ≡ deque_capacity sink.old }
+    ensures fits { deque_len sink.new ≤ slots }
+    ensures segments { let free = slots - deque_len sink.old in
+        shown (F.live f.new) sink.new.items
+        ≡ shown (F.live f.old) sink.old.items ++ copied free n (shown (F.live f.old) source.now.items) }
+    ensures copies { Copies source.now.items sink.old.items sink.new.items result (F.live f.old) (F.live f.new) }
+{
+    let mut done = 0;
+    let most = source.len().min(slots - sink.len());
+    for place in 0..most {
+        if done == n {
+            break;
+        }
+        let window = source[place];
+        let number = (window.len as usize).min(n - done);
+        f.share(window.frame);
+        sink.push_back_reserved(Window {
+            len: number as u32,
+            grows: false,
+            ..window
+        });
+        done += number;
+    }
+    done
 }

@@ -1,5 +1,6 @@
 mod Callers
 mod Closing
+mod Crossing
 mod Ends
 mod Exiting
 mod Going

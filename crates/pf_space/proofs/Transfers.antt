@@ -1,6 +1,6 @@
 -- A transfer through one pipe, in the meaning of the state that it leaves.
 
-use Rattle.std.proofs.Common.{◌≡◌, ℕ, zero, suc, ◌+◌, ◌-◌, ◌<◌, ◌≤◌, Bool, true, false, List, [], ◌∷◌, length, take, map, set, Option, Some, None, IsSome, is_some, Result, Ok, Err, nat_le, nat_lt, refl, sym, ap, subst, ◌∙◌, arith}
+use Rattle.std.proofs.Common.{◌≡◌, ℕ, zero, suc, ◌+◌, ◌-◌, ◌<◌, ◌≤◌, Bool, List, [], length, take, set, Option, Some, None, IsSome, is_some, Result, Ok, Err, nat_le, nat_lt, refl, sym, ap, subst, ◌∙◌}
 use Rattle.std.specs.Option.{option_map}
 use Rattle.std.proofs.lemmas.Bool.{lt-ltb, le-ltb}
 use Rattle.std.proofs.lemmas.List.{map-set}
@@ -10,7 +10,6 @@ use Rattle.pf_base.specs.Queue.{Queue, taken}
 use Rattle.pf_base.specs.Numbered.{at, put_at}
 use Rattle.pf_base.proofs.NumberedLaws.{at-map}
 use Rattle.pf_base.specs.Progress.{Passed, moved, read_now, write_now}
-use Rattle.pf_base.specs.State as machine
 use Rattle.pf_base.specs.State.{State, End, process, living, reading_end, writing_end, with_queue, holding}
 use Rattle.pf_base.specs.Counts.{readers, writers}
 use Rattle.pf_base.specs.Transfers.{Tried, try_read, try_write}
@@ -26,14 +25,14 @@ use Rattle.pf_frame.specs.Live.{Live, IsSound}
 use Rattle.pf_pipe.specs.Pipe.{Passes}
 use Rattle.pf_ring.specs.Ring.{Ring, queue_of}
 use Rattle.pf_ring.specs.Windows.{Stands}
-use Rattle.pf_ring.specs.Table.{Joined, slots_used, slots_of}
+use Rattle.pf_ring.specs.Table.{Joined, slots_used, slots_of, no_source}
 use Rattle.pf_space.specs.Meaning.{Namespace, meaning, rings_of, pages}
 use Rattle.pf_space.specs.MeaningLaws.{meaning-with_queue, settled-meaning}
 use Rattle.pf_space.specs.Owns.{Owns}
 use Rattle.pf_space.specs.OwnsLaws.{ring_at-pipe, stands_at, credits_at, others_written, joined_written, pages-with_queue}
-use Rattle.pf_space.specs.Rows.{ProcessRows, DescriptionRows, PipeRows, Key, Process, Description, Pipe, process_of, pipe_of, processes_of, descriptions_of, pipes_of, state_of, process_at, end_in, Tied, Kept}
+use Rattle.pf_space.specs.Rows.{ProcessRows, DescriptionRows, PipeRows, Process, Description, Pipe, process_of, pipe_of, processes_of, descriptions_of, pipes_of, state_of, process_at, end_in, Kept}
 use Rattle.pf_space.specs.Told.{attempted_read, attempted_write, Came}
-use Rattle.pf_space.proofs.Ends.{side_end, end_of_rows, Found, refused, found, counted}
+use Rattle.pf_space.proofs.Ends.{side_end, end_of_rows, refused, found, counted}
 use Rattle.pf_space.proofs.Shown.{shown, find_at, find_was, set_same}
 use Rattle.pf_space.proofs.Small.{requeued}
 use Rattle.pf_space.proofs.Swept.{settled}
@@ -46,15 +45,15 @@ bind-bind (Err e) h go = refl
 -- what is known before
 module _ (f : Live) (limits : Limits) (charge : ℕ) (ps : ProcessRows) (ds : DescriptionRows) (pipes : PipeRows) (k : Kept charge ps ds pipes)
     (n : Namespace) (view : record { limits = limits; state = state_of ps ds pipes } ≡ n) (owns : Owns f n) where
-  owned : Owns f (record { limits = limits; state = state_of ps ds pipes })
+  pub owned : Owns f (record { limits = limits; state = state_of ps ds pipes })
   owned = subst (Owns f) (sym view) owns
 
   -- The pipe that was found, where it is handed out
   module _ (d : Description) (r : Pipe) (handed : find pipes d.pipe.place d.pipe.serial ≡ Some r) where
-    stands : at pipes d.pipe.serial ≡ Some (d.pipe.place, r)
+    pub stands : at pipes d.pipe.serial ≡ Some (d.pipe.place, r)
     stands = find_was pipes d.pipe.place d.pipe.serial r handed
 
-    there : at (pipes_of pipes) d.pipe.serial ≡ Some (pipe_of (d.pipe.place, r))
+    pub there : at (pipes_of pipes) d.pipe.serial ≡ Some (pipe_of (d.pipe.place, r))
     there = shown pipe_of pipes d.pipe.serial (d.pipe.place, r) stands
 
     pub stands_in : Stands f r.ring.windows
@@ -95,7 +94,7 @@ module _ (f : Live) (limits : Limits) (charge : ℕ) (ps : ProcessRows) (ds : De
 
       pub passed-owns : Owns g (record { limits = limits; state = state_of ps ds pipes' })
       passed-owns = record {
-        joined = subst (λ (s : State Ring). Joined g (rings_of s)) (sym shows) (joined_written f g (state_of ps ds pipes) d.pipe.serial (pipe_of (d.pipe.place, r)) r'.ring owned.joined there passes.keeps passes.capacity fits);
+        joined = subst (λ (s : State Ring). Joined g (rings_of s)) (sym shows) (joined_written f g (state_of ps ds pipes) d.pipe.serial (pipe_of (d.pipe.place, r)) r'.ring [] (no_source (rings_of (state_of ps ds pipes))) owned.joined there passes.keeps passes.capacity fits);
         reserve = owned.reserve ∙ sym passes.keeps.reservation;
       }
 
@@ -104,7 +103,7 @@ module _ (f : Live) (limits : Limits) (charge : ℕ) (ps : ProcessRows) (ds : De
           settled-meaning g (state_of ps ds pipes') (settled ps ds pipes' passed-kept.tied)
           ∙ ap sweep
           (ap (meaning g) shows
-          ∙ meaning-with_queue f g (state_of ps ds pipes) d.pipe.serial r'.ring (others_written f g (state_of ps ds pipes) d.pipe.serial (pipe_of (d.pipe.place, r)) r'.ring owned.joined there passes.keeps)
+          ∙ meaning-with_queue f g (state_of ps ds pipes) d.pipe.serial r'.ring (others_written f g (state_of ps ds pipes) d.pipe.serial (pipe_of (d.pipe.place, r)) r'.ring [] (no_source (rings_of (state_of ps ds pipes))) owned.joined there passes.keeps)
           ∙ ap (with_queue (meaning f (state_of ps ds pipes)) d.pipe.serial) (sym (ap (λ (p : Passed). p.queue) passes.told)))
 
   -- What the machine does, from what the tables find

@@ -14,10 +14,11 @@ use Rattle.pf_base.specs.State.{State, Process, Pipe, opening, with_queue, holdi
 use Rattle.pf_base.specs.Pipes.{opened, reading, writing, with_two}
 use Rattle.pf_frame.specs.Live.{Live, IsSound}
 use Rattle.pf_ring.specs.Ring.{Ring, queue_of, no_ring}
-use Rattle.pf_ring.specs.Windows.{Keeps, Stands}
-use Rattle.pf_ring.specs.Table.{Joined, SameLive, ring_at, slots_of, joined_after, queue_stays, no_source, joined_pushed, joined_cleared, joined_nothing, joined_same, queue_same, ring_stands, credits_for, slots_used, held_le_used, none_held_bytes}
+use Rattle.pf_ring.specs.Windows.{reach, limit, Keeps, Stands}
+use Rattle.pf_ring.specs.declared.ring.Window.{Window}
+use Rattle.pf_ring.specs.Table.{Joined, ring_at, slots_of, joined_after, queue_stays, joined_pushed, joined_cleared, joined_nothing, ring_stands, credits_for, slots_used, held_le_used, none_held_bytes}
 use Rattle.pf_space.specs.Meaning.{Namespace, meaning, pipe_meaning, ring_or, rings_of, pages, occupied, AreEmpty}
-use Rattle.pf_space.specs.MeaningLaws.{Others, others_stay, all_stay, pipe_stays, ring_at-rings, rings-set, rings-push, map-push, length-map'}
+use Rattle.pf_space.specs.MeaningLaws.{Others, others_stay, ring_at-rings, rings-set, rings-push, map-push, length-map'}
 use Rattle.pf_space.specs.Owns.{Owns}
 
 -- the ring of a pipe that is there
@@ -34,27 +35,28 @@ slots-rings (Some p ∷ ps) = sum_by-cons slots_of p.queue (map ring_or ps) ∙ 
 pub owns_opening : (f : Live) (limits : Limits) → ((q : ℕ) → f.count q ≡ 0) → f.shares ≡ 0 → limits.reserve ≡ f.reserved → Owns f (record { limits = limits; state = opening })
 owns_opening f limits counts shares reserve = record { joined = joined_nothing f counts shares; reserve = reserve }
 
--- the ring of a pipe has changed
+-- the ring of a pipe has changed. src: windows that were copied into it, none but for a tee and a splice
 
-module _ (f g : Live) (s : State Ring) (n : ℕ) (p : Pipe Ring) (r : Ring) (joined : Joined f (rings_of s)) (there : at s.pipes n ≡ Some p) (keeps : Keeps [] p.queue.windows r.windows f g) where
-  keeps_at : Keeps [] (ring_at (rings_of s) n).windows r.windows f g
-  keeps_at = subst (λ (x : Ring). Keeps [] x.windows r.windows f g) (sym (ring_at-pipe s.pipes n p there)) keeps
+module _ (f g : Live) (s : State Ring) (n : ℕ) (p : Pipe Ring) (r : Ring) (src : List Window) (bound : (q j : ℕ) → reach q src ≤ limit q (ring_at (rings_of s) j).windows)
+    (joined : Joined f (rings_of s)) (there : at s.pipes n ≡ Some p) (keeps : Keeps src p.queue.windows r.windows f g) where
+  keeps_at : Keeps src (ring_at (rings_of s) n).windows r.windows f g
+  keeps_at = subst (λ (x : Ring). Keeps src x.windows r.windows f g) (sym (ring_at-pipe s.pipes n p there)) keeps
 
   within : n < length (rings_of s)
   within = subst (λ k. n < k) (sym (length-map s.pipes ring_or)) (at_within s.pipes n p there)
 
   pub others_written : Others f g s.pipes n
-  others_written = others_stay f g s.pipes n (λ k ne. queue_stays f g (rings_of s) n k r [] joined keeps_at ne)
+  others_written = others_stay f g s.pipes n (λ k ne. queue_stays f g (rings_of s) n k r src joined keeps_at ne)
 
   pub joined_written : r.capacity ≡ p.queue.capacity → length r.windows ≤ r.capacity → Joined g (rings_of (with_queue s n r))
   joined_written same fits =
       subst (Joined g) (sym (rings-set s.pipes n (option_map (holding r) (at s.pipes n)) ∙ ap (λ (o : Option (Pipe Ring)). set (rings_of s) n (ring_or (option_map (holding r) o))) there))
-      (joined_after f g (rings_of s) n r [] within joined (no_source (rings_of s)) keeps_at (same ∙ ap slots_of (sym (ring_at-pipe s.pipes n p there))) fits)
+      (joined_after f g (rings_of s) n r src within joined bound keeps_at (same ∙ ap slots_of (sym (ring_at-pipe s.pipes n p there))) fits)
 
   -- it is cleared, and its pipe is gone
   pub joined_gone : r ≡ record { capacity = p.queue.capacity; windows = [] } → Joined g (map ring_or (clear_at s.pipes n))
   joined_gone cleared =
-      let after : Joined g (set (rings_of s) n r) = joined_after f g (rings_of s) n r [] within joined (no_source (rings_of s)) keeps_at (ap slots_of (cleared ∙ (λ i. record { capacity = (sym (ring_at-pipe s.pipes n p there) i).capacity; windows = [] }))) (subst (λ (x : Ring). length x.windows ≤ x.capacity) (sym cleared) (omega arith)) in
+      let after : Joined g (set (rings_of s) n r) = joined_after f g (rings_of s) n r src within joined bound keeps_at (ap slots_of (cleared ∙ (λ i. record { capacity = (sym (ring_at-pipe s.pipes n p there) i).capacity; windows = [] }))) (subst (λ (x : Ring). length x.windows ≤ x.capacity) (sym cleared) (omega arith)) in
       let bare : (ring_at (set (rings_of s) n r) n).windows ≡ [] = ap (λ (x : Ring). x.windows) (get_or-set_same (rings_of s) n r no_ring within ∙ cleared) in
       subst (Joined g) (set-set (rings_of s) n r no_ring ∙ sym (rings-set s.pipes n None)) (joined_cleared g (set (rings_of s) n r) n after bare)
 

@@ -4,13 +4,14 @@ use Rattle.std.specs.Prelude.{◌≡◌, ℕ, List, take, ⊤, Result, Ok, Err}
 use Rattle.pf_base.specs.Refusals.{◌>>=◌}
 use Rattle.pf_base.specs.Queue.{Queue}
 use Rattle.pf_base.specs.Progress.{moved}
-use Rattle.pf_base.specs.State.{State, Process, Outcome, living}
-use Rattle.pf_base.specs.Transfers.{Tried, tried_read, tried_write}
+use Rattle.pf_base.specs.State.{State, Outcome, living}
+use Rattle.pf_base.specs.Transfers.{Tried, tried_read, tried_write, tried_cross, cross}
 use Rattle.pf_base.specs.Machine.{swept}
 use Rattle.pf_base.specs.Sweep.{sweep}
 use Rattle.pf_base.specs.declared.errno.Errno.{Errno}
 use Rattle.pf_base.specs.declared.fault.Fault.{Fault}
 use Rattle.pf_base.specs.declared.fault.Fault.TheVariants as faults
+use Rattle.pf_base.specs.declared.progress.Crossing.{Crossing}
 use Rattle.pf_base.specs.declared.progress.Progress.{Progress}
 use Rattle.pf_base.specs.declared.step.Reply.{Reply}
 use Rattle.pf_frame.specs.Live.{Live}
@@ -39,12 +40,19 @@ Leaves f g old new (Err e) machine = (machine ≡ Err e) × Stays f g old new
 
 -- Transfers
 
--- a read or a write that a process tries
+-- a transfer that a process tries
 abbrev pub attempted_read : State Queue → ℕ → ℕ → ℕ → Result Tried Errno
 attempted_read s pid fd n = living s pid >>= (λ p. tried_read s p fd n)
 
 abbrev pub attempted_write : State Queue → ℕ → ℕ → List ℕ → Result Tried Errno
 attempted_write s pid fd x = living s pid >>= (λ p. tried_write s p fd x)
+
+abbrev pub attempted_cross : Crossing → State Queue → ℕ → ℕ → ℕ → ℕ → Result Tried Errno
+attempted_cross c s pid source sink n = living s pid >>= (λ p. tried_cross c s p source sink n)
+
+-- and its call whole: a tee's or a splice's
+abbrev pub called_cross : Crossing → State Queue → ℕ → ℕ → ℕ → ℕ → Result Outcome Errno
+called_cross c s pid source sink n = living s pid >>= (λ p. cross c s p source sink n)
 
 -- it came so far, moved these bytes, and left this state, without what nobody can reach any more
 pub record Came (g : Live) (new : Namespace) (machine : Result Tried Errno) (progress : Progress) (bytes : List ℕ) : Type 0 where
@@ -52,6 +60,13 @@ pub record Came (g : Live) (new : Namespace) (machine : Result Tried Errno) (pro
   pub is : machine ≡ Ok tried
   pub progress_is : tried.progress ≡ progress
   pub bytes_are : tried.bytes ≡ bytes
+  pub state : meaning g new.state ≡ sweep tried.state
+
+-- the same where the bytes stay in the pipes
+pub record Arrived (g : Live) (new : Namespace) (machine : Result Tried Errno) (progress : Progress) : Type 0 where
+  pub tried : Tried
+  pub is : machine ≡ Ok tried
+  pub progress_is : tried.progress ≡ progress
   pub state : meaning g new.state ≡ sweep tried.state
 
 -- a transfer came as far as the machine's, or its refusal is the machine's
@@ -63,6 +78,10 @@ abbrev pub HasRead : Live → Namespace → Result Taken Fault → Result Tried 
 HasRead g new (Ok t) machine = Came g new machine t.progress t.bytes.items
 HasRead g new (Err (faults.Errno e)) machine = machine ≡ Err e
 HasRead g new (Err faults.NoMemory) machine = ⊤
+
+abbrev pub HasCrossed : Live → Namespace → Result Progress Errno → Result Tried Errno → Type 0
+HasCrossed g new (Ok progress) machine = Arrived g new machine progress
+HasCrossed g new (Err e) machine = machine ≡ Err e
 
 -- Steps
 

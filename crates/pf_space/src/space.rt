@@ -2,7 +2,7 @@ ghost use Rattle.std.specs.Prelude.{◌≡◌, ◌≢◌, Err};
 ghost use Rattle.pf_base.specs.Machine.{call};
 
 use crate::tables::Tables;
-use pf_base::{Answer, Config, Fault, Reply, Step};
+use pf_base::{Answer, Config, Crossing, Fault, Reply, Step};
 use pf_frame::Frames;
 use std::alloc::{AllocError, Global};
 use std::marker::Model;
@@ -99,6 +99,20 @@ impl Space {
             Step::Close { pid, fd } => self.close(door, *pid, *fd),
             Step::Read { pid, fd, n } => self.read(door, *pid, *fd, *n),
             Step::Write { pid, fd, payload } => self.write(door, *pid, *fd, payload.as_slice()),
+            Step::Tee {
+                pid,
+                source,
+                sink,
+                n,
+                nonblock: _,
+            } => self.cross(door, Crossing::Tee, *pid, *source, *sink, *n),
+            Step::Splice {
+                pid,
+                source,
+                sink,
+                n,
+                nonblock: _,
+            } => self.cross(door, Crossing::Splice, *pid, *source, *sink, *n),
         }
     }
 }

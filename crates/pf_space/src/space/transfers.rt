@@ -1,14 +1,14 @@
-//! Bytes into pipes and out of them: write(2) and read(2), as pipe(7) says of O_NONBLOCK.
+//! Bytes into pipes, out of them and between them: write(2), read(2), tee(2) and splice(2), as pipe(7) says of O_NONBLOCK.
 
 ghost use Rattle.std.specs.Prelude.{◌≡◌, ◌≢◌, Err, IsSome};
 ghost use Rattle.pf_base.specs.State.{process};
 ghost use Rattle.pf_base.specs.Machine.{call};
 ghost use Rattle.pf_space.specs.Meaning.{meaning};
 ghost use Rattle.pf_space.specs.Owns.{Owns};
-ghost use Rattle.pf_space.specs.Told.{Told};
+ghost use Rattle.pf_space.specs.Told.{Told, called_cross};
 
 use super::Space;
-use pf_base::{ByteString, Errno, Fault, Progress, Reply, Step};
+use pf_base::{ByteString, Crossing, Errno, Fault, Progress, Reply, Step};
 use pf_frame::Frames;
 
 impl Space {
@@ -57,6 +57,33 @@ impl Space {
         match taken.progress {
             Progress::WouldBlock => Err(Errno::EAGAIN.into()),
             _ => Ok(Reply::Bytes(ByteString::new(taken.bytes))),
+        }
+    }
+
+    /// Brings at most n bytes from the pipe that one descriptor of a process names to the pipe that another one names: a copy
+    /// of them (tee(2)), or the bytes themselves (splice(2)).
+    pub(super) fn cross<F: Frames>(
+        &mut self,
+        door: &mut F,
+        crossing: Crossing,
+        pid: u32,
+        source: u32,
+        sink: u32,
+        n: u64,
+    ) -> Result<Reply, Fault>
+        requires fact { F.fact door.old }
+        requires owns { Owns (F.live door.old) self.old }
+        ensures fact { F.fact door.new }
+        ensures rest { F.rest door.new ≡ F.rest door.old }
+        ensures told { Told (F.live door.old) (F.live door.new) self.old self.new result
+            (called_cross crossing (meaning (F.live door.old) self.old.state) pid source sink n) }
+        ensures succeeds { result ≢ Err Fault.NoMemory }
+    {
+        match self.tables.cross_now(door, crossing, pid, source, sink, n)? {
+            Progress::Moved(n) => Ok(Reply::Num(n)),
+            Progress::EndOfFile => Ok(Reply::Num(0)),
+            Progress::NoReader => Err(Errno::EPIPE.into()),
+            Progress::WouldBlock => Err(Errno::EAGAIN.into()),
         }
     }
 }

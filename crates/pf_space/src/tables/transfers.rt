@@ -1,14 +1,15 @@
-//! Bytes into pipes and out of them: one look-up each, and one borrow of the pipe that is found.
+//! Bytes into pipes, out of them and between them: one look-up for each end, and one borrow of the pipe that is found. Where
+//! there are two, one is taken out for as long.
 
-ghost use Rattle.std.specs.Prelude.{◌≡◌, Err, IfOk, IsSome, OnErr};
+ghost use Rattle.std.specs.Prelude.{◌≡◌, ◌≤◌, Err, IfOk, IsSome, OnErr};
 ghost use Rattle.pf_base.specs.Progress.{moved};
 ghost use Rattle.pf_base.specs.State.{process};
 ghost use Rattle.pf_space.specs.Meaning.{meaning};
 ghost use Rattle.pf_space.specs.Owns.{Owns};
-ghost use Rattle.pf_space.specs.Told.{attempted_read, attempted_write, HasRead, Wrote};
+ghost use Rattle.pf_space.specs.Told.{attempted_read, attempted_write, attempted_cross, HasRead, HasCrossed, Wrote};
 
 use super::{Tables, end};
-use pf_base::{Errno, Fault, MAX_WRITE, PIPE_BUF, Progress, Side};
+use pf_base::{Crossing, Errno, Fault, MAX_WRITE, PIPE_BUF, Progress, Side};
 use pf_frame::Frames;
 use std::alloc::Global;
 
@@ -86,5 +87,46 @@ impl Tables {
         let mut bytes = Vec::with_capacity(alloc, count)?;
         let progress = pipe.read_onto(door, n as usize, &mut bytes);
         Ok(Taken { progress, bytes })
+    }
+
+    /// Brings at most n bytes from the front of the pipe that one descriptor of a process reads to the end of the pipe that
+    /// another one writes: a copy of them, or the bytes themselves.
+    pub fn cross_now<F: Frames>(
+        &mut self,
+        door: &mut F,
+        crossing: Crossing,
+        pid: u32,
+        source: u32,
+        sink: u32,
+        n: u64,
+    ) -> Result<Progress, Errno>
+        requires fact { F.fact door.old }
+        requires owns { Owns (F.live door.old) self.old }
+        ensures fact { F.fact door.new }
+        ensures rest { F.rest door.new ≡ F.rest door.old }
+        ensures owns { Owns (F.live door.new) self.new }
+        ensures limits { self.new.limits ≡ self.old.limits }
+        // It came as far as the machine's, or is refused as that is.
+        ensures crossed { HasCrossed (F.live door.new) self.new result
+            (attempted_cross crossing (meaning (F.live door.old) self.old.state) pid source sink n) }
+
+        // No frame is taken. Where no byte came, nothing has changed.
+        ensures takes { (F.live door.new).held ≤ (F.live door.old).held }
+        ensures untouched { IfOk result
+            (λ progress. moved progress ≡ 0 → (self.new ≡ self.old) × (door.new ≡ door.old)) }
+        ensures refused { OnErr result ((self.new ≡ self.old) × (door.new ≡ door.old)) }
+    {
+        let from = end(&self.processes, &self.descriptions, pid, source, Side::Read)?;
+        let to = end(&self.processes, &self.descriptions, pid, sink, Side::Write)?;
+        if from.pipe.serial == to.pipe.serial {
+            return Err(Errno::EINVAL);
+        }
+        // All slots together are within the reservation, which is far below the end of a count.
+        let _most = self.config.reserve();
+        let mut taken = self.pipes.take_out(to.pipe);
+        let pipe = self.pipes.value_mut(from.pipe);
+        let progress = pipe.cross_now(door, crossing, &mut taken, n as usize);
+        self.pipes.put_back(to.pipe, taken);
+        Ok(progress)
     }
 }

@@ -5,6 +5,5 @@ pub returns : goal.returns
 returns c = record {
   reads = λ q writers n. laws.reads q n writers;
   writes = λ q readers whole x. laws.writes q whole x readers;
-  tees = λ source sink writers readers n. laws.tees source sink n writers readers;
-  splices = λ source sink writers readers n. laws.splices source sink n writers readers;
+  crosses = λ c source sink writers readers n. laws.crosses source sink n c writers readers;
 }
