@@ -8,8 +8,8 @@ use Rattle.std.proofs.lemmas.List.Sums.{sum_by-cons, get_or-le-sum_by}
 use Rattle.pf_frame.specs.Bytes.{filled}
 use Rattle.pf_frame.specs.Counted.{positives, live_by}
 use Rattle.pf_frame.specs.CountedLaws.{positives_more, positives_less, positives_same, positives_none, positives_zero, sum_none, sum_set, counted_within}
-use Rattle.pf_frame.specs.Live.{Live, Takes, Releases, Fills, IsIdle}
-use Rattle.pf_frame.specs.LiveLaws.{is_filled, takes_as, releases_as, none_at}
+use Rattle.pf_frame.specs.Live.{Live, Takes, Shares, Releases, Fills, IsIdle}
+use Rattle.pf_frame.specs.LiveLaws.{is_filled, takes_as, shares_as, releases_as, none_at}
 use Rattle.pf_pool.specs.Owned.{mine, IsPool, live_of, nobody, others_of, rest_of}
 
 pub mine_at : (ns : ℕ) (owners counts : List ℕ) (q : ℕ) → length owners ≡ length counts → slice_index (mine ns owners counts) q ≡ (if slice_index owners q == ns then slice_index counts q else 0)
@@ -147,9 +147,10 @@ pool_releases_last owners counts reserves held ns q p exists own some =
       same = length-set held ns _ ∙ p.same;
     }
 
-pub pool_releases_more : (owners counts reserves held : List ℕ) (ns q v : ℕ) → IsPool owners counts reserves held → slice_index owners q ≡ ns → 0 < slice_index counts q → 0 < v
+-- another count above 0 charges nobody
+pub pool_counts : (owners counts reserves held : List ℕ) (ns q v : ℕ) → IsPool owners counts reserves held → slice_index owners q ≡ ns → 0 < slice_index counts q → 0 < v
     → IsPool owners (slice_set counts q v) reserves held
-pool_releases_more owners counts reserves held ns q v p own some left =
+pool_counts owners counts reserves held ns q v p own some left =
     let size : length (slice_set counts q v) ≡ length counts = length-set counts q v in
     let counted : slice_index (mine ns owners counts) q ≡ slice_index counts q = count_is ns owners counts q p.owned own in
     let own_same : positives (mine ns owners (slice_set counts q v)) ≡ positives (mine ns owners counts) = ap (λ (xs : List ℕ). positives xs) (mine-count_own ns owners counts q v own) ∙ positives_same (mine ns owners counts) q v (omega arith) left in
@@ -203,6 +204,14 @@ pub rest_takes : (ns q : ℕ) (owners owners' counts counts' reserves : List ℕ
 rest_takes ns q owners owners' counts counts' reserves pages pages' o c p none =
     same_rest ns owners owners' counts counts' reserves pages pages' (rw c (length-set counts q 1)) (λ m ne. rw (o, c, p) (ap (λ (xs : List ℕ). live_by (slice_index reserves m) xs pages) (mine-set_other m ns owners counts q 1 ne (idle_is m owners counts q none))))
 
+pub mine_shares : (ns q : ℕ) (owners counts counts' reserves : List ℕ) (pages pages' : List (List ℕ)) → counts' ≡ slice_set counts q (slice_index counts q + 1) → pages' ≡ pages → length owners ≡ length counts → 0 < slice_index (mine ns owners counts) q
+    → Shares (live_of ns owners counts reserves pages) (live_of ns owners counts' reserves pages') q
+mine_shares ns q owners counts counts' reserves pages pages' c p e some =
+    let own : slice_index owners q ≡ ns = owner_is ns owners counts q e some in
+    let higher : mine ns owners (slice_set counts q (slice_index counts q + 1)) ≡ slice_set (mine ns owners counts) q (slice_index (mine ns owners counts) q + 1)
+    = mine-count_own ns owners counts q (slice_index counts q + 1) own ∙ ap (λ (n : ℕ). slice_set (mine ns owners counts) q (n + 1)) (sym (count_is ns owners counts q e own)) in
+    shares_as _ _ (mine ns owners counts) (mine ns owners counts') pages pages' q refl (rw c higher) p some
+
 pub mine_releases : (ns q : ℕ) (owners counts counts' reserves : List ℕ) (pages pages' : List (List ℕ)) → counts' ≡ slice_set counts q (slice_index counts q - 1) → pages' ≡ pages → length owners ≡ length counts → 0 < slice_index (mine ns owners counts) q
     → Releases (live_of ns owners counts reserves pages) (live_of ns owners counts' reserves pages') q
 mine_releases ns q owners counts counts' reserves pages pages' c p e some =
@@ -211,11 +220,11 @@ mine_releases ns q owners counts counts' reserves pages pages' c p e some =
     = mine-count_own ns owners counts q (slice_index counts q - 1) own ∙ ap (λ (n : ℕ). slice_set (mine ns owners counts) q (n - 1)) (sym (count_is ns owners counts q e own)) in
     releases_as _ _ (mine ns owners counts) (mine ns owners counts') pages pages' q refl (rw c lower) p some
 
-pub rest_releases : (ns q : ℕ) (owners counts counts' reserves : List ℕ) (pages pages' : List (List ℕ)) → counts' ≡ slice_set counts q (slice_index counts q - 1) → pages' ≡ pages → length owners ≡ length counts → 0 < slice_index (mine ns owners counts) q
+pub rest_counts : (ns q v : ℕ) (owners counts counts' reserves : List ℕ) (pages pages' : List (List ℕ)) → counts' ≡ slice_set counts q v → pages' ≡ pages → length owners ≡ length counts → 0 < slice_index (mine ns owners counts) q
     → rest_of ns owners counts' reserves pages' ≡ rest_of ns owners counts reserves pages
-rest_releases ns q owners counts counts' reserves pages pages' c p e some =
+rest_counts ns q v owners counts counts' reserves pages pages' c p e some =
     let own : slice_index owners q ≡ ns = owner_is ns owners counts q e some in
-    same_rest ns owners owners counts counts' reserves pages pages' (rw c (length-set counts q (slice_index counts q - 1))) (λ m ne. rw (c, p) (ap (λ (xs : List ℕ). live_by (slice_index reserves m) xs pages) (mine-count_other m ns owners counts q _ ne own (other_is m ns owners counts q e ne own))))
+    same_rest ns owners owners counts counts' reserves pages pages' (rw c (length-set counts q v)) (λ m ne. rw (c, p) (ap (λ (xs : List ℕ). live_by (slice_index reserves m) xs pages) (mine-count_other m ns owners counts q v ne own (other_is m ns owners counts q e ne own))))
 
 pub mine_fills : (ns q at : ℕ) (xs owners counts counts' reserves : List ℕ) (pages pages' : List (List ℕ)) → counts' ≡ counts → pages' ≡ slice_set pages q (filled at xs (slice_index_or pages q [])) → q < length pages → 0 < slice_index (mine ns owners counts) q
     → Fills (live_of ns owners counts reserves pages) (live_of ns owners counts' reserves pages') q at xs
@@ -244,6 +253,11 @@ pub taken_pool : (owners counts counts' reserves held : List ℕ) (ns q h : ℕ)
     → IsPool (slice_set owners q ns) counts' reserves (slice_set held ns (h + 1))
 taken_pool owners counts counts' reserves held ns q h p exists less none credit c e = rw (c, e) (pool_takes owners counts reserves held ns q p (omega (arith, p.same)) less none (omega (arith, p.each ns)))
 
+pub shared_pool : (owners counts counts' reserves held : List ℕ) (ns q : ℕ) → IsPool owners counts reserves held → 0 < slice_index (mine ns owners counts) q → counts' ≡ slice_set counts q (slice_index counts q + 1)
+    → IsPool owners counts' reserves held
+shared_pool owners counts counts' reserves held ns q p some c =
+    rw c (pool_counts owners counts reserves held ns q _ p (owner_is ns owners counts q p.owned some) (counted ns owners counts q p.owned some) (omega arith))
+
 pub held_some : (owners counts reserves held : List ℕ) (ns q : ℕ) → IsPool owners counts reserves held → 0 < slice_index (mine ns owners counts) q → 0 < slice_index held ns
 held_some owners counts reserves held ns q p some = omega (arith, p.each ns, positives_less (mine ns owners counts) q some)
 
@@ -261,7 +275,7 @@ released_more owners counts counts' reserves held ns q p some c left =
     let counts_some : 0 < slice_index counts q = counted ns owners counts q p.owned some in
     let here : slice_index (slice_set counts q (slice_index counts q - 1)) q ≡ slice_index counts q - 1 = get_or-set_same counts q _ 0 (counted_within counts q counts_some) in
     let same : slice_index counts' q ≡ slice_index counts q - 1 = ap (λ (xs : List ℕ). slice_index xs q) c ∙ here in
-    rw c (pool_releases_more owners counts reserves held ns q _ p (owner_is ns owners counts q p.owned some) counts_some (omega arith))
+    rw c (pool_counts owners counts reserves held ns q _ p (owner_is ns owners counts q p.owned some) counts_some (omega arith))
 
 -- where no frame is live, nobody holds any
 mine_none : (ns n : ℕ) (owners : List ℕ) → positives (mine ns owners (replicate n 0)) ≡ 0

@@ -30,6 +30,10 @@ impl Frames for Door<'_> {
         self.pool.take_for(self.ns)
     }
 
+    fn share(&mut self, no: FrameNo) {
+        self.pool.share_of(self.ns, no);
+    }
+
     fn release(&mut self, no: FrameNo) {
         self.pool.release_of(self.ns, no);
     }

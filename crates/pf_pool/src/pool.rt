@@ -1,4 +1,4 @@
-ghost use Rattle.std.specs.Prelude.{◌≡◌, ℕ, ◌+◌, ◌-◌, ◌<◌, ◌≤◌, length, sum, slice_index, slice_set};
+ghost use Rattle.std.specs.Prelude.{◌≡◌, ℕ, ◌+◌, ◌-◌, ◌<◌, ◌≤◌, ◌^◌, length, sum, slice_index, slice_set};
 ghost use Rattle.pf_pool.specs.Owned.{IsPool};
 
 use crate::door::Door;
@@ -10,6 +10,9 @@ use std::alloc::{AllocError, Global};
 ///
 /// A live frame belongs to one namespace; any other may go to whoever has a credit. Since the reservations' sum is
 /// no more than the number of frames, a credit always finds one.
+///
+/// A frame is charged once to its namespace, however many slots name it, and until none does. The counts of one
+/// namespace never show in another: that is what `rest` says of each call below.
 #[derive(Drop)]
 pub struct FramePool {
     table: FrameTable,
@@ -32,7 +35,7 @@ fn sum_of(reserves: &[u32]) -> u64
 impl FramePool {
     ghost use Rattle.std.specs.Prelude.{MatchResult, take, drop, IfOk};
     ghost use Rattle.pf_base.specs.declared.TheConstants.{PAGE_SIZE};
-    ghost use Rattle.pf_frame.specs.Live.{Takes, Releases, Fills};
+    ghost use Rattle.pf_frame.specs.Live.{Takes, Shares, Releases, Fills};
     ghost use Rattle.pf_pool.specs.Faults.{fault_of, IsFault};
     ghost use Rattle.pf_pool.specs.Pool.{pool_live, pool_rest, IsFresh, frames_of, namespaces_of, all_held};
 
@@ -117,6 +120,8 @@ impl FramePool {
     }
 
     /// How many slots name a frame, 0 where it is not live.
+    ///
+    /// A count above 1 is of a frame that several slots name, all of its one namespace: a release then frees nothing.
     pub fn count(&self, no: FrameNo) -> u32
         ensures live { (ns : ℕ) → 0 < (pool_live self.now ns).count no
             → result ≡ (pool_live self.now ns).count no }
@@ -146,7 +151,18 @@ impl FramePool {
         no
     }
 
-    /// Takes one count from a namespace's frame.
+    /// Counts one more slot that names a namespace's frame. It charges nothing: the frame is held once.
+    pub(crate) fn share_of(&mut self, ns: u32, no: FrameNo)
+        requires exists { ns < namespaces_of self.old }
+        requires is_live { 0 < (pool_live self.old ns).count no }
+        requires few { (pool_live self.old ns).count no + 1 < 2 ^ 32 }
+        ensures shares { Shares (pool_live self.old ns) (pool_live self.new ns) no }
+        ensures rest { pool_rest self.new ns ≡ pool_rest self.old ns }
+    {
+        self.table.share(no);
+    }
+
+    /// Takes one count from a namespace's frame. At a count above 1 this frees nothing, and the frame stays charged.
     pub(crate) fn release_of(&mut self, ns: u32, no: FrameNo)
         requires exists { ns < namespaces_of self.old }
         requires is_live { 0 < (pool_live self.old ns).count no }

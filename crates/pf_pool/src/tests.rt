@@ -105,3 +105,40 @@ fn frames_pass_between_tenants(rt: HostRuntime) -> Result<(), Fail> {
     assert_eq!(rt; pool.free(), 3);
     Ok(())
 }
+
+// What a pool of two namespaces has charged to each, how many frames are free, and the counts of two frames.
+fn charges(pool: &FramePool, ours: FrameNo, theirs: FrameNo) -> [u32; 5] {
+    [
+        pool.held(0),
+        pool.held(1),
+        pool.free(),
+        pool.count(ours),
+        pool.count(theirs),
+    ]
+}
+
+#[test]
+fn a_shared_frame_is_held_until_its_last_release(rt: HostRuntime) -> Result<(), Fail> {
+    let alloc = rt.alloc();
+    let mut pool = FramePool::new(
+        alloc,
+        old_frames(alloc, 4)?,
+        Vec::from_slice(alloc, &[2, 2])?,
+    )?;
+    let mut second = pool.door(1);
+    assert_eq!(rt; second.credits(), 2);
+    let theirs = second.take();
+    let mut first = pool.door(0);
+    assert_eq!(rt; first.credits(), 2);
+    let ours = first.take();
+    first.fill(ours, 1, &[7]);
+    assert_eq!(rt; charges(first.pool, ours, theirs), [1, 1, 2, 1, 1]);
+    first.share(ours);
+    assert_eq!(rt; charges(first.pool, ours, theirs), [1, 1, 2, 2, 1]);
+    first.release(ours);
+    assert_eq!(rt; charges(first.pool, ours, theirs), [1, 1, 2, 1, 1]);
+    assert_eq!(rt; first.view(ours, 0, 3), [OLD, 7, OLD].as_slice());
+    first.release(ours);
+    assert_eq!(rt; charges(first.pool, ours, theirs), [0, 1, 3, 0, 1]);
+    Ok(())
+}

@@ -2,7 +2,7 @@ use Rattle.std.proofs.Common.{◌<◌, List, length, map, arith, ap, sym, ◌∙
 use Rattle.std.proofs.lemmas.List.{get_or_read}
 use Rattle.pf_frame.specs.declared.frame.Frame.{Frame}
 use Rattle.pf_frame.specs.Pages.{page_of}
-use Rattle.pf_pool.specs.OwnedLaws.{counted, held_some, mine_releases, rest_releases, released_last, released_more}
+use Rattle.pf_pool.specs.OwnedLaws.{counted, held_some, mine_releases, rest_counts, released_last, released_more}
 use Rattle.pf_pool.proofs.pool.FramePool.release_of.Goals as goal
 
 pub release-requires : goal.release-requires
@@ -25,10 +25,10 @@ pub returns-then-count-eq0-clause-releases : goal.returns-then-count-eq0-clause-
 returns-then-count-eq0-clause-releases c = mine_releases _ _ _ _ _ _ _ _ c.release.ensures.counts (ap (λ (fs : List Frame). map page_of fs) c.release.ensures.frames) c.args.self.now.kept.owned c.requires.is_live
 
 pub returns-then-count-eq0-clause-rest : goal.returns-then-count-eq0-clause-rest
-returns-then-count-eq0-clause-rest c = rest_releases _ _ _ _ _ _ _ _ c.release.ensures.counts (ap (λ (fs : List Frame). map page_of fs) c.release.ensures.frames) c.args.self.now.kept.owned c.requires.is_live
+returns-then-count-eq0-clause-rest c = rest_counts _ _ _ _ _ _ _ _ _ c.release.ensures.counts (ap (λ (fs : List Frame). map page_of fs) c.release.ensures.frames) c.args.self.now.kept.owned c.requires.is_live
 
 pub returns-else-count-eq0-clause-releases : goal.returns-else-count-eq0-clause-releases
 returns-else-count-eq0-clause-releases c = mine_releases _ _ _ _ _ _ _ _ c.release.ensures.counts (ap (λ (fs : List Frame). map page_of fs) c.release.ensures.frames) c.args.self.now.kept.owned c.requires.is_live
 
 pub returns-else-count-eq0-clause-rest : goal.returns-else-count-eq0-clause-rest
-returns-else-count-eq0-clause-rest c = rest_releases _ _ _ _ _ _ _ _ c.release.ensures.counts (ap (λ (fs : List Frame). map page_of fs) c.release.ensures.frames) c.args.self.now.kept.owned c.requires.is_live
+returns-else-count-eq0-clause-rest c = rest_counts _ _ _ _ _ _ _ _ _ c.release.ensures.counts (ap (λ (fs : List Frame). map page_of fs) c.release.ensures.frames) c.args.self.now.kept.owned c.requires.is_live
