@@ -79,11 +79,12 @@ impl Space {
             (called_cross crossing (meaning (F.live door.old) self.old.state) pid source sink n) }
         ensures succeeds { result ≢ Err Fault.NoMemory }
     {
-        match self.tables.cross_now(door, crossing, pid, source, sink, n)? {
-            Progress::Moved(n) => Ok(Reply::Num(n)),
-            Progress::EndOfFile => Ok(Reply::Num(0)),
-            Progress::NoReader => Err(Errno::EPIPE.into()),
-            Progress::WouldBlock => Err(Errno::EAGAIN.into()),
-        }
+        let number = match self.tables.cross_now(door, crossing, pid, source, sink, n)? {
+            Progress::Moved(number) => number,
+            Progress::EndOfFile => 0,
+            Progress::NoReader => return Err(Errno::EPIPE.into()),
+            Progress::WouldBlock => return Err(Errno::EAGAIN.into()),
+        };
+        Ok(Reply::Num(number))
     }
 }
