@@ -1,8 +1,11 @@
 -- What a pipe means, and what a transfer through it leaves.
 
-use Rattle.std.specs.Prelude.{◌≡◌, ℕ, ◌<◌, ◌≤◌, [], length}
+use Rattle.std.specs.Prelude.{◌≡◌, ℕ, ◌<◌, ◌≤◌, [], length, Result, Ok, Err}
 use Rattle.pf_base.specs.Progress.{Passed, Crossed, source_after, cross_now}
 use Rattle.pf_base.specs.Queue.{tee_number, after_tee}
+use Rattle.pf_base.specs.declared.errno.Errno.TheVariants.{EBUSY}
+use Rattle.pf_base.specs.declared.fault.Fault.{Fault}
+use Rattle.pf_base.specs.declared.fault.Fault.TheVariants as faults
 use Rattle.pf_base.specs.declared.progress.Crossing.{Crossing}
 use Rattle.pf_base.specs.declared.progress.Progress.{Progress}
 use Rattle.pf_base.specs.declared.progress.Progress.TheVariants.{Moved}
@@ -76,3 +79,11 @@ pub record GoesIn (f : Live) (c : Crossing) (source sink : CountedPipe) (n : ℕ
 abbrev pub Goes : CountedPipe → CountedPipe → ℕ → Type 0
 Goes source sink n =
     (f : Live) (c : Crossing) → IsSound f → Stands f source.ring.windows → GoesIn f c source sink n
+
+-- a pipe has another number of slots, with all that it holds; or it has more in use, or memory was wanted, and it is as it
+-- was
+abbrev pub Resizes : CountedPipe → CountedPipe → ℕ → Result (Unit {0}) Fault → Type 0
+Resizes old new slots (Ok done) = (length old.ring.windows ≤ slots)
+    × (new ≡ record old { ring = record { capacity = slots; windows = old.ring.windows } })
+Resizes old new slots (Err (faults.Errno e)) = (slots < length old.ring.windows) × (e ≡ EBUSY) × (new ≡ old)
+Resizes old new slots (Err faults.NoMemory) = (length old.ring.windows ≤ slots) × (new ≡ old)

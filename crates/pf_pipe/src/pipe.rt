@@ -1,4 +1,4 @@
-ghost use Rattle.std.specs.Prelude.{◌≡◌, ◌+◌, ◌-◌, ◌<◌, ◌≤◌, ◌^◌, [], ◌++◌, length, drop, min, nat_eq, nat_lt, if◌then◌else◌, vec_len, vec_capacity, IfOk, IfSome, IfNone};
+ghost use Rattle.std.specs.Prelude.{◌≡◌, ◌≢◌, ◌+◌, ◌-◌, ◌<◌, ◌≤◌, ◌^◌, [], ◌++◌, length, drop, min, nat_eq, nat_lt, if◌then◌else◌, vec_len, vec_capacity, IfOk, IfSome, IfNone, Err};
 ghost use Rattle.pf_base.specs.Progress.{moved, portion, read_now, write_now, cross_now};
 ghost use Rattle.pf_base.specs.declared.progress.Crossing.TheVariants.{Tee, Splice};
 ghost use Rattle.pf_base.specs.declared.progress.Progress.TheVariants.{WouldBlock, EndOfFile};
@@ -6,9 +6,9 @@ ghost use Rattle.pf_base.specs.Queue.{room_of, bytes_of, taken};
 ghost use Rattle.pf_frame.specs.Live.{Live, IsSound};
 ghost use Rattle.pf_ring.specs.Ring.{queue_of};
 ghost use Rattle.pf_ring.specs.Windows.{Stands, Keeps, SameBytes, PutsBehind, bytes_in};
-ghost use Rattle.pf_pipe.specs.Pipe.{ends, with_ends, Passes, Crosses, Stops, Goes};
+ghost use Rattle.pf_pipe.specs.Pipe.{ends, with_ends, Passes, Crosses, Stops, Goes, Resizes};
 
-use pf_base::{Crossing, Progress, Side};
+use pf_base::{Crossing, Errno, Fault, Progress, Side};
 use pf_frame::Frames;
 use pf_ring::SlotRing;
 use std::alloc::{AllocError, Global};
@@ -134,6 +134,21 @@ impl Pipe {
             Side::Read => self.readers -= 1,
             Side::Write => self.writers -= 1,
         }
+    }
+
+    /// Gives the pipe another number of slots (fcntl(2), F_SETPIPE_SZ). EBUSY where more are in use. It costs no more than
+    /// the slots in use, and copies no byte.
+    pub fn set_size(&mut self, alloc: Global, slots: usize) -> Result<(), Fault>
+        requires { slots < 2 ^ 32 }
+        ensures resizes { Resizes self.old self.new slots result }
+        // Memory is wanted where the number changes.
+        ensures succeeds { slots ≡ self.old.ring.capacity → result ≢ Err Fault.NoMemory }
+    {
+        if self.used() > slots {
+            return Err(Errno::EBUSY.into());
+        }
+        self.ring.resized(alloc, slots)?;
+        Ok(())
     }
 
     /// Writes what goes in now (write(2)): as many of the bytes as there is room for, or all or none of them where they

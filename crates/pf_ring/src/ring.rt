@@ -1,5 +1,5 @@
-ghost use Rattle.std.specs.Prelude.{◌≡◌, ℕ, ◌+◌, ◌-◌, ◌<◌, ◌≤◌, ◌^◌, [], ◌++◌, length, take, drop, min, vec_len, vec_capacity, IfOk};
-ghost use Rattle.pf_base.specs.Queue.{Queue, room_of, bytes_of, put, taken, after_take, tee_number, after_tee, after_splice, empty};
+ghost use Rattle.std.specs.Prelude.{◌≡◌, ℕ, ◌+◌, ◌-◌, ◌<◌, ◌≤◌, ◌^◌, [], ◌++◌, length, take, drop, min, vec_len, vec_capacity, IfOk, IsOk, OnOk, OnErr};
+ghost use Rattle.pf_base.specs.Queue.{Queue, room_of, bytes_of, put, taken, after_take, tee_number, after_tee, after_splice, with_capacity, empty};
 ghost use Rattle.pf_frame.specs.Live.{Live, IsSound};
 ghost use Rattle.pf_ring.specs.Ring.{segment_of, queue_of};
 ghost use Rattle.pf_base.specs.declared.TheConstants.{PAGE_SIZE};
@@ -250,6 +250,27 @@ impl SlotRing {
         let number = self.tee_into(f, sink, n);
         self.discard(f, number);
         number
+    }
+
+    /// Gives the ring another number of slots (fcntl(2), F_SETPIPE_SZ): not fewer than are in use. What it holds stays,
+    /// and so does the room of the last slot in use. It costs no more than the slots in use, and copies no byte.
+    pub fn resized(&mut self, alloc: Global, slots: usize) -> Result<(), AllocError>
+        requires fits { length self.old.windows ≤ slots }
+        requires few { slots < 2 ^ 32 }
+        ensures ring { OnOk result (self.new ≡ record { capacity = slots; windows = self.old.windows }) }
+        ensures queue { OnOk result ((f : Live) → queue_of f self.new ≡ with_capacity slots (queue_of f self.old)) }
+        // Memory is wanted where the number changes, and where it is refused nothing has changed.
+        ensures refused { OnErr result (self.new ≡ self.old) }
+        ensures succeeds { slots ≡ self.old.capacity → IsOk result }
+    {
+        if slots == self.slots {
+            return Ok(());
+        }
+        let mut windows = VecDeque::with_capacity(alloc, slots)?;
+        windows.append(&mut self.windows).unwrap();
+        self.windows = windows;
+        self.slots = slots;
+        Ok(())
     }
 
     // Drops bytes from the front, of which there are so many.
