@@ -33,15 +33,12 @@ resized s n pipe slots = record s { pipes = put_at s.pipes n (holding (with_capa
 pub record CountersAreSums : Type 0 where
   -- where there is no pipe, nobody is charged
   pub none : (p : UserPages) → p.users ≡ [] → p.total ≡ 0 → AreSums p opening
-
   -- a new pipe is charged to its owner
   pub made : (old new : UserPages) (s : State Queue) (pipe : Pipe Queue) → AreSums old s
       → Charges old new pipe.owner pipe.queue.capacity → AreSums new (with_pipe s pipe)
-
   -- a pipe that goes is refunded to its owner
   pub gone : (old new : UserPages) (s : State Queue) (n : ℕ) (pipe : Pipe Queue) → AreSums old s
       → at s.pipes n ≡ Some pipe → Charges new old pipe.owner pipe.queue.capacity → AreSums new (without_pipe s n)
-
   -- growth is charged, and shrinking is refunded
   pub grown : (old new : UserPages) (s : State Queue) (n : ℕ) (pipe : Pipe Queue) (pages : ℕ) → AreSums old s
       → at s.pipes n ≡ Some pipe → Charges old new pipe.owner pages
@@ -49,7 +46,6 @@ pub record CountersAreSums : Type 0 where
   pub shrunk : (old new : UserPages) (s : State Queue) (n : ℕ) (pipe : Pipe Queue) (slots pages : ℕ) → AreSums old s
       → at s.pipes n ≡ Some pipe → pipe.queue.capacity ≡ slots + pages → Charges new old pipe.owner pages
       → AreSums new (resized s n pipe slots)
-
   -- a pipe's pages are among its owner's, so they can be refunded
   pub covers : (p : UserPages) (s : State Queue) (n : ℕ) (pipe : Pipe Queue) → AreSums p s → at s.pipes n ≡ Some pipe
       → pipe.queue.capacity ≤ charged_to p pipe.owner

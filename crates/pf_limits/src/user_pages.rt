@@ -120,7 +120,13 @@ impl UserPages {
     ///
     /// Soft and Hard: for an unprivileged caller the owner would pass its soft limit, or else its hard one. Reserve:
     /// else, all users together would pass the reservation, whoever asks (this profile's choice).
-    pub fn may_grow(&self, owner: u32, privileged: bool, from: u32, to: u32) -> Result<(), LimitFault>
+    pub fn may_grow(
+        &self,
+        owner: u32,
+        privileged: bool,
+        from: u32,
+        to: u32,
+    ) -> Result<(), LimitFault>
         requires { from ≤ charged_to self.now owner }
         ensures { result
             ≡ may_grow self.now.limits privileged (charged_to self.now owner) self.now.total from to }

@@ -8,7 +8,7 @@ use Rattle.pf_limits.proofs.user_pages.UserPages.refund.Goals as goal
 pub invariant_of-self : goal.invariant_of-self
 invariant_of-self c =
     let was : c.charged.result ≡ unwrap_or (get nat_eq c.self.inside.users c.args.uid) 0 =
-          c.charged.ensures.number ∙ sym (ap (λ p. charged_to p c.args.uid) c.self.view_is) in
+    c.charged.ensures.number ∙ sym (ap (λ p. charged_to p c.args.uid) c.self.view_is) in
     IsKept-gone c.self.inside.users c.remove.new.self c.args.uid _ _ _ c.self.invariant
     (omega (arith, c.if-left-eq0.true, was, c.charged.ensures.number, c.requires))
     c.remove.ensures.entries c.remove.ensures.updates.0
@@ -19,6 +19,6 @@ invariant_of-self-2 c =
     let finds = c.in-Some.ensures.value in
     let writes = c.get_mut.follows.holds left in
     let was : c.charged.result ≡ c.in-Some.charged.now =
-          c.charged.ensures.number ∙ sym (ap (λ p. charged_to p c.args.uid) c.self.view_is) ∙ sym (ap (λ o. unwrap_or o 0) finds) in
+    c.charged.ensures.number ∙ sym (ap (λ p. charged_to p c.args.uid) c.self.view_is) ∙ sym (ap (λ o. unwrap_or o 0) finds) in
     IsKept-refund c.self.inside.users (c.get_mut.follows.lender left) c.args.uid _ _ _ c.self.invariant _ left (sym finds)
     (omega (arith, was, c.charged.ensures.number, c.requires)) (omega (arith, c.if-left-eq0.false)) writes.0 (writes.3 (ap is_some (sym finds))).0
