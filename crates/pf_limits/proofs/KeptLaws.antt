@@ -1,9 +1,9 @@
 -- What a map of users' pages keeps through a charge and a refund: each user has a page at least, and the total is their sum.
 
-use Rattle.std.proofs.Common.{◌≡◌, ◌≢◌, ℕ, ◌+◌, ◌-◌, ◌<◌, ◌≤◌, Bool, true, false, cond, Option, Some, None, sym, ap, ◌∙◌, arith, nat_eq}
+use Rattle.std.proofs.Common.{◌≡◌, ◌≢◌, ℕ, ◌+◌, ◌<◌, ◌≤◌, Bool, true, false, cond, Option, Some, None, sym, ap, ◌∙◌, arith, nat_eq}
 use Rattle.std.specs.Prelude.{sum, unwrap_or}
 use Rattle.std.specs.List.Sorted.{IsPermutation}
-use Rattle.std.specs.Map.{lookup, remove_entry, set_value, values_of}
+use Rattle.std.specs.Map.{remove_entry, set_value, values_of}
 use Rattle.std.specs.HashMap.{HashMap, get, values, PutsEntry}
 use Rattle.std.proofs.lemmas.Iterator.Adapters.{option_map_id}
 use Rattle.std.proofs.lemmas.Map.Entries.{sum_by_puts_entry, sum_by_values_permutation, sum_by-remove_entry, sum_by-set_value}
@@ -18,7 +18,7 @@ module _ {S : Type 0} (m n : HashMap ℕ ℕ S) (uid : ℕ) (w : Option ℕ) (up
       by_test true e h = apart (sym e ∙ h)
       by_test false e h = some u (sym e ∙ h)
 
-  -- the pages are moved to another sum, which is within the reservation too
+  -- where the total is their sum again, and within the reservation
   IsKept-update : (reserve old new : ℕ) → w ≢ Some 0 → new ≡ sum (values n) → new ≤ reserve → IsKept reserve m.entries old → IsKept reserve n.entries new
   IsKept-update reserve old new apart is within kept = record {
     some = some-update apart kept.some;
@@ -30,34 +30,34 @@ module _ {S : Type 0} (m n : HashMap ℕ ℕ S) (uid : ℕ) (w : Option ℕ) (up
 pub charged-le-total : {S : Type 0} (m : HashMap ℕ ℕ S) (uid reserve total : ℕ) → IsKept reserve m.entries total → unwrap_or (get nat_eq m uid) 0 ≤ total
 charged-le-total m uid reserve total kept = omega (arith, kept.sum, lookup-le-sum (nat_eq uid) m.entries)
 
-module _ {S : Type 0} (m n : HashMap ℕ ℕ S) (uid reserve total pages : ℕ) (kept : IsKept reserve m.entries total) where
+module _ {S : Type 0} (m n : HashMap ℕ ℕ S) (uid reserve old new pages : ℕ) (kept : IsKept reserve m.entries old) where
   -- a user has so many pages more
-  pub IsKept-charge : (v : ℕ) (old : Option ℕ) → v ≡ unwrap_or (get nat_eq m uid) 0 + pages → 0 < v → total + pages ≤ reserve → old ≡ get nat_eq m uid → PutsEntry nat_eq m n uid v old → ((q : ℕ) → get nat_eq n q ≡ cond (nat_eq uid q) (Some v) (get nat_eq m q)) → IsKept reserve n.entries (total + pages)
-  IsKept-charge v old more some within was puts updates =
-      let moved = sum_by_puts_entry (λ (x : ℕ). x) nat_eq m n uid v old was puts in
-      let had : unwrap_or old 0 ≡ unwrap_or (get nat_eq m uid) 0 = ap (λ o. unwrap_or o 0) was in
-      let same = ap (λ (o : Option ℕ). unwrap_or o 0) (option_map_id old) in
-      IsKept-update m n uid (Some v) updates reserve total (total + pages)
+  pub IsKept-charge : (v : ℕ) (was : Option ℕ) → new ≡ old + pages → new ≤ reserve → v ≡ unwrap_or (get nat_eq m uid) 0 + pages → 0 < v → was ≡ get nat_eq m uid → PutsEntry nat_eq m n uid v was → ((q : ℕ) → get nat_eq n q ≡ cond (nat_eq uid q) (Some v) (get nat_eq m q)) → IsKept reserve n.entries new
+  IsKept-charge v was total within more some had puts updates =
+      let moved = sum_by_puts_entry (λ (x : ℕ). x) nat_eq m n uid v was had puts in
+      let found : unwrap_or was 0 ≡ unwrap_or (get nat_eq m uid) 0 = ap (λ o. unwrap_or o 0) had in
+      let same = ap (λ (o : Option ℕ). unwrap_or o 0) (option_map_id was) in
+      IsKept-update m n uid (Some v) updates reserve old new
       (λ e. let none : v ≡ 0 = ap (λ (o : Option ℕ). unwrap_or o 0) e in omega (arith, none, some))
-      (omega (arith, kept.sum, moved, same, had, more))
+      (omega (arith, kept.sum, moved, same, found, more, total))
       within kept
 
   -- a user goes with all its pages
-  pub IsKept-gone : pages ≡ unwrap_or (get nat_eq m uid) 0 → IsPermutation (remove_entry (nat_eq uid) m.entries) n.entries → ((q : ℕ) → get nat_eq n q ≡ cond (nat_eq uid q) None (get nat_eq m q)) → IsKept reserve n.entries (total - pages)
-  IsKept-gone all entries updates =
+  pub IsKept-gone : new + pages ≡ old → unwrap_or (get nat_eq m uid) 0 ≡ pages → IsPermutation (remove_entry (nat_eq uid) m.entries) n.entries → ((q : ℕ) → get nat_eq n q ≡ cond (nat_eq uid q) None (get nat_eq m q)) → IsKept reserve n.entries new
+  IsKept-gone total all entries updates =
       let left = sum_by_values_permutation (λ (x : ℕ). x) _ _ entries in
       let moved = sum_by-remove_entry (λ (x : ℕ). x) (nat_eq uid) m.entries in
       let same = ap (λ (o : Option ℕ). unwrap_or o 0) (option_map_id (get nat_eq m uid)) in
-      IsKept-update m n uid None updates reserve total (total - pages) (λ e. absurd (cc))
-      (omega (arith, kept.sum, left, moved, same, all))
-      (omega (arith, kept.within)) kept
+      IsKept-update m n uid None updates reserve old new (λ e. absurd (cc))
+      (omega (arith, kept.sum, left, moved, same, all, total))
+      (omega (arith, kept.within, total)) kept
 
   -- a user has so many pages less, and some left
-  pub IsKept-refund : (had left : ℕ) → get nat_eq m uid ≡ Some had → had ≡ left + pages → 0 < left → n.entries ≡ set_value (nat_eq uid) m.entries left → ((q : ℕ) → get nat_eq n q ≡ cond (nat_eq uid q) (Some left) (get nat_eq m q)) → IsKept reserve n.entries (total - pages)
-  IsKept-refund had left was less some entries updates =
+  pub IsKept-refund : (had left : ℕ) → new + pages ≡ old → get nat_eq m uid ≡ Some had → had ≡ left + pages → 0 < left → n.entries ≡ set_value (nat_eq uid) m.entries left → ((q : ℕ) → get nat_eq n q ≡ cond (nat_eq uid q) (Some left) (get nat_eq m q)) → IsKept reserve n.entries new
+  IsKept-refund had left total was less some entries updates =
       let moved = sum_by-set_value (λ (x : ℕ). x) (nat_eq uid) m.entries had left was in
       let same : sum (values n) ≡ sum (values_of (set_value (nat_eq uid) m.entries left)) = ap (λ es. sum (values_of es)) entries in
-      IsKept-update m n uid (Some left) updates reserve total (total - pages)
+      IsKept-update m n uid (Some left) updates reserve old new
       (λ e. let none : left ≡ 0 = ap (λ (o : Option ℕ). unwrap_or o 0) e in omega (arith, none, some))
-      (omega (arith, kept.sum, moved, same, less))
-      (omega (arith, kept.within)) kept
+      (omega (arith, kept.sum, moved, same, less, total))
+      (omega (arith, kept.within, total)) kept

@@ -11,5 +11,7 @@ invariant_of-self-2 c =
     c.charged.ensures.number ∙ sym (ap (λ p. charged_to p c.args.uid) c.self.view_is) in
     let within : c.self.inside.total + c.args.pages ≤ c.self.inside.config.reserve =
     subst (λ (p : UserPages). p.total + c.args.pages ≤ p.limits.reserve) (sym c.self.view_is) c.requires in
-    IsKept-charge c.self.inside.users c.insert.new.self c.args.uid _ _ _ c.self.invariant _ _
-    (omega (arith, was)) (omega (arith, c.if-pages-eq0.false)) within c.in_ok-insert.ensures.old c.in_ok-insert.ensures.entries c.in_ok-insert.ensures.updates.0
+    let inserts = c.in_ok-insert.ensures in
+    IsKept-charge c.self.inside.users c.insert.new.self c.args.uid _ _ _ c.args.pages c.self.invariant _ _
+    (omega arith) (omega (arith, within)) (omega (arith, was)) (omega (arith, c.if-pages-eq0.false))
+    inserts.old inserts.entries inserts.updates.0
