@@ -1,10 +1,10 @@
 -- What a map of users' pages keeps through a charge and a refund: each user has a page at least, and the total is their sum.
 
 use Rattle.std.proofs.Common.{◌≡◌, ◌≢◌, ℕ, ◌+◌, ◌<◌, ◌≤◌, Bool, true, false, cond, Option, Some, None, sym, ap, ◌∙◌, arith, nat_eq}
-use Rattle.std.specs.Prelude.{sum, unwrap_or}
+use Rattle.std.specs.Prelude.{sum, unwrap_or, is_some}
 use Rattle.std.specs.List.Sorted.{IsPermutation}
 use Rattle.std.specs.Map.{remove_entry, set_value, values_of}
-use Rattle.std.specs.HashMap.{HashMap, get, values, PutsEntry}
+use Rattle.std.specs.HashMap.{HashMap, get, values, PutsEntry, WritesThrough}
 use Rattle.std.proofs.lemmas.Iterator.Adapters.{option_map_id}
 use Rattle.std.proofs.lemmas.Map.Entries.{sum_by_puts_entry, sum_by_values_permutation, sum_by-remove_entry, sum_by-set_value}
 use Rattle.std.proofs.lemmas.Map.Steps.{lookup-le-sum}
@@ -52,12 +52,13 @@ module _ {S : Type 0} (m n : HashMap ℕ ℕ S) (uid reserve old new pages : ℕ
       (omega (arith, kept.sum, left, moved, same, all, total))
       (omega (arith, kept.within, total)) kept
 
-  -- a user has so many pages less, and some left
-  pub IsKept-refund : (had left : ℕ) → new + pages ≡ old → get nat_eq m uid ≡ Some had → had ≡ left + pages → 0 < left → n.entries ≡ set_value (nat_eq uid) m.entries left → ((q : ℕ) → get nat_eq n q ≡ cond (nat_eq uid q) (Some left) (get nat_eq m q)) → IsKept reserve n.entries new
-  IsKept-refund had left total was less some entries updates =
-      let moved = sum_by-set_value (λ (x : ℕ). x) (nat_eq uid) m.entries had left was in
-      let same : sum (values n) ≡ sum (values_of (set_value (nat_eq uid) m.entries left)) = ap (λ es. sum (values_of es)) entries in
-      IsKept-update m n uid (Some left) updates reserve old new
-      (λ e. let none : left ≡ 0 = ap (λ (o : Option ℕ). unwrap_or o 0) e in omega (arith, none, some))
-      (omega (arith, kept.sum, moved, same, less, total))
-      (omega (arith, kept.within, total)) kept
+-- a user has so many pages less, and some left: what it has is written through what the map lent
+pub IsKept-refund : {S : Type 0} (m : HashMap ℕ ℕ S) (lender : ℕ → HashMap ℕ ℕ S) (uid reserve old new pages had left : ℕ) → IsKept reserve m.entries old → ((w : ℕ) → WritesThrough nat_eq (nat_eq uid) m w (lender w)) → get nat_eq m uid ≡ Some had → new + pages ≡ old → left + pages ≡ had → 0 < left → IsKept reserve (lender left).entries new
+IsKept-refund m lender uid reserve old new pages had left kept holds found total less some =
+    let writes = holds left in
+    let moved = sum_by-set_value (λ (x : ℕ). x) (nat_eq uid) m.entries had left found in
+    let same : sum (values (lender left)) ≡ sum (values_of (set_value (nat_eq uid) m.entries left)) = ap (λ es. sum (values_of es)) writes.0 in
+    IsKept-update m (lender left) uid (Some left) (writes.3 (ap is_some found)).0 reserve old new
+    (λ e. let none : left ≡ 0 = ap (λ (o : Option ℕ). unwrap_or o 0) e in omega (arith, none, some))
+    (omega (arith, kept.sum, moved, same, less, total))
+    (omega (arith, kept.within, total)) kept

@@ -1,5 +1,4 @@
-ghost use Rattle.std.specs.Prelude.{◌≡◌, ℕ, ◌+◌, ◌<◌, ◌≤◌, List, [], length, All, IsOk, OnOk, OnErr};
-ghost use Rattle.std.specs.List.{IsDistinct};
+ghost use Rattle.std.specs.Prelude.{◌≡◌, ◌+◌, ◌<◌, ◌≤◌, [], length, IsOk, OnOk, OnErr};
 ghost use Rattle.pf_base.specs.Capacities.{passes, slots_for, new_capacity, may_grow};
 ghost use Rattle.pf_limits.specs.UserPages.{charged_to, Charges, IsEach};
 
@@ -152,7 +151,7 @@ impl UserPages {
         ensures charged { OnOk result (Charges self.old self.new uid pages) }
         ensures refused { OnErr result (self.new ≡ self.old) }
 
-        // It succeeds where there is no new user.
+        // It succeeds where no user is new.
         ensures known { 0 < charged_to self.old uid → IsOk result }
         ensures nothing { pages ≡ 0 → IsOk result }
     {

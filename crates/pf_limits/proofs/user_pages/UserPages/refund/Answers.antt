@@ -1,5 +1,5 @@
-use Rattle.std.proofs.Common.{◌≡◌, ◌≤◌, ℕ, ◌-◌, nat_eq, sym, ap, ◌∙◌, arith}
-use Rattle.std.specs.Prelude.{unwrap_or, is_some}
+use Rattle.std.proofs.Common.{◌≡◌, ◌≤◌, nat_eq, sym, ap, ◌∙◌, arith}
+use Rattle.std.specs.Prelude.{unwrap_or}
 use Rattle.std.specs.HashMap.{get}
 use Rattle.pf_limits.proofs.KeptLaws.{charged-le-total, IsKept-gone, IsKept-refund}
 use Rattle.pf_limits.specs.UserPages.{charged_to}
@@ -17,14 +17,11 @@ invariant_of-self c =
 
 pub invariant_of-self-2 : goal.invariant_of-self-2
 invariant_of-self-2 c =
-    let left : ℕ = c.charged.result - c.args.pages in
     let finds = c.in-Some.ensures.value in
-    let writes = c.get_mut.follows.holds left in
     let had : unwrap_or (get nat_eq c.self.inside.users c.args.uid) 0 ≡ c.in-Some.charged.now = sym (ap (λ o. unwrap_or o 0) finds) in
     let was : c.charged.result ≡ c.in-Some.charged.now =
     c.charged.ensures.number ∙ sym (ap (λ p. charged_to p c.args.uid) c.self.view_is) ∙ had in
     let enough : c.args.pages ≤ c.charged.result = omega (arith, c.charged.ensures.number, c.requires) in
     let within = charged-le-total c.self.inside.users c.args.uid _ _ c.self.invariant in
-    IsKept-refund c.self.inside.users (c.get_mut.follows.lender left) c.args.uid _ _ _ c.args.pages c.self.invariant _ left
-    (omega (arith, was, had, within, enough)) (sym finds) (omega (arith, was, enough)) (omega (arith, c.if-left-eq0.false))
-    writes.0 (writes.3 (ap is_some (sym finds))).0
+    IsKept-refund c.self.inside.users c.get_mut.follows.lender c.args.uid _ _ _ c.args.pages _ _ c.self.invariant
+    c.get_mut.follows.holds (sym finds) (omega (arith, was, had, within, enough)) (omega (arith, was, enough)) (omega (arith, c.if-left-eq0.false))
