@@ -1,6 +1,8 @@
 pub mod QueueLaws
+pub mod CapacityLaws
 pub mod TransferLaws
 pub mod NumberedLaws
+pub mod ChargeLaws
 pub mod SweepLaws
 pub mod MachineLaws
 pub mod RunLaws
@@ -8,6 +10,7 @@ pub mod EventLaws
 pub mod FileLaws
 mod WorkedQueues
 mod WorkedPages
+mod WorkedCapacities
 mod WorkedFiles
 mod WorkedScript
 pub mod ScriptLemmas

@@ -14,6 +14,7 @@ pub mod Counts
 pub mod Sweep
 pub mod Processes
 pub mod Descriptors
+pub mod Capacities
 pub mod Pipes
 pub mod Transfers
 pub mod Machine

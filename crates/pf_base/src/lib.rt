@@ -2,6 +2,7 @@
 #![tactic(auto)]
 
 pub mod bytes;
+pub mod capacity;
 pub mod config;
 pub mod cred;
 pub mod errno;
@@ -14,6 +15,7 @@ pub mod script;
 pub mod step;
 
 pub use bytes::ByteString;
+pub use capacity::{LimitFault, pages_for};
 pub use config::{Config, ConfigFault};
 pub use cred::{Cred, Groups};
 pub use errno::Errno;

@@ -115,3 +115,31 @@ fn progress_compares_by_value(rt: HostRuntime) {
     assert_eq!(rt; Progress::Moved(3), Progress::Moved(3));
     assert!(rt; Side::Read != Side::Write);
 }
+
+#[test]
+fn bytes_have_their_pages(rt: HostRuntime) {
+    for (bytes, pages) in [
+        (0, 1),
+        (4_096, 1),
+        (4_097, 2),
+        (12_288, 4),
+        (1_048_577, 512),
+        (2_147_483_648, 524_288),
+        (u64::MAX, 1 << 52),
+    ] {
+        assert_eq!(rt; pages_for(bytes), pages, "{bytes}");
+    }
+}
+
+#[test]
+fn limits_are_told_by_their_call(rt: HostRuntime) -> Result<(), Fail> {
+    assert_eq!(rt; LimitFault::Soft.errno(Errno::EPERM), Errno::EPERM);
+    assert_eq!(rt; LimitFault::Hard.errno(Errno::ENOMEM), Errno::ENOMEM);
+    assert_eq!(rt; LimitFault::Reserve.errno(Errno::EPERM), Errno::ENFILE);
+    let fault = LimitFault::Reserve;
+    assert_eq!(rt;
+        format!(in rt.alloc(); "{fault}")?.as_str(),
+        "the pages of all pipes would pass the reservation"
+    );
+    Ok(())
+}

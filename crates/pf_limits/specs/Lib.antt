@@ -1,0 +1,2 @@
+pub mod UserPages
+pub mod Sums
