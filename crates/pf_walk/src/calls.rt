@@ -40,14 +40,12 @@ fn find_place<'a, A: Allocator>(
     path: &'a [u8],
     unnamed: Unnamed,
 ) -> Result<Place<'a>, Fault>
-    ensures told { Told placed result (place unnamed.root unnamed.dot unnamed.dot_dot tree.now cred.now path.now) }
+    ensures told { Told placed result
+        (place unnamed.root unnamed.dot unnamed.dot_dot tree.now cred.now path.now) }
     ensures below { IfOk result (λ l. 0 < length l.path.items) }
     ensures parent { IfOk result (λ l. IsDirectory (find (front (path_of l.path.items)) tree.now)) }
 {
-    let resolved = match resolve(alloc, tree, cred, path, Purpose::Entry) {
-        Ok(resolved) => resolved,
-        Err(fault) => return Err(fault),
-    };
+    let resolved = resolve(alloc, tree, cred, path, Purpose::Entry)?;
     let Resolved {
         path: mut names,
         file: directory,
@@ -59,9 +57,7 @@ fn find_place<'a, A: Allocator>(
         Last::Dot => Err(Fault::Errno(unnamed.dot)),
         Last::DotDot => Err(Fault::Errno(unnamed.dot_dot)),
         Last::Name(name) => {
-            if append(&mut names, name).is_err() {
-                return Err(Fault::NoMemory);
-            }
+            append(&mut names, name)?;
             Ok(Place {
                 path: names,
                 directory,
@@ -112,19 +108,14 @@ pub fn make<A: Allocator + Clone>(
         dot: Errno::EEXIST,
         dot_dot: Errno::EEXIST,
     };
-    let place = match find_place(alloc, tree, cred, path, unnamed) {
-        Ok(place) => place,
-        Err(fault) => return Err(fault),
-    };
+    let place = find_place(alloc, tree, cred, path, unnamed)?;
     if tree.find(place.path.as_slice()).is_some() {
         return Err(Fault::Errno(Errno::EEXIST));
     }
     if is_fifo(kind) && place.slash {
         return Err(Fault::Errno(Errno::ENOENT));
     }
-    if let Err(error) = may_change(cred, &place.directory) {
-        return Err(Fault::Errno(error));
-    }
+    may_change(cred, &place.directory)?;
     if tree.count() > MAX_FILES || made == u64::MAX {
         return Err(Fault::Errno(Errno::ENOSPC));
     }
@@ -138,10 +129,8 @@ pub fn make<A: Allocator + Clone>(
         meta,
         number: made + 1,
     };
-    match tree.insert(place.path.as_slice(), file) {
-        Ok(()) => Ok(()),
-        Err(_) => Err(Fault::NoMemory),
-    }
+    tree.insert(place.path.as_slice(), file)?;
+    Ok(())
 }
 
 /// unlink(): a FIFO's entry goes. EPERM for the root and for `.` and `..`; ENOENT where there is no entry; ENOTDIR for a FIFO
@@ -159,19 +148,14 @@ pub fn unlink<A: Allocator>(
         dot: Errno::EPERM,
         dot_dot: Errno::EPERM,
     };
-    let place = match find_place(alloc, tree, cred, path, unnamed) {
-        Ok(place) => place,
-        Err(fault) => return Err(fault),
-    };
+    let place = find_place(alloc, tree, cred, path, unnamed)?;
     let Some(file) = tree.find(place.path.as_slice()) else {
         return Err(Fault::Errno(Errno::ENOENT));
     };
     if place.slash && !is_directory(&file) {
         return Err(Fault::Errno(Errno::ENOTDIR));
     }
-    if let Err(error) = may_change(cred, &place.directory) {
-        return Err(Fault::Errno(error));
-    }
+    may_change(cred, &place.directory)?;
     if is_directory(&file) {
         return Err(Fault::Errno(Errno::EPERM));
     }
@@ -194,19 +178,14 @@ pub fn rmdir<A: Allocator>(
         dot: Errno::EINVAL,
         dot_dot: Errno::EINVAL,
     };
-    let place = match find_place(alloc, tree, cred, path, unnamed) {
-        Ok(place) => place,
-        Err(fault) => return Err(fault),
-    };
+    let place = find_place(alloc, tree, cred, path, unnamed)?;
     let Some(file) = tree.find(place.path.as_slice()) else {
         return Err(Fault::Errno(Errno::ENOENT));
     };
     if !is_directory(&file) {
         return Err(Fault::Errno(Errno::ENOTDIR));
     }
-    if let Err(error) = may_change(cred, &place.directory) {
-        return Err(Fault::Errno(error));
-    }
+    may_change(cred, &place.directory)?;
     if tree.has_names(place.path.as_slice()) {
         return Err(Fault::Errno(Errno::ENOTEMPTY));
     }
@@ -224,10 +203,7 @@ pub fn chmod<A: Allocator>(
 ) -> Result<(), Fault>
     ensures { Changed result tree.old tree.new (chmod tree.old cred.now path.now mode) }
 {
-    let target = match resolve(alloc, tree, cred, path, Purpose::Target) {
-        Ok(target) => target,
-        Err(fault) => return Err(fault),
-    };
+    let target = resolve(alloc, tree, cred, path, Purpose::Target)?;
     if cred.uid != 0 && cred.uid != target.file.meta.uid {
         return Err(Fault::Errno(Errno::EPERM));
     }
@@ -244,10 +220,7 @@ pub fn stat<A: Allocator>(
 ) -> Result<Meta, Fault>
     ensures { Told (λ meta. meta) result (stat tree.now cred.now path.now) }
 {
-    let target = match resolve(alloc, tree, cred, path, Purpose::Target) {
-        Ok(target) => target,
-        Err(fault) => return Err(fault),
-    };
+    let target = resolve(alloc, tree, cred, path, Purpose::Target)?;
     Ok(target.file.meta)
 }
 
@@ -261,18 +234,13 @@ pub fn list<A: Allocator>(
 ) -> Result<Vec<u8>, Fault>
     ensures { Told (λ names. names.items) result (list tree.now cred.now path.now) }
 {
-    let target = match resolve(alloc, tree, cred, path, Purpose::Target) {
-        Ok(target) => target,
-        Err(fault) => return Err(fault),
-    };
+    let target = resolve(alloc, tree, cred, path, Purpose::Target)?;
     if !is_directory(&target.file) {
         return Err(Fault::Errno(Errno::ENOTDIR));
     }
     if !may(cred, &target.file.meta, Want::Read) {
         return Err(Fault::Errno(Errno::EACCES));
     }
-    match tree.names(alloc, target.path.as_slice()) {
-        Ok(names) => Ok(names),
-        Err(_) => Err(Fault::NoMemory),
-    }
+    let names = tree.names(alloc, target.path.as_slice())?;
+    Ok(names)
 }

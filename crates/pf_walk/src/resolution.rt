@@ -100,10 +100,7 @@ fn target<'a, A: Allocator>(
     ensures told { Told resolved result (target_of tree.now cred.now (words cut.now)) }
     ensures found { IfOk result (λ r. find (path_of r.path.items) tree.now ≡ Some r.file) }
 {
-    let (path, file) = match follow(alloc, tree.root(), cred, cut.names.as_slice()) {
-        Ok(reached) => reached,
-        Err(fault) => return Err(fault),
-    };
+    let (path, file) = follow(alloc, tree.root(), cred, cut.names.as_slice())?;
     if cut.slash && !is_directory(&file) {
         return Err(Fault::Errno(Errno::ENOTDIR));
     }
@@ -127,13 +124,8 @@ fn entry<'a, A: Allocator>(
     ensures directory { IfOk result (λ r. IsTrue (is_directory r.file)) }
 {
     let names = cut.names.as_slice();
-    let (path, file) = match follow(alloc, tree.root(), cred, but_last(names)) {
-        Ok(reached) => reached,
-        Err(fault) => return Err(fault),
-    };
-    if let Err(error) = search(cred, &file) {
-        return Err(Fault::Errno(error));
-    }
+    let (path, file) = follow(alloc, tree.root(), cred, but_last(names))?;
+    search(cred, &file)?;
     Ok(Resolved {
         path,
         file,
@@ -157,10 +149,7 @@ pub fn resolve<'a, A: Allocator>(
     ensures found { IfOk result (λ r. find (path_of r.path.items) tree.now ≡ Some r.file) }
     ensures directory { purpose ≡ Entry → IfOk result (λ r. IsTrue (is_directory r.file)) }
 {
-    let words = match split(alloc, path) {
-        Ok(words) => words,
-        Err(fault) => return Err(fault),
-    };
+    let words = split(alloc, path)?;
     match purpose {
         Purpose::Target => target(alloc, tree, cred, &words),
         Purpose::Entry => entry(alloc, tree, cred, &words),

@@ -81,14 +81,13 @@ impl<'t, 'p, A: Allocator> Walk<'t, 'p, A> {
     /// One component further: `.` stays, and `..` goes to the parent, from the root to the root.
     pub fn step(&mut self, cred: &Cred, name: &'p [u8]) -> Result<(), Fault>
         requires stands { Stands self.old.root.now self.old.names.items self.old.nodes.items }
-        ensures told { Told (λ _. path_of self.new.names.items) result (stepped self.old.root.now cred.now (path_of self.old.names.items) name.now) }
+        ensures told { Told (λ _. path_of self.new.names.items) result
+            (stepped self.old.root.now cred.now (path_of self.old.names.items) name.now) }
         ensures stands { OnOk result (Stands self.new.root.now self.new.names.items self.new.nodes.items) }
         ensures root { self.new.root.now ≡ self.old.root.now }
     {
         let here = self.here();
-        if let Err(error) = search(cred, &here.file()) {
-            return Err(Fault::Errno(error));
-        }
+        search(cred, &here.file())?;
         if name == b".".as_slice() {
             return Ok(());
         }

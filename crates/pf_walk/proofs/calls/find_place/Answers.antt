@@ -1,5 +1,5 @@
-use Rattle.std.proofs.Common.{◌≡◌, ◌++◌, ◌∷◌, [], refl, sym, ap, ◌∙◌, subst, false, Some, T}
-use Rattle.std.specs.Prelude.{Result, Ok, Err, OnOk, is_err}
+use Rattle.std.proofs.Common.{◌≡◌, ◌++◌, ◌∷◌, [], refl, sym, ap, ◌∙◌, subst, Some}
+use Rattle.std.specs.Prelude.{Ok}
 use Rattle.pf_base.specs.Refusals.{◌>>=◌}
 use Rattle.pf_base.specs.FileMap.{find, front, IsDirectory}
 use Rattle.pf_base.specs.FileCalls.{place_of}
@@ -8,23 +8,19 @@ use Rattle.pf_walk.specs.Resolutions.{resolved, last}
 use Rattle.pf_walk.proofs.Cuts.{path_of-append, front-append}
 use Rattle.pf_walk.proofs.calls.find_place.Goals as goal
 
-on_ok : {A E : Type 0} (r : Result A E) (P : Type 0) → is_err r ≡ false → OnOk r P → P
-on_ok (Ok x) P e h = h
-on_ok (Err x) P e h = absurd (subst T e tt)
-
 pub returns-clause-told : goal.returns-clause-told
 returns-clause-told g c =
-    let r = c.in-Ok.resolved in
+    let r = c.in_ok-resolved.resolved in
     let u = c.args.unnamed in
-    let longer : c.append.new.items.items ≡ r.path.items ++ c.in-Name.name ∷ [] = on_ok c.append.result (c.append.new.items.items ≡ r.path.items ++ c.in-Name.name ∷ []) (sym c.is_err.ensures.value ∙ c.if-is_err.false) c.append.ensures in
-    ap (λ s. s >>= (λ e. place_of u.root u.dot u.dot_dot e e.last)) c.in-Ok.ensures.told
+    let longer : c.append.new.items.items ≡ r.path.items ++ c.in-Name.name ∷ [] = c.in_ok-append-in-Name.ensures in
+    ap (λ s. s >>= (λ e. place_of u.root u.dot u.dot_dot e e.last)) c.in_ok-resolved.ensures.told
     ∙ ap (λ l. place_of u.root u.dot u.dot_dot (resolved r) (last l)) c.in-Name.is
     ∙ ap (λ p. Ok (record { path = p; directory = r.file; slash = r.slash })) (sym (ap path_of longer ∙ path_of-append r.path.items c.in-Name.name))
 
 pub returns-clause-parent : goal.returns-clause-parent
 returns-clause-parent g c =
-    let r = c.in-Ok.resolved in
-    let longer : c.append.new.items.items ≡ r.path.items ++ c.in-Name.name ∷ [] = on_ok c.append.result (c.append.new.items.items ≡ r.path.items ++ c.in-Name.name ∷ []) (sym c.is_err.ensures.value ∙ c.if-is_err.false) c.append.ensures in
+    let r = c.in_ok-resolved.resolved in
+    let longer : c.append.new.items.items ≡ r.path.items ++ c.in-Name.name ∷ [] = c.in_ok-append-in-Name.ensures in
     let shorter : front (path_of c.append.new.items.items) ≡ path_of r.path.items = ap front (ap path_of longer ∙ path_of-append r.path.items c.in-Name.name) ∙ front-append (path_of r.path.items) c.in-Name.name.now in
-    let there : IsDirectory (Some r.file) = c.in-Ok.ensures.directory refl in
-    subst (λ p. IsDirectory (find p c.args.tree.now)) (sym shorter) (subst IsDirectory (sym c.in-Ok.ensures.found) there)
+    let there : IsDirectory (Some r.file) = c.in_ok-resolved.ensures.directory refl in
+    subst (λ p. IsDirectory (find p c.args.tree.now)) (sym shorter) (subst IsDirectory (sym c.in_ok-resolved.ensures.found) there)

@@ -1,4 +1,4 @@
-use Rattle.std.proofs.Common.{◌≡◌, ◌++◌, ◌∷◌, [], ◌-◌, length, take, refl, sym, ap, ◌∙◌, subst, true, false, Some, None}
+use Rattle.std.proofs.Common.{rules, ◌≡◌, ◌++◌, ◌∷◌, [], ◌-◌, length, take, refl, sym, ap, ◌∙◌, subst, true, false, Some, None}
 use Rattle.std.specs.Prelude.{Ok, IsSome, nat_eq}
 use Rattle.std.specs.Cmp.Lexicographic.{texts_ties, pointwise}
 use Rattle.pf_base.specs.FileMap.{find}
@@ -12,13 +12,14 @@ use Rattle.pf_walk.proofs.walk.Walk.step.Goals as goal
 
 -- In each answer: the walk stands at a file, the file may be searched, and the name is or isn't `.` or `..`.
 
-pub returns-in-Err-clause-told : goal.returns-in-Err-clause-told
-returns-in-Err-clause-told g c =
+pub returns-in_err-search-clause-told : goal.returns-in_err-search-clause-told
+returns-in_err-search-clause-told g c =
     let fs = c.args.self.now.root.now in
     let p = path_of c.args.self.now.names.items in
     let n = c.args.name.now in
     let here : find p fs ≡ Some c.file.result = found_here fs c.here-here.result.now p (Some c.file.result) c.here-here.ensures c.file.ensures in
-    step_refused fs c.args.cred.now p here n c.in-Err.error (sym c.search.ensures ∙ c.in-Err.is)
+    let refused = step_refused fs c.args.cred.now p here n _ (sym c.in_err-search.ensures) in
+    search rules
 
 pub returns-then-eq-clause-told : goal.returns-then-eq-clause-told
 returns-then-eq-clause-told g c =
@@ -26,7 +27,7 @@ returns-then-eq-clause-told g c =
     let p = path_of c.args.self.now.names.items in
     let n = c.args.name.now in
     let here : find p fs ≡ Some c.file.result = found_here fs c.here-here.result.now p (Some c.file.result) c.here-here.ensures c.file.ensures in
-    let way : permitted c.args.cred.now c.file.result ≡ Ok c.in_default.field-0 = sym c.search.ensures ∙ c.in_default.is in
+    let way : permitted c.args.cred.now c.file.result ≡ Ok _ = sym c.in_ok-search.ensures in
     let dot : is_dot n ≡ true = sym (texts_ties n (46 ∷ [])) ∙ ap (pointwise nat_eq n) (sym c.as_slice.ensures) ∙ sym c.eq.ensures ∙ c.if-eq.true in
     step_stays fs c.args.cred.now p here n _ way dot
 
@@ -36,7 +37,7 @@ returns-then-eq-2-clause-told g c =
     let p = path_of c.args.self.now.names.items in
     let n = c.args.name.now in
     let here : find p fs ≡ Some c.file.result = found_here fs c.here-here.result.now p (Some c.file.result) c.here-here.ensures c.file.ensures in
-    let way : permitted c.args.cred.now c.file.result ≡ Ok c.in_default.field-0 = sym c.search.ensures ∙ c.in_default.is in
+    let way : permitted c.args.cred.now c.file.result ≡ Ok _ = sym c.in_ok-search.ensures in
     let dot : is_dot n ≡ false = sym (texts_ties n (46 ∷ [])) ∙ ap (pointwise nat_eq n) (sym c.as_slice.ensures) ∙ sym c.eq.ensures ∙ c.if-eq.false in
     let dots : is_dot_dot n ≡ true = sym (texts_ties n (46 ∷ 46 ∷ [])) ∙ ap (pointwise nat_eq n) (sym c.as_slice-2.ensures) ∙ sym c.eq-2.ensures ∙ c.if-eq-2.true in
     step_up fs c.args.cred.now p here n _ way dot dots
@@ -50,16 +51,16 @@ returns-then-eq-2-clause-stands g c =
     (subst (λ l. Stands fs (take k c.args.self.now.names.items) l) (sym c.truncate-then-eq-2.ensures.items)
     (stands_up k fs c.args.self.now.names.items c.args.self.now.nodes.items c.requires.stands))
 
-pub returns-in_default-child-clause-told : goal.returns-in_default-child-clause-told
-returns-in_default-child-clause-told g c =
+pub returns-in_default-clause-told : goal.returns-in_default-clause-told
+returns-in_default-clause-told g c =
     let fs = c.args.self.now.root.now in
     let p = path_of c.args.self.now.names.items in
     let n = c.args.name.now in
     let here : find p fs ≡ Some c.file.result = found_here fs c.here-here.result.now p (Some c.file.result) c.here-here.ensures c.file.ensures in
-    let way : permitted c.args.cred.now c.file.result ≡ Ok c.in_default.field-0 = sym c.search.ensures ∙ c.in_default.is in
+    let way : permitted c.args.cred.now c.file.result ≡ Ok _ = sym c.in_ok-search.ensures in
     let dot : is_dot n ≡ false = sym (texts_ties n (46 ∷ [])) ∙ ap (pointwise nat_eq n) (sym c.as_slice.ensures) ∙ sym c.eq.ensures ∙ c.if-eq.false in
     let dots : is_dot_dot n ≡ false = sym (texts_ties n (46 ∷ 46 ∷ [])) ∙ ap (pointwise nat_eq n) (sym c.as_slice-2.ensures) ∙ sym c.eq-2.ensures ∙ c.if-eq-2.false in
-    step_lost fs c.args.cred.now p here n _ way dot dots (found_below fs c.here-here.result.now [] p n None c.here-here.ensures (sym c.in_default-child.ensures.absent) refl)
+    step_lost fs c.args.cred.now p here n _ way dot dots (found_below fs c.here-here.result.now [] p n None c.here-here.ensures (sym c.in_default.ensures.absent) refl)
 
 pub returns-clause-told : goal.returns-clause-told
 returns-clause-told g c =
@@ -67,7 +68,7 @@ returns-clause-told g c =
     let p = path_of c.args.self.now.names.items in
     let n = c.args.name.now in
     let here : find p fs ≡ Some c.file.result = found_here fs c.here-here.result.now p (Some c.file.result) c.here-here.ensures c.file.ensures in
-    let way : permitted c.args.cred.now c.file.result ≡ Ok c.in_default.field-0 = sym c.search.ensures ∙ c.in_default.is in
+    let way : permitted c.args.cred.now c.file.result ≡ Ok _ = sym c.in_ok-search.ensures in
     let dot : is_dot n ≡ false = sym (texts_ties n (46 ∷ [])) ∙ ap (pointwise nat_eq n) (sym c.as_slice.ensures) ∙ sym c.eq.ensures ∙ c.if-eq.false in
     let dots : is_dot_dot n ≡ false = sym (texts_ties n (46 ∷ 46 ∷ [])) ∙ ap (pointwise nat_eq n) (sym c.as_slice-2.ensures) ∙ sym c.eq-2.ensures ∙ c.if-eq-2.false in
     let there : IsSome (find (p ++ n ∷ []) fs) = subst IsSome (sym (found_below fs c.here-here.result.now c.in-Some.node.now p n (find [] c.in-Some.node.now) c.here-here.ensures c.in-Some.ensures.found refl)) c.in-Some.ensures.file in
