@@ -42,10 +42,3 @@ module _ (fs : Files) (c : Cred) (p : Path) {f : File} (here : find p fs ≡ Som
         by : (o : Option File) → IsSome o → (or_refuse ENOENT o >>= (λ g. Ok (p ++ n ∷ []))) ≡ Ok (p ++ n ∷ [])
         by None none = absurd (subst T (sym none) tt)
         by (Some g) there = refl
-
--- a walk that goes on
-pub reach_on : (fs : Files) (c : Cred) (p q : Path) (n : Name) (ns : List Name) → stepped fs c p n ≡ Ok q → reach fs c p (n ∷ ns) ≡ reach fs c q ns
-reach_on fs c p q n ns e = ap (λ s. s >>= (λ next. reach fs c next ns)) e
-
-pub reach_ends : (fs : Files) (c : Cred) (p : Path) (n : Name) (ns : List Name) (x : Errno) → stepped fs c p n ≡ Err x → reach fs c p (n ∷ ns) ≡ Err x
-reach_ends fs c p n ns x e = ap (λ s. s >>= (λ next. reach fs c next ns)) e
