@@ -38,72 +38,42 @@ enum Call {
     List,
 }
 
-// A tree, the user 5 who owns its files, and the user 7 who calls.
+// A tree, and the user who calls. Where a growth is refused each call is made once more: it is to find the files as they were.
 #[derive(Drop)]
 struct Desk<A: Allocator> {
     tree: Tree<A>,
     text: Global,
-    owner: Cred,
-    other: Cred,
+    cred: Cred,
     made: u64,
 }
 
 impl<A: Allocator + Clone> Desk<A> {
-    fn new(alloc: A, text: Global, open: Mode) -> Self {
+    fn new(alloc: A, text: Global, root: Mode, uid: u32) -> Self {
         Desk {
-            tree: rooted(alloc, open),
+            tree: rooted(alloc, root),
             text,
-            owner: user(text, 5),
-            other: user(text, 7),
+            cred: user(text, uid),
             made: 0,
         }
     }
 
-    // A file of the user 5, made by it.
-    fn put(&mut self, path: &[u8], kind: Kind, mode: Mode) -> Result<(), Fault> {
-        self.made = self.made.saturating_add(1);
-        make(
-            self.text,
-            &mut self.tree,
-            &self.owner,
-            path,
-            kind,
-            mode,
-            self.made,
-        )
+    // What a call is told, with this mode where it takes one.
+    fn call(&mut self, call: Call, path: &[u8], mode: Mode) -> Option<Fault> {
+        match self.attempt(call, path, mode) {
+            Some(Fault::NoMemory) => self.attempt(call, path, mode),
+            told => told,
+        }
     }
 
-    // Another mode for a file of the user 5, by it.
-    fn change(&mut self, path: &[u8], mode: Mode) -> Result<(), Fault> {
-        chmod(self.text, &mut self.tree, &self.owner, path, mode)
-    }
-
-    // What the user 7 is told of a file.
-    fn stat(&self, path: &[u8]) -> Result<Meta, Fault> {
-        stat(self.text, &self.tree, &self.other, path)
-    }
-
-    // The names that the user 7 is told.
-    fn list(&self, path: &[u8]) -> Result<Vec<u8>, Fault> {
-        list(self.text, &self.tree, &self.other, path)
-    }
-
-    // The number of a file.
-    fn number(&self, path: &[u8]) -> Result<u64, Fault> {
-        let resolved = resolve(self.text, &self.tree, &self.other, path, Purpose::Target)?;
-        Ok(resolved.file.number)
-    }
-
-    // One call of the user 7, with the mode 0777 where it takes one.
-    fn call(&mut self, call: Call, path: &[u8], open: Mode) -> Option<Fault> {
+    fn attempt(&mut self, call: Call, path: &[u8], mode: Mode) -> Option<Fault> {
         match call {
-            Call::Mkdir => self.make(path, Kind::Directory, open).err(),
-            Call::Mkfifo => self.make(path, Kind::Fifo, open).err(),
-            Call::Unlink => unlink(self.text, &mut self.tree, &self.other, path).err(),
-            Call::Rmdir => rmdir(self.text, &mut self.tree, &self.other, path).err(),
-            Call::Chmod => chmod(self.text, &mut self.tree, &self.other, path, open).err(),
-            Call::Stat => stat(self.text, &self.tree, &self.other, path).err(),
-            Call::List => list(self.text, &self.tree, &self.other, path).err(),
+            Call::Mkdir => self.make(path, Kind::Directory, mode).err(),
+            Call::Mkfifo => self.make(path, Kind::Fifo, mode).err(),
+            Call::Unlink => unlink(self.text, &mut self.tree, &self.cred, path).err(),
+            Call::Rmdir => rmdir(self.text, &mut self.tree, &self.cred, path).err(),
+            Call::Chmod => chmod(self.text, &mut self.tree, &self.cred, path, mode).err(),
+            Call::Stat => stat(self.text, &self.tree, &self.cred, path).err(),
+            Call::List => list(self.text, &self.tree, &self.cred, path).err(),
         }
     }
 
@@ -111,36 +81,78 @@ impl<A: Allocator + Clone> Desk<A> {
         make(
             self.text,
             &mut self.tree,
-            &self.other,
+            &self.cred,
             path,
             kind,
             mode,
             self.made,
-        )
+        )?;
+        self.made = self.made.saturating_add(1);
+        Ok(())
+    }
+
+    // What is known of a file.
+    fn stat(&self, path: &[u8]) -> Result<Meta, Fault> {
+        match stat(self.text, &self.tree, &self.cred, path) {
+            Err(Fault::NoMemory) => stat(self.text, &self.tree, &self.cred, path),
+            told => told,
+        }
+    }
+
+    // The names in a directory.
+    fn list(&self, path: &[u8]) -> Result<Vec<u8>, Fault> {
+        match list(self.text, &self.tree, &self.cred, path) {
+            Err(Fault::NoMemory) => list(self.text, &self.tree, &self.cred, path),
+            told => told,
+        }
+    }
+
+    // The number of a file, and how many names lead to it.
+    fn number(&self, path: &[u8]) -> Result<(u64, usize), Fault> {
+        let told = match resolve(self.text, &self.tree, &self.cred, path, Purpose::Target) {
+            Err(Fault::NoMemory) => {
+                resolve(self.text, &self.tree, &self.cred, path, Purpose::Target)?
+            }
+            told => told?,
+        };
+        Ok((told.file.number, told.path.len()))
     }
 }
 
-// The files that the table speaks of: the FIFO /f; /d, which others may not change, with a full directory and a FIFO; /s, which
-// others may neither read nor search; /w, which all may change, with a full directory, an empty one and a FIFO.
-const FILES: [(&[u8], Kind); 12] = [
-    (b"/f", Kind::Fifo),
-    (b"/d", Kind::Directory),
-    (b"/d/e", Kind::Directory),
-    (b"/d/e/f", Kind::Fifo),
-    (b"/d/f", Kind::Fifo),
-    (b"/s", Kind::Directory),
-    (b"/s/x", Kind::Directory),
-    (b"/w", Kind::Directory),
-    (b"/w/full", Kind::Directory),
-    (b"/w/full/f", Kind::Fifo),
-    (b"/w/empty", Kind::Directory),
-    (b"/w/f", Kind::Fifo),
+// What the user 5 makes: the FIFO /f; /d, which others may not change, with a full directory and a FIFO; /s, which others may
+// neither read nor search; /w, which all may change, with a full directory, an empty one and a FIFO.
+const FILES: [(Call, &[u8]); 12] = [
+    (Call::Mkfifo, b"/f"),
+    (Call::Mkdir, b"/d"),
+    (Call::Mkdir, b"/d/e"),
+    (Call::Mkfifo, b"/d/e/f"),
+    (Call::Mkfifo, b"/d/f"),
+    (Call::Mkdir, b"/s"),
+    (Call::Mkdir, b"/s/x"),
+    (Call::Mkdir, b"/w"),
+    (Call::Mkdir, b"/w/full"),
+    (Call::Mkfifo, b"/w/full/f"),
+    (Call::Mkdir, b"/w/empty"),
+    (Call::Mkfifo, b"/w/f"),
 ];
 
-const ROWS: [(Call, &[u8], Option<Errno>); 55] = [
+// Those files, with the user 7 to call.
+fn filled<A: Allocator + Clone>(alloc: A, text: Global, open: Mode, shut: Mode) -> Desk<A> {
+    let mut desk = Desk::new(alloc, text, open, 5);
+    for (call, path) in FILES {
+        desk.call(call, path, open);
+    }
+    desk.call(Call::Chmod, b"/w", open);
+    desk.call(Call::Chmod, b"/s", shut);
+    desk.cred = user(text, 7);
+    desk
+}
+
+// What the user 7 is told, call by call, with the mode 0777.
+const ROWS: [(Call, &[u8], Option<Errno>); 56] = [
     // before the walk
     (Call::Stat, b"", Some(Errno::ENOENT)),
-    (Call::Stat, b"/f\0", Some(Errno::EINVAL)),
+    (Call::Stat, b"/f/x\0", Some(Errno::EINVAL)),
     // the walk: a directory, then search, then the entry
     (Call::Stat, b"/n", Some(Errno::ENOENT)),
     (Call::Stat, b"/f/x", Some(Errno::ENOTDIR)),
@@ -174,6 +186,7 @@ const ROWS: [(Call, &[u8], Option<Errno>); 55] = [
     (Call::Rmdir, b"/d/.", Some(Errno::EINVAL)),
     (Call::Rmdir, b"/d/..", Some(Errno::EINVAL)),
     (Call::Mkdir, b"/f/.", Some(Errno::ENOTDIR)),
+    (Call::Unlink, b"/f/..", Some(Errno::ENOTDIR)),
     (Call::Rmdir, b"/s/.", Some(Errno::EACCES)),
     // making: each refusal where the later ones hold too
     (Call::Mkdir, b"/d/f", Some(Errno::EEXIST)),
@@ -202,64 +215,98 @@ const ROWS: [(Call, &[u8], Option<Errno>); 55] = [
     (Call::List, b"/w/", None),
 ];
 
-fn filled<A: Allocator + Clone>(
-    alloc: A,
-    text: Global,
+// A root that the user 7 may neither read nor search: that comes before what a call says of the root.
+const ROOT: [(Call, &[u8], Option<Errno>); 8] = [
+    (Call::Mkdir, b"/", Some(Errno::EACCES)),
+    (Call::Mkfifo, b"/", Some(Errno::EACCES)),
+    (Call::Unlink, b"/", Some(Errno::EACCES)),
+    (Call::Rmdir, b"/", Some(Errno::EACCES)),
+    (Call::Chmod, b"/", Some(Errno::EPERM)),
+    (Call::List, b"/", Some(Errno::EACCES)),
+    (Call::Stat, b"/.", Some(Errno::EACCES)),
+    (Call::Stat, b"/", None),
+];
+
+// The first row that is told otherwise, and what is told there.
+fn first_otherwise<A: Allocator + Clone>(
+    desk: &mut Desk<A>,
+    rows: &[(Call, &[u8], Option<Errno>)],
     open: Mode,
-    shut: Mode,
-) -> Result<Desk<A>, Fault> {
-    let mut desk = Desk::new(alloc, text, open);
-    for (path, kind) in FILES {
-        desk.put(path, kind, open)?;
+) -> Option<(usize, Option<Fault>)> {
+    for (row, (call, path, want)) in rows.iter().enumerate() {
+        let told = desk.call(*call, path, open);
+        if told != want.map(|error| Fault::Errno(error)) {
+            return Some((row, told));
+        }
     }
-    desk.change(b"/w", open)?;
-    desk.change(b"/s", shut)?;
-    Ok(desk)
+    None
 }
 
 #[test]
 fn each_row_is_refused_in_its_order(rt: HostRuntime) -> Result<(), Fail> {
     let (open, shut) = (Mode::new(0o777)?, Mode::new(0o700)?);
-    let mut desk = filled(rt.alloc(), rt.alloc(), open, shut)?;
-    for (row, (call, path, want)) in ROWS.into_iter().enumerate() {
-        assert_eq!(rt;
-            desk.call(call, path, open),
-            want.map(|error| Fault::Errno(error)),
-            "row {row}"
-        );
-    }
+    let mut desk = filled(rt.alloc(), rt.alloc(), open, shut);
+    assert_eq!(rt; first_otherwise(&mut desk, &ROWS, open), None);
     assert_eq!(rt; desk.list(b"/w")?.as_slice(), b"full/".as_slice());
+    let mut desk = Desk::new(rt.alloc(), rt.alloc(), shut, 7);
+    assert_eq!(rt; first_otherwise(&mut desk, &ROOT, open), None);
+    Ok(())
+}
+
+#[test]
+fn each_row_is_refused_in_its_order_under_an_arena(rt: HostRuntime) -> Result<(), Fail> {
+    let (open, shut) = (Mode::new(0o777)?, Mode::new(0o700)?);
+    let bump = Bump::new(rt.alloc());
+    let mut desk = filled(&bump, rt.alloc(), open, shut);
+    assert_eq!(rt; first_otherwise(&mut desk, &ROWS, open), None);
+    assert_eq!(rt; desk.list(b"/")?.as_slice(), b"d/f/s/w/".as_slice());
     Ok(())
 }
 
 #[test]
 fn a_file_is_its_makers_with_the_mode_that_the_umask_leaves(rt: HostRuntime) -> Result<(), Fail> {
     let (open, shut) = (Mode::new(0o777)?, Mode::new(0o700)?);
-    let mut desk = filled(rt.alloc(), rt.alloc(), open, shut)?;
+    let mut desk = filled(rt.alloc(), rt.alloc(), open, shut);
     let made = desk.stat(b"/d/f")?;
     assert_eq!(rt;
         (made.kind, made.mode.bits(), made.uid, made.gid),
         (Kind::Fifo, 0o755, 5, 5)
     );
-    desk.change(b"/d/f", open)?;
+    desk.cred = user(rt.alloc(), 5);
+    assert_eq!(rt; desk.call(Call::Chmod, b"/d/f", open), None);
     assert_eq!(rt; desk.stat(b"/d/f")?.mode.bits(), 0o777);
-    assert_eq!(rt; desk.number(b"/d/f")?, 6);
+    assert_eq!(rt; desk.number(b"/w/../d/./f")?, (5, 2));
     Ok(())
+}
+
+// A path's components, counted, and whether a slash stands behind them.
+fn cut(text: Global, path: &[u8]) -> Result<(usize, bool), Fault> {
+    let words = match split(text, path) {
+        Err(Fault::NoMemory) => split(text, path)?,
+        told => told?,
+    };
+    Ok((words.names.len(), words.slash))
 }
 
 #[test]
 fn names_and_paths_have_their_longest(rt: HostRuntime) -> Result<(), Fail> {
     let open = Mode::new(0o777)?;
-    let mut desk = Desk::new(rt.alloc(), rt.alloc(), open);
+    let mut desk = Desk::new(rt.alloc(), rt.alloc(), open, 5);
     let too_long = Some(Fault::Errno(Errno::ENAMETOOLONG));
     let name = [b'n'; 256];
     assert_eq!(rt; desk.call(Call::Mkfifo, &name[..255], open), None);
     assert_eq!(rt; desk.call(Call::Mkfifo, &name, open), too_long);
-    let slashes = [b'/'; 1024];
-    assert_eq!(rt; desk.call(Call::Stat, &slashes[..1023], open), None);
+    let slashes = [b'/'; 1_024];
+    assert_eq!(rt; desk.call(Call::Stat, &slashes[..1_023], open), None);
     assert_eq!(rt; desk.call(Call::Stat, &slashes, open), too_long);
-    let words = split(rt.alloc(), b"//a/b/")?;
-    assert_eq!(rt; (words.names.len(), words.slash), (2, true));
+    assert_eq!(rt; cut(rt.alloc(), b"//a/b/")?, (2, true));
+    assert_eq!(rt; cut(rt.alloc(), b"/")?, (0, false));
+    // before the walk, which would meet the FIFO f
+    let mut below = [b'n'; 258];
+    below[0] = b'f';
+    below[1] = b'/';
+    assert_eq!(rt; desk.call(Call::Mkfifo, b"f", open), None);
+    assert_eq!(rt; desk.call(Call::Stat, &below, open), too_long);
     Ok(())
 }
 
@@ -268,7 +315,7 @@ fn want_of_memory_changes_nothing(rt: HostRuntime) -> Result<(), Fail> {
     let open = Mode::new(0o777)?;
     let bump = Bump::new(rt.alloc());
     bump.set_allocation_limit(Some(0));
-    let mut desk = Desk::new(&bump, rt.alloc(), open);
+    let mut desk = Desk::new(&bump, rt.alloc(), open, 5);
     assert_eq!(rt; desk.call(Call::Mkdir, b"/d", open), Some(Fault::NoMemory));
     assert_eq!(rt;
         desk.call(Call::Stat, b"/d", open),
@@ -276,6 +323,6 @@ fn want_of_memory_changes_nothing(rt: HostRuntime) -> Result<(), Fail> {
     );
     bump.set_allocation_limit(None);
     assert_eq!(rt; desk.call(Call::Mkdir, b"/d", open), None);
-    assert_eq!(rt; desk.call(Call::List, b"/d", open), None);
+    assert_eq!(rt; desk.number(b"/d")?, (1, 1));
     Ok(())
 }
