@@ -1,4 +1,5 @@
-//! The calls on files. Each walks the path, then refuses in the order of its definition, then makes its one change.
+//! The calls on files. Each walks the path, with the refusals of `resolve`, then refuses in the order of its definition,
+//! then makes its one change. A refusal, and want of memory, leaves the files as they were.
 
 ghost use Rattle.std.specs.Prelude.{◌≡◌, ◌<◌, length, IfOk};
 ghost use Rattle.pf_base.specs.FileMap.{find, front, IsDirectory};
@@ -13,7 +14,7 @@ use pf_base::{Cred, Errno, Fault, File, Kind, Meta, Mode, Want, may};
 use pf_tree::Tree;
 use std::alloc::{Allocator, Global};
 
-/// The most files of a namespace, the root not counted.
+/// The most files of a namespace, the root not counted (this profile's limit).
 pub const MAX_FILES: usize = 10_000;
 
 // An entry: the names that lead to it, its directory, and whether the path ends in a slash.
@@ -88,10 +89,12 @@ fn may_change(cred: &Cred, directory: &File) -> Result<(), Errno>
     }
 }
 
-/// mkdir() and mkfifo(): a new file of the process's, with the mode that its umask leaves, and the number behind those of
-/// the `made` files that its namespace ever made. EEXIST where there is an entry, or the path is the root or ends in `.` or
-/// `..`; ENOENT for a FIFO behind whose name stands a slash; EACCES without write permission on the directory; ENOSPC with
-/// 10,000 files besides the root, or where all numbers are given.
+/// mkdir() and mkfifo() of POSIX.1-2017: a new file with the process's uid and gid, with the mode that its umask leaves,
+/// and the number behind those of the `made` files that its namespace ever made.
+///
+/// After what `resolve` refuses: EEXIST where the path is the root or ends in `.` or `..`, or where there is an entry;
+/// ENOENT for a FIFO behind whose name stands a slash; EACCES without write permission on the directory; ENOSPC with
+/// 10,000 files besides the root, or 2^64 - 1 ever made. `NoMemory` comes where the walk or the file finds none.
 pub fn make<A: Allocator + Clone>(
     alloc: Global,
     tree: &mut Tree<A>,
@@ -133,8 +136,11 @@ pub fn make<A: Allocator + Clone>(
     Ok(())
 }
 
-/// unlink(): a FIFO's entry goes. EPERM for the root and for `.` and `..`; ENOENT where there is no entry; ENOTDIR for a FIFO
+/// unlink() of POSIX.1-2017: a FIFO's entry goes.
+///
+/// After what `resolve` refuses: EPERM for the root, `.` and `..`; ENOENT where there is no entry; ENOTDIR for a FIFO
 /// behind whose name stands a slash; EACCES without write permission on the directory; EPERM for a directory.
+/// `NoMemory` comes where the walk finds none.
 pub fn unlink<A: Allocator>(
     alloc: Global,
     tree: &mut Tree<A>,
@@ -163,8 +169,11 @@ pub fn unlink<A: Allocator>(
     Ok(())
 }
 
-/// rmdir(): a directory without entries goes. EBUSY for the root, EINVAL for `.` and `..`; ENOENT where there is no entry;
-/// ENOTDIR for a FIFO; EACCES without write permission on the directory that it stands in; ENOTEMPTY where it has entries.
+/// rmdir() of POSIX.1-2017: a directory without entries goes.
+///
+/// After what `resolve` refuses: EBUSY for the root; EINVAL for `.`, and for `..` (this profile's own); ENOENT where there
+/// is no entry; ENOTDIR for a FIFO; EACCES without write permission on the directory that it stands in; ENOTEMPTY where
+/// it has entries. `NoMemory` comes where the walk finds none.
 pub fn rmdir<A: Allocator>(
     alloc: Global,
     tree: &mut Tree<A>,
@@ -193,7 +202,8 @@ pub fn rmdir<A: Allocator>(
     Ok(())
 }
 
-/// chmod(): a file gets another mode, as it is given: no umask counts. EPERM for all but its owner and the uid 0.
+/// chmod() of POSIX.1-2017: a file gets another mode, as it is given: no umask counts. After what `resolve` refuses, EPERM
+/// for all but its owner and the uid 0. `NoMemory` comes where the walk finds none.
 pub fn chmod<A: Allocator>(
     alloc: Global,
     tree: &mut Tree<A>,
@@ -211,7 +221,8 @@ pub fn chmod<A: Allocator>(
     Ok(())
 }
 
-/// stat(): what is known of a file.
+/// stat() of POSIX.1-2017: what is known of a file. It asks no permission on the file itself, and refuses what `resolve`
+/// does. `NoMemory` comes where the walk finds none.
 pub fn stat<A: Allocator>(
     alloc: Global,
     tree: &Tree<A>,
@@ -224,8 +235,9 @@ pub fn stat<A: Allocator>(
     Ok(target.file.meta)
 }
 
-/// The names in a directory, by bytes, without `.` and `..`, each with a slash behind it. ENOTDIR for a FIFO; EACCES without
-/// read permission on the directory.
+/// The names in a directory, by bytes, without `.` and `..`, each with a slash behind it, in a vector of their own (this
+/// profile's own call). After what `resolve` refuses: ENOTDIR for a FIFO; EACCES without read permission on the
+/// directory. `NoMemory` comes where the walk or the vector finds none.
 pub fn list<A: Allocator>(
     alloc: Global,
     tree: &Tree<A>,

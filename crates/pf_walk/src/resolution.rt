@@ -1,4 +1,4 @@
-//! Where a path leads.
+//! Where a path leads (POSIX.1-2017, 4.13 "Pathname Resolution"). Relative and absolute paths both begin at the root.
 
 ghost use Rattle.std.specs.Prelude.{◌≡◌, [], Some, IfOk, IsTrue};
 ghost use Rattle.pf_base.specs.FileMap.{front, find, is_directory};
@@ -18,9 +18,10 @@ use std::alloc::{Allocator, Global};
 /// What a path is resolved for.
 #[derive(Clone, Copy, Debug, PartialEq, Eq)]
 pub enum Purpose {
-    /// The file itself: every component is walked.
+    /// The file itself, as chmod() and stat() want it: every component is walked.
     Target,
-    /// An entry of a directory: every component but the last is walked.
+    /// An entry of a directory, as mkdir(), mkfifo(), unlink() and rmdir() want it: every component but the last is
+    /// walked.
     Entry,
 }
 
@@ -29,15 +30,18 @@ pub enum Purpose {
 pub enum Last<'a> {
     /// The path has no component, or all of them are walked.
     Nothing,
+    /// `.`, the directory itself.
     Dot,
+    /// `..`, its parent.
     DotDot,
+    /// The name of an entry, which may or may not be there: 1 to 255 bytes.
     Name(&'a [u8]),
 }
 
 /// What a path is resolved to.
 #[derive(Debug, Drop)]
 pub struct Resolved<'a> {
-    /// The names that lead from the root to the file.
+    /// The names that lead from the root to the file, without `.` and `..`; none for the root.
     pub path: Vec<&'a [u8]>,
     /// The file: the target, or the directory of an entry.
     pub file: File,
@@ -134,10 +138,14 @@ fn entry<'a, A: Allocator>(
     })
 }
 
-/// Where a path leads, over the tree's files, for a process with these credentials. The refusals come in the order of the
-/// components: ENOTDIR below a file that is no directory, EACCES where the directory may not be searched, ENOENT where it has
-/// no entry of the name. A target is refused with ENOTDIR where a slash stands behind it and it is no directory; no search is
-/// asked on it. The directory of an entry is to be a directory that may be searched.
+/// Where a path leads, over the tree's files, for a process with these credentials (POSIX.1-2017, 4.13 "Pathname
+/// Resolution").
+///
+/// What `split` refuses comes first. Then the refusals come in the order of the components: ENOTDIR below a file that is
+/// no directory, EACCES where the directory may not be searched, ENOENT where it has no entry of the name. A target is
+/// refused with ENOTDIR where a slash stands behind it and it is no directory; no search is asked on it. The directory
+/// of an entry is to be a directory, else ENOTDIR, that may be searched, else EACCES. `NoMemory` comes where the names
+/// and the way through the tree find none.
 pub fn resolve<'a, A: Allocator>(
     alloc: Global,
     tree: &Tree<A>,

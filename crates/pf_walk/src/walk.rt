@@ -11,7 +11,8 @@ use pf_base::{Cred, Errno, Fault, File, Kind, Want, may};
 use pf_tree::Node;
 use std::alloc::{AllocError, Allocator, Global};
 
-/// How far a walk has come: the names that lead from the root to where it stands, and the node at each of them.
+/// How far a walk has come: the names that lead from the root to where it stands, and the node at each of them, so that
+/// `..` goes back without another look from the root.
 #[derive(Drop)]
 pub(crate) struct Walk<'t, 'p, A: Allocator> {
     root: &'t Node<A>,
@@ -29,7 +30,8 @@ pub(crate) fn is_directory(file: &File) -> bool
     }
 }
 
-/// Whether a walk may go on from a file: ENOTDIR where it is no directory, EACCES where it may not be searched.
+/// Whether a walk may go on from a file: ENOTDIR where it is no directory, EACCES where it may not be searched
+/// (POSIX.1-2017, 4.13).
 pub(crate) fn search(cred: &Cred, file: &File) -> Result<(), Errno>
     ensures { result ≡ permitted cred.now file.now }
 {

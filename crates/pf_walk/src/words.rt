@@ -10,18 +10,18 @@ ghost use Rattle.pf_walk.specs.Resolutions.{words};
 use pf_base::{Errno, Fault};
 use std::alloc::{AllocError, Global};
 
-/// The most bytes of a path.
+/// The most bytes of a path, all its slashes counted: {PATH_MAX} is 1,024, with a byte 0 behind the path.
 pub const MAX_PATH: usize = 1_023;
 
-/// The most bytes of a name.
+/// The most bytes of a name: {NAME_MAX}.
 pub const MAX_NAME: usize = 255;
 
-/// A path, cut at its slashes.
+/// A path, cut at its slashes. Slashes that meet are as one.
 #[derive(Debug, Drop)]
 pub struct Words<'a> {
-    /// The components, as parts of the path's bytes.
+    /// The components in their order, as parts of the path's bytes: each has 1 to 255 bytes, none of them a slash.
     pub names: Vec<&'a [u8]>,
-    /// Whether a slash stands behind the last component.
+    /// Whether a slash stands behind the last component. `/` has none, and ends in no slash.
     pub slash: bool,
 }
 
@@ -56,8 +56,9 @@ fn ends_in_slash(path: &[u8]) -> bool
     }
 }
 
-/// Cuts a path at its slashes, after what is refused before a walk: EINVAL for a byte 0, ENOENT for an empty path, and
-/// ENAMETOOLONG for more than 1,023 bytes or a component of more than 255. One vector is all the memory that it takes.
+/// Cuts a path at its slashes, after what is refused before a walk, in this order: EINVAL for a byte 0 (this profile's
+/// own), ENOENT for an empty path, and ENAMETOOLONG for more than 1,023 bytes or a component of more than 255
+/// (POSIX.1-2017, 4.13 "Pathname Resolution"). `NoMemory` comes where the vector of names finds none.
 pub fn split(alloc: Global, path: &[u8]) -> Result<Words<'_>, Fault>
     ensures { Told words result (words_of path.now) }
 {
