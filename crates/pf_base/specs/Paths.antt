@@ -101,19 +101,23 @@ pub record Resolved : Type 0 where
 
 -- Open, Chmod, Stat, List: all components are walked, and no search is asked on the last file itself. Before a slash at the
 -- end stands a directory
-abbrev pub target : Files → Cred → List ℕ → Result Resolved Errno
-target files c bs = do
-  words ← words_of bs
+abbrev pub target_of : Files → Cred → Words → Result Resolved Errno
+target_of files c words = do
   at ← reach files c [] words.names
   f ← or_refuse ENOENT (find at files)
   refuse_if (words.slash && not (is_directory f)) ENOTDIR
   Ok (record { path = at; file = f; last = Nothing; slash = words.slash })
 
+abbrev pub target : Files → Cred → List ℕ → Result Resolved Errno
+target files c bs = words_of bs >>= (λ words. target_of files c words)
+
 -- Mkdir, Mkfifo, Unlink, Rmdir: all components but the last are walked, and the file reached is to be a directory with search
 -- permission
-abbrev pub entry : Files → Cred → List ℕ → Result Resolved Errno
-entry files c bs = do
-  words ← words_of bs
+abbrev pub entry_of : Files → Cred → Words → Result Resolved Errno
+entry_of files c words = do
   at ← reach files c [] (front words.names)
   f ← searched files c at
   Ok (record { path = at; file = f; last = last_of words.names; slash = words.slash })
+
+abbrev pub entry : Files → Cred → List ℕ → Result Resolved Errno
+entry files c bs = words_of bs >>= (λ words. entry_of files c words)

@@ -1,0 +1,5 @@
+pub mod Cuts
+pub mod Standing
+pub mod Steps
+pub mod Splits
+pub mod Reached

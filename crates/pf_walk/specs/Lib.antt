@@ -1,0 +1,3 @@
+pub mod Told
+pub mod Resolutions
+pub mod Walks

@@ -1,0 +1,258 @@
+//! The calls on files. Each walks the path, with the refusals of `resolve`, then refuses in the order of its definition,
+//! then makes its one change. A refusal, and want of memory, leaves the files as they were.
+
+ghost use Rattle.std.specs.Prelude.{◌≡◌, ◌<◌, length, IfOk};
+ghost use Rattle.pf_base.specs.FileMap.{find, front, IsDirectory};
+ghost use Rattle.pf_base.specs.FileCalls.{place, permitted_change, is_fifo, make, unlink, rmdir, chmod, stat, list};
+ghost use Rattle.pf_tree.specs.Subtrees.{path_of};
+ghost use Rattle.pf_walk.specs.Told.{Told, Changed};
+ghost use Rattle.pf_walk.specs.Resolutions.{placed};
+
+use crate::resolution::{Last, Purpose, Resolved, resolve};
+use crate::walk::{append, is_directory};
+use pf_base::{Cred, Errno, Fault, File, Kind, Meta, Mode, Want, may};
+use pf_tree::Tree;
+use std::alloc::{Allocator, Global};
+
+/// The most files of a namespace, the root not counted (this profile's limit).
+pub const MAX_FILES: usize = 10_000;
+
+// An entry: the names that lead to it, its directory, and whether the path ends in a slash.
+#[derive(Drop)]
+pub(crate) struct Place<'a> {
+    path: Vec<&'a [u8]>,
+    directory: File,
+    slash: bool,
+}
+
+// A call's errors for the root, for `.` and for `..` in place of an entry's name.
+#[derive(Clone, Copy)]
+pub(crate) struct Unnamed {
+    root: Errno,
+    dot: Errno,
+    dot_dot: Errno,
+}
+
+// The place of an entry.
+fn find_place<'a, A: Allocator>(
+    alloc: Global,
+    tree: &Tree<A>,
+    cred: &Cred,
+    path: &'a [u8],
+    unnamed: Unnamed,
+) -> Result<Place<'a>, Fault>
+    ensures told { Told placed result
+        (place unnamed.root unnamed.dot unnamed.dot_dot tree.now cred.now path.now) }
+    ensures below { IfOk result (λ l. 0 < length l.path.items) }
+    ensures parent { IfOk result (λ l. IsDirectory (find (front (path_of l.path.items)) tree.now)) }
+{
+    let resolved = resolve(alloc, tree, cred, path, Purpose::Entry)?;
+    let Resolved {
+        path: mut names,
+        file: directory,
+        last,
+        slash,
+    } = resolved;
+    match last {
+        Last::Nothing => Err(Fault::Errno(unnamed.root)),
+        Last::Dot => Err(Fault::Errno(unnamed.dot)),
+        Last::DotDot => Err(Fault::Errno(unnamed.dot_dot)),
+        Last::Name(name) => {
+            append(&mut names, name)?;
+            Ok(Place {
+                path: names,
+                directory,
+                slash,
+            })
+        }
+    }
+}
+
+// Whether a file of this kind is a FIFO.
+fn is_fifo(kind: Kind) -> bool
+    ensures { result ≡ is_fifo kind }
+{
+    match kind {
+        Kind::Fifo => true,
+        Kind::Directory => false,
+    }
+}
+
+// Whether a process may make or take entries of a directory.
+fn may_change(cred: &Cred, directory: &File) -> Result<(), Errno>
+    ensures { result ≡ permitted_change cred.now directory.now }
+{
+    if may(cred, &directory.meta, Want::Write) {
+        Ok(())
+    } else {
+        Err(Errno::EACCES)
+    }
+}
+
+/// mkdir() and mkfifo() of POSIX.1-2017: a new file with the process's uid and gid, with the mode that its umask leaves,
+/// and the number behind those of the `made` files that its namespace ever made.
+///
+/// After what `resolve` refuses: EEXIST where the path is the root or ends in `.` or `..`, or where there is an entry;
+/// ENOENT for a FIFO behind whose name stands a slash; EACCES without write permission on the directory; ENOSPC with
+/// 10,000 files besides the root, or 2^64 - 1 ever made. `NoMemory` comes where the walk or the file finds none.
+pub fn make<A: Allocator + Clone>(
+    alloc: Global,
+    tree: &mut Tree<A>,
+    cred: &Cred,
+    path: &[u8],
+    kind: Kind,
+    mode: Mode,
+    made: u64,
+) -> Result<(), Fault>
+    ensures { Changed result tree.old tree.new (make kind tree.old made cred.now path.now mode) }
+{
+    let unnamed = Unnamed {
+        root: Errno::EEXIST,
+        dot: Errno::EEXIST,
+        dot_dot: Errno::EEXIST,
+    };
+    let place = find_place(alloc, tree, cred, path, unnamed)?;
+    if tree.find(place.path.as_slice()).is_some() {
+        return Err(Fault::Errno(Errno::EEXIST));
+    }
+    if is_fifo(kind) && place.slash {
+        return Err(Fault::Errno(Errno::ENOENT));
+    }
+    may_change(cred, &place.directory)?;
+    if tree.count() > MAX_FILES || made == u64::MAX {
+        return Err(Fault::Errno(Errno::ENOSPC));
+    }
+    let meta = Meta {
+        kind,
+        mode: mode.without(cred.umask),
+        uid: cred.uid,
+        gid: cred.gid,
+    };
+    let file = File {
+        meta,
+        number: made + 1,
+    };
+    tree.insert(place.path.as_slice(), file)?;
+    Ok(())
+}
+
+/// unlink() of POSIX.1-2017: a FIFO's entry goes.
+///
+/// After what `resolve` refuses: EPERM for the root, `.` and `..`; ENOENT where there is no entry; ENOTDIR for a FIFO
+/// behind whose name stands a slash; EACCES without write permission on the directory; EPERM for a directory.
+/// `NoMemory` comes where the walk finds none.
+pub fn unlink<A: Allocator>(
+    alloc: Global,
+    tree: &mut Tree<A>,
+    cred: &Cred,
+    path: &[u8],
+) -> Result<(), Fault>
+    ensures { Changed result tree.old tree.new (unlink tree.old cred.now path.now) }
+{
+    let unnamed = Unnamed {
+        root: Errno::EPERM,
+        dot: Errno::EPERM,
+        dot_dot: Errno::EPERM,
+    };
+    let place = find_place(alloc, tree, cred, path, unnamed)?;
+    let Some(file) = tree.find(place.path.as_slice()) else {
+        return Err(Fault::Errno(Errno::ENOENT));
+    };
+    if place.slash && !is_directory(&file) {
+        return Err(Fault::Errno(Errno::ENOTDIR));
+    }
+    may_change(cred, &place.directory)?;
+    if is_directory(&file) {
+        return Err(Fault::Errno(Errno::EPERM));
+    }
+    tree.remove(place.path.as_slice());
+    Ok(())
+}
+
+/// rmdir() of POSIX.1-2017: a directory without entries goes.
+///
+/// After what `resolve` refuses: EBUSY for the root; EINVAL for `.`, and for `..` (this profile's own); ENOENT where there
+/// is no entry; ENOTDIR for a FIFO; EACCES without write permission on the directory that it stands in; ENOTEMPTY where
+/// it has entries. `NoMemory` comes where the walk finds none.
+pub fn rmdir<A: Allocator>(
+    alloc: Global,
+    tree: &mut Tree<A>,
+    cred: &Cred,
+    path: &[u8],
+) -> Result<(), Fault>
+    ensures { Changed result tree.old tree.new (rmdir tree.old cred.now path.now) }
+{
+    let unnamed = Unnamed {
+        root: Errno::EBUSY,
+        dot: Errno::EINVAL,
+        dot_dot: Errno::EINVAL,
+    };
+    let place = find_place(alloc, tree, cred, path, unnamed)?;
+    let Some(file) = tree.find(place.path.as_slice()) else {
+        return Err(Fault::Errno(Errno::ENOENT));
+    };
+    if !is_directory(&file) {
+        return Err(Fault::Errno(Errno::ENOTDIR));
+    }
+    may_change(cred, &place.directory)?;
+    if tree.has_names(place.path.as_slice()) {
+        return Err(Fault::Errno(Errno::ENOTEMPTY));
+    }
+    tree.remove(place.path.as_slice());
+    Ok(())
+}
+
+/// chmod() of POSIX.1-2017: a file gets another mode, as it is given: no umask counts. After what `resolve` refuses, EPERM
+/// for all but its owner and the uid 0. `NoMemory` comes where the walk finds none.
+pub fn chmod<A: Allocator>(
+    alloc: Global,
+    tree: &mut Tree<A>,
+    cred: &Cred,
+    path: &[u8],
+    mode: Mode,
+) -> Result<(), Fault>
+    ensures { Changed result tree.old tree.new (chmod tree.old cred.now path.now mode) }
+{
+    let target = resolve(alloc, tree, cred, path, Purpose::Target)?;
+    if cred.uid != 0 && cred.uid != target.file.meta.uid {
+        return Err(Fault::Errno(Errno::EPERM));
+    }
+    tree.set_mode(target.path.as_slice(), mode);
+    Ok(())
+}
+
+/// stat() of POSIX.1-2017: what is known of a file. It asks no permission on the file itself, and refuses what `resolve`
+/// does. `NoMemory` comes where the walk finds none.
+pub fn stat<A: Allocator>(
+    alloc: Global,
+    tree: &Tree<A>,
+    cred: &Cred,
+    path: &[u8],
+) -> Result<Meta, Fault>
+    ensures { Told (λ meta. meta) result (stat tree.now cred.now path.now) }
+{
+    let target = resolve(alloc, tree, cred, path, Purpose::Target)?;
+    Ok(target.file.meta)
+}
+
+/// The names in a directory, by bytes, without `.` and `..`, each with a slash behind it, in a vector of their own (this
+/// profile's own call). After what `resolve` refuses: ENOTDIR for a FIFO; EACCES without read permission on the
+/// directory. `NoMemory` comes where the walk or the vector finds none.
+pub fn list<A: Allocator>(
+    alloc: Global,
+    tree: &Tree<A>,
+    cred: &Cred,
+    path: &[u8],
+) -> Result<Vec<u8>, Fault>
+    ensures { Told (λ names. names.items) result (list tree.now cred.now path.now) }
+{
+    let target = resolve(alloc, tree, cred, path, Purpose::Target)?;
+    if !is_directory(&target.file) {
+        return Err(Fault::Errno(Errno::ENOTDIR));
+    }
+    if !may(cred, &target.file.meta, Want::Read) {
+        return Err(Fault::Errno(Errno::EACCES));
+    }
+    let names = tree.names(alloc, target.path.as_slice())?;
+    Ok(names)
+}

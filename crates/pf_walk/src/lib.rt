@@ -1,0 +1,16 @@
+//! What the calls on files do and refuse: paths, permissions and changes over a tree of any allocator.
+//!
+//! Each call answers what `specs/FileCalls` of `pf_base` says of the tree's map of files, with the refusals in its
+//! order, and changes nothing where it refuses or finds no memory.
+#![tactic(auto)]
+
+pub mod calls;
+pub mod resolution;
+#[cfg(test)]
+mod tests;
+mod walk;
+pub mod words;
+
+pub use calls::{chmod, list, make, rmdir, stat, unlink};
+pub use resolution::{Last, Purpose, Resolved, resolve};
+pub use words::{Words, split};

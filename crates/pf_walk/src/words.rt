@@ -1,0 +1,80 @@
+//! Paths as bytes: the names between their slashes.
+
+ghost use Rattle.std.specs.Prelude.{◌≡◌, IfOk, length, nat_lt};
+ghost use Rattle.std.specs.List.{list_any};
+ghost use Rattle.pf_base.specs.Paths.{components, words_of, ends_in_slash};
+ghost use Rattle.pf_tree.specs.Subtrees.{path_of};
+ghost use Rattle.pf_walk.specs.Told.{Told};
+ghost use Rattle.pf_walk.specs.Resolutions.{words};
+
+use pf_base::{Errno, Fault};
+use std::alloc::{AllocError, Global};
+
+/// The most bytes of a path, all its slashes counted: {PATH_MAX} is 1,024, with a byte 0 behind the path.
+pub const MAX_PATH: usize = 1_023;
+
+/// The most bytes of a name: {NAME_MAX}.
+pub const MAX_NAME: usize = 255;
+
+/// A path, cut at its slashes. Slashes that meet are as one.
+#[derive(Debug, Drop)]
+pub struct Words<'a> {
+    /// The components in their order, as parts of the path's bytes: each has 1 to 255 bytes, none of them a slash.
+    pub names: Vec<&'a [u8]>,
+    /// Whether a slash stands behind the last component. `/` has none, and ends in no slash.
+    pub slash: bool,
+}
+
+// What lies between slashes, but for nothing.
+fn components(alloc: Global, path: &[u8]) -> Result<Vec<&[u8]>, AllocError>
+    ensures { IfOk result (λ names. path_of names.items ≡ components path.now) }
+{
+    path.split(|byte| *byte == b'/')
+        .filter(|name| !name.is_empty())
+        .collect(alloc)
+}
+
+// Whether a name has more bytes than a name may have.
+fn has_long_name(names: &[&[u8]]) -> bool
+    ensures { result ≡ list_any (λ n. nat_lt 255 (length n)) (path_of names.now) }
+{
+    for name in names {
+        if name.len() > MAX_NAME {
+            return true;
+        }
+    }
+    false
+}
+
+// Whether the last byte is a slash.
+fn ends_in_slash(path: &[u8]) -> bool
+    ensures { result ≡ ends_in_slash path.now }
+{
+    match path.split_last() {
+        None => false,
+        Some((last, _)) => *last == b'/',
+    }
+}
+
+/// Cuts a path at its slashes, after what is refused before a walk, in this order: EINVAL for a byte 0 (this profile's
+/// own), ENOENT for an empty path, and ENAMETOOLONG for more than 1,023 bytes or a component of more than 255
+/// (POSIX.1-2017, 4.13 "Pathname Resolution"). `NoMemory` comes where the vector of names finds none.
+pub fn split(alloc: Global, path: &[u8]) -> Result<Words<'_>, Fault>
+    ensures { Told words result (words_of path.now) }
+{
+    if path.contains(&0) {
+        return Err(Fault::Errno(Errno::EINVAL));
+    }
+    if path.is_empty() {
+        return Err(Fault::Errno(Errno::ENOENT));
+    }
+    if path.len() > MAX_PATH {
+        return Err(Fault::Errno(Errno::ENAMETOOLONG));
+    }
+    let names = components(alloc, path)?;
+    if has_long_name(names.as_slice()) {
+        return Err(Fault::Errno(Errno::ENAMETOOLONG));
+    }
+    let slash = ends_in_slash(path) && !names.as_slice().is_empty();
+    Ok(Words { names, slash })
+}
