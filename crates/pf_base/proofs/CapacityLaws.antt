@@ -1,12 +1,12 @@
 -- The least power of two of pages that holds some bytes: what `pages_for` finds.
 
-use Rattle.std.proofs.Common.{◌≡◌, ℕ, zero, suc, ◌+◌, ◌*◌, ◌/◌, ◌%◌, ◌^◌, ◌<◌, ◌≤◌, Bool, true, false, refl, sym, ap, ◌∙◌, subst, ◌⊎◌, inl, inr, ⊎_elim, arith}
+use Rattle.std.proofs.Common.{◌≡◌, ℕ, zero, suc, ◌+◌, ◌*◌, ◌/◌, ◌^◌, ◌<◌, ◌≤◌, Bool, true, false, refl, sym, subst, inl, inr, ⊎_elim, arith}
 use Rattle.std.proofs.Math.Nat.{pow-succ'}
 use Rattle.std.proofs.Math.Pow.{pow_mono}
 use Rattle.std.proofs.lemmas.Bool.{leb-true, leb-false, cases_lt}
 use Rattle.std.proofs.lemmas.Nat.{pow_pos}
 use Rattle.std.specs.Int.{div_ceil}
-use Rattle.std.specs.Prelude.{nat_le, max, min, if◌then◌else◌}
+use Rattle.std.specs.Prelude.{nat_le, max, if◌then◌else◌}
 use Rattle.pf_base.specs.Capacities.{IsLeastPower}
 use Rattle.pf_base.specs.Queue.{pages_from, pages_for}
 use Rattle.pf_base.specs.declared.TheConstants.{PAGE_SIZE}
