@@ -1,19 +1,15 @@
 -- Who makes a step, as the tables find it and as the machine does.
 
-use Rattle.std.proofs.Common.{◌≡◌, ℕ, zero, suc, ◌+◌, ◌-◌, List, Option, Some, None, Result, Ok, Err, refl, sym, ap, subst, ◌∙◌, arith}
+use Rattle.std.proofs.Common.{◌≡◌, ℕ, zero, suc, ◌-◌, Option, Some, None, Ok, refl, ap, ◌∙◌, arith}
 use Rattle.std.specs.Option.{option_map}
-use Rattle.pf_base.specs.Refusals.{◌>>=◌, or_refuse}
-use Rattle.pf_base.specs.Queue.{Queue}
+use Rattle.pf_base.specs.Refusals.{or_refuse}
 use Rattle.pf_base.specs.Numbered.{at}
 use Rattle.pf_base.proofs.NumberedLaws.{at-map}
-use Rattle.pf_base.specs.State as machine
-use Rattle.pf_base.specs.State.{State, living}
-use Rattle.pf_base.specs.declared.errno.Errno.{Errno}
+use Rattle.pf_base.specs.State.{living}
 use Rattle.pf_base.specs.declared.errno.Errno.TheVariants.{ESRCH}
 use Rattle.pf_frame.specs.Live.{Live}
 use Rattle.pf_space.specs.Meaning.{meaning}
 use Rattle.pf_space.specs.Rows.{ProcessRows, DescriptionRows, PipeRows, Process, process_of, state_of, process_at, process_in}
-use Rattle.pf_space.proofs.Shown.{shown}
 
 module _ (f : Live) (ps : ProcessRows) (ds : DescriptionRows) (pipes : PipeRows) (pid : ℕ) where
   -- the machine's process is the one that the tables show

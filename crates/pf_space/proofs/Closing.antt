@@ -1,7 +1,7 @@
 -- A descriptor goes: a name is lost, and where it was the last its description, and perhaps the description's pipe. Each
 -- step of the code moves something into the hand or out of it.
 
-use Rattle.std.proofs.Common.{◌≡◌, ◌≢◌, ℕ, ◌+◌, ◌-◌, ◌<◌, ◌≤◌, Bool, true, false, List, [], ◌∷◌, length, set, map, Option, Some, None, IsSome, is_some, IfSome, refl, sym, ap, subst, ◌∙◌, arith, if◌then◌else◌}
+use Rattle.std.proofs.Common.{◌≡◌, ℕ, ◌-◌, ◌<◌, ◌≤◌, Bool, true, false, [], ◌∷◌, set, Option, Some, None, IsSome, is_some, IfSome, refl, sym, ap, subst, ◌∙◌, arith, if◌then◌else◌}
 use Rattle.std.specs.Option.{option_map, option_and_then}
 use Rattle.std.proofs.lemmas.List.{map-set}
 use Rattle.pf_base.specs.Numbered.{at, put_at, clear_at, change_at, one_if}
@@ -10,12 +10,10 @@ use Rattle.pf_base.specs.State as machine
 use Rattle.pf_base.specs.Descriptors.{without_descriptor}
 use Rattle.pf_base.specs.Sweep.{sweep}
 use Rattle.pf_base.proofs.SweepLaws.{with_processes}
-use Rattle.pf_base.specs.declared.TheConstants.{MAX_DESCRIPTORS}
 use Rattle.pf_fds.specs.Registry.{find}
 use Rattle.pf_fds.specs.Descriptions.{names_of, one_less}
-use Rattle.pf_ring.specs.Ring.{Ring}
 use Rattle.pf_space.specs.Rows.{ProcessRows, DescriptionRows, PipeRows, Key, Named, Process, Description, Pipe, key_at, without_key, with_fewer, is_used, left, gone, process_of, description_of, pipe_of, processes_of, descriptions_of, pipes_of, state_of, TiedWith, Tied}
-use Rattle.pf_space.specs.Tables.{descriptor, emptied, Left, LetsGo}
+use Rattle.pf_space.specs.Tables.{descriptor, Left, LetsGo}
 use Rattle.pf_space.proofs.Held.{finds, once}
 use Rattle.pf_space.proofs.Shown.{shown, find_at, set_same}
 use Rattle.pf_space.proofs.Small.{taken, names_row, unnamed, unnamed_last, end_gone, enough}

@@ -1,11 +1,11 @@
 -- The end of a pipe that a descriptor names, as the tables find it and as the machine does.
 
-use Rattle.std.proofs.Common.{◌≡◌, ℕ, zero, suc, ◌+◌, Bool, true, false, not, ◌&&◌, List, [], Option, Some, None, IsSome, is_some, Result, Ok, Err, refl, sym, ap, subst, ◌∙◌, arith, nat_eq}
+use Rattle.std.proofs.Common.{◌≡◌, ℕ, zero, suc, ◌+◌, Bool, true, false, not, Option, Some, None, IsSome, is_some, Result, Ok, Err, refl, sym, ap, subst, ◌∙◌, arith}
 use Rattle.std.specs.Option.{option_map, option_and_then}
 use Rattle.pf_base.specs.Refusals.{◌>>=◌, ◌>>◌, refuse_if, or_refuse}
 use Rattle.pf_base.specs.Queue.{Queue}
-use Rattle.pf_base.specs.Numbered.{at, one_if}
-use Rattle.pf_base.proofs.NumberedLaws.{at-map, sum_of-map}
+use Rattle.pf_base.specs.Numbered.{at}
+use Rattle.pf_base.proofs.NumberedLaws.{at-map}
 use Rattle.pf_base.specs.State as machine
 use Rattle.pf_base.specs.State.{State, End, living, end_at, reading_end, writing_end}
 use Rattle.pf_base.specs.Counts.{readers, writers}
@@ -13,10 +13,9 @@ use Rattle.pf_base.specs.declared.errno.Errno.{Errno}
 use Rattle.pf_base.specs.declared.errno.Errno.TheVariants.{ESRCH, EBADF}
 use Rattle.pf_base.specs.declared.progress.Side.{Side}
 use Rattle.pf_base.specs.declared.progress.Side.TheVariants as sides
-use Rattle.pf_fds.specs.Registry.{find}
 use Rattle.pf_frame.specs.Live.{Live}
 use Rattle.pf_space.specs.Meaning.{meaning, pipe_meaning}
-use Rattle.pf_space.specs.Rows.{ProcessRows, DescriptionRows, PipeRows, Key, Named, Process, Description, Pipe, process_of, description_of, pipe_of, descriptions_of, pipes_of, state_of, process_at, process_in, has, description_in, end_in, read_by, written_by, UsedRow, Tied}
+use Rattle.pf_space.specs.Rows.{ProcessRows, DescriptionRows, PipeRows, Key, Named, Process, Description, Pipe, process_of, description_of, pipe_of, pipes_of, state_of, process_at, process_in, has, description_in, end_in, read_by, written_by, UsedRow, Tied}
 use Rattle.pf_space.proofs.Callers.{living_shown}
 use Rattle.pf_space.proofs.Held.{finds}
 use Rattle.pf_space.proofs.Shown.{shown, find_at}

@@ -1,14 +1,14 @@
 -- What goes, in the meaning of the state that it leaves: a descriptor with whatever nobody can reach any more, and a
 -- process.
 
-use Rattle.std.proofs.Common.{◌≡◌, ℕ, zero, suc, ◌+◌, ◌-◌, ◌<◌, List, [], map, set, Option, Some, None, Result, Ok, Err, refl, ap, sym, ◌∙◌, subst, arith}
+use Rattle.std.proofs.Common.{◌≡◌, ℕ, zero, suc, ◌+◌, ◌-◌, ◌<◌, List, [], map, set, Option, Some, None, Ok, refl, ap, sym, ◌∙◌, subst, arith}
 use Rattle.std.specs.Option.{option_map}
 use Rattle.std.proofs.lemmas.List.{map-set}
 use Rattle.pf_base.specs.Refusals.{◌>>=◌, or_refuse}
 use Rattle.pf_base.specs.Limits.{Limits}
 use Rattle.pf_base.specs.Numbered.{at, clear_at, sum_of}
 use Rattle.pf_base.proofs.NumberedLaws.{at-map}
-use Rattle.pf_base.specs.State.{State, Pipe, with_process, without_process}
+use Rattle.pf_base.specs.State.{Pipe, with_process, without_process}
 use Rattle.pf_base.specs.Descriptors.{named, without_descriptor}
 use Rattle.pf_base.specs.declared.errno.Errno.TheVariants.{EBADF}
 use Rattle.pf_base.specs.Sweep.{sweep}
@@ -18,7 +18,7 @@ use Rattle.pf_frame.specs.Live.{Live}
 use Rattle.pf_ring.specs.Ring.{Ring}
 use Rattle.pf_ring.specs.Windows.{Keeps, Stands}
 use Rattle.pf_ring.specs.Table.{Joined}
-use Rattle.pf_space.specs.Meaning.{Namespace, meaning, pipe_meaning, ring_or, rings_of, pages}
+use Rattle.pf_space.specs.Meaning.{Namespace, meaning, pipe_meaning, ring_or}
 use Rattle.pf_space.specs.MeaningLaws.{sweep-meaning, pipes-without, set-map}
 use Rattle.pf_space.specs.Owns.{Owns}
 use Rattle.pf_space.specs.OwnsLaws.{stands_at, joined_gone, others_written, pages-without}

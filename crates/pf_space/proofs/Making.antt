@@ -1,6 +1,6 @@
 -- What comes: a process, and a pipe with its two ends.
 
-use Rattle.std.proofs.Common.{◌≡◌, ℕ, zero, suc, ◌+◌, ◌-◌, ◌<◌, ◌≤◌, map, length, Option, Some, None, refl, sym, ap, subst, ◌∙◌, arith}
+use Rattle.std.proofs.Common.{◌≡◌, ℕ, zero, suc, ◌+◌, ◌-◌, ◌≤◌, map, length, Some, None, refl, sym, ap, subst, ◌∙◌, arith}
 use Rattle.std.specs.Option.{option_map}
 use Rattle.std.proofs.lemmas.List.{map-set}
 use Rattle.pf_base.specs.Limits.{Limits}
@@ -10,12 +10,11 @@ use Rattle.pf_base.proofs.NumberedLaws.{at-first_free, first_free-map}
 use Rattle.pf_base.specs.State.{State, vacant, with_process}
 use Rattle.pf_base.specs.Sweep.{sweep}
 use Rattle.pf_base.specs.declared.TheConstants.{MAX_PROCESSES}
-use Rattle.pf_base.specs.declared.cred.Cred.{Cred}
 use Rattle.pf_frame.specs.Live.{Live}
 use Rattle.pf_space.specs.Meaning.{Namespace, meaning}
 use Rattle.pf_space.specs.MeaningLaws.{settled-meaning}
 use Rattle.pf_space.specs.Owns.{Owns}
-use Rattle.pf_space.specs.Rows.{ProcessRows, DescriptionRows, PipeRows, Key, Process, keys_of, process_of, processes_of, descriptions_of, pipes_of, state_of, Tied, Kept}
+use Rattle.pf_space.specs.Rows.{ProcessRows, DescriptionRows, PipeRows, Key, Process, keys_of, process_of, processes_of, descriptions_of, pipes_of, state_of, Kept}
 use Rattle.pf_space.specs.Told.{Becomes}
 use Rattle.pf_space.proofs.Swept.{settled}
 use Rattle.pf_space.proofs.Vacating.{vacant_at, length-vacant, map-vacant, made}

@@ -1,6 +1,6 @@
 -- A pipe is made: two descriptions and a pipe under the next numbers, and two keys at the lowest free descriptors.
 
-use Rattle.std.proofs.Common.{◌≡◌, ℕ, zero, suc, ◌+◌, ◌-◌, ◌<◌, ◌≤◌, Bool, true, false, ◌&&◌, List, [], ◌∷◌, ◌++◌, length, map, set, Option, Some, None, Result, Ok, Err, refl, sym, ap, subst, ◌∙◌, inl, inr, arith, append_assoc, nat_eq, nat_le}
+use Rattle.std.proofs.Common.{◌≡◌, ℕ, zero, suc, ◌+◌, ◌-◌, ◌<◌, ◌≤◌, Bool, true, false, ◌&&◌, List, [], ◌∷◌, ◌++◌, length, set, Option, Some, None, Result, Ok, Err, refl, sym, ap, subst, ◌∙◌, inl, inr, arith, append_assoc, nat_eq, nat_le}
 use Rattle.std.specs.Option.{option_map}
 use Rattle.std.proofs.lemmas.Bool.{cases_lt, eq-eqb}
 use Rattle.std.proofs.lemmas.Bool.Decides.{nat_tests}
@@ -19,11 +19,11 @@ use Rattle.pf_base.specs.declared.errno.Errno.TheVariants.{ESRCH, EMFILE}
 use Rattle.pf_fds.specs.Descriptions.{one_more}
 use Rattle.pf_frame.specs.Live.{Live}
 use Rattle.pf_ring.specs.Table.{Joined}
-use Rattle.pf_space.specs.Meaning.{Namespace, meaning, pages, rings_of}
+use Rattle.pf_space.specs.Meaning.{Namespace, meaning, rings_of}
 use Rattle.pf_space.specs.MeaningLaws.{total-meaning}
 use Rattle.pf_space.specs.Owns.{Owns}
 use Rattle.pf_space.specs.OwnsLaws.{joined_opened, meaning-opened, pages_within}
-use Rattle.pf_space.specs.Rows.{ProcessRows, DescriptionRows, PipeRows, Key, Process, Description, Pipe, Ring, process_in, with_keys, process_of, description_of, pipe_of, processes_of, descriptions_of, pipes_of, state_of, TiedWith, Tied, Kept}
+use Rattle.pf_space.specs.Rows.{ProcessRows, DescriptionRows, PipeRows, Key, Process, Description, Pipe, Ring, process_in, with_keys, process_of, description_of, pipe_of, processes_of, descriptions_of, pipes_of, state_of, Tied, Kept}
 use Rattle.pf_space.specs.Tables.{HasTwo, FindsTwo, Opens}
 use Rattle.pf_space.proofs.Held.{once, described, piped, swapped}
 use Rattle.pf_space.proofs.Making.{becomes}

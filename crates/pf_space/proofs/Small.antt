@@ -1,13 +1,13 @@
 -- The small changes that the code makes, as instances: one name more or less of a description, one end less of a pipe,
 -- another ring, a key in a descriptor or out of it.
 
-use Rattle.std.proofs.Common.{◌≡◌, ◌≢◌, ℕ, suc, ◌+◌, ◌-◌, ◌<◌, ◌≤◌, Bool, true, false, ◌&&◌, List, [], ◌∷◌, set, Option, Some, None, refl, sym, ap, subst, ◌∙◌, arith, nat_eq, nat_lt, if◌then◌else◌}
+use Rattle.std.proofs.Common.{◌≡◌, ◌≢◌, ℕ, suc, ◌+◌, ◌-◌, ◌<◌, ◌≤◌, Bool, true, false, ◌&&◌, List, ◌∷◌, set, Option, Some, None, refl, sym, ap, subst, ◌∙◌, arith, nat_lt, if◌then◌else◌}
 use Rattle.std.proofs.lemmas.Bool.{eq-eqb}
 use Rattle.std.proofs.lemmas.Bool.Decides.{nat_tests}
 use Rattle.pf_base.specs.Numbered.{at, put_at, clear_at, one_if}
 use Rattle.pf_base.specs.declared.TheConstants.{MAX_DESCRIPTORS}
-use Rattle.pf_space.specs.Rows.{ProcessRows, DescriptionRows, PipeRows, Key, Named, Process, Description, Pipe, Ring, with_fewer, is_used, left, keys_of, names_it, named, reads_it, writes_it, read_by, written_by, held, holding, NamedRow, UsedRow, IsEnd, TiedWith}
-use Rattle.pf_space.proofs.Held.{found, moved, miss, names_one, names_none, redescribed, repiped}
+use Rattle.pf_space.specs.Rows.{ProcessRows, DescriptionRows, PipeRows, Key, Named, Process, Description, Pipe, with_fewer, is_used, left, keys_of, names_it, named, reads_it, writes_it, read_by, written_by, held, holding, NamedRow, UsedRow, IsEnd, TiedWith}
+use Rattle.pf_space.proofs.Held.{moved, miss, names_one, names_none, redescribed, repiped}
 
 module _ (K : List Key) (E : List Description) (ps : ProcessRows) (ds : DescriptionRows) (pipes : PipeRows) where
   module _ (k : Key) (d : Named Description) (stands : at ds k.serial ≡ Some (k.place, d)) where

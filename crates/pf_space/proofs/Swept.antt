@@ -2,17 +2,17 @@
 -- a change the rest is as the sweep leaves it.
 
 use Rattle.std.proofs.Common.{◌≡◌, ℕ, ◌+◌, ◌<◌, ◌&&◌, List, [], ◌∷◌, length, map, set, length-set, Option, Some, None, refl, sym, ap, subst, ◌∙◌, arith, nat_eq}
-use Rattle.std.proofs.lemmas.List.{length-map, map-set}
+use Rattle.std.proofs.lemmas.List.{length-map}
 use Rattle.std.specs.Option.{option_map}
-use Rattle.pf_base.specs.Numbered.{at, sum_of, weight, one_if}
-use Rattle.pf_base.proofs.NumberedLaws.{at-map, at_within, sum_of-map}
+use Rattle.pf_base.specs.Numbered.{at, one_if}
+use Rattle.pf_base.proofs.NumberedLaws.{at_within, sum_of-map}
 use Rattle.pf_base.specs.State as machine
 use Rattle.pf_base.specs.State.{State}
 use Rattle.pf_base.specs.Counts.{names, readers, writers, ends}
 use Rattle.pf_base.specs.Sweep.{sweep}
 use Rattle.pf_base.proofs.SweepLaws.{with_processes, swept, ends-le-sides, readers-le-ends, writers-le-ends}
-use Rattle.pf_space.specs.Rows.{ProcessRows, DescriptionRows, PipeRows, Key, Named, Process, Description, Pipe, Ring, names_it, keys_of, keys_to, named, read_by, written_by, NamedRow, UsedRow, TiedWith, Tied, process_of, description_of, pipe_of, processes_of, descriptions_of, pipes_of, state_of}
-use Rattle.pf_space.proofs.Shown.{was, shown, set_same}
+use Rattle.pf_space.specs.Rows.{ProcessRows, DescriptionRows, PipeRows, Key, Named, Description, Pipe, Ring, keys_of, named, read_by, written_by, NamedRow, UsedRow, Tied, description_of, pipe_of, processes_of, descriptions_of, pipes_of, state_of}
+use Rattle.pf_space.proofs.Shown.{was, shown}
 use Rattle.pf_space.proofs.Held.{by_set}
 
 pub names_shown : (ps : ProcessRows) (n : ℕ) → names (processes_of ps) n ≡ named ps n

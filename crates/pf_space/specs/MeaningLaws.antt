@@ -4,13 +4,13 @@ use Rattle.std.proofs.Common.{◌≡◌, ◌≢◌, ℕ, ◌≤◌, zero, suc, �
 use Rattle.std.specs.Prelude.{Option, Some, None, nat_lt, slice_index_or, slice_set, is_some, unwrap_or}
 use Rattle.std.proofs.lemmas.List.{length-map}
 use Rattle.std.proofs.Common.{subst}
-use Rattle.std.specs.Option.{option_map, option_and_then}
+use Rattle.std.specs.Option.{option_map}
 use Rattle.pf_base.specs.Machine.{may_want_memory}
 use Rattle.pf_base.proofs.MachineLaws.{may_want-same}
 use Rattle.pf_base.specs.Queue.{Queue, bytes_of}
 use Rattle.pf_base.specs.Numbered.{at, change_at, keep_from, sum_of}
 use Rattle.pf_base.specs.Counts.{total, ends}
-use Rattle.pf_base.specs.State.{State, Process, Description, Pipe, process, end_at, with_queue, holding}
+use Rattle.pf_base.specs.State.{State, Pipe, process, with_queue, holding}
 use Rattle.pf_base.specs.Sweep.{sweep, live_descriptions}
 use Rattle.pf_base.specs.declared.step.Step.{Step}
 use Rattle.pf_frame.specs.Live.{Live}

@@ -15,9 +15,9 @@ use Rattle.pf_base.specs.Pipes.{opened, reading, writing, with_two}
 use Rattle.pf_frame.specs.Live.{Live, IsSound}
 use Rattle.pf_ring.specs.Ring.{Ring, queue_of, no_ring}
 use Rattle.pf_ring.specs.Windows.{Keeps, Stands}
-use Rattle.pf_ring.specs.Table.{Joined, SameLive, ring_at, slots_of, joined_after, queue_stays, no_source, joined_pushed, joined_cleared, joined_nothing, joined_same, queue_same, ring_stands, credits_for, slots_used, held_le_used, none_held_bytes}
+use Rattle.pf_ring.specs.Table.{Joined, ring_at, slots_of, joined_after, queue_stays, no_source, joined_pushed, joined_cleared, joined_nothing, ring_stands, credits_for, slots_used, held_le_used, none_held_bytes}
 use Rattle.pf_space.specs.Meaning.{Namespace, meaning, pipe_meaning, ring_or, rings_of, pages, occupied, AreEmpty}
-use Rattle.pf_space.specs.MeaningLaws.{Others, others_stay, all_stay, pipe_stays, ring_at-rings, rings-set, rings-push, map-push, length-map'}
+use Rattle.pf_space.specs.MeaningLaws.{Others, others_stay, ring_at-rings, rings-set, rings-push, map-push, length-map'}
 use Rattle.pf_space.specs.Owns.{Owns}
 
 -- the ring of a pipe that is there

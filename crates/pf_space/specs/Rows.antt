@@ -1,9 +1,9 @@
 -- What the tables mean to the lone machine, and how their counters are tied to it. No public clause cites this module.
 
-use Rattle.std.specs.Prelude.{◌≡◌, ℕ, zero, suc, ◌+◌, ◌-◌, ◌<◌, Bool, not, ◌&&◌, List, [], ◌∷◌, length, map, Option, Some, None, nat_lt, nat_eq, ⊤, if◌then◌else◌, Result, Ok, Err}
-use Rattle.std.specs.Option.{option_map, option_and_then}
+use Rattle.std.specs.Prelude.{◌≡◌, ℕ, zero, suc, ◌+◌, ◌-◌, ◌<◌, Bool, not, ◌&&◌, List, [], ◌∷◌, length, map, Option, Some, None, nat_lt, nat_eq, ⊤, if◌then◌else◌, Result, Ok}
+use Rattle.std.specs.Option.{option_map}
 use Rattle.pf_base.specs.Refusals.{◌>>=◌, ◌>>◌, refuse_if, or_refuse}
-use Rattle.pf_base.specs.Numbered.{at, put_at, clear_at, sum_of, weight, one_if}
+use Rattle.pf_base.specs.Numbered.{at, put_at, clear_at, sum_of, one_if}
 use Rattle.pf_base.specs.State as machine
 use Rattle.pf_base.specs.State.{State}
 use Rattle.pf_base.specs.declared.TheConstants.{MAX_PROCESSES, MAX_DESCRIPTORS}

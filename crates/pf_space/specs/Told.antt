@@ -4,7 +4,7 @@ use Rattle.std.specs.Prelude.{◌≡◌, ℕ, List, take, ⊤, Result, Ok, Err}
 use Rattle.pf_base.specs.Refusals.{◌>>=◌}
 use Rattle.pf_base.specs.Queue.{Queue}
 use Rattle.pf_base.specs.Progress.{moved}
-use Rattle.pf_base.specs.State.{State, Process, Outcome, living}
+use Rattle.pf_base.specs.State.{State, Outcome, living}
 use Rattle.pf_base.specs.Transfers.{Tried, tried_read, tried_write}
 use Rattle.pf_base.specs.Machine.{swept}
 use Rattle.pf_base.specs.Sweep.{sweep}

@@ -1,6 +1,3 @@
-use Rattle.std.proofs.Common.{ap}
-use Rattle.pf_space.specs.Meaning.{Namespace}
-use Rattle.pf_base.specs.Sweep.{sweep}
 use Rattle.pf_space.proofs.Swept.{settled}
 use Rattle.pf_space.proofs.tables.Tables.settled.Goals as goal
 
