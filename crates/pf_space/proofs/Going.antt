@@ -19,7 +19,7 @@ use Rattle.pf_ring.specs.Ring.{Ring}
 use Rattle.pf_ring.specs.Windows.{Keeps, Stands}
 use Rattle.pf_ring.specs.Table.{Joined}
 use Rattle.pf_space.specs.Meaning.{Namespace, meaning, pipe_meaning, ring_or}
-use Rattle.pf_space.specs.MeaningLaws.{sweep-meaning, pipes-without, set-map}
+use Rattle.pf_space.specs.MeaningLaws.{sweep-meaning, pipes-without}
 use Rattle.pf_space.specs.Owns.{Owns}
 use Rattle.pf_space.specs.OwnsLaws.{stands_at, joined_gone, others_written, pages-without}
 use Rattle.pf_space.specs.Rows.{ProcessRows, DescriptionRows, PipeRows, Key, Process, process_in, key_at, keys_of, process_of, processes_of, descriptions_of, pipes_of, state_of, Tied, Kept}
@@ -38,9 +38,6 @@ pages_in pipes = sum_of (λ (p : Pipe Ring). p.queue.capacity) pipes
 module _ (f : Live) (limits : Limits) (charge : ℕ) (ps : ProcessRows) (ds : DescriptionRows) (pipes : PipeRows) (k : Kept charge ps ds pipes)
     (n : Namespace) (view : record { limits = limits; state = state_of ps ds pipes } ≡ n) (owns : Owns f n)
     (i fd : ℕ) (ps' : ProcessRows) (ds' : DescriptionRows) (pipes' : PipeRows) (l : Left ps ds pipes ps' ds' pipes' i fd) where
-  old : Namespace
-  old = record { limits = limits; state = state_of ps ds pipes }
-
   abbrev new : Namespace
   new = record { limits = limits; state = state_of ps' ds' pipes' }
 
@@ -82,7 +79,7 @@ module _ (f : Live) (limits : Limits) (charge : ℕ) (ps : ProcessRows) (ds : De
       same_meaning : map (option_map (pipe_meaning g)) (clear_at (pipes_of pipes) m) ≡ map (option_map (pipe_meaning f)) (clear_at (pipes_of pipes) m)
       same_meaning =
           pipes-without f g (pipes_of pipes) m (others_written f g (state_of ps ds pipes) m p (record { capacity = p.queue.capacity; windows = [] }) owned.joined there changes)
-          ∙ set-map (pipe_meaning f) (pipes_of pipes) m None
+          ∙ sym (map-set (option_map (pipe_meaning f)) (pipes_of pipes) m None)
 
       pub gone_becomes : Becomes f g n new (emptied (meaning f n.state) i fd)
       gone_becomes =

@@ -29,16 +29,10 @@ by_push P xs y new old k =
     stays other =
         elim (cases_lt k (length xs)) [
           | inl l ↦ at-push_old xs y k l
-          | inr past ↦ at_past (xs ++ y ∷ []) k (omega (arith, length_push xs y, more other past)) ∙ sym (at_past xs k past)
+          | inr past ↦ at_past (xs ++ y ∷ []) k (omega (arith, length_push xs y, other, past)) ∙ sym (at_past xs k past)
         ]
-      where
-        more : k ≢ length xs → length xs ≤ k → length xs + 1 ≤ k
-        more ne le = elim (cases_lt (length xs) k) [ inl l ↦ omega arith | inr past ↦ absurd (ne (omega arith)) ]
 
 -- Keys that find something
-
-place_of : {T : Type 0} → ℕ × T → ℕ
-place_of e = e.0
 
 pub finds : {T : Type 0} (rows : List (Option (ℕ × T))) (k : Key) → Finds rows k → (x : T) × (at rows k.serial ≡ Some (k.place, x))
 finds {T} rows k f = by_row (at rows k.serial) refl f
@@ -78,7 +72,7 @@ counts : (ps : ProcessRows) (i m : ℕ) (p : Process) (k : Key) → at ps i ≡ 
 counts ps i m p k h g =
     omega (arith, ap (weight (keys_to k.serial)) h, ap (weight (names_it k.serial)) g, names_one k, weight-le-sum_of (keys_to k.serial) ps i, weight-le-sum_of (names_it k.serial) (keys_of p) m)
 
-sides : (d : Description) → (reads_it d.pipe.serial d ≡ one_if d.reads) × (writes_it d.pipe.serial d ≡ one_if d.writes)
+pub sides : (d : Description) → (reads_it d.pipe.serial d ≡ one_if d.reads) × (writes_it d.pipe.serial d ≡ one_if d.writes)
 sides d = (hit d.pipe.serial d.reads, hit d.pipe.serial d.writes)
 
 each-map : {X : Type 0} (f g : ℕ → X → ℕ) (P Q : X → Type 0) (xs : List X) → ((x : X) → ((n : ℕ) → f n x ≤ held (f n) xs) → ((n : ℕ) → g n x ≤ held (g n) xs) → P x → Q x) → Each P xs → Each Q xs
