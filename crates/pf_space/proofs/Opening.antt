@@ -26,7 +26,7 @@ use Rattle.pf_space.specs.OwnsLaws.{joined_opened, meaning-opened, pages_within}
 use Rattle.pf_space.specs.Rows.{ProcessRows, DescriptionRows, PipeRows, Key, Process, Description, Pipe, Ring, process_in, with_keys, process_of, description_of, pipe_of, processes_of, descriptions_of, pipes_of, state_of, Tied, Kept}
 use Rattle.pf_space.specs.Tables.{HasTwo, FindsTwo, Opens}
 use Rattle.pf_space.proofs.Callers.{lives, place_is}
-use Rattle.pf_space.proofs.Held.{once, sides, described, piped, swapped}
+use Rattle.pf_space.proofs.Held.{finds-new, miss, once, sides, described, piped, swapped}
 use Rattle.pf_space.proofs.Making.{becomes}
 use Rattle.std.proofs.lemmas.List.{set_past, set-set}
 use Rattle.pf_space.proofs.Small.{put}
@@ -173,7 +173,10 @@ module _ (f : Live) {charge : ℕ} {limits : Limits} {ps : ProcessRows} {ds : De
         now_tied =
             let a = sides (reading m.r nonblocking) in
             let b = sides (writing m.r nonblocking) in
-            let with_pipe = piped [] [] ps ds pipes m.r (two_ended slots p.cred.uid) (reading m.r nonblocking ∷ writing m.r nonblocking ∷ []) m.r_is ((refl, omega arith), ((refl, omega arith), tt)) (omega (arith, a.0, b.0)) (omega (arith, a.1, b.1)) (omega arith) kept.tied in
+            let new = finds-new pipes (two_ended slots p.cred.uid) m.r m.r_is in
+            let with_pipe = piped [] [] ps ds pipes m.r (two_ended slots p.cred.uid) (reading m.r nonblocking ∷ writing m.r nonblocking ∷ []) m.r_is ((new, omega arith), ((new, omega arith), tt))
+            (λ n ne. let reads = miss m.r.serial n true (λ e. ne (sym e)) in let none = miss m.r.serial n false (λ e. ne (sym e)) in (omega (arith, reads, none), omega (arith, reads, none)))
+            (omega (arith, a.0, b.0)) (omega (arith, a.1, b.1)) (omega arith) kept.tied in
             let with_reading = described [] (writing m.r nonblocking ∷ []) ps ds pipes1 m.j (reading m.r nonblocking) m.j_is with_pipe in
             let with_both = described (m.j ∷ []) [] ps ds1 pipes1 m.k (writing m.r nonblocking) m.k_is with_reading in
             let first = put (m.k ∷ []) [] ps ds2 pipes1 (pid - 1) free.0 p stands first_in m.j (ap (at p.descriptors) first_is ∙ at-first_free p.descriptors) (swapped [] [] ps ds2 pipes1 m.j m.k with_both) in
