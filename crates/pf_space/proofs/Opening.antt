@@ -8,7 +8,7 @@ use Rattle.std.proofs.lemmas.List.{map-set, length-map, map_push, length_push}
 use Rattle.pf_base.specs.Refusals.{◌>>=◌, refuse_if}
 use Rattle.pf_base.specs.Limits.{Limits}
 use Rattle.pf_base.specs.Numbered.{at, put_at, change_at, first_free, sum_of}
-use Rattle.pf_base.proofs.NumberedLaws.{at_within, at-put_same, at-first_free, first_free-map, sum_of-push}
+use Rattle.pf_base.proofs.NumberedLaws.{at-push_new, at_within, at-put_same, at-first_free, first_free-map, sum_of-push}
 use Rattle.pf_base.specs.Counts.{total}
 use Rattle.pf_base.specs.State as machine
 use Rattle.pf_base.specs.State.{State, living}
@@ -23,12 +23,13 @@ use Rattle.pf_space.specs.Meaning.{Namespace, meaning, rings_of}
 use Rattle.pf_space.specs.MeaningLaws.{total-meaning}
 use Rattle.pf_space.specs.Owns.{Owns}
 use Rattle.pf_space.specs.OwnsLaws.{joined_opened, meaning-opened, pages_within}
-use Rattle.pf_space.specs.Rows.{ProcessRows, DescriptionRows, PipeRows, Key, Process, Description, Pipe, Ring, process_in, with_keys, process_of, description_of, pipe_of, processes_of, descriptions_of, pipes_of, state_of, Tied, Kept}
+use Rattle.pf_space.specs.Rows.{ProcessRows, DescriptionRows, PipeRows, Key, Named, Process, Description, Pipe, Ring, process_in, with_keys, process_of, description_of, pipe_of, processes_of, descriptions_of, pipes_of, state_of, Tied, Kept}
 use Rattle.pf_space.specs.Tables.{HasTwo, FindsTwo, Opens}
 use Rattle.pf_space.proofs.Callers.{lives, place_is}
 use Rattle.pf_space.proofs.Held.{finds-new, miss, once, sides, described, piped, swapped}
 use Rattle.pf_space.proofs.Making.{becomes}
 use Rattle.std.proofs.lemmas.List.{set_past, set-set}
+use Rattle.std.proofs.Math.Seq.{set-append_seam}
 use Rattle.pf_space.proofs.Small.{put}
 use Rattle.pf_space.proofs.Swept.{settled}
 
@@ -56,11 +57,8 @@ second_shown p k =
 pub named_once : (ds xs ys : DescriptionRows) (k : Key) (d : Description) → k.serial ≡ length ds → xs ≡ ds ++ Some (k.place, record { value = d; names = 0 }) ∷ [] → ys ≡ change_at one_more xs k.serial
     → ys ≡ ds ++ Some (k.place, once d) ∷ []
 named_once ds xs ys k d serial stored named =
-    named ∙ ap (λ zs. change_at one_more zs k.serial) stored ∙ ap (λ n. change_at one_more (ds ++ Some (k.place, record { value = d; names = 0 }) ∷ []) n) serial ∙ last ds
-  where
-    last : (zs : DescriptionRows) → change_at one_more (zs ++ Some (k.place, record { value = d; names = 0 }) ∷ []) (length zs) ≡ zs ++ Some (k.place, once d) ∷ []
-    last [] = refl
-    last (z ∷ zs) = ap (λ rest. z ∷ rest) (last zs)
+    let new : Option (ℕ × Named Description) = Some (k.place, record { value = d; names = 0 }) in
+    named ∙ (λ i. change_at one_more (stored i) (serial i)) ∙ ap (λ o. set (ds ++ new ∷ []) (length ds) (option_map one_more o)) (at-push_new ds new) ∙ set-append_seam ds new [] (Some (k.place, once d))
 
 abbrev pub reading : Key → Bool → Description
 reading r nonblocking = record { pipe = r; reads = true; writes = false; nonblocking = nonblocking }

@@ -5,7 +5,7 @@ use Rattle.std.proofs.Common.{◌≡◌, ◌≢◌, ℕ, suc, ◌+◌, ◌-◌, 
 use Rattle.std.proofs.lemmas.Bool.{ltb-true, ltb-false}
 use Rattle.pf_base.specs.Numbered.{at, put_at, clear_at, one_if}
 use Rattle.pf_base.specs.declared.TheConstants.{MAX_DESCRIPTORS}
-use Rattle.pf_space.specs.Rows.{ProcessRows, DescriptionRows, PipeRows, Key, Named, Process, Description, Pipe, with_fewer, is_used, left, keys_of, names_it, named, reads_it, writes_it, read_by, written_by, held, holding, NamedRow, UsedRow, IsEnd, TiedWith}
+use Rattle.pf_space.specs.Rows.{ProcessRows, DescriptionRows, PipeRows, Key, Named, Process, Description, Pipe, with_fewer, is_used, left, names_it, named, reads_it, writes_it, read_by, written_by, held, holding, NamedRow, UsedRow, IsEnd, TiedWith}
 use Rattle.pf_space.proofs.Held.{sides, moved, miss, names_one, names_none, redescribed, repiped}
 
 module _ (K : List Key) (E : List Description) (ps : ProcessRows) (ds : DescriptionRows) (pipes : PipeRows) where
@@ -67,18 +67,15 @@ module _ (K : List Key) (E : List Description) (ps : ProcessRows) (ds : Descript
             (let c = pipe_row d.pipe p stands t in let l = ltb-false 0 ((p.readers - one_if d.reads) + (p.writers - one_if d.writes)) u in
             (omega (arith, l, c.0, c.1, (sides d).0, (sides d).1), omega (arith, l, c.0, c.1, (sides d).0, (sides d).1)))
 
-  -- a key leaves a process for the hand, or the hand for an empty place
-  module _ (i m : ℕ) (p p' : Process) (stands : at ps i ≡ Some p) (m_in : m < suc MAX_DESCRIPTORS) where
-    taken_as : (k : Key) → at (keys_of p) m ≡ Some k → keys_of p' ≡ set (keys_of p) m None → TiedWith K E ps ds pipes → TiedWith (k ∷ K) E (put_at ps i p') ds pipes
-    taken_as k e is t = subst (λ o. TiedWith (holding o K) E (put_at ps i p') ds pipes) e (moved K E ps ds pipes i m p p' stands m_in None is t)
-
-    put_as : (k : Key) → at (keys_of p) m ≡ None → keys_of p' ≡ set (keys_of p) m (Some k) → TiedWith (k ∷ K) E ps ds pipes → TiedWith K E (put_at ps i p') ds pipes
-    put_as k e is t = subst (λ o. TiedWith (holding o K) E (put_at ps i p') ds pipes) e (moved K E ps ds pipes i m p p' stands m_in (Some k) is t)
-
-  -- the same of a descriptor
+  -- a key leaves a descriptor for the hand, or the hand for an empty descriptor
   module _ (i fd : ℕ) (p : Process) (stands : at ps i ≡ Some p) (fd_in : fd < MAX_DESCRIPTORS) where
+    abbrev with_descriptors : List (Option Key) → Process
+    with_descriptors ks = record p { descriptors = ks }
+
     pub taken : (k : Key) → at p.descriptors fd ≡ Some k → TiedWith K E ps ds pipes → TiedWith (k ∷ K) E (put_at ps i (record p { descriptors = clear_at p.descriptors fd })) ds pipes
-    taken k e t = taken_as i (suc fd) p (record p { descriptors = clear_at p.descriptors fd }) stands (omega arith) k e refl t
+    taken k e t =
+        subst (λ o. TiedWith (holding o K) E (put_at ps i (with_descriptors (clear_at p.descriptors fd))) ds pipes) e (moved K E ps ds pipes i (suc fd) p (with_descriptors (clear_at p.descriptors fd)) stands (omega arith) None refl t)
 
     pub put : (k : Key) → at p.descriptors fd ≡ None → TiedWith (k ∷ K) E ps ds pipes → TiedWith K E (put_at ps i (record p { descriptors = put_at p.descriptors fd k })) ds pipes
-    put k e t = put_as i (suc fd) p (record p { descriptors = put_at p.descriptors fd k }) stands (omega arith) k e refl t
+    put k e t =
+        subst (λ o. TiedWith (holding o K) E (put_at ps i (with_descriptors (put_at p.descriptors fd k))) ds pipes) e (moved K E ps ds pipes i (suc fd) p (with_descriptors (put_at p.descriptors fd k)) stands (omega arith) (Some k) refl t)
