@@ -4,7 +4,8 @@ use Rattle.std.proofs.Common.{◌≡◌, ℕ, zero, suc, ◌+◌, ◌-◌, ◌<�
 use Rattle.std.specs.Option.{option_map}
 use Rattle.std.proofs.lemmas.Bool.{cases_lt}
 use Rattle.std.proofs.lemmas.Bool.Decides.{nat_tests}
-use Rattle.std.proofs.lemmas.List.{map-set, length-map, map_push, length_push}
+use Rattle.std.proofs.lemmas.List.{map-set, length-map, map_push, length_push, set_past, set-set}
+use Rattle.std.proofs.Math.Seq.{set-append_seam}
 use Rattle.pf_base.specs.Refusals.{◌>>=◌, refuse_if}
 use Rattle.pf_base.specs.Limits.{Limits}
 use Rattle.pf_base.specs.Numbered.{at, put_at, change_at, first_free, sum_of}
@@ -28,8 +29,6 @@ use Rattle.pf_space.specs.Tables.{HasTwo, FindsTwo, Opens}
 use Rattle.pf_space.proofs.Callers.{lives, place_is}
 use Rattle.pf_space.proofs.Held.{finds-new, miss, once, sides, described, piped, swapped}
 use Rattle.pf_space.proofs.Making.{becomes}
-use Rattle.std.proofs.lemmas.List.{set_past, set-set}
-use Rattle.std.proofs.Math.Seq.{set-append_seam}
 use Rattle.pf_space.proofs.Small.{put}
 use Rattle.pf_space.proofs.Swept.{settled}
 

@@ -1,6 +1,6 @@
 use Rattle.std.proofs.Common.{◌≡◌, Bool, false, Some, None, IfSome, set, sym, ap, subst, ◌∙◌, if◌then◌else◌}
-use Rattle.pf_space.specs.Rows.{Pipe, with_fewer, is_used, left}
 use Rattle.std.proofs.lemmas.List.{set-set}
+use Rattle.pf_space.specs.Rows.{Pipe, with_fewer, is_used, left}
 use Rattle.pf_space.proofs.tables.descriptors.drop_end.Goals as goal
 
 pub returns-clause-items : goal.returns-clause-items
