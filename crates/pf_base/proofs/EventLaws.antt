@@ -1,14 +1,13 @@
 -- Laws of lists of events: appended lists, and one more event.
 
-use Rattle.std.proofs.Common.{ℕ, ◌+◌, ◌<◌, ◌≤◌, ◌≡◌, true, false, List, [], ◌∷◌, ◌++◌, length, get_or, take, refl, ap, sym, subst, ◌∙◌, arith, append-nil}
+use Rattle.std.proofs.Common.{ℕ, ◌≡◌, true, false, List, [], ◌∷◌, ◌++◌, length, refl, ap, sym, ◌∙◌, arith, append-nil}
 use Rattle.std.proofs.lemmas.Bool.{eq-eqb, ne_eqb, eqb-true}
-use Rattle.std.proofs.lemmas.List.{take_more, take_all, length-take}
 use Rattle.std.specs.Prelude.{nat_eq, if◌then◌else◌}
 use Rattle.pf_base.specs.Limits.{Limits}
 use Rattle.pf_base.specs.Queue.{Queue}
-use Rattle.pf_base.specs.State.{State, opening}
+use Rattle.pf_base.specs.State.{State}
 use Rattle.pf_base.specs.Machine.{Answers}
-use Rattle.pf_base.specs.Runs.{Run, run_of, lone}
+use Rattle.pf_base.specs.Runs.{run_of}
 use Rattle.pf_base.specs.Events.{mine, kept, replies, keep_step, keep_reply, IsDone, IsAmple}
 use Rattle.pf_base.proofs.RunLaws.{run_of-answered}
 use Rattle.pf_base.specs.declared.step.Step.{Step}
@@ -87,27 +86,6 @@ told-other c s old es e answers a n l other so =
     ap (run_of c s) (kept-other es e answers a n l other)
     ∙ so
     ∙ (λ i. record { state = old; replies = sym (replies-other es e answers a n l other) i })
-
--- the same by places: the events before the place i, and the one there
-
-pub told-own-at : (c : Limits) (s old new : State Queue) (es : List (ℕ × Step)) (i : ℕ) (d : ℕ × Step) (answers : List Answer) (a : Answer) (n : ℕ) → i < length es → length answers ≡ i → (get_or es i d).0 ≡ n → run_of c s (kept (take i es) answers n) ≡ record { state = old; replies = replies (take i es) answers n } → Answers c a old (get_or es i d).1 new → run_of c s (kept (take (i + 1) es) (answers ++ a ∷ []) n) ≡ record { state = new; replies = replies (take (i + 1) es) (answers ++ a ∷ []) n }
-told-own-at c s old new es i d answers a n l many own so made =
-    subst (λ ys. run_of c s (kept ys (answers ++ a ∷ []) n) ≡ record { state = new; replies = replies ys (answers ++ a ∷ []) n }) (sym (take_more es i d l))
-    (told-own c s old new (take i es) (get_or es i d) answers a n (omega (arith, l, many, length-take i es)) own so made)
-
-pub told-other-at : (c : Limits) (s old : State Queue) (es : List (ℕ × Step)) (i : ℕ) (d : ℕ × Step) (answers : List Answer) (a : Answer) (n : ℕ) → i < length es → length answers ≡ i → ((get_or es i d).0 ≡ n → ⊥) → run_of c s (kept (take i es) answers n) ≡ record { state = old; replies = replies (take i es) answers n } → run_of c s (kept (take (i + 1) es) (answers ++ a ∷ []) n) ≡ record { state = old; replies = replies (take (i + 1) es) (answers ++ a ∷ []) n }
-told-other-at c s old es i d answers a n l many other so =
-    subst (λ ys. run_of c s (kept ys (answers ++ a ∷ []) n) ≡ record { state = old; replies = replies ys (answers ++ a ∷ []) n }) (sym (take_more es i d l))
-    (told-other c s old (take i es) (get_or es i d) answers a n (omega (arith, l, many, length-take i es)) other so)
-
--- all events of a list, once each has its answer
-pub told-all : (c : Limits) (s new : State Queue) (es : List (ℕ × Step)) (answers : List Answer) (n : ℕ) → length es ≤ length answers → run_of c s (kept (take (length answers) es) answers n) ≡ record { state = new; replies = replies (take (length answers) es) answers n } → run_of c s (kept es answers n) ≡ record { state = new; replies = replies es answers n }
-told-all c s new es answers n l so =
-    subst (λ ys. run_of c s (kept ys answers n) ≡ record { state = new; replies = replies ys answers n }) (take_all (length answers) es l) so
-
--- where the namespace starts afresh, its replies are those of the lone machine on its own steps
-pub told-lone : (c : Limits) (new : State Queue) (es : List (ℕ × Step)) (answers : List Answer) (n : ℕ) → run_of c opening (kept es answers n) ≡ record { state = new; replies = replies es answers n } → replies es answers n ≡ lone c (kept es answers n)
-told-lone c new es answers n so = sym (ap (λ (r : Run). r.replies) so)
 
 -- Where memory sufficed
 

@@ -95,11 +95,6 @@ module _ {X : Type 0} where
       by_test : (k : ℕ) → at new k ≡ (if test k then at old k else None)
       by_test k = elim (test k) as (λ b. test k ≡ b → at new k ≡ (if b then at old k else None)) [ true ↦ stays k | false ↦ goes k ] refl
 
-  -- two tests that agree keep the same
-  pub keep-same : (f g : ℕ → Bool) (xs : List (Option X)) → ((k : ℕ) → f k ≡ g k) → keep f xs ≡ keep g xs
-  keep-same f g xs h =
-      same_at (keep f xs) (keep g xs) (length-keep f xs ∙ sym (length-keep g xs)) (λ k. at-keep f xs k ∙ ap (λ b. if b then at xs k else None) (h k) ∙ sym (at-keep g xs k))
-
   sum_of-keep_from : (h : X → ℕ) (test : ℕ → Bool) (n : ℕ) (xs : List (Option X)) → sum_of h (keep_from test n xs) ≤ sum_of h xs
   sum_of-keep_from h test n [] = omega arith
   sum_of-keep_from h test n (x ∷ xs) = omega (arith, kept_weight (test n) x, sum_of-keep_from h test (suc n) xs)
@@ -110,14 +105,6 @@ module _ {X : Type 0} where
 
   pub sum_of-keep : (h : X → ℕ) (test : ℕ → Bool) (xs : List (Option X)) → sum_of h (keep test xs) ≤ sum_of h xs
   sum_of-keep h test xs = sum_of-keep_from h test 0 xs
-
-  -- what stands after a test was there before
-  pub kept_was : (test : ℕ → Bool) (xs : List (Option X)) (k : ℕ) (x : X) → at (keep test xs) k ≡ Some x → at xs k ≡ Some x
-  kept_was test xs k x e = by_test (test k) (sym (at-keep test xs k) ∙ e)
-    where
-      by_test : (b : Bool) → (if b then at xs k else None) ≡ Some x → at xs k ≡ Some x
-      by_test true h = h
-      by_test false h = absurd (cc)
 
   -- The lowest free number
 

@@ -378,7 +378,3 @@ length-joined-le (s ∷ []) each =
     omega (arith, (All-head IsSegment s [] each).fits, length-append s.bytes [])
 length-joined-le (s ∷ t ∷ ss) each =
     omega (arith, (All-head IsSegment s (t ∷ ss) each).fits, length-append s.bytes (joined (t ∷ ss)), length-joined-le (t ∷ ss) (All-tail IsSegment s (t ∷ ss) each))
-
--- bytes and room are at most the pages of all slots
-pub length-bytes_of-le : (q : Queue) → IsQueue q → length (bytes_of q) + room_of q ≤ PAGE_SIZE * q.capacity
-length-bytes_of-le q is = omega (arith, is.slots, length-joined-le q.segments is.each)

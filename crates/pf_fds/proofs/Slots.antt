@@ -215,9 +215,6 @@ module _ {T : Type 0} where
     none_yet : Absent drawn old
     none_yet = absent_past drawn drawn old sound (omega arith)
 
-    pub sound-inserted : IsSound new (drawn + 1)
-    sound-inserted = sound-filled drawn (drawn + 1) place drawn old new v sound (omega arith) (omega arith) none_yet vacant changed others
-
     pub inserted : by_number (drawn + 1) new ≡ by_number drawn old ++ Some (place, v) ∷ []
     inserted = same_at _ _ (omega (arith, length-by_number (drawn + 1) new, length-by_number drawn old, length_push (by_number drawn old) (Some (place, v)))) at_each
       where

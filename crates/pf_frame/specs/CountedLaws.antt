@@ -113,10 +113,6 @@ table_releases_last counts vacant more nr v frames capacity later none pushed sa
 pub table_room : (counts vacant : List ℕ) (nr frames capacity : ℕ) → IsTable counts vacant frames capacity → 0 < slice_index counts nr → length vacant < capacity
 table_room counts vacant nr frames capacity t some = omega (arith, t.number, t.room, positives_less counts nr some)
 
--- the stack is not empty where a frame is vacant
-pub table_has : (counts vacant : List ℕ) (frames capacity : ℕ) → IsTable counts vacant frames capacity → positives counts < length counts → 0 < length vacant
-table_has counts vacant frames capacity t spare = omega (arith, t.number)
-
 -- another count above 0 leaves the stack as it is
 pub table_counts : (counts vacant : List ℕ) (nr v frames capacity : ℕ) → IsTable counts vacant frames capacity → 0 < slice_index counts nr → 0 < v → IsTable (slice_set counts nr v) vacant frames capacity
 table_counts counts vacant nr v frames capacity t some left =

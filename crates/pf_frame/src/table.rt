@@ -87,7 +87,8 @@ impl FrameTable {
     /// Makes the count of a frame one lower; at 0 it is vacant.
     pub fn release(&mut self, no: FrameNo)
         requires { 0 < slice_index self.old.counts.items no }
-        ensures counts { self.new.counts.items ≡ slice_set self.old.counts.items no (slice_index self.old.counts.items no - 1) }
+        ensures counts { self.new.counts.items
+            ≡ slice_set self.old.counts.items no (slice_index self.old.counts.items no - 1) }
         ensures frames { self.new.frames.items ≡ self.old.frames.items }
     {
         let count = self.counts[no as usize] - 1;
@@ -102,7 +103,8 @@ impl FrameTable {
         requires exists { no < length self.old.counts.items }
         requires within { at + length bytes.now ≤ PAGE_SIZE }
         ensures counts { self.new.counts.items ≡ self.old.counts.items }
-        ensures pages { map page_of self.new.frames.items ≡ slice_set (map page_of self.old.frames.items) no (filled at bytes.now (slice_index_or (map page_of self.old.frames.items) no [])) }
+        ensures pages { map page_of self.new.frames.items ≡ slice_set (map page_of self.old.frames.items) no
+            (filled at bytes.now (slice_index_or (map page_of self.old.frames.items) no [])) }
     {
         self.frames[no as usize].fill(at, bytes);
     }
@@ -111,7 +113,8 @@ impl FrameTable {
     pub fn view(&self, no: FrameNo, from: usize, len: usize) -> &[u8]
         requires exists { no < length self.now.counts.items }
         requires within { from + len ≤ PAGE_SIZE }
-        ensures { result.now ≡ take len (drop from (slice_index_or (map page_of self.now.frames.items) no [])) }
+        ensures { result.now
+            ≡ take len (drop from (slice_index_or (map page_of self.now.frames.items) no [])) }
     {
         self.frames[no as usize].view(from, len)
     }

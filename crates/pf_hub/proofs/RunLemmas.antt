@@ -1,6 +1,6 @@
 -- One more event of a run.
 
-use Rattle.std.proofs.Common.{◌≡◌, ◌≢◌, ℕ, zero, suc, cond, length-append, ◌+◌, ◌<◌, List, [], ◌∷◌, ◌++◌, length, take, get_or, refl, ap, sym, ◌∙◌, subst, arith, Bool, true, false}
+use Rattle.std.proofs.Common.{◌≡◌, ◌≢◌, ℕ, zero, suc, cond, length-append, ◌+◌, ◌<◌, List, [], ◌∷◌, ◌++◌, length, get_or, refl, ap, sym, ◌∙◌, subst, arith, Bool, true, false}
 use Rattle.std.specs.Prelude.{Some, None, nat_le, nat_eq}
 use Rattle.std.specs.List.{position_from}
 use Rattle.std.proofs.lemmas.Bool.{eqb-true, eqb-false, leb-false}
@@ -14,10 +14,6 @@ use Rattle.pf_base.specs.declared.step.Answer.{Answer}
 use Rattle.pf_hub.specs.Tenants.{Tenants, Tenant, limits_at, state_at}
 use Rattle.pf_hub.specs.Stepped.{Stepped}
 use Rattle.pf_hub.specs.Isolation.{Ran, first_missing, AreAlone, TwoWorlds}
-
--- no event has been answered
-pub at_start : (h : Tenants) (events : List (ℕ × Step)) → Ran h (take 0 events) [] h
-at_start h events = record { number = refl; tenants = refl; frames = refl; limits = λ n. refl; own = λ n. refl }
 
 -- one more event was answered
 pub at_next : (old mid new : Tenants) (es : List (ℕ × Step)) (e : ℕ × Step) (as' : List Answer) (a : Answer)

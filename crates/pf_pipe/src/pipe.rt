@@ -166,7 +166,8 @@ impl Pipe {
         // As many frames are taken as slots.
         ensures takes { (F.live f.new).held + length self.old.ring.windows
             ≡ (F.live f.old).held + length self.new.ring.windows }
-        // A frame that was live is written to behind the last slot's end alone, and where no byte goes nothing is touched.
+        // A frame that was live is written to behind the last slot's end alone, and where no byte goes nothing is
+        // touched.
         ensures puts_behind { PutsBehind self.old.ring.windows (moved result) (F.live f.old) (F.live f.new) }
         ensures untouched { moved result ≡ 0 → (self.new ≡ self.old) × (f.new ≡ f.old) }
     {

@@ -1,6 +1,6 @@
 -- Text that is pushed part by part.
 
-use Rattle.std.proofs.Common.{◌≡◌, ℕ, ◌+◌, ◌<◌, ◌≤◌, List, [], ◌∷◌, ◌++◌, length, take, drop, get_or, refl, ap, append_assoc, sym, ◌∙◌, arith}
+use Rattle.std.proofs.Common.{◌≡◌, ℕ, ◌+◌, ◌<◌, ◌≤◌, List, [], ◌∷◌, ◌++◌, length, take, drop, get_or, refl, ap, append_assoc, sym, ◌∙◌}
 use Rattle.std.specs.Prelude.{nat_eq, true, false, ◌≢◌, map, slice_get, Some}
 use Rattle.std.proofs.Common.{eq-eqb}
 use Rattle.std.proofs.lemmas.Bool.{ne_eqb}
@@ -12,7 +12,6 @@ use Rattle.pf_base.specs.declared.step.Answer.{Answer}
 use Rattle.pf_base.specs.declared.step.Step.{Step}
 use Rattle.pf_base.specs.Limits.{Limits}
 use Rattle.pf_base.specs.Text.{line_text, lines_text, answers_of, section, sections}
-use Rattle.pf_play.specs.Played.{nomem_of, one_where_wanted}
 use Rattle.pf_play.proofs.Cutting.{next_of}
 
 encode_append : (t xs ys : List ℕ) → encode_with t (xs ++ ys) ≡ encode_with t xs ++ encode_with t ys
@@ -69,9 +68,3 @@ unfolding sections
 sections_end text all i spaces steps answers past same =
     let here = rw (drop_of_length-le spaces past) at same in
     sym (append-nil text) ∙ here
-
--- how many of the answers from a place on met want of memory
-pub count_on : (count i all : ℕ) (answers : List Answer) (d : Answer) → i < length answers → count + nomem_of (drop i answers) ≡ all → count + one_where_wanted (get_or answers i d) + nomem_of (drop (i + 1) answers) ≡ all
-count_on count i all answers d high same =
-    let here = rw (next_of answers i d high) at same in
-    omega (arith, here)

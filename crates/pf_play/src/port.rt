@@ -42,7 +42,8 @@ pub trait Sink {
     fn write(&mut self, bytes: &[u8]) -> Result<usize, Failed>
         ensures bound { IfOk result (λ n. n ≤ length bytes.now) }
         ensures bytes { WriteAppends (output self.old).contents (output self.new).contents result bytes.now }
-        ensures refusals { CountsWrite (output self.old).refusals (output self.new).refusals result bytes.now };
+        ensures refusals { CountsWrite (output self.old).refusals (output self.new).refusals
+            result bytes.now };
 }
 
 /// Why an input isn't had whole.

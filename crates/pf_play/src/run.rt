@@ -90,8 +90,8 @@ pub fn replay<R: Source, W: Sink>(
     writer: &mut W,
     options: &Options,
 ) -> Result<Replayed, ReplayFault>
-    ensures played { IfOk result (λ r.
-        IsReplayed (R.input reader.old) (R.input reader.new) (W.output writer.old) (W.output writer.new) r.nomem) }
+    ensures played { IfOk result (λ r. IsReplayed (R.input reader.old) (R.input reader.new)
+        (W.output writer.old) (W.output writer.new) r.nomem) }
     ensures fault { IfErr result
         (IsFault (R.input reader.old) (R.input reader.new) (W.output writer.old) (W.output writer.new)) }
 {

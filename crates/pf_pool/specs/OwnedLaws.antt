@@ -4,7 +4,7 @@ use Rattle.std.proofs.Common.{◌≡◌, ◌≢◌, ℕ, zero, suc, ◌+◌, ◌
 use Rattle.std.proofs.lemmas.Bool.{cases_eq}
 use Rattle.std.proofs.lemmas.Bool.Decides.{nat_tests}
 use Rattle.std.proofs.lemmas.List.{set-get_or, length-replicate}
-use Rattle.std.proofs.lemmas.List.Sums.{sum_by-cons, get_or-le-sum_by}
+use Rattle.std.proofs.lemmas.List.Sums.{sum_by-cons}
 use Rattle.pf_frame.specs.Bytes.{filled}
 use Rattle.pf_frame.specs.Counted.{positives, live_by}
 use Rattle.pf_frame.specs.CountedLaws.{positives_more, positives_less, positives_same, positives_none, positives_zero, sum_none, sum_set, counted_within}
@@ -94,10 +94,6 @@ sum_less (x ∷ xs) (y ∷ ys) (suc k) le less = let rest : sum xs < sum ys = su
 -- where a namespace has a credit, some frame is vacant
 pub has_free : (owners counts reserves held : List ℕ) (ns : ℕ) → IsPool owners counts reserves held → slice_index held ns < slice_index reserves ns → positives counts < length counts
 has_free owners counts reserves held ns p credit = omega (arith, sum_less held reserves ns p.within credit, p.all, p.reserved)
-
--- a reservation is no more than all frames
-pub reserve_fits : (owners counts reserves held : List ℕ) (ns : ℕ) → IsPool owners counts reserves held → ns < length reserves → slice_index reserves ns ≤ length counts
-reserve_fits owners counts reserves held ns p less = omega (arith, p.reserved, get_or-le-sum_by (λ (x : ℕ). x) reserves ns 0 less)
 
 pub pool_takes : (owners counts reserves held : List ℕ) (ns q : ℕ) → IsPool owners counts reserves held → ns < length held → q < length counts → slice_index counts q ≡ 0 → slice_index held ns < slice_index reserves ns
     → IsPool (slice_set owners q ns) (slice_set counts q 1) reserves (slice_set held ns (slice_index held ns + 1))

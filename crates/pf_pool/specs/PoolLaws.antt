@@ -1,7 +1,7 @@
 -- Laws of a pool.
 
 use Rattle.std.proofs.Common.{◌≡◌, ◌≢◌, ℕ, slice_index, arith, ap}
-use Rattle.pf_frame.specs.Live.{Live, IsSound, Census, SameLive}
+use Rattle.pf_frame.specs.Live.{IsSound, Census}
 use Rattle.pf_frame.specs.LiveLaws.{is_sound, is_census}
 use Rattle.pf_frame.specs.PagesLaws.{pages_whole}
 use Rattle.pf_pool.specs.declared.pool.FramePool.{FramePool}
@@ -18,17 +18,6 @@ pool_census p ns = is_census _ (mine ns p.owners.items p.table.counts.items) _
 -- another namespace sees what it saw
 pub same_view : (old new : FramePool) (ns m : ℕ) → pool_rest new ns ≡ pool_rest old ns → m ≢ ns → pool_live new m ≡ pool_live old m
 same_view old new ns m e ne = sees_same m ns _ _ _ _ _ _ _ _ ne (ap (λ (r : PoolRest). r.others m) e)
-
-pub same_live : (old new : FramePool) (ns m : ℕ) → pool_rest new ns ≡ pool_rest old ns → m ≢ ns → SameLive (pool_live old m) (pool_live new m)
-same_live old new ns m e ne =
-    let same : pool_live new m ≡ pool_live old m = same_view old new ns m e ne in
-    record {
-      reserved = ap (λ (f : Live). f.reserved) same;
-      held = ap (λ (f : Live). f.held) same;
-      shares = ap (λ (f : Live). f.shares) same;
-      counts = λ q. ap (λ (f : Live). f.count q) same;
-      bytes = λ q some. ap (λ (f : Live). f.bytes q) same;
-    }
 
 -- the reservations stay, and so does the number of frames
 pub same_reserves : (old new : FramePool) (ns : ℕ) → pool_rest new ns ≡ pool_rest old ns → new.reserves.items ≡ old.reserves.items

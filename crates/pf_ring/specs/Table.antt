@@ -96,14 +96,6 @@ slack [] k h = omega arith
 slack (r ∷ rings) zero h = omega (arith, sum_by-cons slots_used r rings, sum_by-cons slots_of r rings, h 0, used_le rings (λ n. h (suc n)))
 slack (r ∷ rings) (suc k) h = omega (arith, sum_by-cons slots_used r rings, sum_by-cons slots_of r rings, h 0, slack rings k (λ n. h (suc n)))
 
-none_used : (rings : List Ring) → ((i : ℕ) → (ring_at rings i).windows ≡ []) → sum_by slots_used rings ≡ 0
-none_used [] h = refl
-none_used (r ∷ rings) h = let e : slots_used r ≡ 0 = ap (λ (w : List Window). length w) (h 0) in omega (arith, sum_by-cons slots_used r rings, none_used rings (λ n. h (suc n)), e)
-
-none_in : (ws : List Window) → NoEmpty ws → bytes_in ws ≡ 0 → ws ≡ []
-none_in [] s e = refl
-none_in (w ∷ ws) s e = absurd (omega (arith, s.0, e))
-
 -- a ring's windows stand in the frames
 pub ring_stands : (f : Live) (rings : List Ring) (k : ℕ) → Joined f rings → Stands f (ring_at rings k).windows
 ring_stands f rings k j = record {
@@ -259,10 +251,6 @@ joined_pushed f rings c j l =
       reserve = omega (arith, sum_by_push slots_of rings r, l);
     }
 
--- a gap at the end, and a ring that has gone with nothing in it
-pub joined_push_none : (f : Live) (rings : List Ring) → Joined f rings → Joined f (rings ++ no_ring ∷ [])
-joined_push_none f rings j = joined_pushed f rings 0 j (omega (arith, j.reserve))
-
 cleared : (f : Live) (rings : List Ring) (k : ℕ) → k < length rings → Joined f rings → (ring_at rings k).windows ≡ [] → Joined f (set rings k no_ring)
 cleared f rings k l j e = record {
   counts = λ q. let z : named_by q (ring_at rings k) ≡ 0 = ap (named q) e in omega (arith, z, sum_by-set (named_by q) rings k no_ring no_ring l, j.counts q);
@@ -282,25 +270,16 @@ joined_cleared f rings k j e = elim (cases_lt k (length rings)) [
   | inr g ↦ subst (λ (xs : List Ring). Joined f xs) (sym (set_past rings k no_ring g)) j
 ]
 
--- there are no more live frames than slots in use, and there are none exactly if no ring has a window
+-- there are no more live frames than slots in use, and there are none only if no ring has a window
 pub held_le_used : (f : Live) (rings : List Ring) → IsSound f → Joined f rings → f.held ≤ sum_by slots_used rings
 held_le_used f rings s j = omega (arith, s.spread, j.total)
 
 pub none_held : (f : Live) (rings : List Ring) → IsSound f → Joined f rings → f.held ≡ 0 → (i : ℕ) → (ring_at rings i).windows ≡ []
 none_held f rings s j h i = nil_from_length (ring_at rings i).windows (omega (arith, at_le slots_used rings i refl, j.total, s.none h))
 
-pub none_named : (f : Live) (rings : List Ring) → IsSound f → Joined f rings → ((i : ℕ) → (ring_at rings i).windows ≡ []) → f.held ≡ 0
-none_named f rings s j h = omega (arith, none_used rings h, j.total, s.spread)
-
 -- the same of the bytes of the queues
 pub none_held_bytes : (f : Live) (rings : List Ring) → IsSound f → Joined f rings → f.held ≡ 0 → (i : ℕ) → bytes_of (queue_of f (ring_at rings i)) ≡ []
 none_held_bytes f rings s j h i = ap (λ (w : List Window). joined (map (segment_of f) w)) (none_held f rings s j h i)
-
-pub no_bytes_held : (f : Live) (rings : List Ring) → IsSound f → Joined f rings → ((i : ℕ) → bytes_of (queue_of f (ring_at rings i)) ≡ []) → f.held ≡ 0
-no_bytes_held f rings s j h = none_named f rings s j (λ i.
-    let stands : Stands f (ring_at rings i).windows = ring_stands f rings i j in
-    let none : length (bytes_of (queue_of f (ring_at rings i))) ≡ 0 = ap (λ (x : List ℕ). length x) (h i) in
-    none_in (ring_at rings i).windows (j.some i) (omega (arith, none, segments_length f (ring_at rings i).windows s stands)))
 
 is_segment : (f : Live) (w : Window) (ws : List Window) → IsSound f → Stands f (w ∷ ws) → IsSegment (segment_of f w)
 is_segment f w ws s t =

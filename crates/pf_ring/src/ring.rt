@@ -129,8 +129,8 @@ impl SlotRing {
         // As many frames are taken as slots.
         ensures takes { (F.live f.new).held + length self.old.windows
             ≡ (F.live f.old).held + length self.new.windows }
-        // Other rings show what they showed, and a frame that was live is written to behind the last slot's end
-        // alone.
+        // Other rings show what they showed, and a frame that was live is written to behind the last slot's
+        // end alone.
         ensures keeps { Keeps [] self.old.windows self.new.windows (F.live f.old) (F.live f.new) }
         ensures puts_behind { PutsBehind self.old.windows (length bytes.now) (F.live f.old) (F.live f.new) }
     {

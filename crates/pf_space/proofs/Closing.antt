@@ -120,8 +120,6 @@ module _ (ps : ProcessRows) (ds : DescriptionRows) (pipes : PipeRows) (t : Tied 
                 ∙ set_same (pipes_of pipes) d.pipe.serial (Some (pipe_of (d.pipe.place, with_fewer d pipe.0))) (sym (shown pipe_of pipes d.pipe.serial (d.pipe.place, pipe.0) pipe.1))
             by_use false u = (
               d.pipe.serial,
-              pipe_of (d.pipe.place, pipe.0),
               shown pipe_of pipes d.pipe.serial (d.pipe.place, pipe.0) pipe.1,
-              refl,
               ap pipes_of (items_are ∙ ap (λ b. set pipes d.pipe.serial (if b then Some (d.pipe.place, with_fewer d pipe.0) else None)) u) ∙ map-set (option_map pipe_of) pipes d.pipe.serial None,
             )

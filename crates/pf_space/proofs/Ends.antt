@@ -63,6 +63,9 @@ module _ (f : Live) (side : Side) (ps : ProcessRows) (ds : DescriptionRows) (pip
       of_side sides.Read = ap (λ o. or_refuse EBADF (option_and_then (end_at s) o) >>= (λ e. refuse_if (not e.description.reads) EBADF >> Ok e)) h
       of_side sides.Write = ap (λ o. or_refuse EBADF (option_and_then (end_at s) o) >>= (λ e. refuse_if (not e.description.writes) EBADF >> Ok e)) h
 
+  shown_key : (p : Process) (o : Option Key) → at p.descriptors fd ≡ o → at (process_of p).descriptors fd ≡ option_map (λ k. k.serial) o
+  shown_key p o g = at-map (λ (k : Key). k.serial) p.descriptors fd ∙ ap (option_map (λ (k : Key). k.serial)) g
+
   -- a description's end of its pipe
   end_shown : (k : Key) (e : Named Description) (r : Pipe) → at ds k.serial ≡ Some (k.place, e) → at pipes e.value.pipe.serial ≡ Some (e.value.pipe.place, r) → end_at s k.serial ≡ Some (end_of_rows f e.value r)
   end_shown k e r h g =
@@ -70,80 +73,52 @@ module _ (f : Live) (side : Side) (ps : ProcessRows) (ds : DescriptionRows) (pip
       ∙ ap (option_map (λ (pipe : machine.Pipe Queue). record { description = description_of (k.place, e); pipe = pipe }))
       (at-map (pipe_meaning f) (pipes_of pipes) e.value.pipe.serial ∙ ap (option_map (pipe_meaning f)) (shown pipe_of pipes e.value.pipe.serial (e.value.pipe.place, r) g))
 
-  -- what the rows find, and what the machine does, at each process and key
-  abbrev rest : Process → Result Description Errno
-  rest p = or_refuse EBADF (at p.descriptors fd) >>= (λ k. or_refuse EBADF (description_in ds k) >>= (λ d. refuse_if (not (has side d)) EBADF >> Ok d))
+  -- what the tables find and what the machine finds: one refusal, or the end that the rows show
+  abbrev Agrees : Result Description Errno → Result (End Queue) Errno → Type 0
+  Agrees (Err e) machine = machine ≡ Err e
+  Agrees (Ok d) machine = (r : Pipe) × (at pipes d.pipe.serial ≡ Some (d.pipe.place, r)) × (machine ≡ Ok (end_of_rows f d r))
 
-  pub record At (p : Process) (k : Key) : Type 0 where
-    pub e : Named Description
-    pub r : Pipe
-    pub found : description_in ds k ≡ Some e.value
-    pub stands : at pipes e.value.pipe.serial ≡ Some (e.value.pipe.place, r)
-    pub ends : side_end side s (process_of p) fd ≡ sided (has side e.value) (end_of_rows f e.value r)
+  abbrev if_sided : Description → Result Description Errno
+  if_sided d = refuse_if (not (has side d)) EBADF >> Ok d
 
-  at_key : (i : ℕ) (p : Process) (k : Key) → at ps i ≡ Some p → at p.descriptors fd ≡ Some k → At p k
-  at_key i p k h g =
+  abbrev of_key : Option Key → Result Description Errno
+  of_key o = or_refuse EBADF o >>= (λ k. or_refuse EBADF (description_in ds k) >>= if_sided)
+
+  by_sides : (b : Bool) (d : Description) (r : Pipe) → at pipes d.pipe.serial ≡ Some (d.pipe.place, r) → Agrees (refuse_if (not b) EBADF >> Ok d) (sided b (end_of_rows f d r))
+  by_sides true d r h = (r, h, refl)
+  by_sides false d r h = refl
+
+  by_key : (i : ℕ) (p : Process) → at ps i ≡ Some p → (o : Option Key) → at p.descriptors fd ≡ o → Agrees (of_key o) (side_end side s (process_of p) fd)
+  by_key i p h None g = no_side (process_of p) (shown_key p None g)
+  by_key i p h (Some k) g =
       let e = finds ds k (t.finds i (suc fd) p k h g) in
       let r = finds pipes e.0.value.pipe (t.is_end k.serial (k.place, e.0) e.1).0 in
-      record {
-        e = e.0;
-        r = r.0;
-        found = ap (option_map (λ (n : Named Description). n.value)) (find_at ds k.place k.serial e.0 e.1);
-        stands = r.1;
-        ends = by_side (process_of p) e.0.value r.0
-            (ap (option_and_then (end_at s)) (at-map (λ (k : Key). k.serial) p.descriptors fd ∙ ap (option_map (λ (k : Key). k.serial)) g) ∙ end_shown k e.0 r.0 e.1 r.1);
-      }
+      let row = ap (option_map (λ (n : Named Description). n.value)) (find_at ds k.place k.serial e.0 e.1) in
+      let machine = by_side (process_of p) e.0.value r.0 (ap (option_and_then (end_at s)) (shown_key p (Some k) g) ∙ end_shown k e.0 r.0 e.1 r.1) in
+      subst (λ o. Agrees (or_refuse EBADF o >>= if_sided) (side_end side s (process_of p) fd)) (sym row) (subst (Agrees (if_sided e.0.value)) (sym machine) (by_sides (has side e.0.value) e.0.value r.0 r.1))
+
+  by_place : (i : ℕ) (o : Option Process) → at ps i ≡ o → Agrees (or_refuse ESRCH o >>= (λ p. of_key (at p.descriptors fd))) (or_refuse ESRCH (option_map process_of o) >>= (λ p. side_end side s p fd))
+  by_place i None h = refl
+  by_place i (Some p) h = by_key i p h (at p.descriptors fd) refl
+
+  agree : (n : ℕ) → Agrees (process_in ps n >>= (λ p. of_key (at p.descriptors fd))) (or_refuse ESRCH (option_map process_of (process_at ps n)) >>= (λ p. side_end side s p fd))
+  agree zero = refl
+  agree (suc i) = by_place i (at ps i) refl
+
+  both_find : (r : Result Description Errno) → end_in side ps ds pid fd ≡ r → Agrees r (living s pid >>= (λ p. side_end side s p fd))
+  both_find r h = subst (λ x. Agrees x (living s pid >>= (λ p. side_end side s p fd))) h (subst (λ x. Agrees (end_in side ps ds pid fd) (x >>= (λ p. side_end side s p fd))) (sym (living_shown f ps ds pipes pid)) (agree pid))
 
   -- The machine refuses what the tables refuse
   pub refused : (err : Errno) → end_in side ps ds pid fd ≡ Err err → (living s pid >>= (λ p. side_end side s p fd)) ≡ Err err
-  refused err h = ap (λ r. r >>= (λ p. side_end side s p fd)) (living_shown f ps ds pipes pid) ∙ by_pid pid h
-    where
-      by_sides : (b : Bool) (d : Description) (e : End Queue) → (refuse_if (not b) EBADF >> Ok d) ≡ Err err → sided b e ≡ Err err
-      by_sides true d e g = absurd (cc)
-      by_sides false d e g = let same : EBADF ≡ err = cc in ap Err same
-
-      by_key : (i : ℕ) (p : Process) → at ps i ≡ Some p → (o : Option Key) → at p.descriptors fd ≡ o → (or_refuse EBADF o >>= (λ k. or_refuse EBADF (description_in ds k) >>= (λ d. refuse_if (not (has side d)) EBADF >> Ok d))) ≡ Err err → side_end side s (process_of p) fd ≡ Err err
-      by_key i p here None g h = let same : EBADF ≡ err = cc in no_side (process_of p) (at-map (λ (k : Key). k.serial) p.descriptors fd ∙ ap (option_map (λ (k : Key). k.serial)) g) ∙ ap Err same
-      by_key i p here (Some k) g h =
-          let a = at_key i p k here g in
-          a.ends ∙ by_sides (has side a.e.value) a.e.value (end_of_rows f a.e.value a.r) (sym (ap (λ o. or_refuse EBADF o >>= (λ d. refuse_if (not (has side d)) EBADF >> Ok d)) a.found) ∙ h)
-
-      by_place : (i : ℕ) (o : Option Process) → at ps i ≡ o → (or_refuse ESRCH o >>= rest) ≡ Err err → (or_refuse ESRCH (option_map process_of o) >>= (λ p. side_end side s p fd)) ≡ Err err
-      by_place i None here h = let same : ESRCH ≡ err = cc in ap Err same
-      by_place i (Some p) here h = by_key i p here (at p.descriptors fd) refl h
-
-      by_pid : (n : ℕ) → (process_in ps n >>= rest) ≡ Err err → (or_refuse ESRCH (option_map process_of (process_at ps n)) >>= (λ p. side_end side s p fd)) ≡ Err err
-      by_pid zero h = let same : ESRCH ≡ err = cc in ap Err same
-      by_pid (suc i) h = by_place i (at ps i) refl h
+  refused err h = both_find (Err err) h
 
   -- and finds what they find
   pub found : (d : Description) → end_in side ps ds pid fd ≡ Ok d → Found f side ps ds pipes pid fd d
-  found d h = by_pid pid refl h
+  found d h = let w = both_find (Ok d) h in record { pipe = w.0; stands = w.1; is = w.2; lives = by_row (process_at ps pid) h }
     where
-      by_sides : (b : Bool) (x : Description) (e : End Queue) → (refuse_if (not b) EBADF >> Ok x) ≡ Ok d → (x ≡ d) × (sided b e ≡ Ok e)
-      by_sides true x e g = (cc, refl)
-      by_sides false x e g = absurd (cc)
-
-      give : (n : ℕ) → pid ≡ n → (x : Description) (r : Pipe) → x ≡ d → at pipes x.pipe.serial ≡ Some (x.pipe.place, r) → (living s pid >>= (λ p. side_end side s p fd)) ≡ Ok (end_of_rows f x r) → IsSome (process_at ps pid) → Found f side ps ds pipes pid fd d
-      give n e x r same stands is lives = subst (λ y. Found f side ps ds pipes pid fd y) same (record { pipe = r; stands = stands; is = is; lives = lives })
-
-      by_key : (i : ℕ) (p : Process) → at ps i ≡ Some p → pid ≡ suc i → (o : Option Key) → at p.descriptors fd ≡ o → (or_refuse EBADF o >>= (λ k. or_refuse EBADF (description_in ds k) >>= (λ d. refuse_if (not (has side d)) EBADF >> Ok d))) ≡ Ok d → Found f side ps ds pipes pid fd d
-      by_key i p here n None g h = absurd (cc)
-      by_key i p here n (Some k) g h =
-          let a = at_key i p k here g in
-          let w = by_sides (has side a.e.value) a.e.value (end_of_rows f a.e.value a.r) (sym (ap (λ o. or_refuse EBADF o >>= (λ d. refuse_if (not (has side d)) EBADF >> Ok d)) a.found) ∙ h) in
-          let place : process_at ps pid ≡ Some p = ap (process_at ps) n ∙ here in
-          give (suc i) n a.e.value a.r w.0 a.stands
-          (ap (λ r. r >>= (λ p. side_end side s p fd)) (living_shown f ps ds pipes pid ∙ ap (λ o. or_refuse ESRCH (option_map process_of o)) place) ∙ a.ends ∙ w.1)
-          (ap is_some place)
-
-      by_place : (i : ℕ) → pid ≡ suc i → (o : Option Process) → at ps i ≡ o → (or_refuse ESRCH o >>= rest) ≡ Ok d → Found f side ps ds pipes pid fd d
-      by_place i n None here h = absurd (cc)
-      by_place i n (Some p) here h = by_key i p here n (at p.descriptors fd) refl h
-
-      by_pid : (n : ℕ) → pid ≡ n → (process_in ps n >>= rest) ≡ Ok d → Found f side ps ds pipes pid fd d
-      by_pid zero e h = absurd (cc)
-      by_pid (suc i) e h = by_place i e (at ps i) refl h
+      by_row : (o : Option Process) → (or_refuse ESRCH o >>= (λ p. of_key (at p.descriptors fd))) ≡ Ok d → IsSome o
+      by_row None g = absurd (cc)
+      by_row (Some p) g = refl
 
   -- the counts of a pipe are the machine's
   pub counted : (n place : ℕ) (r : Pipe) → at pipes n ≡ Some (place, r) → (readers s n ≡ r.readers) × (writers s n ≡ r.writers)

@@ -22,7 +22,8 @@ use Rattle.pf_space.specs.Meaning.{Namespace, meaning, pipe_meaning, ring_or, ri
 use Rattle.pf_space.specs.MeaningLaws.{sweep-meaning, pipes-without, set-map}
 use Rattle.pf_space.specs.Owns.{Owns}
 use Rattle.pf_space.specs.OwnsLaws.{stands_at, joined_gone, others_written, pages-without}
-use Rattle.pf_space.specs.Rows.{ProcessRows, DescriptionRows, PipeRows, Key, Process, process_in, key_at, keys_of, process_of, processes_of, descriptions_of, pipes_of, state_of, Tied, Kept}
+use Rattle.pf_space.specs.Rows as rows
+use Rattle.pf_space.specs.Rows.{pipe_of, ProcessRows, DescriptionRows, PipeRows, Key, Process, process_in, key_at, keys_of, process_of, processes_of, descriptions_of, pipes_of, state_of, Tied, Kept}
 use Rattle.pf_space.specs.Tables.{closed, exited, descriptor, emptied, without_place, Left}
 use Rattle.pf_space.specs.Told.{Becomes}
 use Rattle.pf_space.proofs.Callers.{lives, place_is}
@@ -38,9 +39,6 @@ pages_in pipes = sum_of (λ (p : Pipe Ring). p.queue.capacity) pipes
 module _ (f : Live) (limits : Limits) (charge : ℕ) (ps : ProcessRows) (ds : DescriptionRows) (pipes : PipeRows) (k : Kept charge ps ds pipes)
     (n : Namespace) (view : record { limits = limits; state = state_of ps ds pipes } ≡ n) (owns : Owns f n)
     (i fd : ℕ) (ps' : ProcessRows) (ds' : DescriptionRows) (pipes' : PipeRows) (l : Left ps ds pipes ps' ds' pipes' i fd) where
-  old : Namespace
-  old = record { limits = limits; state = state_of ps ds pipes }
-
   abbrev new : Namespace
   new = record { limits = limits; state = state_of ps' ds' pipes' }
 
@@ -63,32 +61,27 @@ module _ (f : Live) (limits : Limits) (charge : ℕ) (ps : ProcessRows) (ds : De
     pipes_stay = away f (record { joined = subst (λ xs. Joined f (map ring_or xs)) (sym same) owned.joined; reserve = owned.reserve }) refl
 
   -- A pipe went, and its ring was cleared
-  module _ (m : ℕ) (p : Pipe Ring) (there : at (pipes_of pipes) m ≡ Some p) (ring : Ring) (is : p.queue ≡ ring) (left : pipes_of pipes' ≡ clear_at (pipes_of pipes) m) where
-    pub gone_stands : Stands f ring.windows
-    gone_stands = subst (λ (r : Ring). Stands f r.windows) is (stands_at f (state_of ps ds pipes) m p owned.joined there)
+  module _ (m : ℕ) (p : rows.Pipe) (there : at (pipes_of pipes) m ≡ Some (pipe_of (0, p))) (left : pipes_of pipes' ≡ clear_at (pipes_of pipes) m) where
+    pub gone_stands : Stands f p.ring.windows
+    gone_stands = stands_at f (state_of ps ds pipes) m _ owned.joined there
 
-    pub gone_pages : pages_in (pipes_of pipes') + ring.capacity ≡ charge
-    gone_pages =
-        ap (λ xs. pages_in xs + ring.capacity) left ∙ ap (λ (r : Ring). pages_in (clear_at (pipes_of pipes) m) + r.capacity) (sym is)
-        ∙ pages-without (pipes_of pipes) m p there ∙ sym k.total
+    pub gone_pages : pages_in (pipes_of pipes') + p.ring.capacity ≡ charge
+    gone_pages = ap (λ xs. pages_in xs + p.ring.capacity) left ∙ pages-without (pipes_of pipes) m _ there ∙ sym k.total
 
-    pub gone_kept : (charge' : ℕ) → charge' ≡ charge - ring.capacity → Kept charge' ps' ds' pipes'
+    pub gone_kept : (charge' : ℕ) → charge' ≡ charge - p.ring.capacity → Kept charge' ps' ds' pipes'
     gone_kept charge' e = record { tied = l.tied; total = omega (arith, e, gone_pages) }
 
-    module _ (g : Live) (keeps : Keeps [] ring.windows [] f g) where
-      changes : Keeps [] p.queue.windows [] f g
-      changes = subst (λ (r : Ring). Keeps [] r.windows [] f g) (sym is) keeps
-
+    module _ (g : Live) (keeps : Keeps [] p.ring.windows [] f g) where
       same_meaning : map (option_map (pipe_meaning g)) (clear_at (pipes_of pipes) m) ≡ map (option_map (pipe_meaning f)) (clear_at (pipes_of pipes) m)
       same_meaning =
-          pipes-without f g (pipes_of pipes) m (others_written f g (state_of ps ds pipes) m p (record { capacity = p.queue.capacity; windows = [] }) [] (no_source (rings_of (state_of ps ds pipes))) owned.joined there changes)
-          ∙ set-map (pipe_meaning f) (pipes_of pipes) m None
+          pipes-without f g (pipes_of pipes) m (others_written f g (state_of ps ds pipes) m _ (record { capacity = p.ring.capacity; windows = [] }) [] (no_source (rings_of (state_of ps ds pipes))) owned.joined there keeps)
+          ∙ sym (map-set (option_map (pipe_meaning f)) (pipes_of pipes) m None)
 
       pub gone_becomes : Becomes f g n new (emptied (meaning f n.state) i fd)
       gone_becomes =
           away g
           (record {
-            joined = subst (λ xs. Joined g (map ring_or xs)) (sym left) (joined_gone f g (state_of ps ds pipes) m p (record { capacity = p.queue.capacity; windows = [] }) [] (no_source (rings_of (state_of ps ds pipes))) owned.joined there changes refl);
+            joined = subst (λ xs. Joined g (map ring_or xs)) (sym left) (joined_gone f g (state_of ps ds pipes) m _ (record { capacity = p.ring.capacity; windows = [] }) [] (no_source (rings_of (state_of ps ds pipes))) owned.joined there keeps refl);
             reserve = owned.reserve ∙ sym keeps.reservation;
           })
           (subst (λ xs. map (option_map (pipe_meaning g)) xs ≡ map (option_map (pipe_meaning f)) xs) (sym left) same_meaning)

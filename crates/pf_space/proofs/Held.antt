@@ -29,16 +29,10 @@ by_push P xs y new old k =
     stays other =
         elim (cases_lt k (length xs)) [
           | inl l ↦ at-push_old xs y k l
-          | inr past ↦ at_past (xs ++ y ∷ []) k (omega (arith, length_push xs y, more other past)) ∙ sym (at_past xs k past)
+          | inr past ↦ at_past (xs ++ y ∷ []) k (omega (arith, length_push xs y, other, past)) ∙ sym (at_past xs k past)
         ]
-      where
-        more : k ≢ length xs → length xs ≤ k → length xs + 1 ≤ k
-        more ne le = elim (cases_lt (length xs) k) [ inl l ↦ omega arith | inr past ↦ absurd (ne (omega arith)) ]
 
 -- Keys that find something
-
-place_of : {T : Type 0} → ℕ × T → ℕ
-place_of e = e.0
 
 pub finds : {T : Type 0} (rows : List (Option (ℕ × T))) (k : Key) → Finds rows k → (x : T) × (at rows k.serial ≡ Some (k.place, x))
 finds {T} rows k f = by_row (at rows k.serial) refl f
@@ -57,7 +51,7 @@ finds-set {T} rows n y l k new f =
 finds-push : {T : Type 0} (rows : List (Option (ℕ × T))) (y : Option (ℕ × T)) (k : Key) → Finds rows k → Finds (rows ++ y ∷ []) k
 finds-push {T} rows y k f = let x = finds rows k f in ap (option_map (λ (e : ℕ × T). e.0)) (at-push_old rows y k.serial (at_within rows k.serial (k.place, x.0) x.1)) ∙ f
 
-finds-new : {T : Type 0} (rows : List (Option (ℕ × T))) (x : T) (k : Key) → k.serial ≡ length rows → Finds (rows ++ Some (k.place, x) ∷ []) k
+pub finds-new : {T : Type 0} (rows : List (Option (ℕ × T))) (x : T) (k : Key) → k.serial ≡ length rows → Finds (rows ++ Some (k.place, x) ∷ []) k
 finds-new rows x k e = found (rows ++ Some (k.place, x) ∷ []) k x (ap (at (rows ++ Some (k.place, x) ∷ [])) e ∙ at-push_new rows (Some (k.place, x)))
 
 -- What is counted
@@ -78,7 +72,7 @@ counts : (ps : ProcessRows) (i m : ℕ) (p : Process) (k : Key) → at ps i ≡ 
 counts ps i m p k h g =
     omega (arith, ap (weight (keys_to k.serial)) h, ap (weight (names_it k.serial)) g, names_one k, weight-le-sum_of (keys_to k.serial) ps i, weight-le-sum_of (names_it k.serial) (keys_of p) m)
 
-sides : (d : Description) → (reads_it d.pipe.serial d ≡ one_if d.reads) × (writes_it d.pipe.serial d ≡ one_if d.writes)
+pub sides : (d : Description) → (reads_it d.pipe.serial d ≡ one_if d.reads) × (writes_it d.pipe.serial d ≡ one_if d.writes)
 sides d = (hit d.pipe.serial d.reads, hit d.pipe.serial d.writes)
 
 each-map : {X : Type 0} (f g : ℕ → X → ℕ) (P Q : X → Type 0) (xs : List X) → ((x : X) → ((n : ℕ) → f n x ≤ held (f n) xs) → ((n : ℕ) → g n x ≤ held (g n) xs) → P x → Q x) → Each P xs → Each Q xs
@@ -97,19 +91,31 @@ abbrev pub once : Description → Named Description
 once d = record { value = d; names = 1 }
 
 module _ (K : List Key) (E : List Description) (ps : ProcessRows) (ds : DescriptionRows) (pipes : PipeRows) where
+  -- What stands in a process's place changes: its keys by what is in the hand
+  pub reseated : TiedWith K E ps ds pipes → (i : ℕ) → i < length ps → (o : Option Process) (K' : List Key) → ((q : Process) → o ≡ Some q → length q.descriptors ≡ 256)
+      → ((m : ℕ) (q : Process) (k : Key) → o ≡ Some q → at (keys_of q) m ≡ Some k → Finds ds k) → Each (Finds ds) K'
+      → ((n : ℕ) → weight (keys_to n) (at ps i) + held (names_it n) K ≡ weight (keys_to n) o + held (names_it n) K') → TiedWith K' E (set ps i o) ds pipes
+  reseated t i l o K' wide finds in_hand recount = record {
+    places = length-set ps i o ∙ t.places;
+    wide = by_set (λ _ x. (q : Process) → x ≡ Some q → length q.descriptors ≡ 256) ps i o l wide (λ j _. t.wide j);
+    finds = λ j m q k. by_set (λ _ x. (m : ℕ) (q : Process) (k : Key) → x ≡ Some q → at (keys_of q) m ≡ Some k → Finds ds k) ps i o l finds (λ b _ m. t.finds b m) j m q k;
+    in_hand = in_hand;
+    names = λ n. subst (λ c. NamedRow c (at ds n)) (omega (arith, sum_of-set (keys_to n) ps i o l, recount n)) (t.names n);
+    is_end = t.is_end;
+    ends_in_hand = t.ends_in_hand;
+    uses = t.uses;
+  }
+
+module _ (K : List Key) (E : List Description) (ps : ProcessRows) (ds : DescriptionRows) (pipes : PipeRows) where
   -- 1. One of a process's keys is set: what was there comes into the hand, and what is put there leaves it
   module _ (i m : ℕ) (p p' : Process) (stands : at ps i ≡ Some p) (m_in : m < 257) (o : Option Key) (is : keys_of p' ≡ set (keys_of p) m o) (t : TiedWith (holding o K) E ps ds pipes) where
     width : length p.descriptors ≡ 256
     width = t.wide i p stands
 
-    within : i < length ps
-    within = at_within ps i p stands
-
-    recount : (n : ℕ) → named ps n + held (names_it n) (holding o K) ≡ named (put_at ps i p') n + held (names_it n) (holding (at (keys_of p) m) K)
+    recount : (n : ℕ) → weight (keys_to n) (at ps i) + held (names_it n) (holding o K) ≡ keys_to n p' + held (names_it n) (holding (at (keys_of p) m) K)
     recount n =
         omega (
           arith,
-          sum_of-set (keys_to n) ps i (Some p') within,
           ap (weight (keys_to n)) stands,
           ap (λ ks. sum_of (names_it n) ks) is,
           sum_of-set (names_it n) (keys_of p) m o (omega (arith, width, m_in)),
@@ -126,35 +132,12 @@ module _ (K : List Key) (E : List Description) (ps : ProcessRows) (ds : Descript
     take_up (Some k) f e = (f k refl, e)
 
     pub moved : TiedWith (holding (at (keys_of p) m) K) E (put_at ps i p') ds pipes
-    moved = record {
-      places = length-set ps i (Some p') ∙ t.places;
-      wide = by_set (λ _ x. (q : Process) → x ≡ Some q → length q.descriptors ≡ 256) ps i (Some p') within
-          (λ q e. let it : p' ≡ q = cc in ap (λ (x : Process). length x.descriptors) (sym it) ∙ omega (arith, ap length is, length-set (keys_of p) m o, width))
-          (λ j _. t.wide j);
-      finds = λ j n q k. by_set (λ _ x. x ≡ Some q → at (keys_of q) n ≡ Some k → Finds ds k) ps i (Some p') within
-          (λ e g. let it : p' ≡ q = cc in
-          by_set (λ _ x. x ≡ Some k → Finds ds k) (keys_of p) m o (omega (arith, width, m_in)) ((let_go o t.in_hand).0 k) (λ b _. t.finds i b p k stands) n (sym (ap (λ ks. at ks n) is) ∙ ap (λ (x : Process). at (keys_of x) n) it ∙ g))
-          (λ b _. t.finds b n q k) j;
-      in_hand = take_up (at (keys_of p) m) (λ k. t.finds i m p k stands) (let_go o t.in_hand).1;
-      names = λ n. subst (λ c. NamedRow c (at ds n)) (recount n) (t.names n);
-      is_end = t.is_end;
-      ends_in_hand = t.ends_in_hand;
-      uses = t.uses;
-    }
-
-  -- A process comes with no keys, goes with none, or is another with the same
-  pub replaced : TiedWith K E ps ds pipes → (i : ℕ) → i < 256 → (o : Option Process) → ((q : Process) → o ≡ Some q → length q.descriptors ≡ 256)
-      → ((m : ℕ) (q : Process) (k : Key) → o ≡ Some q → at (keys_of q) m ≡ Some k → Finds ds k) → ((n : ℕ) → weight (keys_to n) o ≡ weight (keys_to n) (at ps i)) → TiedWith K E (set ps i o) ds pipes
-  replaced t i i_in o wide finds same = record {
-    places = length-set ps i o ∙ t.places;
-    wide = by_set (λ _ x. (q : Process) → x ≡ Some q → length q.descriptors ≡ 256) ps i o (omega (arith, t.places, i_in)) wide (λ j _. t.wide j);
-    finds = λ j m q k. by_set (λ _ x. (m : ℕ) (q : Process) (k : Key) → x ≡ Some q → at (keys_of q) m ≡ Some k → Finds ds k) ps i o (omega (arith, t.places, i_in)) finds (λ b _ m. t.finds b m) j m q k;
-    in_hand = t.in_hand;
-    names = λ n. subst (λ c. NamedRow (c + held (names_it n) K) (at ds n)) (omega (arith, sum_of-set (keys_to n) ps i o (omega (arith, t.places, i_in)), same n)) (t.names n);
-    is_end = t.is_end;
-    ends_in_hand = t.ends_in_hand;
-    uses = t.uses;
-  }
+    moved =
+        reseated (holding o K) E ps ds pipes t i (at_within ps i p stands) (Some p') (holding (at (keys_of p) m) K)
+        (λ q e. let it : p' ≡ q = cc in ap (λ (x : Process). length x.descriptors) (sym it) ∙ omega (arith, ap length is, length-set (keys_of p) m o, width))
+        (λ n q k e g. let it : p' ≡ q = cc in
+        by_set (λ _ x. x ≡ Some k → Finds ds k) (keys_of p) m o (omega (arith, width, m_in)) ((let_go o t.in_hand).0 k) (λ b _. t.finds i b p k stands) n (sym (ap (λ ks. at ks n) is) ∙ ap (λ (x : Process). at (keys_of x) n) it ∙ g))
+        (take_up (at (keys_of p) m) (λ k. t.finds i m p k stands) (let_go o t.in_hand).1) recount
 
   -- 2. A description changes or goes: its names by what is in the hand, its ends too
   module _ (t : TiedWith K E ps ds pipes) (s : ℕ) (row : ℕ × Named Description) (stands : at ds s ≡ Some row) (y : Option (ℕ × Named Description)) (K' : List Key) (E' : List Description)
@@ -242,44 +225,22 @@ module _ (K : List Key) (E : List Description) (ps : ProcessRows) (ds : Descript
       }
 
   -- 5. A pipe is made, and its ends are in the hand
-  pub piped : (r : Key) (p : Pipe) (news : List Description) → r.serial ≡ length pipes → Each (λ d. (d.pipe ≡ r) × (0 < one_if d.reads + one_if d.writes)) news
-      → p.readers ≡ held (reads_it r.serial) news → p.writers ≡ held (writes_it r.serial) news → 0 < p.readers + p.writers → TiedWith K E ps ds pipes → TiedWith K (news ++ E) ps ds (pipes ++ Some (r.place, p) ∷ [])
-  piped r p news r_is are readers writers some t =
-      let none : (read_by ds (length pipes) + held (reads_it (length pipes)) E ≡ 0) × (written_by ds (length pipes) + held (writes_it (length pipes)) E ≡ 0) =
-      subst (UsedRow (read_by ds (length pipes) + held (reads_it (length pipes)) E) (written_by ds (length pipes) + held (writes_it (length pipes)) E)) (at_past pipes (length pipes) (omega arith)) (t.uses (length pipes)) in record {
+  pub piped : (r : Key) (p : Pipe) (E' : List Description) → r.serial ≡ length pipes → Each (IsEnd (pipes ++ Some (r.place, p) ∷ [])) E'
+      → ((n : ℕ) → n ≢ r.serial → (held (reads_it n) E ≡ held (reads_it n) E') × (held (writes_it n) E ≡ held (writes_it n) E'))
+      → p.readers ≡ held (reads_it r.serial) E' → p.writers ≡ held (writes_it r.serial) E' → 0 < p.readers + p.writers → TiedWith K E ps ds pipes → TiedWith K E' ps ds (pipes ++ Some (r.place, p) ∷ [])
+  piped r p E' r_is ends_in_hand others readers writers some t =
+      let none = subst (UsedRow (read_by ds r.serial + held (reads_it r.serial) E) (written_by ds r.serial + held (writes_it r.serial) E)) (at_past pipes r.serial (omega (arith, r_is))) (t.uses r.serial) in record {
         places = t.places;
         wide = t.wide;
         finds = t.finds;
         in_hand = t.in_hand;
         names = t.names;
-        is_end = λ n e h. stays e.1.value (t.is_end n e h);
-        ends_in_hand = together news are;
-        uses = by_push (λ n x. UsedRow (read_by ds n + held (reads_it n) (news ++ E)) (written_by ds n + held (writes_it n) (news ++ E)) x) pipes (Some (r.place, p))
-            (let a = ap (λ n. held (reads_it n) news) r_is in let b = ap (λ n. held (writes_it n) news) r_is in
-            let both = held-append reads_it (length pipes) news in let both' = held-append writes_it (length pipes) news in
-            (omega (arith, none.0, a, both, readers), omega (arith, none.1, b, both', writers), omega (arith, none.0, none.1, a, b, both, both', readers, writers, some)))
-            (λ n ne. used_as (at pipes n) _ _ _ _ (t.uses n)
-            (omega (arith, held-append reads_it n news, unheld reads_it n (λ d e. miss d.pipe.serial n d.reads e) ne news are))
-            (omega (arith, held-append writes_it n news, unheld writes_it n (λ d e. miss d.pipe.serial n d.writes e) ne news are)));
+        is_end = λ n e h. let end = t.is_end n e h in (finds-push pipes (Some (r.place, p)) e.1.value.pipe end.0, end.1);
+        ends_in_hand = ends_in_hand;
+        uses = by_push (λ n x. UsedRow (read_by ds n + held (reads_it n) E') (written_by ds n + held (writes_it n) E') x) pipes (Some (r.place, p))
+            (subst (λ n. UsedRow (read_by ds n + held (reads_it n) E') (written_by ds n + held (writes_it n) E') (Some (r.place, p))) r_is (omega (arith, none.0, readers), omega (arith, none.1, writers), omega (arith, none.0, none.1, readers, writers, some)))
+            (λ n ne. let o = others n (λ e. ne (e ∙ r_is)) in used_as (at pipes n) _ _ _ _ (t.uses n) (ap (λ c. read_by ds n + c) o.0) (ap (λ c. written_by ds n + c) o.1));
       }
-    where
-      stays : (d : Description) → IsEnd pipes d → IsEnd (pipes ++ Some (r.place, p) ∷ []) d
-      stays d e = (finds-push pipes (Some (r.place, p)) d.pipe e.0, e.1)
-
-      is_new : (d : Description) → d.pipe ≡ r → Finds (pipes ++ Some (r.place, p) ∷ []) d.pipe
-      is_new d e = subst (Finds (pipes ++ Some (r.place, p) ∷ [])) (sym e) (finds-new pipes p r r_is)
-
-      together : (xs : List Description) → Each (λ d. (d.pipe ≡ r) × (0 < one_if d.reads + one_if d.writes)) xs → Each (IsEnd (pipes ++ Some (r.place, p) ∷ [])) (xs ++ E)
-      together [] a = each-map reads_it writes_it (IsEnd pipes) (IsEnd (pipes ++ Some (r.place, p) ∷ [])) E (λ d _ _. stays d) t.ends_in_hand
-      together (d ∷ xs) a = ((is_new d a.0.0, a.0.1), together xs a.1)
-
-      held-append : (f : ℕ → Description → ℕ) (n : ℕ) (xs : List Description) → held (f n) (xs ++ E) ≡ held (f n) xs + held (f n) E
-      held-append f n [] = omega arith
-      held-append f n (d ∷ xs) = omega (arith, held-append f n xs)
-
-      unheld : (f : ℕ → Description → ℕ) (n : ℕ) → ((d : Description) → d.pipe.serial ≢ n → f n d ≡ 0) → n ≢ length pipes → (xs : List Description) → Each (λ d. (d.pipe ≡ r) × (0 < one_if d.reads + one_if d.writes)) xs → held (f n) xs ≡ 0
-      unheld f n misses ne [] a = refl
-      unheld f n misses ne (d ∷ xs) a = let here = misses d (λ e. ne (sym e ∙ ap (λ (x : Key). x.serial) a.0.0 ∙ r_is)) in omega (arith, here, unheld f n misses ne xs a.1)
 
   -- what is in the hand has no order
   pub swapped : (j k : Key) → TiedWith (k ∷ j ∷ K) E ps ds pipes → TiedWith (j ∷ k ∷ K) E ps ds pipes

@@ -2,20 +2,21 @@
 
 use Rattle.std.proofs.Common.{◌≡◌, ℕ, zero, suc, ◌+◌, ◌-◌, ◌<◌, ◌≤◌, Bool, true, false, ◌&&◌, List, [], ◌∷◌, ◌++◌, length, set, Option, Some, None, Result, Ok, Err, refl, sym, ap, subst, ◌∙◌, inl, inr, arith, append_assoc, nat_eq, nat_le}
 use Rattle.std.specs.Option.{option_map}
-use Rattle.std.proofs.lemmas.Bool.{cases_lt, eq-eqb}
+use Rattle.std.proofs.lemmas.Bool.{cases_lt}
 use Rattle.std.proofs.lemmas.Bool.Decides.{nat_tests}
-use Rattle.std.proofs.lemmas.List.{map-set, length-map, map_push, length_push}
-use Rattle.pf_base.specs.Refusals.{◌>>=◌, refuse_if, or_refuse}
+use Rattle.std.proofs.lemmas.List.{map-set, length-map, map_push, length_push, set_past, set-set}
+use Rattle.std.proofs.Math.Seq.{set-append_seam}
+use Rattle.pf_base.specs.Refusals.{◌>>=◌, refuse_if}
 use Rattle.pf_base.specs.Limits.{Limits}
-use Rattle.pf_base.specs.Numbered.{at, put_at, change_at, first_free, sum_of, one_if}
-use Rattle.pf_base.proofs.NumberedLaws.{at-map, at_within, at-put_same, at-first_free, first_free-map, sum_of-push}
+use Rattle.pf_base.specs.Numbered.{at, put_at, change_at, first_free, sum_of}
+use Rattle.pf_base.proofs.NumberedLaws.{at-push_new, at_within, at-put_same, at-first_free, first_free-map, sum_of-push}
 use Rattle.pf_base.specs.Counts.{total}
 use Rattle.pf_base.specs.State as machine
 use Rattle.pf_base.specs.State.{State, living}
 use Rattle.pf_base.specs.Pipes.{first_descriptor, second_descriptor, reading as machine_reading, writing as machine_writing, with_two, opened}
 use Rattle.pf_base.specs.declared.TheConstants.{MAX_DESCRIPTORS}
 use Rattle.pf_base.specs.declared.errno.Errno.{Errno}
-use Rattle.pf_base.specs.declared.errno.Errno.TheVariants.{ESRCH, EMFILE}
+use Rattle.pf_base.specs.declared.errno.Errno.TheVariants.{EMFILE}
 use Rattle.pf_fds.specs.Descriptions.{one_more}
 use Rattle.pf_frame.specs.Live.{Live}
 use Rattle.pf_ring.specs.Table.{Joined}
@@ -23,35 +24,13 @@ use Rattle.pf_space.specs.Meaning.{Namespace, meaning, rings_of}
 use Rattle.pf_space.specs.MeaningLaws.{total-meaning}
 use Rattle.pf_space.specs.Owns.{Owns}
 use Rattle.pf_space.specs.OwnsLaws.{joined_opened, meaning-opened, pages_within}
-use Rattle.pf_space.specs.Rows.{ProcessRows, DescriptionRows, PipeRows, Key, Process, Description, Pipe, Ring, process_in, with_keys, process_of, description_of, pipe_of, processes_of, descriptions_of, pipes_of, state_of, Tied, Kept}
+use Rattle.pf_space.specs.Rows.{ProcessRows, DescriptionRows, PipeRows, Key, Process, Description, Pipe, Ring, process_in, with_keys, process_of, description_of, pipe_of, processes_of, descriptions_of, pipes_of, state_of, Tied, Kept, Named}
 use Rattle.pf_space.specs.Tables.{HasTwo, FindsTwo, Opens}
-use Rattle.pf_space.proofs.Held.{once, described, piped, swapped}
+use Rattle.pf_space.proofs.Callers.{lives, place_is}
+use Rattle.pf_space.proofs.Held.{finds-new, miss, once, sides, described, piped, swapped}
 use Rattle.pf_space.proofs.Making.{becomes}
-use Rattle.pf_space.proofs.Shown.{set_past, set_twice}
 use Rattle.pf_space.proofs.Small.{put}
 use Rattle.pf_space.proofs.Swept.{settled}
-
--- A process by its pid
-
-abbrev shown_result : Result Process Errno → Result machine.Process Errno
-shown_result (Ok q) = Ok (process_of q)
-shown_result (Err e) = Err e
-
-pub lives_as : (ps : ProcessRows) {Q : Type 0} (s : State Q) → s.processes ≡ processes_of ps → (pid : ℕ) → living s pid ≡ shown_result (process_in ps pid)
-lives_as ps s shown zero = refl
-lives_as ps s shown (suc i) = ap (or_refuse ESRCH) (ap (λ xs. at xs i) shown ∙ at-map process_of ps i) ∙ by_row (at ps i)
-  where
-    by_row : (o : Option Process) → or_refuse ESRCH (option_map process_of o) ≡ shown_result (or_refuse ESRCH o)
-    by_row None = refl
-    by_row (Some q) = refl
-
-pub stands_as : (ps : ProcessRows) (pid : ℕ) (q : Process) → process_in ps pid ≡ Ok q → at ps (pid - 1) ≡ Some q
-stands_as ps zero q is = absurd (cc)
-stands_as ps (suc i) q is = let place : i ≡ suc i - 1 = omega arith in subst (λ m. at ps m ≡ Some q) place (by_row (at ps i) is)
-  where
-    by_row : (o : Option Process) → or_refuse ESRCH o ≡ Ok q → o ≡ Some q
-    by_row None h = absurd (cc)
-    by_row (Some x) h = cc
 
 -- Its two lowest free descriptors
 
@@ -77,11 +56,8 @@ second_shown p k =
 pub named_once : (ds xs ys : DescriptionRows) (k : Key) (d : Description) → k.serial ≡ length ds → xs ≡ ds ++ Some (k.place, record { value = d; names = 0 }) ∷ [] → ys ≡ change_at one_more xs k.serial
     → ys ≡ ds ++ Some (k.place, once d) ∷ []
 named_once ds xs ys k d serial stored named =
-    named ∙ ap (λ zs. change_at one_more zs k.serial) stored ∙ ap (λ n. change_at one_more (ds ++ Some (k.place, record { value = d; names = 0 }) ∷ []) n) serial ∙ last ds
-  where
-    last : (zs : DescriptionRows) → change_at one_more (zs ++ Some (k.place, record { value = d; names = 0 }) ∷ []) (length zs) ≡ zs ++ Some (k.place, once d) ∷ []
-    last [] = refl
-    last (z ∷ zs) = ap (λ rest. z ∷ rest) (last zs)
+    let new : Option (ℕ × Named Description) = Some (k.place, record { value = d; names = 0 }) in
+    named ∙ (λ i. change_at one_more (stored i) (serial i)) ∙ ap (λ o. set (ds ++ new ∷ []) (length ds) (option_map one_more o)) (at-push_new ds new) ∙ set-append_seam ds new [] (Some (k.place, once d))
 
 abbrev pub reading : Key → Bool → Description
 reading r nonblocking = record { pipe = r; reads = true; writes = false; nonblocking = nonblocking }
@@ -92,30 +68,23 @@ writing r nonblocking = record { pipe = r; reads = false; writes = true; nonbloc
 abbrev pub two_ended : ℕ → ℕ → Pipe
 two_ended slots owner = record { ring = record { capacity = slots; windows = [] }; owner = owner; readers = 1; writers = 1 }
 
--- the rows after each call, as the contracts give them
+-- a list with one more at its end
+pub pushed : {X : Type 0} {xs ys zs : List X} {x y : X} → zs ≡ ys ++ x ∷ [] → ys ≡ xs → x ≡ y → zs ≡ xs ++ y ∷ []
+pushed made from is = made ∙ (λ i. from i ++ is i ∷ [])
+
+-- the rows after all calls, as their contracts give them
 pub record Makes (ps : ProcessRows) (ds : DescriptionRows) (pipes : PipeRows) (pid : ℕ) (free : ℕ × ℕ) (nonblocking : Bool) (slots owner : ℕ) (ps' : ProcessRows) (ds' : DescriptionRows) (pipes' : PipeRows) : Type 0 where
   pub r : Key
   pub j : Key
   pub k : Key
-  pub pipe : Pipe
-  pub pipe_is : pipe ≡ two_ended slots owner
-  pub pipes0 : PipeRows
-  pub pipes_stay : pipes0 ≡ pipes
-  pub r_is : r.serial ≡ length pipes0
-  pub piped_to : pipes' ≡ pipes0 ++ Some (r.place, pipe) ∷ []
-  pub ds0 : DescriptionRows
-  pub descriptions_stay : ds0 ≡ ds
-  pub j_is : j.serial ≡ length ds0
-  pub ds1 : DescriptionRows
-  pub reading_to : ds1 ≡ ds0 ++ Some (j.place, once (reading r nonblocking)) ∷ []
-  pub k_is : k.serial ≡ length ds1
-  pub writing_to : ds' ≡ ds1 ++ Some (k.place, once (writing r nonblocking)) ∷ []
+  pub r_is : r.serial ≡ length pipes
+  pub piped_to : pipes' ≡ pipes ++ Some (r.place, two_ended slots owner) ∷ []
+  pub j_is : j.serial ≡ length ds
+  pub k_is : k.serial ≡ length (ds ++ Some (j.place, once (reading r nonblocking)) ∷ [])
+  pub named_to : ds' ≡ (ds ++ Some (j.place, once (reading r nonblocking)) ∷ []) ++ Some (k.place, once (writing r nonblocking)) ∷ []
   pub set_to : ps' ≡ set ps (pid - 1) (with_keys free.0 j free.1 k (at ps (pid - 1)))
 
 -- What stands before and after
-
-one_side : (n : ℕ) → (one_if (nat_eq n n && true) ≡ 1) × (one_if (nat_eq n n && false) ≡ 0)
-one_side n = (ap (λ b. one_if (b && true)) (eq-eqb n n refl), ap (λ b. one_if (b && false)) (eq-eqb n n refl))
 
 module _ (f : Live) {charge : ℕ} {limits : Limits} {ps : ProcessRows} {ds : DescriptionRows} {pipes : PipeRows} (kept : Kept charge ps ds pipes)
     {n : Namespace} (view : record { limits = limits; state = state_of ps ds pipes } ≡ n) where
@@ -128,10 +97,10 @@ module _ (f : Live) {charge : ℕ} {limits : Limits} {ps : ProcessRows} {ds : De
 
   module _ (pid : ℕ) {p : Process} (is : process_in ps pid ≡ Ok p) where
     opener : living (meaning f n.state) pid ≡ Ok (process_of p)
-    opener = lives_as ps (meaning f n.state) (sym (ap (λ (m : Namespace). m.state.processes) view)) pid ∙ ap shown_result is
+    opener = subst (λ (m : Namespace). living (meaning f m.state) pid ≡ Ok (process_of p)) view (lives f ps ds pipes pid p is)
 
     stands : at ps (pid - 1) ≡ Some p
-    stands = stands_as ps pid p is
+    stands = place_is f ps ds pipes pid p is
 
     no_second : (k : Key) (a : ℕ) → a ≡ first_free p.descriptors → MAX_DESCRIPTORS ≤ a → first_free (put_at p.descriptors a k) ≡ a
     no_second k a lowest past = ap first_free (set_past p.descriptors a (Some k) (omega (arith, kept.tied.wide (pid - 1) p stands))) ∙ sym lowest
@@ -193,45 +162,31 @@ module _ (f : Live) {charge : ℕ} {limits : Limits} {ps : ProcessRows} {ds : De
         abbrev ds2 : DescriptionRows
         ds2 = ds1 ++ Some (m.k.place, once (writing m.r nonblocking)) ∷ []
 
-        r_is : m.r.serial ≡ length pipes
-        r_is = m.r_is ∙ ap length m.pipes_stay
-
-        j_is : m.j.serial ≡ length ds
-        j_is = m.j_is ∙ ap length m.descriptions_stay
-
-        first_rows : m.ds1 ≡ ds1
-        first_rows = m.reading_to ∙ ap (λ xs. xs ++ Some (m.j.place, once (reading m.r nonblocking)) ∷ []) m.descriptions_stay
-
-        k_is : m.k.serial ≡ length ds1
-        k_is = m.k_is ∙ ap length first_rows
-
         processes_are : ps' ≡ put_at ps (pid - 1) both
         processes_are = m.set_to ∙ ap (λ o. set ps (pid - 1) (with_keys free.0 m.j free.1 m.k o)) stands
-
-        descriptions_are : ds' ≡ ds2
-        descriptions_are = m.writing_to ∙ ap (λ xs. xs ++ Some (m.k.place, once (writing m.r nonblocking)) ∷ []) first_rows
-
-        pipes_are : pipes' ≡ pipes1
-        pipes_are = m.piped_to ∙ (λ x. m.pipes_stay x ++ Some (m.r.place, m.pipe_is x) ∷ [])
 
         -- the chain: a pipe, its two descriptions, their two keys
         now_tied : Tied (put_at ps (pid - 1) both) ds2 pipes1
         now_tied =
-            let here = one_side m.r.serial in
-            let with_pipe = piped [] [] ps ds pipes m.r (two_ended slots p.cred.uid) (reading m.r nonblocking ∷ writing m.r nonblocking ∷ []) r_is ((refl, omega arith), ((refl, omega arith), tt)) (omega (arith, here.0, here.1)) (omega (arith, here.0, here.1)) (omega arith) kept.tied in
-            let with_reading = described [] (writing m.r nonblocking ∷ []) ps ds pipes1 m.j (reading m.r nonblocking) j_is with_pipe in
-            let with_both = described (m.j ∷ []) [] ps ds1 pipes1 m.k (writing m.r nonblocking) k_is with_reading in
+            let a = sides (reading m.r nonblocking) in
+            let b = sides (writing m.r nonblocking) in
+            let new = finds-new pipes (two_ended slots p.cred.uid) m.r m.r_is in
+            let with_pipe = piped [] [] ps ds pipes m.r (two_ended slots p.cred.uid) (reading m.r nonblocking ∷ writing m.r nonblocking ∷ []) m.r_is ((new, omega arith), ((new, omega arith), tt))
+            (λ n ne. let reads = miss m.r.serial n true (λ e. ne (sym e)) in let none = miss m.r.serial n false (λ e. ne (sym e)) in (omega (arith, reads, none), omega (arith, reads, none)))
+            (omega (arith, a.0, b.0)) (omega (arith, a.1, b.1)) (omega arith) kept.tied in
+            let with_reading = described [] (writing m.r nonblocking ∷ []) ps ds pipes1 m.j (reading m.r nonblocking) m.j_is with_pipe in
+            let with_both = described (m.j ∷ []) [] ps ds1 pipes1 m.k (writing m.r nonblocking) m.k_is with_reading in
             let first = put (m.k ∷ []) [] ps ds2 pipes1 (pid - 1) free.0 p stands first_in m.j (ap (at p.descriptors) first_is ∙ at-first_free p.descriptors) (swapped [] [] ps ds2 pipes1 m.j m.k with_both) in
             let second = put [] [] (put_at ps (pid - 1) one) ds2 pipes1 (pid - 1) free.1 one (at-put_same ps (pid - 1) (Some one) (at_within ps (pid - 1) p stands)) two.within m.k (ap (at one.descriptors) (second_is m.j) ∙ at-first_free one.descriptors) first in
-            subst (λ x. Tied x ds2 pipes1) (set_twice ps (pid - 1) (Some one) (Some both)) second
+            subst (λ x. Tied x ds2 pipes1) (set-set ps (pid - 1) (Some one) (Some both)) second
 
         pub opened-kept : (charge' : ℕ) → charge' ≡ total (meaning f n.state) + slots → Kept charge' ps' ds' pipes'
         opened-kept charge' e =
             let more =
             ap (sum_of (λ (x : machine.Pipe Ring). x.queue.capacity)) (map_push (option_map pipe_of) pipes (Some (m.r.place, two_ended slots p.cred.uid)))
             ∙ sum_of-push (λ (x : machine.Pipe Ring). x.queue.capacity) (pipes_of pipes) (Some (pipe_of (m.r.place, two_ended slots p.cred.uid))) in
-            subst (λ x. Kept charge' x ds' pipes') (sym processes_are) (subst (λ y. Kept charge' (put_at ps (pid - 1) both) y pipes') (sym descriptions_are)
-            (subst (λ z. Kept charge' (put_at ps (pid - 1) both) ds2 z) (sym pipes_are) (record { tied = now_tied; total = omega (arith, e, charge_is, kept.total, more) })))
+            subst (λ x. Kept charge' x ds' pipes') (sym processes_are) (subst (λ y. Kept charge' (put_at ps (pid - 1) both) y pipes') (sym m.named_to)
+            (subst (λ z. Kept charge' (put_at ps (pid - 1) both) ds2 z) (sym m.piped_to) (record { tied = now_tied; total = omega (arith, e, charge_is, kept.total, more) })))
 
         -- what it means
         keys_shown : process_of both ≡ with_two (length (descriptions_of ds)) (process_of p)
@@ -241,8 +196,8 @@ module _ (f : Live) {charge : ℕ} {limits : Limits} {ps : ProcessRows} {ds : De
             let second = map-set (option_map serial_of) (put_at p.descriptors free.0 m.j) free.1 (Some m.k) in
             let a : free.0 ≡ first_descriptor (process_of p) = two.first ∙ ap first_descriptor same in
             let b : free.1 ≡ second_descriptor (process_of p) = two.second ∙ ap second_descriptor same in
-            let number : m.j.serial ≡ length (descriptions_of ds) = j_is ∙ sym drawn in
-            let next : m.k.serial ≡ length (descriptions_of ds) + 1 = omega (arith, k_is, length_push ds (Some (m.j.place, once (reading m.r nonblocking))), drawn) in
+            let number : m.j.serial ≡ length (descriptions_of ds) = m.j_is ∙ sym drawn in
+            let next : m.k.serial ≡ length (descriptions_of ds) + 1 = omega (arith, m.k_is, length_push ds (Some (m.j.place, once (reading m.r nonblocking))), drawn) in
             cc
 
         now_shown : state_of (put_at ps (pid - 1) both) ds2 pipes1 ≡ opened (state_of ps ds pipes) pid nonblocking (record { capacity = slots; windows = [] }) (process_of p)
@@ -251,7 +206,7 @@ module _ (f : Live) {charge : ℕ} {limits : Limits} {ps : ProcessRows} {ds : De
             map_push (option_map description_of) ds1 (Some (m.k.place, once (writing m.r nonblocking)))
             ∙ ap (λ xs. xs ++ Some (machine_writing m.r.serial nonblocking) ∷ []) (map_push (option_map description_of) ds (Some (m.j.place, once (reading m.r nonblocking))))
             ∙ append_assoc (descriptions_of ds) (Some (machine_reading m.r.serial nonblocking) ∷ []) (Some (machine_writing m.r.serial nonblocking) ∷ []) in
-            let number : m.r.serial ≡ length (pipes_of pipes) = r_is ∙ sym (length-map pipes (option_map pipe_of)) in
+            let number : m.r.serial ≡ length (pipes_of pipes) = m.r_is ∙ sym (length-map pipes (option_map pipe_of)) in
             let one_more_pipe = map_push (option_map pipe_of) pipes (Some (m.r.place, two_ended slots p.cred.uid)) in
             λ x. record {
               processes = (map-set (option_map process_of) ps (pid - 1) (Some both) ∙ ap (λ q. put_at (processes_of ps) (pid - 1) q) keys_shown) x;
@@ -261,7 +216,7 @@ module _ (f : Live) {charge : ℕ} {limits : Limits} {ps : ProcessRows} {ds : De
 
         shown : state_of ps' ds' pipes' ≡ opened n.state pid nonblocking (record { capacity = slots; windows = [] }) (process_of p)
         shown =
-            (λ x. state_of (processes_are x) (descriptions_are x) (pipes_are x)) ∙ now_shown
+            (λ x. state_of (processes_are x) (m.named_to x) (m.piped_to x)) ∙ now_shown
             ∙ ap (λ (o : Namespace). opened o.state pid nonblocking (record { capacity = slots; windows = [] }) (process_of p)) view
 
         pub opens : Owns f n → total (meaning f n.state) + slots ≤ n.limits.reserve → Opens f n (record { limits = limits; state = state_of ps' ds' pipes' }) pid nonblocking slots

@@ -2,12 +2,12 @@
 -- another ring, a key in a descriptor or out of it.
 
 use Rattle.std.proofs.Common.{◌≡◌, ◌≢◌, ℕ, suc, ◌+◌, ◌-◌, ◌<◌, ◌≤◌, Bool, true, false, ◌&&◌, List, ◌∷◌, set, Option, Some, None, refl, sym, ap, subst, ◌∙◌, arith, nat_lt, if◌then◌else◌}
-use Rattle.std.proofs.lemmas.Bool.{eq-eqb}
+use Rattle.std.proofs.lemmas.Bool.{eq-eqb, ltb-true, ltb-false}
 use Rattle.std.proofs.lemmas.Bool.Decides.{nat_tests}
 use Rattle.pf_base.specs.Numbered.{at, put_at, clear_at, one_if}
 use Rattle.pf_base.specs.declared.TheConstants.{MAX_DESCRIPTORS}
 use Rattle.pf_space.specs.Rows.{ProcessRows, DescriptionRows, PipeRows, Key, Named, Process, Description, Pipe, with_fewer, is_used, left, keys_of, names_it, named, reads_it, writes_it, read_by, written_by, held, holding, NamedRow, UsedRow, IsEnd, TiedWith}
-use Rattle.pf_space.proofs.Held.{moved, miss, names_one, names_none, redescribed, repiped}
+use Rattle.pf_space.proofs.Held.{moved, miss, names_one, names_none, redescribed, repiped, sides}
 
 module _ (K : List Key) (E : List Description) (ps : ProcessRows) (ds : DescriptionRows) (pipes : PipeRows) where
   module _ (k : Key) (d : Named Description) (stands : at ds k.serial ≡ Some (k.place, d)) where
@@ -48,24 +48,12 @@ module _ (K : List Key) (E : List Description) (ps : ProcessRows) (ds : Descript
 
   -- an end less, and the pipe goes with its last
   module _ (d : Description) (p : Pipe) (stands : at pipes d.pipe.serial ≡ Some (d.pipe.place, p)) where
-    sides_here : (reads_it d.pipe.serial d ≡ one_if d.reads) × (writes_it d.pipe.serial d ≡ one_if d.writes)
-    sides_here = let e = eq-eqb d.pipe.serial d.pipe.serial refl in (ap (λ b. one_if (b && d.reads)) e, ap (λ b. one_if (b && d.writes)) e)
-
-    elsewhere : (n : ℕ) → n ≢ d.pipe.serial → (reads_it n d ≡ 0) × (writes_it n d ≡ 0)
-    elsewhere n ne = let other : d.pipe.serial ≢ n = λ e. ne (sym e) in (miss d.pipe.serial n d.reads other, miss d.pipe.serial n d.writes other)
-
     others : (n : ℕ) → n ≢ d.pipe.serial → (held (reads_it n) (d ∷ E) ≡ held (reads_it n) E) × (held (writes_it n) (d ∷ E) ≡ held (writes_it n) E)
-    others n ne = let z = elsewhere n ne in (omega (arith, z.0), omega (arith, z.1))
+    others n ne = let other : d.pipe.serial ≢ n = λ e. ne (sym e) in (omega (arith, miss d.pipe.serial n d.reads other), omega (arith, miss d.pipe.serial n d.writes other))
 
     -- its sides are among those that the pipe counts
     pub enough : TiedWith K (d ∷ E) ps ds pipes → (one_if d.reads ≤ p.readers) × (one_if d.writes ≤ p.writers)
-    enough t = let c = pipe_row d.pipe p stands t in (omega (arith, c.0, sides_here.0), omega (arith, c.1, sides_here.1))
-
-    some : (n : ℕ) → nat_lt 0 n ≡ true → 0 < n
-    some n h = grind (arith, nat_tests)
-
-    none : (n : ℕ) → nat_lt 0 n ≡ false → n ≡ 0
-    none n h = grind (arith, nat_tests)
+    enough t = let c = pipe_row d.pipe p stands t in (omega (arith, c.0, (sides d).0), omega (arith, c.1, (sides d).1))
 
     pub end_gone : TiedWith K (d ∷ E) ps ds pipes → TiedWith K E ps ds (set pipes d.pipe.serial (left d p))
     end_gone t = by_used (is_used (with_fewer d p)) refl
@@ -73,25 +61,22 @@ module _ (K : List Key) (E : List Description) (ps : ProcessRows) (ds : Descript
         by_used : (b : Bool) → is_used (with_fewer d p) ≡ b → TiedWith K E ps ds (set pipes d.pipe.serial (if b then Some (d.pipe.place, with_fewer d p) else None))
         by_used true u =
             repiped K (d ∷ E) ps ds pipes t d.pipe.serial (d.pipe.place, p) stands (Some (d.pipe.place, with_fewer d p)) E (same_place d.pipe p stands (with_fewer d p)) t.ends_in_hand.1 others
-            (let c = pipe_row d.pipe p stands t in let l = some ((p.readers - one_if d.reads) + (p.writers - one_if d.writes)) u in
-            (omega (arith, c.0, sides_here.0), omega (arith, c.1, sides_here.1), omega (arith, l, c.0, c.1, sides_here.0, sides_here.1)))
+            (let c = pipe_row d.pipe p stands t in let l = ltb-true 0 ((p.readers - one_if d.reads) + (p.writers - one_if d.writes)) u in
+            (omega (arith, c.0, (sides d).0), omega (arith, c.1, (sides d).1), omega (arith, l, c.0, c.1, (sides d).0, (sides d).1)))
         by_used false u =
             repiped K (d ∷ E) ps ds pipes t d.pipe.serial (d.pipe.place, p) stands None E (λ e h. absurd (cc)) t.ends_in_hand.1 others
-            (let c = pipe_row d.pipe p stands t in let l = none ((p.readers - one_if d.reads) + (p.writers - one_if d.writes)) u in
-            (omega (arith, l, c.0, c.1, sides_here.0, sides_here.1), omega (arith, l, c.0, c.1, sides_here.0, sides_here.1)))
+            (let c = pipe_row d.pipe p stands t in let l = ltb-false 0 ((p.readers - one_if d.reads) + (p.writers - one_if d.writes)) u in
+            (omega (arith, l, c.0, c.1, (sides d).0, (sides d).1), omega (arith, l, c.0, c.1, (sides d).0, (sides d).1)))
 
-  -- a key leaves a process for the hand, or the hand for an empty place
-  module _ (i m : ℕ) (p p' : Process) (stands : at ps i ≡ Some p) (m_in : m < suc MAX_DESCRIPTORS) where
-    taken_as : (k : Key) → at (keys_of p) m ≡ Some k → keys_of p' ≡ set (keys_of p) m None → TiedWith K E ps ds pipes → TiedWith (k ∷ K) E (put_at ps i p') ds pipes
-    taken_as k e is t = subst (λ o. TiedWith (holding o K) E (put_at ps i p') ds pipes) e (moved K E ps ds pipes i m p p' stands m_in None is t)
-
-    put_as : (k : Key) → at (keys_of p) m ≡ None → keys_of p' ≡ set (keys_of p) m (Some k) → TiedWith (k ∷ K) E ps ds pipes → TiedWith K E (put_at ps i p') ds pipes
-    put_as k e is t = subst (λ o. TiedWith (holding o K) E (put_at ps i p') ds pipes) e (moved K E ps ds pipes i m p p' stands m_in (Some k) is t)
-
-  -- the same of a descriptor
+  -- a key leaves a descriptor for the hand, or the hand for an empty descriptor
   module _ (i fd : ℕ) (p : Process) (stands : at ps i ≡ Some p) (fd_in : fd < MAX_DESCRIPTORS) where
+    abbrev with_descriptors : List (Option Key) → Process
+    with_descriptors ks = record p { descriptors = ks }
+
     pub taken : (k : Key) → at p.descriptors fd ≡ Some k → TiedWith K E ps ds pipes → TiedWith (k ∷ K) E (put_at ps i (record p { descriptors = clear_at p.descriptors fd })) ds pipes
-    taken k e t = taken_as i (suc fd) p (record p { descriptors = clear_at p.descriptors fd }) stands (omega arith) k e refl t
+    taken k e t =
+        subst (λ o. TiedWith (holding o K) E (put_at ps i (with_descriptors (clear_at p.descriptors fd))) ds pipes) e (moved K E ps ds pipes i (suc fd) p (with_descriptors (clear_at p.descriptors fd)) stands (omega arith) None refl t)
 
     pub put : (k : Key) → at p.descriptors fd ≡ None → TiedWith (k ∷ K) E ps ds pipes → TiedWith K E (put_at ps i (record p { descriptors = put_at p.descriptors fd k })) ds pipes
-    put k e t = put_as i (suc fd) p (record p { descriptors = put_at p.descriptors fd k }) stands (omega arith) k e refl t
+    put k e t =
+        subst (λ o. TiedWith (holding o K) E (put_at ps i (with_descriptors (put_at p.descriptors fd k))) ds pipes) e (moved K E ps ds pipes i (suc fd) p (with_descriptors (put_at p.descriptors fd k)) stands (omega arith) (Some k) refl t)

@@ -9,7 +9,7 @@ use Rattle.pf_base.proofs.NumberedLaws.{at-map, at_past, same_at, sum_of-none}
 use Rattle.pf_base.specs.State.{vacant, opening}
 use Rattle.pf_base.specs.declared.TheConstants.{MAX_PROCESSES, MAX_DESCRIPTORS}
 use Rattle.pf_space.specs.Rows.{ProcessRows, DescriptionRows, PipeRows, Process, process_of, state_of, keys_of, keys_to, names_it, Tied}
-use Rattle.pf_space.proofs.Held.{replaced}
+use Rattle.pf_space.proofs.Held.{reseated}
 
 pub vacant_at : {X : Type 0} (k : ℕ) → at {X = X} vacant k ≡ None
 unfolding vacant
@@ -34,11 +34,11 @@ bare_weight n p bare = sum_of-none (names_it n) (keys_of p) (λ m k h. let none 
 module _ (ps : ProcessRows) (ds : DescriptionRows) (pipes : PipeRows) (t : Tied ps ds pipes) (i : ℕ) (l : i < MAX_PROCESSES) where
   pub made : at ps i ≡ None → (p : Process) → IsBare p → length p.descriptors ≡ MAX_DESCRIPTORS → Tied (put_at ps i p) ds pipes
   made none p bare wide =
-      replaced [] [] ps ds pipes t i l (Some p) (λ q e. let it : p ≡ q = cc in ap (λ (x : Process). length x.descriptors) (sym it) ∙ wide)
-      (λ m q k e g. let it : p ≡ q = cc in let gap = sym (ap (λ (x : Process). at (keys_of x) m) it) ∙ bare m in absurd (cc)) (λ n. bare_weight n p bare ∙ sym (ap (weight (keys_to n)) none))
+      reseated [] [] ps ds pipes t i (omega (arith, t.places, l)) (Some p) [] (λ q e. let it : p ≡ q = cc in ap (λ (x : Process). length x.descriptors) (sym it) ∙ wide)
+      (λ m q k e g. let it : p ≡ q = cc in let gap = sym (ap (λ (x : Process). at (keys_of x) m) it) ∙ bare m in absurd (cc)) tt (λ n. omega (arith, bare_weight n p bare, ap (weight (keys_to n)) none))
 
   pub gone : (p : Process) → at ps i ≡ Some p → IsBare p → Tied (clear_at ps i) ds pipes
-  gone p stands bare = replaced [] [] ps ds pipes t i l None (λ q e. absurd (cc)) (λ m q k e g. absurd (cc)) (λ n. sym (ap (weight (keys_to n)) stands ∙ bare_weight n p bare))
+  gone p stands bare = reseated [] [] ps ds pipes t i (omega (arith, t.places, l)) None [] (λ q e. absurd (cc)) (λ m q k e g. absurd (cc)) tt (λ n. omega (arith, ap (weight (keys_to n)) stands, bare_weight n p bare))
 
 -- Nothing at all
 

@@ -1,6 +1,6 @@
 -- How the meaning of a state goes through looking up, changing and sweeping.
 
-use Rattle.std.proofs.Common.{◌≡◌, ◌≢◌, ℕ, ◌≤◌, zero, suc, ◌+◌, Bool, true, false, List, [], ◌∷◌, ◌++◌, length, map, refl, ap, sym, ◌∙◌, arith, set, cond}
+use Rattle.std.proofs.Common.{◌≡◌, ◌≢◌, ℕ, zero, suc, Bool, true, false, List, [], ◌∷◌, length, map, refl, ap, sym, ◌∙◌, arith, cond}
 use Rattle.std.specs.Prelude.{Option, Some, None, nat_lt, slice_index_or, slice_set, is_some, unwrap_or}
 use Rattle.std.proofs.lemmas.List.{length-map}
 use Rattle.std.proofs.Common.{subst}
@@ -9,6 +9,7 @@ use Rattle.pf_base.specs.Machine.{may_want_memory}
 use Rattle.pf_base.proofs.MachineLaws.{may_want-same}
 use Rattle.pf_base.specs.Queue.{Queue, bytes_of}
 use Rattle.pf_base.specs.Numbered.{at, change_at, keep_from, sum_of}
+use Rattle.pf_base.proofs.NumberedLaws.{at-map, sum_of-map}
 use Rattle.pf_base.specs.Counts.{total, ends}
 use Rattle.pf_base.specs.State.{State, Pipe, process, with_queue, holding}
 use Rattle.pf_base.specs.Sweep.{sweep, live_descriptions}
@@ -18,11 +19,6 @@ use Rattle.pf_ring.specs.Ring.{Ring, queue_of, no_ring, segment_of}
 use Rattle.pf_space.specs.Meaning.{meaning, pipe_meaning, ring_or, occupied, AreEmpty}
 
 module _ {X Y : Type 0} (f : X → Y) where
-  pub at-map : (xs : List (Option X)) (k : ℕ) → at (map (option_map f) xs) k ≡ option_map f (at xs k)
-  at-map [] k = refl
-  at-map (x ∷ xs) zero = refl
-  at-map (x ∷ xs) (suc k) = at-map xs k
-
   pub keep_from-map : (test : ℕ → Bool) (n : ℕ) (xs : List (Option X)) → keep_from test n (map (option_map f) xs) ≡ map (option_map f) (keep_from test n xs)
   keep_from-map test n [] = refl
   keep_from-map test n (x ∷ xs) = λ i. kept (test n) i ∷ keep_from-map test (suc n) xs i
@@ -30,24 +26,6 @@ module _ {X Y : Type 0} (f : X → Y) where
       kept : (b : Bool) → cond b (option_map f x) None ≡ option_map f (cond b x None)
       kept true = refl
       kept false = refl
-
-  pub set-map : (xs : List (Option X)) (k : ℕ) (x : Option X) → set (map (option_map f) xs) k (option_map f x) ≡ map (option_map f) (set xs k x)
-  set-map [] k x = refl
-  set-map (y ∷ xs) zero x = refl
-  set-map (y ∷ xs) (suc k) x = λ i. option_map f y ∷ set-map xs k x i
-
-  pub map-push : (xs : List (Option X)) (y : Option X) → map (option_map f) (xs ++ y ∷ []) ≡ map (option_map f) xs ++ option_map f y ∷ []
-  map-push [] y = refl
-  map-push (x ∷ xs) y = λ i. option_map f x ∷ map-push xs y i
-
-  pub length-map' : (xs : List (Option X)) → length (map (option_map f) xs) ≡ length xs
-  length-map' [] = refl
-  length-map' (x ∷ xs) = ap suc (length-map' xs)
-
-pub sum_of-map : {X Y : Type 0} (f : X → Y) (h : Y → ℕ) (xs : List (Option X)) → sum_of h (map (option_map f) xs) ≡ sum_of (λ x. h (f x)) xs
-sum_of-map f h [] = refl
-sum_of-map f h (None ∷ xs) = ap (λ n. 0 + n) (sum_of-map f h xs)
-sum_of-map f h (Some x ∷ xs) = ap (λ n. h (f x) + n) (sum_of-map f h xs)
 
 module _ (f : Live) where
   pub process-meaning : (s : State Ring) (pid : ℕ) → process (meaning f s) pid ≡ process s pid
@@ -88,35 +66,12 @@ module _ (f : Live) where
   pub settled-meaning : (s : State Ring) → s ≡ sweep s → meaning f s ≡ sweep (meaning f s)
   settled-meaning s e = ap (meaning f) e ∙ sym (sweep-meaning s)
 
--- lists by number
-
-module _ {X : Type 0} where
-  pub same_at : (xs ys : List (Option X)) → length xs ≡ length ys → ((k : ℕ) → at xs k ≡ at ys k) → xs ≡ ys
-  same_at [] [] l h = refl
-  same_at [] (y ∷ ys) l h = absurd (omega arith)
-  same_at (x ∷ xs) [] l h = absurd (omega arith)
-  same_at (x ∷ xs) (y ∷ ys) l h = λ i. h 0 i ∷ same_at xs ys (omega arith) (λ k. h (suc k)) i
-
-  pub set_past : (xs : List (Option X)) (k : ℕ) (x : Option X) → length xs ≤ k → set xs k x ≡ xs
-  set_past [] k x h = refl
-  set_past (y ∷ xs) zero x h = absurd (omega arith)
-  set_past (y ∷ xs) (suc k) x h = λ i. y ∷ set_past xs k x (omega arith) i
-
 -- rings by number
 
 pub ring_at-rings : (pipes : List (Option (Pipe Ring))) (k : ℕ) → slice_index_or (map ring_or pipes) k no_ring ≡ ring_or (at pipes k)
 ring_at-rings [] k = refl
 ring_at-rings (p ∷ ps) zero = refl
 ring_at-rings (p ∷ ps) (suc k) = ring_at-rings ps k
-
-pub rings-set : (pipes : List (Option (Pipe Ring))) (k : ℕ) (p : Option (Pipe Ring)) → map ring_or (slice_set pipes k p) ≡ slice_set (map ring_or pipes) k (ring_or p)
-rings-set [] k p = refl
-rings-set (q ∷ ps) zero p = refl
-rings-set (q ∷ ps) (suc k) p = λ i. ring_or q ∷ rings-set ps k p i
-
-pub rings-push : (pipes : List (Option (Pipe Ring))) (p : Option (Pipe Ring)) → map ring_or (pipes ++ p ∷ []) ≡ map ring_or pipes ++ ring_or p ∷ []
-rings-push [] p = refl
-rings-push (q ∷ ps) p = λ i. ring_or q ∷ rings-push ps p i
 
 -- a ring changes, and no other ring's queue does
 

@@ -1,9 +1,9 @@
 -- How a namespace's frames and its rings stay together when a ring changes, a pipe comes and a pipe goes.
 
 use Rattle.std.proofs.Common.{◌≡◌, ℕ, ◌+◌, ◌<◌, ◌≤◌, Bool, List, [], ◌∷◌, ◌++◌, length, map, refl, ap, sym, ◌∙◌, subst, arith, set, ◌-◌}
-use Rattle.std.specs.Prelude.{Option, Some, None, slice_set}
+use Rattle.std.specs.Prelude.{Option, Some, None}
 use Rattle.std.specs.List.{sum_by}
-use Rattle.std.proofs.lemmas.List.{set-set, get_or-set_same, length-map}
+use Rattle.std.proofs.lemmas.List.{set-set, get_or-set_same, length-map, map-set, map_push}
 use Rattle.std.specs.Option.{option_map}
 use Rattle.std.proofs.lemmas.List.Sums.{sum_by-cons}
 use Rattle.pf_base.specs.Limits.{Limits}
@@ -16,7 +16,7 @@ use Rattle.pf_frame.specs.Live.{Live, IsSound}
 use Rattle.pf_ring.specs.Ring.{Ring, queue_of, no_ring}
 use Rattle.pf_ring.specs.Windows.{reach, limit, Keeps, Stands}
 use Rattle.pf_ring.specs.declared.ring.Window.{Window}
-use Rattle.pf_ring.specs.Table.{Joined, ring_at, slots_of, joined_after, queue_stays, joined_pushed, joined_cleared, joined_nothing, ring_stands, credits_for, slots_used, held_le_used, none_held_bytes}
+use Rattle.pf_ring.specs.Table.{Joined, ring_at, slots_of, joined_after, queue_stays, joined_pushed, joined_cleared, joined_nothing, ring_stands, credits_for, slots_used, held_le_used, none_held_bytes, no_source}
 use Rattle.pf_space.specs.Meaning.{Namespace, meaning, pipe_meaning, ring_or, rings_of, pages, occupied, AreEmpty}
 use Rattle.pf_space.specs.MeaningLaws.{Others, others_stay, ring_at-rings, rings-set, rings-push, map-push, length-map'}
 use Rattle.pf_space.specs.Owns.{Owns}
@@ -50,7 +50,7 @@ module _ (f g : Live) (s : State Ring) (n : ℕ) (p : Pipe Ring) (r : Ring) (src
 
   pub joined_written : r.capacity ≡ p.queue.capacity → length r.windows ≤ r.capacity → Joined g (rings_of (with_queue s n r))
   joined_written same fits =
-      subst (Joined g) (sym (rings-set s.pipes n (option_map (holding r) (at s.pipes n)) ∙ ap (λ (o : Option (Pipe Ring)). set (rings_of s) n (ring_or (option_map (holding r) o))) there))
+      subst (Joined g) (sym (map-set ring_or s.pipes n (option_map (holding r) (at s.pipes n)) ∙ ap (λ (o : Option (Pipe Ring)). set (rings_of s) n (ring_or (option_map (holding r) o))) there))
       (joined_after f g (rings_of s) n r src within joined bound keeps_at (same ∙ ap slots_of (sym (ring_at-pipe s.pipes n p there))) fits)
 
   -- it is cleared, and its pipe is gone
@@ -58,22 +58,22 @@ module _ (f g : Live) (s : State Ring) (n : ℕ) (p : Pipe Ring) (r : Ring) (src
   joined_gone cleared =
       let after : Joined g (set (rings_of s) n r) = joined_after f g (rings_of s) n r src within joined bound keeps_at (ap slots_of (cleared ∙ (λ i. record { capacity = (sym (ring_at-pipe s.pipes n p there) i).capacity; windows = [] }))) (subst (λ (x : Ring). length x.windows ≤ x.capacity) (sym cleared) (omega arith)) in
       let bare : (ring_at (set (rings_of s) n r) n).windows ≡ [] = ap (λ (x : Ring). x.windows) (get_or-set_same (rings_of s) n r no_ring within ∙ cleared) in
-      subst (Joined g) (set-set (rings_of s) n r no_ring ∙ sym (rings-set s.pipes n None)) (joined_cleared g (set (rings_of s) n r) n after bare)
+      subst (Joined g) (set-set (rings_of s) n r no_ring ∙ sym (map-set ring_or s.pipes n None)) (joined_cleared g (set (rings_of s) n r) n after bare)
 
 -- one more pipe, with nothing in it
 
 pub joined_opened : (f : Live) (s : State Ring) (pid : ℕ) (nonblock : Bool) (slots : ℕ) (p : Process) → Joined f (rings_of s) → sum_of (λ (q : Pipe Ring). q.queue.capacity) s.pipes + slots ≤ f.reserved
     → Joined f (rings_of (opened s pid nonblock (record { capacity = slots; windows = [] }) p))
 joined_opened f s pid nonblock slots p joined fits =
-    subst (Joined f) (sym (rings-push s.pipes (Some (record { queue = record { capacity = slots; windows = [] }; owner = p.cred.uid }))))
+    subst (Joined f) (sym (map_push ring_or s.pipes (Some (record { queue = record { capacity = slots; windows = [] }; owner = p.cred.uid }))))
     (joined_pushed f (rings_of s) slots joined (subst (λ k. k + slots ≤ f.reserved) (sym (slots-rings s.pipes)) fits))
 
 pub meaning-opened : (f : Live) (s : State Ring) (pid : ℕ) (nonblock : Bool) (slots : ℕ) (p : Process)
     → meaning f (opened s pid nonblock (record { capacity = slots; windows = [] }) p) ≡ opened (meaning f s) pid nonblock (empty slots) p
 meaning-opened f s pid nonblock slots p = λ i. record {
   processes = put_at s.processes (pid - 1) (with_two (length s.descriptions) p);
-  descriptions = s.descriptions ++ Some (reading (sym (length-map' (pipe_meaning f) s.pipes) i) nonblock) ∷ Some (writing (sym (length-map' (pipe_meaning f) s.pipes) i) nonblock) ∷ [];
-  pipes = map-push (pipe_meaning f) s.pipes (Some (record { queue = record { capacity = slots; windows = [] }; owner = p.cred.uid })) i;
+  descriptions = s.descriptions ++ Some (reading (sym (length-map s.pipes (option_map (pipe_meaning f))) i) nonblock) ∷ Some (writing (sym (length-map s.pipes (option_map (pipe_meaning f))) i) nonblock) ∷ [];
+  pipes = map_push (option_map (pipe_meaning f)) s.pipes (Some (record { queue = record { capacity = slots; windows = [] }; owner = p.cred.uid })) i;
 }
 
 -- the ring of a pipe that is there stands in the frames, and each of its free slots has a credit
@@ -88,19 +88,13 @@ credits_at f s n p sound joined there = subst (λ (r : Ring). f.held + (r.capaci
 pub pages-with_queue : (s : State Ring) (n : ℕ) (p : Pipe Ring) (r : Ring) → at s.pipes n ≡ Some p → r.capacity ≡ p.queue.capacity → pages (with_queue s n r) ≡ pages s
 pages-with_queue s n p r there same =
     let h : Pipe Ring → ℕ = λ (q : Pipe Ring). q.queue.capacity in
-    let after : sum_of h (slice_set s.pipes n (option_map (holding r) (at s.pipes n))) + weight h (at s.pipes n) ≡ sum_of h s.pipes + weight h (option_map (holding r) (at s.pipes n)) = sum_of-set h s.pipes n (option_map (holding r) (at s.pipes n)) (at_within s.pipes n p there) in
-    let was : weight h (at s.pipes n) ≡ p.queue.capacity = ap (weight h) there in
-    let is : weight h (option_map (holding r) (at s.pipes n)) ≡ r.capacity = ap (λ (o : Option (Pipe Ring)). weight h (option_map (holding r) o)) there in
-    omega arith
+    omega (arith, same, sum_of-set h s.pipes n (option_map (holding r) (at s.pipes n)) (at_within s.pipes n p there), ap (weight h) there, ap (λ (o : Option (Pipe Ring)). weight h (option_map (holding r) o)) there)
 
 -- and a pipe that goes takes its own with it
 pub pages-without : (pipes : List (Option (Pipe Ring))) (n : ℕ) (p : Pipe Ring) → at pipes n ≡ Some p → sum_of (λ (q : Pipe Ring). q.queue.capacity) (clear_at pipes n) + p.queue.capacity ≡ sum_of (λ (q : Pipe Ring). q.queue.capacity) pipes
 pages-without pipes n p there =
     let h : Pipe Ring → ℕ = λ (q : Pipe Ring). q.queue.capacity in
-    let after : sum_of h (slice_set pipes n None) + weight h (at pipes n) ≡ sum_of h pipes + weight h None = sum_of-set h pipes n None (at_within pipes n p there) in
-    let was : weight h (at pipes n) ≡ p.queue.capacity = ap (weight h) there in
-    let none : weight h None ≡ 0 = refl in
-    omega arith
+    omega (arith, sum_of-set h pipes n None (at_within pipes n p there), ap (weight h) there)
 
 -- all pages are within the reservation
 pub pages_within : (f : Live) (n : Namespace) → Owns f n → pages n.state ≤ n.limits.reserve

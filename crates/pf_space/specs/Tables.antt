@@ -79,4 +79,4 @@ pub record Left (ps : ProcessRows) (ds : DescriptionRows) (pipes : PipeRows) (ps
 -- which pipe went, if one did
 abbrev pub LetsGo : List (Option (Pipe Ring)) → List (Option (Pipe Ring)) → Option rows.Pipe → Type 0
 LetsGo old new None = new ≡ old
-LetsGo old new (Some pipe) = (n : ℕ) × (p : Pipe Ring) × (at old n ≡ Some p) × (p.queue ≡ pipe.ring) × (new ≡ clear_at old n)
+LetsGo old new (Some pipe) = (n : ℕ) × (at old n ≡ Some (record { queue = pipe.ring; owner = pipe.owner })) × (new ≡ clear_at old n)

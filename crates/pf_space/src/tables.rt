@@ -80,7 +80,8 @@ impl Model for Tables {
 
 // The process of a pid. No other place of the code says that there is none.
 fn caller(processes: &Places<Process>, pid: u32) -> Result<&Process, Errno>
-    ensures { MatchResult result (λ p. process_in processes.now pid ≡ Ok p.now) (λ e. process_in processes.now pid ≡ Err e) }
+    ensures { MatchResult result (λ p. process_in processes.now pid ≡ Ok p.now)
+        (λ e. process_in processes.now pid ≡ Err e) }
 {
     if pid == 0 {
         return Err(Errno::ESRCH);

@@ -95,7 +95,8 @@ impl<A: Allocator> Tree<A> {
     pub fn remove(&mut self, path: &[&[u8]])
         requires below { 0 < length path.now }
         requires present { IsSome (find (path_of path.now) self.old) }
-        requires empty { IsDirectory (find (path_of path.now) self.old) → names_below (path_of path.now) self.old ≡ [] }
+        requires empty { IsDirectory (find (path_of path.now) self.old)
+            → names_below (path_of path.now) self.old ≡ [] }
         ensures value { self.new ≡ remove (path_of path.now) self.old }
         ensures map { IsFileMap self.new }
     {
@@ -129,7 +130,8 @@ impl<A: Allocator + Clone> Tree<A> {
         requires room { length self.old + 1 < 2 ^ 64 }
         requires absent { find (path_of path.now) self.old ≡ None }
         requires parent { IsDirectory (find (front (path_of path.now)) self.old) }
-        ensures value { self.new ≡ (if is_ok result then insert (path_of path.now) file self.old else self.old) }
+        ensures value { self.new
+            ≡ (if is_ok result then insert (path_of path.now) file self.old else self.old) }
         ensures map { IsFileMap self.new }
     {
         self.root.insert(path, file)?;

@@ -22,7 +22,8 @@ impl Space {
     ) -> Result<Reply, Fault>
         requires owns { Owns (F.live door.now) self.old }
         ensures told { Told (F.live door.now) (F.live door.now) self.old self.new result
-            (call self.old.limits (meaning (F.live door.now) self.old.state) (Step.Spawn uid gid groups.now umask)) }
+            (call self.old.limits (meaning (F.live door.now) self.old.state)
+            (Step.Spawn uid gid groups.now umask)) }
         ensures unchanged { result ≡ Err Fault.NoMemory → self.new ≡ self.old }
     {
         if !Cred::may_have(groups, umask) {

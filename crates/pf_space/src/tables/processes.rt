@@ -18,7 +18,8 @@ use std::alloc::{AllocError, Global};
 impl Tables {
     /// The lowest pid under which no process lives, if there is one.
     pub fn free_pid(&self) -> Option<u32>
-        ensures some { IfSome result (λ pid. (pid ≡ first_free self.now.state.processes + 1) × (pid ≤ MAX_PROCESSES)) }
+        ensures some { IfSome result
+            (λ pid. (pid ≡ first_free self.now.state.processes + 1) × (pid ≤ MAX_PROCESSES)) }
         ensures none { IfNone result (MAX_PROCESSES ≤ first_free self.now.state.processes) }
     {
         let i = self.processes.lowest();
@@ -40,7 +41,8 @@ impl Tables {
         requires lowest { pid ≡ first_free self.old.state.processes + 1 }
         requires within { pid ≤ MAX_PROCESSES }
         ensures made { OnOk result (Becomes (F.live door.now) (F.live door.now) self.old self.new
-            (with_process (meaning (F.live door.now) self.old.state) pid (record { cred = cred; descriptors = vacant }))) }
+            (with_process (meaning (F.live door.now) self.old.state) pid
+            (record { cred = cred; descriptors = vacant }))) }
         ensures refused { OnErr result (self.new ≡ self.old) }
     {
         let _door = door;

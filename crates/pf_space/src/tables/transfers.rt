@@ -71,7 +71,8 @@ impl Tables {
         ensures rest { F.rest door.new ≡ F.rest door.old }
         ensures owns { Owns (F.live door.new) self.new }
         ensures limits { self.new.limits ≡ self.old.limits }
-        // It came as far as the machine's read, or is refused as that is, or memory was wanted for a process that lives.
+        // It came as far as the machine's read, or is refused as that is, or memory was wanted for a process that
+        // lives.
         ensures read { HasRead (F.live door.new) self.new result
             (attempted_read (meaning (F.live door.old) self.old.state) pid fd n) }
         ensures lives { result ≡ Err Fault.NoMemory → IsSome (process self.old.state pid) }
