@@ -4,7 +4,7 @@ use Rattle.std.proofs.Common.{◌≡◌, ◌≢◌, ℕ, zero, suc, ◌+◌, ◌
 use Rattle.std.specs.Option.{option_map}
 use Rattle.std.specs.List.{sum_by}
 use Rattle.std.proofs.lemmas.Bool.{eq-eqb, ne_eqb}
-use Rattle.std.proofs.lemmas.List.{map-set, get_or-set_other}
+use Rattle.std.proofs.lemmas.List.{map-set, set-set, get_or-set_other}
 use Rattle.pf_base.specs.Limits.{Limits}
 use Rattle.pf_base.specs.Refusals.{◌>>=◌, ◌>>◌, refuse_if}
 use Rattle.pf_base.specs.Queue.{Queue}
@@ -34,7 +34,7 @@ use Rattle.pf_space.specs.OwnsLaws.{ring_at-pipe, others_written, joined_written
 use Rattle.pf_space.specs.Rows.{ProcessRows, DescriptionRows, PipeRows, Description, Pipe, pipe_of, processes_of, descriptions_of, pipes_of, state_of, end_in, Tied, Kept}
 use Rattle.pf_space.specs.Told.{attempted_cross, Arrived}
 use Rattle.pf_space.proofs.Ends.{end_of_rows, Found, refused, found, counted}
-use Rattle.pf_space.proofs.Shown.{shown, find_at, find_was, set_twice, set_same}
+use Rattle.pf_space.proofs.Shown.{shown, find_at, find_was, set_same}
 use Rattle.pf_space.proofs.Small.{requeued}
 use Rattle.pf_space.proofs.Swept.{settled}
 use Rattle.pf_space.proofs.Transfers.{bind-bind, owned, stands, there}
@@ -57,7 +57,7 @@ module _ {A B C : Type 0} (h k : A → Result B Errno) (go : B → B → Result 
 set_around : {X : Type 0} (xs : List X) (i k : ℕ) (a b c : X) → i ≢ k → set (set (set xs k c) i a) k b ≡ set (set xs k b) i a
 set_around [] i k a b c ne = refl
 set_around (x ∷ xs) zero zero a b c ne = absurd (ne refl)
-set_around (x ∷ xs) zero (suc k) a b c ne = ap (λ ys. a ∷ ys) (set_twice xs k c b)
+set_around (x ∷ xs) zero (suc k) a b c ne = ap (λ ys. a ∷ ys) (set-set xs k c b)
 set_around (x ∷ xs) (suc i) zero a b c ne = refl
 set_around (x ∷ xs) (suc i) (suc k) a b c ne = ap (λ ys. x ∷ ys) (set_around xs i k a b c (λ e. ne (ap suc e)))
 

@@ -19,7 +19,7 @@ use Rattle.pf_ring.specs.Ring.{Ring}
 use Rattle.pf_ring.specs.Windows.{Keeps, Stands}
 use Rattle.pf_ring.specs.Table.{no_source, Joined}
 use Rattle.pf_space.specs.Meaning.{Namespace, meaning, pipe_meaning, ring_or, rings_of}
-use Rattle.pf_space.specs.MeaningLaws.{sweep-meaning, pipes-without, set-map}
+use Rattle.pf_space.specs.MeaningLaws.{sweep-meaning, pipes-without}
 use Rattle.pf_space.specs.Owns.{Owns}
 use Rattle.pf_space.specs.OwnsLaws.{stands_at, joined_gone, others_written, pages-without}
 use Rattle.pf_space.specs.Rows as rows

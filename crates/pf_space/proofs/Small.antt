@@ -1,12 +1,11 @@
 -- The small changes that the code makes, as instances: one name more or less of a description, one end less of a pipe,
 -- another ring, a key in a descriptor or out of it.
 
-use Rattle.std.proofs.Common.{◌≡◌, ◌≢◌, ℕ, suc, ◌+◌, ◌-◌, ◌<◌, ◌≤◌, Bool, true, false, ◌&&◌, List, ◌∷◌, set, Option, Some, None, refl, sym, ap, subst, ◌∙◌, arith, nat_lt, if◌then◌else◌}
-use Rattle.std.proofs.lemmas.Bool.{eq-eqb, ltb-true, ltb-false}
-use Rattle.std.proofs.lemmas.Bool.Decides.{nat_tests}
+use Rattle.std.proofs.Common.{◌≡◌, ◌≢◌, ℕ, suc, ◌+◌, ◌-◌, ◌<◌, ◌≤◌, Bool, true, false, List, ◌∷◌, set, Option, Some, None, refl, sym, ap, subst, ◌∙◌, arith, if◌then◌else◌}
+use Rattle.std.proofs.lemmas.Bool.{ltb-true, ltb-false}
 use Rattle.pf_base.specs.Numbered.{at, put_at, clear_at, one_if}
 use Rattle.pf_base.specs.declared.TheConstants.{MAX_DESCRIPTORS}
-use Rattle.pf_space.specs.Rows.{ProcessRows, DescriptionRows, PipeRows, Key, Named, Process, Description, Pipe, with_fewer, is_used, left, keys_of, names_it, named, reads_it, writes_it, read_by, written_by, held, holding, NamedRow, UsedRow, IsEnd, TiedWith}
+use Rattle.pf_space.specs.Rows.{ProcessRows, DescriptionRows, PipeRows, Key, Named, Process, Description, Pipe, with_fewer, is_used, left, names_it, named, reads_it, writes_it, read_by, written_by, held, holding, NamedRow, UsedRow, IsEnd, TiedWith}
 use Rattle.pf_space.proofs.Held.{moved, miss, names_one, names_none, redescribed, repiped, sides}
 
 module _ (K : List Key) (E : List Description) (ps : ProcessRows) (ds : DescriptionRows) (pipes : PipeRows) where

@@ -16,9 +16,9 @@ use Rattle.pf_frame.specs.Live.{Live, IsSound}
 use Rattle.pf_ring.specs.Ring.{Ring, queue_of, no_ring}
 use Rattle.pf_ring.specs.Windows.{reach, limit, Keeps, Stands}
 use Rattle.pf_ring.specs.declared.ring.Window.{Window}
-use Rattle.pf_ring.specs.Table.{Joined, ring_at, slots_of, joined_after, queue_stays, joined_pushed, joined_cleared, joined_nothing, ring_stands, credits_for, slots_used, held_le_used, none_held_bytes, no_source}
+use Rattle.pf_ring.specs.Table.{Joined, ring_at, slots_of, joined_after, queue_stays, joined_pushed, joined_cleared, joined_nothing, ring_stands, credits_for, slots_used, held_le_used, none_held_bytes}
 use Rattle.pf_space.specs.Meaning.{Namespace, meaning, pipe_meaning, ring_or, rings_of, pages, occupied, AreEmpty}
-use Rattle.pf_space.specs.MeaningLaws.{Others, others_stay, ring_at-rings, rings-set, rings-push, map-push, length-map'}
+use Rattle.pf_space.specs.MeaningLaws.{Others, others_stay, ring_at-rings}
 use Rattle.pf_space.specs.Owns.{Owns}
 
 -- the ring of a pipe that is there
