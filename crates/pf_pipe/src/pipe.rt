@@ -247,7 +247,7 @@ impl Pipe {
             let queue = queue_of (F.live f.old) sink.old.ring in
             Crosses self.now self.now sink.old sink.new (F.live f.old) (F.live f.new) result
             (cross_now Tee source queue self.now.writers sink.old.readers n) }
-        // No frame is taken and nothing is written, and where no byte goes nothing is touched.
+        // No frame is taken or freed, nothing is written, and where no byte goes nothing is touched.
         ensures takes { (F.live f.new).held ≡ (F.live f.old).held }
         ensures bytes_stay { SameBytes (F.live f.old) (F.live f.new) }
         ensures untouched { moved result ≡ 0 → (sink.new ≡ sink.old) × (f.new ≡ f.old) }
@@ -260,7 +260,7 @@ impl Pipe {
     }
 
     /// Moves the first bytes into another pipe (splice(2)): as many as `tee_now` puts there. No byte is copied: each
-    /// slot that is put names a frame once more, and each that is emptied once less.
+    /// slot whose bytes all go goes itself, and one that is cut has its frame named once more.
     pub fn splice_now<F: Frames>(&mut self, f: &mut F, sink: &mut Pipe, n: usize) -> Progress
         requires fact { F.fact f.old }
         // The two pipes are two in the same frames, and no count can pass the end of its type.
@@ -272,8 +272,8 @@ impl Pipe {
             let queue = queue_of (F.live f.old) sink.old.ring in
             Crosses self.old self.new sink.old sink.new (F.live f.old) (F.live f.new) result
             (cross_now Splice source queue self.old.writers sink.old.readers n) }
-        // No frame is taken and nothing is written, and where no byte goes nothing is touched.
-        ensures takes { (F.live f.new).held ≤ (F.live f.old).held }
+        // No frame is taken or freed, nothing is written, and where no byte goes nothing is touched.
+        ensures takes { (F.live f.new).held ≡ (F.live f.old).held }
         ensures bytes_stay { SameBytes (F.live f.old) (F.live f.new) }
         ensures untouched { moved result ≡ 0
             → (self.new ≡ self.old) × (sink.new ≡ sink.old) × (f.new ≡ f.old) }
@@ -286,7 +286,13 @@ impl Pipe {
     }
 
     /// Brings the first bytes into another pipe, by `tee_now` or by `splice_now`.
-    pub fn cross_now<F: Frames>(&mut self, f: &mut F, crossing: Crossing, sink: &mut Pipe, n: usize) -> Progress
+    pub fn cross_now<F: Frames>(
+        &mut self,
+        f: &mut F,
+        crossing: Crossing,
+        sink: &mut Pipe,
+        n: usize,
+    ) -> Progress
         requires fact { F.fact f.old }
         // The two pipes are two in the same frames, and no count can pass the end of its type.
         requires stands { Stands (F.live f.old) (self.old.ring.windows ++ sink.old.ring.windows) }
@@ -297,8 +303,8 @@ impl Pipe {
             let queue = queue_of (F.live f.old) sink.old.ring in
             Crosses self.old self.new sink.old sink.new (F.live f.old) (F.live f.new) result
             (cross_now crossing source queue self.old.writers sink.old.readers n) }
-        // No frame is taken and nothing is written, and where no byte goes nothing is touched.
-        ensures takes { (F.live f.new).held ≤ (F.live f.old).held }
+        // No frame is taken or freed, nothing is written, and where no byte goes nothing is touched.
+        ensures takes { (F.live f.new).held ≡ (F.live f.old).held }
         ensures bytes_stay { SameBytes (F.live f.old) (F.live f.new) }
         ensures untouched { moved result ≡ 0
             → (self.new ≡ self.old) × (sink.new ≡ sink.old) × (f.new ≡ f.old) }

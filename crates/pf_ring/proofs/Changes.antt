@@ -223,10 +223,10 @@ abbrev pub shorter : Window → ℕ → Window
 shorter w n = record { frame = w.frame; from = w.from + n; len = w.len - n; grows = w.grows }
 
 -- where a cut window ends
-cut_reach : (q : ℕ) (w : Window) (ws : List Window) (n : ℕ) → n < w.len → reach q (shorter w n ∷ ws) ≤ reach q (w ∷ ws)
+pub cut_reach : (q : ℕ) (w : Window) (ws : List Window) (n : ℕ) → n < w.len → reach q (shorter w n ∷ ws) ≤ reach q (w ∷ ws)
 cut_reach q w ws n l = grind (arith, nat_tests)
 
-cut_limit : (q : ℕ) (w : Window) (ws : List Window) (n : ℕ) → n < w.len → limit q (w ∷ ws) ≤ limit q (shorter w n ∷ ws)
+pub cut_limit : (q : ℕ) (w : Window) (ws : List Window) (n : ℕ) → n < w.len → limit q (w ∷ ws) ≤ limit q (shorter w n ∷ ws)
 cut_limit q w ws n l = grind (arith, nat_tests)
 
 pub cut_drops : (f : Live) (w : Window) (ws : List Window) (n : ℕ) → Stands f (w ∷ ws) → n < w.len → Drops (w ∷ ws) (shorter w n ∷ ws) f f

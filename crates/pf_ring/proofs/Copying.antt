@@ -3,16 +3,16 @@
 use Rattle.std.proofs.Common.{◌≡◌, ◌⊎◌, ℕ, zero, suc, ◌+◌, ◌-◌, ◌<◌, ◌≤◌, ◌^◌, min, false, List, [], ◌∷◌, ◌++◌, length, get_or, take, drop, refl, sym, ◌∙◌, ap, subst, inl, inr, append_assoc, arith}
 use Rattle.std.proofs.lemmas.Bool.{cases_eq, cases_lt}
 use Rattle.std.proofs.lemmas.Bool.Decides.{nat_tests}
-use Rattle.std.proofs.lemmas.List.{map-append, append-nil, get_or-drop, drop_all, drop-drop, take-take, take_min, length-take, length-drop, length-append, length-map}
+use Rattle.std.proofs.lemmas.List.{map-append, append-nil, get_or-drop, drop_all, drop-drop, take-take, take_min, length-drop, length-append, length-map}
 use Rattle.pf_base.specs.declared.TheConstants.{PAGE_SIZE}
-use Rattle.pf_base.specs.Queue.{Segment, Queue, joined, free_of, copied, tee_number}
-use Rattle.pf_base.proofs.QueueLaws.{joined-append, joined-copied}
+use Rattle.pf_base.specs.Queue.{Segment, joined, free_of, copied, tee_number}
+use Rattle.pf_base.proofs.QueueLaws.{joined-append}
 use Rattle.pf_frame.specs.Live.{Live, IsSound, Shares}
 use Rattle.pf_ring.specs.declared.ring.Window.{Window}
 use Rattle.pf_ring.specs.Ring.{Ring, segment_of, shown, queue_of}
 use Rattle.pf_ring.specs.Steps.{Copies}
-use Rattle.pf_ring.specs.Windows.{named, reach, opens, limit, bytes_in, Stands, Keeps, Drops}
-use Rattle.pf_ring.specs.WindowLaws.{named-append, opens-append, reach-append, limit-append, limit_le, NoEmpty-append, bytes_in-append, reach_here, named_tail, reach_tail, segments_same, segments_length, window_whole, keeps_then, keeps_stands, keeps_same, stands_first, stands_second, stands_rest, both_stand, reach_first}
+use Rattle.pf_ring.specs.Windows.{named, reach, opens, limit, bytes_in, Stands, Keeps, Moves}
+use Rattle.pf_ring.specs.WindowLaws.{named-append, opens-append, reach-append, limit-append, limit_le, NoEmpty-append, bytes_in-append, reach_here, named_tail, reach_tail, segments_same, segments_length, window_whole, keeps_then, keeps_same, stands_first, stands_second, stands_rest, both_stand, reach_first}
 use Rattle.pf_ring.proofs.Changes.{First, is_first, own, other}
 use Rattle.pf_ring.proofs.Queues.{same_segment, copied_step, copied_no_slot, copied_no_byte, copied_no_segment}
 
@@ -20,11 +20,11 @@ use Rattle.pf_ring.proofs.Queues.{same_segment, copied_step, copied_no_slot, cop
 abbrev pub copy_of : Window → ℕ → Window
 copy_of w n = record { frame = w.frame; from = w.from; len = n; grows = false }
 
-closed : (q : ℕ) (w : Window) → w.grows ≡ false → (opens q (w ∷ []) ≡ 0) × (limit q (w ∷ []) ≡ PAGE_SIZE)
+pub closed : (q : ℕ) (w : Window) → w.grows ≡ false → (opens q (w ∷ []) ≡ 0) × (limit q (w ∷ []) ≡ PAGE_SIZE)
 closed q w e = (grind (arith, nat_tests), grind (arith, nat_tests))
 
 -- where a copy of one of the windows src ends, and how often it names a frame
-copy_reach : (q : ℕ) (src : List Window) (w : Window) (n : ℕ) → w.from + n ≤ reach w.frame src → reach q (copy_of w n ∷ []) ≤ reach q src
+pub copy_reach : (q : ℕ) (src : List Window) (w : Window) (n : ℕ) → w.from + n ≤ reach w.frame src → reach q (copy_of w n ∷ []) ≤ reach q src
 copy_reach q src w n ends = elim (cases_eq w.frame q) [
   | inl e ↦ let at : reach w.frame src ≡ reach q src = ap (λ (k : ℕ). reach k src) e in omega (arith, own q (copy_of w n) e, at, ends)
   | inr d ↦ omega (arith, other q (copy_of w n) d)
@@ -159,7 +159,7 @@ sharing_none f src ws slots n used s e = record {
 }
 
 -- the first bytes of a segment that a copy shows
-copy_segment : (f0 g : Live) (w : Window) (m n : ℕ) → length (segment_of f0 w).bytes ≡ w.len → g.bytes w.frame ≡ f0.bytes w.frame → n ≡ min w.len m → segment_of g (copy_of w n) ≡ record { bytes = take m (segment_of f0 w).bytes; room = 0 }
+pub copy_segment : (f0 g : Live) (w : Window) (m n : ℕ) → length (segment_of f0 w).bytes ≡ w.len → g.bytes w.frame ≡ f0.bytes w.frame → n ≡ min w.len m → segment_of g (copy_of w n) ≡ record { bytes = take m (segment_of f0 w).bytes; room = 0 }
 copy_segment f0 g w m n size same least =
     let swap : n ≡ min m (length (segment_of f0 w).bytes) = omega (arith, size, least) in
     let front : take n (take w.len (drop w.from (f0.bytes w.frame))) ≡ take n (drop w.from (f0.bytes w.frame)) = take-take n w.len (drop w.from (f0.bytes w.frame)) (omega (arith, least)) in
@@ -224,33 +224,31 @@ all_or_full src ws0 ws slots place e most = elim (cases_lt ws slots) [
 ]
 
 -- how many bytes the windows show that were put
-pub tee_number_is : (f g : Live) (source sink : Ring) (new : List Window) (used n m : ℕ) → IsSound f → IsSound g → Stands f (source.windows ++ sink.windows) → used ≡ length sink.windows → Copies source.windows sink.windows new m f g
+pub tee_number_is : (f g : Live) (source sink : Ring) (new : List Window) (used n m : ℕ) → IsSound f → IsSound g → Stands f sink.windows → Stands g new → used ≡ length sink.windows → bytes_in new ≡ bytes_in sink.windows + m
     → shown g new ≡ shown f sink.windows ++ copied (sink.capacity - used) n (shown f source.windows) → m ≡ tee_number (queue_of f source) (queue_of f sink) n
-tee_number_is f g source sink new used n m before after s e c shows =
-    let stands : Stands f sink.windows = stands_second f source.windows sink.windows s in
+tee_number_is f g source sink new used n m before after stands stand e bytes shows =
     let old : List Segment = shown f sink.windows in
     let put : List Segment = copied (sink.capacity - used) n (shown f source.windows) in
     let free : sink.capacity - used ≡ free_of (queue_of f sink) = omega (arith, e, length-map sink.windows (segment_of f)) in
     let all : length (joined (shown g new)) ≡ length (joined old ++ joined put) = ap (λ (ss : List Segment). length (joined ss)) shows ∙ ap (λ (b : List ℕ). length b) (joined-append old put) in
     let number : m ≡ length (joined put) =
-    omega (arith, c.bytes, all, length-append (joined old) (joined put), segments_length f sink.windows before stands, segments_length g new after (keeps_stands f g source.windows sink.windows new stands c.keeps)) in
+    omega (arith, bytes, all, length-append (joined old) (joined put), segments_length f sink.windows before stands, segments_length g new after stand) in
     number ∙ ap (λ (k : ℕ). length (joined (copied k n (shown f source.windows)))) free
 
--- no more than the source has
-pub tee_number_le : (f : Live) (source : Ring) (sink : Queue) (n : ℕ) → IsSound f → Stands f source.windows → tee_number (queue_of f source) sink n ≤ bytes_in source.windows
-tee_number_le f source sink n sound s =
-    let put : List ℕ = joined (copied (free_of sink) n (shown f source.windows)) in
-    let front : length put ≡ length (take (length put) (joined (shown f source.windows))) = ap (λ (b : List ℕ). length b) (joined-copied (free_of sink) n (shown f source.windows)) in
-    omega (arith, front, length-take (length put) (joined (shown f source.windows)), segments_length f source.windows sound s)
+-- windows that came stand, once the source has lost what they show
+pub moves_stand : (f g : Live) (src src' old new : List Window) → Stands f (src ++ old) → Moves src src' old new f g → Stands g new
+moves_stand f g src src' old new s m =
+    let both : Stands m.between (src ++ new) = both_stand f m.between src old new s m.copied in
+    record {
+      counted = λ q. omega (arith, both.counted q, named-append q src new, m.dropped.counts q);
+      within = m.copied.within;
+      single = m.copied.single;
+      apart = m.copied.apart;
+      some = m.copied.some;
+    }
 
 -- the source shows what it showed
 pub source_shows : (f g : Live) (r : Ring) → Stands f r.windows → ((q : ℕ) → 0 < f.count q → g.bytes q ≡ f.bytes q) → queue_of g r ≡ queue_of f r
 source_shows f g r s same =
     let stay : shown g r.windows ≡ shown f r.windows = segments_same f g r.windows (λ q named. same q (omega (arith, named, s.counted q))) in
     λ i. record { capacity = r.capacity; segments = stay i }
-
--- and so do the windows that were put, once the source has lost what they show
-pub sink_shows : (f g : Live) (src src' : List Window) (sink : Ring) → Stands f (src ++ sink.windows) → Drops src src' f g → queue_of g sink ≡ queue_of f sink
-sink_shows f g src src' sink s d =
-    let stay : shown g sink.windows ≡ shown f sink.windows = segments_same f g sink.windows (λ q named. d.contents q (omega (arith, named, d.counts q, s.counted q, named-append q src sink.windows))) in
-    λ i. record { capacity = sink.capacity; segments = stay i }

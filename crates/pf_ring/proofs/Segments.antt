@@ -68,7 +68,7 @@ pub without_none : (f : Live) (ws : List Window) → IsSound f → Stands f ws �
 without_none f [] s t = refl
 without_none f (w ∷ ws) s t = without_part 0 (segment_of f w) (map (segment_of f) ws) (omega (arith, window_whole f w ws s t, t.some.0))
 
-cut_segments : (f : Live) (w : Window) (ws : List Window) (n : ℕ) → IsSound f → Stands f (w ∷ ws) → n < w.len → map (segment_of f) (shorter w n ∷ ws) ≡ without_front n (map (segment_of f) (w ∷ ws))
+pub cut_segments : (f : Live) (w : Window) (ws : List Window) (n : ℕ) → IsSound f → Stands f (w ∷ ws) → n < w.len → map (segment_of f) (shorter w n ∷ ws) ≡ without_front n (map (segment_of f) (w ∷ ws))
 cut_segments f w ws n s t l =
     let whole : w.len ≡ n + (w.len - n) = omega arith in
     let bytes : take (w.len - n) (drop (w.from + n) (f.bytes w.frame)) ≡ drop n (take w.len (drop w.from (f.bytes w.frame))) =
@@ -78,7 +78,7 @@ cut_segments f w ws n s t l =
     same_segment _ _ bytes (ap (λ (k : ℕ). if w.grows then PAGE_SIZE - k else 0) ends) in
     ap (λ (x : Segment). x ∷ map (segment_of f) ws) here ∙ sym (without_part n (segment_of f w) (map (segment_of f) ws) (omega (arith, window_whole f w ws s t)))
 
-gone_segments : (f : Live) (w : Window) (ws : List Window) (n : ℕ) → IsSound f → Stands f (w ∷ ws) → n ≡ w.len → map (segment_of f) ws ≡ without_front n (map (segment_of f) (w ∷ ws))
+pub gone_segments : (f : Live) (w : Window) (ws : List Window) (n : ℕ) → IsSound f → Stands f (w ∷ ws) → n ≡ w.len → map (segment_of f) ws ≡ without_front n (map (segment_of f) (w ∷ ws))
 gone_segments f w ws n s t e =
     let size : length (segment_of f w).bytes ≡ w.len = window_whole f w ws s t in
     sym (without_all n (segment_of f w) (map (segment_of f) ws) (omega arith) ∙ (ap (λ (k : ℕ). without_front k (map (segment_of f) ws)) (omega arith) ∙ without_none f ws s (stands_rest f w ws t)))

@@ -6,7 +6,7 @@ use Rattle.pf_base.specs.Queue.{without_front}
 use Rattle.pf_frame.specs.Live.{Live}
 use Rattle.pf_ring.specs.declared.ring.Window.{Window}
 use Rattle.pf_ring.specs.Ring.{shown}
-use Rattle.pf_ring.specs.Windows.{bytes_in, Keeps, PutsBehind, Drops}
+use Rattle.pf_ring.specs.Windows.{bytes_in, Keeps, Moves, SameBytes, PutsBehind, Drops}
 
 -- n bytes are put at the end of the windows old; of the frames that were live, only behind the windows `behind`
 -- (old itself, or none of them)
@@ -32,3 +32,14 @@ pub record Copies (src old new : List Window) (n : ℕ) (f g : Live) : Type 0 wh
   pub same : (q : ℕ) → 0 < f.count q → g.bytes q ≡ f.bytes q
   pub held : g.held ≡ f.held
   pub bytes : bytes_in new ≡ bytes_in old + n
+
+-- the first n bytes of the windows src came to the end of the windows old, and src' is what is left: first windows on
+-- them were put there, and then they were dropped. No frame was taken or freed, and no byte changed
+pub record Shifts (src src' old new : List Window) (n : ℕ) (f g : Live) : Type 0 where
+  pub moves : Moves src src' old new f g
+  pub left : shown g src' ≡ without_front n (shown f src)
+  pub held : g.held ≡ f.held
+  pub same : SameBytes f g
+  pub bytes : bytes_in new ≡ bytes_in old + n
+  pub rest : bytes_in src' + n ≡ bytes_in src
+  pub fewer : length src' ≤ length src

@@ -221,8 +221,8 @@ impl SlotRing {
     /// Moves the first bytes to the end of another ring (splice(2)): as many as `tee_into` puts there. Answers how many
     /// they are.
     ///
-    /// No byte is copied or looked at, and no frame is taken. A slot that is cut keeps its room; the frame of one that
-    /// is emptied stays, under the name of the slot that is put. It takes constant time for each slot.
+    /// No byte is copied or looked at, and no frame is taken or freed. A slot whose bytes all go goes itself, without its
+    /// room; one that is cut keeps its room, and its frame is named once more. It takes constant time for each slot.
     pub fn splice_into<F: Frames>(&mut self, f: &mut F, sink: &mut SlotRing, n: usize) -> usize
         requires fact { F.fact f.old }
         // The two rings are two in the same frames, and no count can pass the end of its type.
@@ -241,15 +241,16 @@ impl SlotRing {
             ≡ after_tee (queue_of (F.live f.old) self.old) (queue_of (F.live f.old) sink.old) n }
         ensures source { queue_of (F.live f.new) self.new
             ≡ after_splice (queue_of (F.live f.old) self.old) (queue_of (F.live f.old) sink.old) n }
-        // No frame is taken. Other rings show what they showed, and nothing is written.
-        ensures takes { (F.live f.new).held ≤ (F.live f.old).held }
+        // No frame is taken or freed. Other rings show what they showed, and nothing is written.
+        ensures takes { (F.live f.new).held ≡ (F.live f.old).held }
         ensures moves { Moves self.old.windows self.new.windows sink.old.windows sink.new.windows
             (F.live f.old) (F.live f.new) }
         ensures bytes_stay { SameBytes (F.live f.old) (F.live f.new) }
     {
-        let number = self.tee_into(f, sink, n);
-        self.discard(f, number);
-        number
+        let moved = windows::shift(&mut self.windows, &mut sink.windows, sink.slots, f, n);
+        self.bytes -= moved;
+        sink.bytes += moved;
+        moved
     }
 
     /// Gives the ring another number of slots (fcntl(2), F_SETPIPE_SZ): not fewer than are in use. What it holds stays,

@@ -5,7 +5,7 @@ ghost use Rattle.pf_base.specs.Queue.{Segment, joined, last_room, topped_up, pie
 ghost use Rattle.pf_frame.specs.Live.{Live};
 ghost use Rattle.pf_ring.specs.Ring.{segment_of, shown};
 ghost use Rattle.pf_ring.specs.Windows.{Stands, Drops, bytes_in};
-ghost use Rattle.pf_ring.specs.Steps.{Puts, Copies, Cut};
+ghost use Rattle.pf_ring.specs.Steps.{Puts, Copies, Cut, Shifts};
 
 use crate::ring::Window;
 use pf_base::PAGE_SIZE;
@@ -278,6 +278,62 @@ pub fn share<F: Frames>(
             len: number as u32,
             grows: false,
             ..window
+        });
+        done += number;
+    }
+    done
+}
+
+/// Moves the first bytes of the source's windows to windows at the end of the sink's: at most so many bytes, and at most
+/// so many windows that the sink has as many as it has slots. Answers how many bytes they are.
+///
+/// A window whose bytes all go goes itself, and its frame is not counted again; one that is cut keeps its frame, which is
+/// counted once more. None of those that come grows.
+pub fn shift<F: Frames>(
+    source: &mut VecDeque<Window>,
+    sink: &mut VecDeque<Window>,
+    slots: usize,
+    f: &mut F,
+    n: usize,
+) -> usize
+    requires fact { F.fact f.old }
+    requires stands { Stands (F.live f.old) (source.old.items ++ sink.old.items) }
+    requires fits { deque_len sink.old ≤ slots }
+    requires space { slots ≤ deque_capacity sink.old }
+    requires few { (F.live f.old).shares + slots < 2 ^ 32 }
+    ensures fact { F.fact f.new }
+    ensures rest { F.rest f.new ≡ F.rest f.old }
+    ensures space { deque_capacity sink.new ≡ deque_capacity sink.old }
+    ensures source_space { deque_capacity source.new ≡ deque_capacity source.old }
+    ensures fits { deque_len sink.new ≤ slots }
+    ensures segments { let free = slots - deque_len sink.old in
+        shown (F.live f.new) sink.new.items
+        ≡ shown (F.live f.old) sink.old.items ++ copied free n (shown (F.live f.old) source.old.items) }
+    ensures shifts { Shifts source.old.items source.new.items sink.old.items sink.new.items result
+        (F.live f.old) (F.live f.new) }
+{
+    let mut done = 0;
+    let most = source.len().min(slots - sink.len());
+    for _ in 0..most {
+        if done == n {
+            break;
+        }
+        let first = source[0];
+        let number = (first.len as usize).min(n - done);
+        if (first.len as usize) > number {
+            f.share(first.frame);
+            source[0] = Window {
+                from: first.from + number as u32,
+                len: first.len - number as u32,
+                ..first
+            };
+        } else {
+            let _ = source.pop_front();
+        }
+        sink.push_back_reserved(Window {
+            len: number as u32,
+            grows: false,
+            ..first
         });
         done += number;
     }

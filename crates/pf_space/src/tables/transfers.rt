@@ -111,8 +111,8 @@ impl Tables {
         ensures crossed { HasCrossed (F.live door.new) self.new result
             (attempted_cross crossing (meaning (F.live door.old) self.old.state) pid source sink n) }
 
-        // No frame is taken. Where no byte came, nothing has changed.
-        ensures takes { (F.live door.new).held ≤ (F.live door.old).held }
+        // No frame is taken or freed. Where no byte came, nothing has changed.
+        ensures takes { (F.live door.new).held ≡ (F.live door.old).held }
         ensures untouched { IfOk result
             (λ progress. moved progress ≡ 0 → (self.new ≡ self.old) × (door.new ≡ door.old)) }
         ensures refused { OnErr result ((self.new ≡ self.old) × (door.new ≡ door.old)) }

@@ -3,7 +3,7 @@ use Rattle.pf_base.specs.Queue.{tee_number}
 use Rattle.pf_frame.specs.Live.{Live}
 use Rattle.pf_ring.specs.Ring.{Ring, queue_of}
 use Rattle.pf_ring.specs.Windows.{Stands}
-use Rattle.pf_ring.specs.WindowLaws.{bytes_in_le, stands_first}
+use Rattle.pf_ring.specs.WindowLaws.{bytes_in_le, stands_first, stands_second, keeps_stands}
 use Rattle.pf_ring.proofs.Copying.{tee_number_is, source_shows}
 use Rattle.pf_ring.proofs.ring.SlotRing.tee_into.Goals as goal
 
@@ -19,7 +19,8 @@ returns-clause-number g c =
     let stands : Stands f (source.windows ++ sink.windows) =
     subst (λ (r : Ring). Stands f (r.windows ++ sink.windows)) (sym c.self.view_is) (subst (λ (r : Ring). Stands f (c.args.self.now.windows ++ r.windows)) (sym c.sink.view_is) c.requires.stands) in
     let number : c.share-number.result ≡ tee_number (queue_of f source) (queue_of f sink) c.args.n =
-    tee_number_is f (g.F.Frames.live c.share-number.new.f) source sink c.share-number.new.sink.items _ c.args.n _ (g.met.F.Frames.sound _ c.requires.fact) (g.met.F.Frames.sound _ c.share-number.ensures.fact) stands (omega arith) c.share-number.ensures.copies c.share-number.ensures.segments in
+    tee_number_is f (g.F.Frames.live c.share-number.new.f) source sink c.share-number.new.sink.items _ c.args.n _ (g.met.F.Frames.sound _ c.requires.fact) (g.met.F.Frames.sound _ c.share-number.ensures.fact) (stands_second f source.windows sink.windows stands)
+    (keeps_stands f (g.F.Frames.live c.share-number.new.f) source.windows sink.windows c.share-number.new.sink.items (stands_second f source.windows sink.windows stands) c.share-number.ensures.copies.keeps) (omega arith) c.share-number.ensures.copies.bytes c.share-number.ensures.segments in
     number ∙ (λ i. tee_number (queue_of f (c.self.view_is i)) (queue_of f (c.sink.view_is i)) c.args.n)
 
 pub returns-clause-source : goal.returns-clause-source

@@ -1,0 +1,73 @@
+use Rattle.std.proofs.Common.{ap, refl, ◌∙◌, inl, arith}
+use Rattle.std.specs.VecDeque.{deque_capacity}
+use Rattle.pf_frame.specs.Live.{Live}
+use Rattle.pf_ring.specs.declared.ring.Window.{Window}
+use Rattle.pf_ring.proofs.Changes.{First}
+use Rattle.pf_ring.proofs.Shifting.{first, live_now, set_first, shifting_none, shifting_whole, shifting_cut, shifting_end, shifted, sink_shown, moved_all}
+use Rattle.pf_ring.proofs.windows.shift.Goals.{then-first-number, else-first-number}
+use Rattle.pf_ring.proofs.windows.shift.Goals as goal
+
+pub loop-init : goal.loop-init
+loop-init g c = record {
+  fact = c.requires.fact;
+  rest = refl;
+  space = refl;
+  source_space = refl;
+  shifting = shifting_none (g.F.Frames.live c.args.f.now) c.args.source.now.items c.args.sink.now.items c.args.slots c.args.n _ (g.met.F.Frames.sound _ c.requires.fact) c.requires.stands (omega arith);
+}
+
+pub share-requires-clause-is_live : goal.share-requires-clause-is_live
+share-requires-clause-is_live g c =
+    live_now (g.F.Frames.live c.args.f.now) _ _ _ _ _ _ _ _ _ _ c.index-first.result.now (g.met.F.Frames.sound _ c.requires.fact) c.requires.stands c.loop.invariant.shifting (omega arith) c.index-first.ensures
+
+pub overflow_add-first : goal.overflow_add-first
+overflow_add-first g c =
+    let at : First (g.F.Frames.live c.args.f.now) c.loop.source.items c.index-first.result.now =
+    first (g.F.Frames.live c.args.f.now) _ _ _ _ _ _ _ _ _ _ c.index-first.result.now (g.met.F.Frames.sound _ c.requires.fact) c.requires.stands c.loop.invariant.shifting (omega arith) c.index-first.ensures in
+    omega (arith, at.ends)
+
+pub loop-preserved : goal.loop-preserved
+loop-preserved g c =
+    let f : Live = g.F.Frames.live c.args.f.now in
+    let w : Window = c.index-first.result.now in
+    let at : First f c.loop.source.items w =
+    first f _ _ _ _ _ _ _ _ _ _ w (g.met.F.Frames.sound _ c.requires.fact) c.requires.stands c.loop.invariant.shifting (omega arith) c.index-first.ensures in
+    elim c.if-first-number.branch [
+      | then-first-number b ↦ record {
+        fact = rw b.f-is b.share.ensures.fact;
+        rest = rw b.f-is (b.share.ensures.rest ∙ c.loop.invariant.rest);
+        space = c.push_back_reserved.ensures.capacity ∙ c.loop.invariant.space;
+        source_space = ap deque_capacity b.source-is ∙ c.loop.invariant.source_space;
+        shifting =
+            rw b.f-is
+            (shifting_cut f (g.F.Frames.live c.loop.f) c.args.source.now.items c.loop.source.items c.args.sink.now.items c.loop.sink.items c.args.slots c.args.n c.loop.counter c.loop.done _ w (g.met.F.Frames.sound _ c.requires.fact) c.requires.stands c.loop.invariant.shifting (omega arith) c.index-first.ensures
+            (g.F.Frames.live b.share.new.self) c.min-number.result _ _ c.min-number.ensures b.if-first-number.true (omega (arith, c.loop.invariant.shifting.number)) (omega (arith, c.loop.invariant.shifting.within)) b.share.ensures.shares
+            (ap (λ d. d.items) b.source-is ∙ set_first f c.loop.source.items w _ at) c.push_back_reserved.ensures.items);
+      }
+      | else-first-number b ↦ record {
+        fact = rw b.f-is c.loop.invariant.fact;
+        rest = rw b.f-is c.loop.invariant.rest;
+        space = c.push_back_reserved.ensures.capacity ∙ c.loop.invariant.space;
+        source_space = ap deque_capacity b.source-is ∙ (b.pop_front.ensures.capacity ∙ c.loop.invariant.source_space);
+        shifting =
+            rw b.f-is
+            (shifting_whole f (g.F.Frames.live c.loop.f) c.args.source.now.items c.loop.source.items c.args.sink.now.items c.loop.sink.items c.args.slots c.args.n c.loop.counter c.loop.done _ w (g.met.F.Frames.sound _ c.requires.fact) c.requires.stands c.loop.invariant.shifting (omega arith) c.index-first.ensures
+            c.min-number.result _ _ c.min-number.ensures (omega (arith, b.if-first-number.false)) (omega (arith, c.loop.invariant.shifting.number)) (omega (arith, c.loop.invariant.shifting.within))
+            (ap (λ d. d.items) b.source-is ∙ b.pop_front.ensures.rest) c.push_back_reserved.ensures.items);
+      }
+    ]
+
+pub returns-after-loop-clause-segments : goal.returns-after-loop-clause-segments
+returns-after-loop-clause-segments g c =
+    sink_shown _ _ _ _ _ _ _ _ _ _ _ c.requires.stands c.loop.invariant.shifting
+    ∙ shifting_end _ _ _ _ _ _ _ _ _ _ _ c.loop.invariant.shifting (moved_all _ _ _ _ _ _ _ _ _ _ _ c.loop.invariant.shifting (omega arith))
+
+pub returns-after-loop-clause-shifts : goal.returns-after-loop-clause-shifts
+returns-after-loop-clause-shifts g c = shifted _ _ _ _ _ _ _ _ _ _ _ c.requires.stands c.loop.invariant.shifting
+
+pub returns-then-done-n-clause-segments : goal.returns-then-done-n-clause-segments
+returns-then-done-n-clause-segments g c =
+    sink_shown _ _ _ _ _ _ _ _ _ _ _ c.requires.stands c.loop.invariant.shifting ∙ shifting_end _ _ _ _ _ _ _ _ _ _ _ c.loop.invariant.shifting (inl (omega (arith, c.if-done-n.true)))
+
+pub returns-then-done-n-clause-shifts : goal.returns-then-done-n-clause-shifts
+returns-then-done-n-clause-shifts g c = shifted _ _ _ _ _ _ _ _ _ _ _ c.requires.stands c.loop.invariant.shifting
