@@ -25,3 +25,5 @@ pub use run::{ReplayFault, Replayed, replay};
 mod tests;
 #[cfg(test)]
 mod tests_rows;
+#[cfg(test)]
+mod tests_steps;

@@ -4,7 +4,7 @@ use std::alloc::{AllocError, Global};
 use std::test::Fail;
 
 /// What frames hold at the start, which no text may depend on.
-const FILLS: [u8; 3] = [0, 165, 255];
+pub(crate) const FILLS: [u8; 3] = [0, 165, 255];
 
 /// A line of a script with its answer. A line that is no step has none.
 type Line = (&'static str, &'static str);
@@ -81,20 +81,23 @@ const RESERVATIONS: [Line; 11] = [
     ("blue read 1 0 2", "bytes 2 6262"),
 ];
 
-/// Pushes words, a word `COUNT*HH` written out: so many times these two digits.
-fn push_words(text: &mut String, alloc: Global, words: &str) -> Result<(), Fail> {
+/// Pushes words, a word `COUNT*HH` written out: so many times these two digits. A `+` joins two parts of a word, each
+/// digits or of this kind.
+pub(crate) fn push_words(text: &mut String, alloc: Global, words: &str) -> Result<(), Fail> {
     let mut is_first = true;
     for word in words.split(' ') {
         if !is_first {
             text.push(' ')?;
         }
         is_first = false;
-        match word.split_once('*') {
-            Some((count, digits)) => {
-                let count = count.parse::<usize>()?;
-                text.push_str(digits.repeat(alloc, count)?.as_str())?;
+        for part in word.split('+') {
+            match part.split_once('*') {
+                Some((count, digits)) => {
+                    let count = count.parse::<usize>()?;
+                    text.push_str(digits.repeat(alloc, count)?.as_str())?;
+                }
+                None => text.push_str(part)?,
             }
-            None => text.push_str(word)?,
         }
     }
     Ok(())

@@ -86,7 +86,8 @@ fn push_reply(text: &mut Vec<u8>, reply: &Reply) -> Result<(), AllocError>
     }
 }
 
-fn push_answer(text: &mut Vec<u8>, answer: &Answer) -> Result<(), AllocError>
+/// Pushes what a step is told.
+pub fn push_answer(text: &mut Vec<u8>, answer: &Answer) -> Result<(), AllocError>
     ensures { OnOk result (text.new.items ≡ text.old.items ++ answer_text answer.now) }
 {
     match answer {
