@@ -92,6 +92,8 @@ impl Tables {
 
     /// Brings at most n bytes from the front of the pipe that one descriptor of a process reads to the end of the pipe that
     /// another one writes: a copy of them, or the bytes themselves.
+    // Inlined, it makes a write and a read slower by a third.
+    #[inline(never)]
     pub fn cross_now<F: Frames>(
         &mut self,
         door: &mut F,
