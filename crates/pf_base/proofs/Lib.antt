@@ -8,6 +8,7 @@ pub mod EventLaws
 pub mod FileLaws
 mod WorkedQueues
 mod WorkedPages
+mod WorkedCrossings
 mod WorkedFiles
 mod WorkedScript
 pub mod ScriptLemmas
