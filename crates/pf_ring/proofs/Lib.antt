@@ -3,3 +3,4 @@ pub mod Copying
 pub mod Loops
 pub mod Queues
 pub mod Segments
+pub mod Pairs
