@@ -270,7 +270,13 @@ impl Pipe {
     }
 
     /// Brings the first bytes into another pipe, by `tee_now` or by `splice_now`.
-    pub fn cross_now<F: Frames>(&mut self, f: &mut F, crossing: Crossing, sink: &mut Pipe, n: usize) -> Progress
+    pub fn cross_now<F: Frames>(
+        &mut self,
+        f: &mut F,
+        crossing: Crossing,
+        sink: &mut Pipe,
+        n: usize,
+    ) -> Progress
         requires fact { F.fact f.old }
         // The two pipes are two in the same frames, and no count can pass the end of its type.
         requires stands { Stands (F.live f.old) (self.old.ring.windows ++ sink.old.ring.windows) }
