@@ -21,12 +21,18 @@ cut = after_take (put (empty 4) (104 ∷ 101 ∷ 108 ∷ 108 ∷ 111 ∷ [])) 1
 cut-is : cut ≡ record { capacity = 4; segments = record { bytes = 101 ∷ 108 ∷ 108 ∷ 111 ∷ []; room = 4091 } ∷ [] }
 cut-is = refl
 
+cut-room : room_of cut ≡ 16379
+cut-room = refl
+
 -- "ell" of it copied into a pipe of two slots, and then "el" moved there too, which fills it
 abbrev teed : Queue
 teed = after_tee cut (empty 2) 3
 
 teed-is : teed ≡ record { capacity = 2; segments = record { bytes = 101 ∷ 108 ∷ 108 ∷ []; room = 0 } ∷ [] }
 teed-is = refl
+
+teed-room : room_of teed ≡ 4096
+teed-room = refl
 
 abbrev spliced : Queue
 spliced = after_tee cut teed 2
@@ -50,12 +56,18 @@ written = put rest (33 ∷ [])
 written-is : written ≡ record { capacity = 4; segments = record { bytes = 108 ∷ 111 ∷ 33 ∷ []; room = 4090 } ∷ [] }
 written-is = refl
 
+written-room : room_of written ≡ 16378
+written-room = refl
+
 -- four bytes read from the copies: a cut copy has no room either, and what is written begins another slot
 abbrev refilled : Queue
 refilled = put (after_take spliced 4) (120 ∷ 121 ∷ [])
 
 refilled-is : refilled ≡ record { capacity = 2; segments = record { bytes = 108 ∷ []; room = 0 } ∷ record { bytes = 120 ∷ 121 ∷ []; room = 4094 } ∷ [] }
 refilled-is = refl
+
+refilled-room : room_of refilled ≡ 4094
+refilled-room = refl
 
 -- all of them moved back, as many slots as there are
 abbrev back : Queue
