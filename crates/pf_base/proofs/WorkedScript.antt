@@ -15,7 +15,7 @@ use Rattle.pf_base.specs.Machine.{step_of, swept, may_want_memory}
 use Rattle.pf_base.specs.declared.TheConstants.{PIPE_BUF, MAX_WRITE}
 use Rattle.pf_base.specs.Runs.{run_of, lone}
 use Rattle.pf_base.specs.declared.progress.Progress.TheVariants.{Moved, NoReader}
-use Rattle.pf_base.specs.declared.step.Step.TheVariants.{Spawn, Exit, Pipe, Close, Read, Write}
+use Rattle.pf_base.specs.declared.step.Step.TheVariants.{Spawn, Exit, Pipe, Close, Read, Write, Tee, Splice}
 use Rattle.pf_base.specs.declared.step.Reply.TheVariants.{Num, Pid, Fds, Bytes, Err}
 use Rattle.pf_base.specs.declared.errno.Errno.{Errno}
 use Rattle.pf_base.specs.declared.errno.Errno.TheVariants.{ESRCH, EBADF, EAGAIN, EINVAL, ENFILE, EPIPE}
@@ -143,3 +143,9 @@ unwanted-close s pid fd = refl
 
 unwanted-write : (s : State Queue) (pid fd : ℕ) (x : List ℕ) → may_want_memory s (Write pid fd x) ≡ false
 unwanted-write s pid fd x = refl
+
+unwanted-tee : (s : State Queue) (pid source sink n : ℕ) (nonblock : Bool) → may_want_memory s (Tee pid source sink n nonblock) ≡ false
+unwanted-tee s pid source sink n nonblock = refl
+
+unwanted-splice : (s : State Queue) (pid source sink n : ℕ) (nonblock : Bool) → may_want_memory s (Splice pid source sink n nonblock) ≡ false
+unwanted-splice s pid source sink n nonblock = refl

@@ -4,3 +4,4 @@ pub mod Loops
 pub mod Queues
 pub mod Segments
 pub mod Shifting
+pub mod Pairs

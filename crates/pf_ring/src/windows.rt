@@ -313,29 +313,28 @@ pub fn shift<F: Frames>(
         (F.live f.old) (F.live f.new) }
 {
     let mut done = 0;
-    let most = source.len().min(slots - sink.len());
-    for _ in 0..most {
+    let places = source.len().min(slots - sink.len());
+    for _ in 0..places {
         if done == n {
             break;
         }
         let first = source[0];
-        let number = (first.len as usize).min(n - done);
-        if (first.len as usize) > number {
+        let part = (first.len as usize).min(n - done);
+        if (first.len as usize) > part {
             f.share(first.frame);
             source[0] = Window {
-                from: first.from + number as u32,
-                len: first.len - number as u32,
+                from: first.from + part as u32,
+                len: first.len - part as u32,
                 ..first
             };
         } else {
             let _ = source.pop_front();
         }
-        sink.push_back_reserved(Window {
-            len: number as u32,
-            grows: false,
-            ..first
-        });
-        done += number;
+        let mut sent = first;
+        sent.len = part as u32;
+        sent.grows = false;
+        sink.push_back_reserved(sent);
+        done += part;
     }
     done
 }

@@ -4,7 +4,7 @@ use Rattle.pf_frame.specs.Live.{Live}
 use Rattle.pf_ring.specs.declared.ring.Window.{Window}
 use Rattle.pf_ring.proofs.Changes.{First}
 use Rattle.pf_ring.proofs.Shifting.{first, live_now, set_first, shifting_none, shifting_whole, shifting_cut, shifting_end, shifted, sink_shown, moved_all}
-use Rattle.pf_ring.proofs.windows.shift.Goals.{then-first-number, else-first-number}
+use Rattle.pf_ring.proofs.windows.shift.Goals.{then-first-part, else-first-part}
 use Rattle.pf_ring.proofs.windows.shift.Goals as goal
 
 pub loop-init : goal.loop-init
@@ -32,8 +32,8 @@ loop-preserved g c =
     let w : Window = c.index-first.result.now in
     let at : First f c.loop.source.items w =
     first f _ _ _ _ _ _ _ _ _ _ w (g.met.F.Frames.sound _ c.requires.fact) c.requires.stands c.loop.invariant.shifting (omega arith) c.index-first.ensures in
-    elim c.if-first-number.branch [
-      | then-first-number b ↦ record {
+    elim c.if-first-part.branch [
+      | then-first-part b ↦ record {
         fact = rw b.f-is b.share.ensures.fact;
         rest = rw b.f-is (b.share.ensures.rest ∙ c.loop.invariant.rest);
         space = c.push_back_reserved.ensures.capacity ∙ c.loop.invariant.space;
@@ -41,10 +41,10 @@ loop-preserved g c =
         shifting =
             rw b.f-is
             (shifting_cut f (g.F.Frames.live c.loop.f) c.args.source.now.items c.loop.source.items c.args.sink.now.items c.loop.sink.items c.args.slots c.args.n c.loop.counter c.loop.done _ w (g.met.F.Frames.sound _ c.requires.fact) c.requires.stands c.loop.invariant.shifting (omega arith) c.index-first.ensures
-            (g.F.Frames.live b.share.new.self) c.min-number.result _ _ c.min-number.ensures b.if-first-number.true (omega (arith, c.loop.invariant.shifting.number)) (omega (arith, c.loop.invariant.shifting.within)) b.share.ensures.shares
+            (g.F.Frames.live b.share.new.self) c.min-part.result _ _ c.min-part.ensures b.if-first-part.true (omega (arith, c.loop.invariant.shifting.number)) (omega (arith, c.loop.invariant.shifting.within)) b.share.ensures.shares
             (ap (λ d. d.items) b.source-is ∙ set_first f c.loop.source.items w _ at) c.push_back_reserved.ensures.items);
       }
-      | else-first-number b ↦ record {
+      | else-first-part b ↦ record {
         fact = rw b.f-is c.loop.invariant.fact;
         rest = rw b.f-is c.loop.invariant.rest;
         space = c.push_back_reserved.ensures.capacity ∙ c.loop.invariant.space;
@@ -52,7 +52,7 @@ loop-preserved g c =
         shifting =
             rw b.f-is
             (shifting_whole f (g.F.Frames.live c.loop.f) c.args.source.now.items c.loop.source.items c.args.sink.now.items c.loop.sink.items c.args.slots c.args.n c.loop.counter c.loop.done _ w (g.met.F.Frames.sound _ c.requires.fact) c.requires.stands c.loop.invariant.shifting (omega arith) c.index-first.ensures
-            c.min-number.result _ _ c.min-number.ensures (omega (arith, b.if-first-number.false)) (omega (arith, c.loop.invariant.shifting.number)) (omega (arith, c.loop.invariant.shifting.within))
+            c.min-part.result _ _ c.min-part.ensures (omega (arith, b.if-first-part.false)) (omega (arith, c.loop.invariant.shifting.number)) (omega (arith, c.loop.invariant.shifting.within))
             (ap (λ d. d.items) b.source-is ∙ b.pop_front.ensures.rest) c.push_back_reserved.ensures.items);
       }
     ]
