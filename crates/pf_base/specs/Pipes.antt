@@ -1,15 +1,19 @@
--- Pipes: Pipe (pipe(2)). In this stage every caller counts as privileged, so the reservation alone limits pipes.
+-- Pipes: Pipe (pipe(2)), SetSize and GetSize (fcntl(2), F_SETPIPE_SZ and F_GETPIPE_SZ).
 
-use Rattle.std.specs.Prelude.{ℕ, ◌+◌, ◌-◌, ◌^◌, Bool, true, false, ◌||◌, [], ◌∷◌, ◌++◌, length, Some, nat_lt, nat_le, if◌then◌else◌, Result, Ok}
-use Rattle.pf_base.specs.Refusals.{◌>>◌, refuse_if}
+use Rattle.std.specs.Prelude.{ℕ, ◌+◌, ◌-◌, ◌*◌, ◌^◌, Bool, true, false, not, ◌&&◌, ◌||◌, [], ◌∷◌, ◌++◌, length, Some, nat_lt, nat_le, if◌then◌else◌, Result, Ok}
+use Rattle.pf_base.specs.Refusals.{◌>>=◌, ◌>>◌, refuse_if}
 use Rattle.pf_base.specs.Limits.{Limits}
-use Rattle.pf_base.specs.Queue.{Queue, empty}
+use Rattle.pf_base.specs.Queue.{Queue, empty, pages_for, with_capacity}
 use Rattle.pf_base.specs.Numbered.{put_at, first_free}
-use Rattle.pf_base.specs.State.{State, Process, Description, Outcome, with_descriptor, told}
-use Rattle.pf_base.specs.Counts.{total}
-use Rattle.pf_base.specs.declared.TheConstants.{MAX_DESCRIPTORS, DEFAULT_SLOTS, LEAST_SLOTS}
+use Rattle.pf_base.specs.State.{State, Process, Description, Pipe, Outcome, end_of, with_queue, with_descriptor, told, done}
+use Rattle.pf_base.specs.Counts.{charged, total}
+use Rattle.pf_base.specs.Capacities.{new_capacity, may_grow, told_as}
+use Rattle.pf_base.specs.Permissions.{is_privileged}
+use Rattle.pf_base.specs.declared.TheConstants.{PAGE_SIZE, MAX_DESCRIPTORS, MAX_SIZE}
+use Rattle.pf_base.specs.declared.capacity.LimitFault.{LimitFault}
+use Rattle.pf_base.specs.declared.cred.Cred.{Cred}
 use Rattle.pf_base.specs.declared.errno.Errno.{Errno}
-use Rattle.pf_base.specs.declared.errno.Errno.TheVariants.{ENFILE, EMFILE}
+use Rattle.pf_base.specs.declared.errno.Errno.TheVariants.{EPERM, EBUSY, EINVAL, ENFILE, EMFILE}
 use Rattle.pf_base.specs.declared.step.Reply.TheVariants.{Fds}
 
 -- a process's lowest free descriptor, and the lowest one behind it
@@ -23,9 +27,9 @@ second_descriptor p = first_free (put_at p.descriptors (first_descriptor p) 0)
 abbrev pub is_spent : {Q : Type 0} → State Q → Bool
 is_spent s = nat_lt (2 ^ 64 - 1) (length s.descriptions + 2) || nat_lt (2 ^ 64 - 1) (length s.pipes + 1)
 
--- how many slots a new pipe gets: fewer where the reservation has no room for the usual number
-abbrev pub new_capacity : Limits → State Queue → ℕ
-new_capacity c s = if nat_lt c.reserve (total s + DEFAULT_SLOTS) then LEAST_SLOTS else DEFAULT_SLOTS
+-- how many slots a new pipe of these credentials gets, or why it gets none
+abbrev pub capacity_for : Limits → State Queue → Cred → Result ℕ LimitFault
+capacity_for c s cred = new_capacity c (is_privileged cred) (charged s cred.uid) (total s)
 
 -- an end of a pipe that reads, or one that writes
 abbrev pub reading : ℕ → Bool → Description
@@ -51,5 +55,30 @@ abbrev pub pipe : Limits → State Queue → ℕ → Process → Bool → Result
 pipe c s pid p nonblock = do
   refuse_if (nat_le MAX_DESCRIPTORS (second_descriptor p)) EMFILE
   refuse_if (is_spent s) ENFILE
-  refuse_if (nat_lt c.reserve (total s + new_capacity c s)) ENFILE
-  Ok (told (opened s pid nonblock (empty (new_capacity c s)) p) (Fds (first_descriptor p) (second_descriptor p)))
+  slots ← told_as ENFILE (capacity_for c s p.cred)
+  Ok (told (opened s pid nonblock (empty slots) p) (Fds (first_descriptor p) (second_descriptor p)))
+
+-- Capacities
+
+-- a pipe grows as far as its owner may, where the caller's privilege counts; it shrinks as far as its slots in use allow
+abbrev pub may_resize : Limits → State Queue → Cred → Pipe Queue → ℕ → Result (Unit {0}) Errno
+may_resize c s cred p to =
+    if nat_lt p.queue.capacity to
+    then told_as EPERM (may_grow c (is_privileged cred) (charged s p.owner) (total s) p.queue.capacity to)
+    else refuse_if (nat_lt to (length p.queue.segments)) EBUSY
+
+-- pipe-max-size holds for an unprivileged caller also where the capacity doesn't grow
+abbrev pub set_size : Limits → State Queue → Process → ℕ → ℕ → Result Outcome Errno
+set_size c s p fd bytes = do
+  e ← end_of s p fd
+  refuse_if (nat_lt MAX_SIZE bytes) EINVAL
+  refuse_if (not (is_privileged p.cred) && nat_lt c.max (PAGE_SIZE * pages_for bytes)) EPERM
+  may_resize c s p.cred e.pipe (pages_for bytes)
+  Ok (
+    done (with_queue s e.description.pipe (with_capacity (pages_for bytes) e.pipe.queue)) (PAGE_SIZE * pages_for bytes)
+  )
+
+abbrev pub get_size : State Queue → Process → ℕ → Result Outcome Errno
+get_size s p fd = do
+  e ← end_of s p fd
+  Ok (done s (PAGE_SIZE * e.pipe.queue.capacity))

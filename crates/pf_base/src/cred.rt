@@ -76,6 +76,7 @@ pub struct Cred {
 impl Cred {
     ghost use Rattle.std.specs.Prelude.{◌≡◌};
     ghost use Rattle.pf_base.specs.Credentials.{is_valid};
+    ghost use Rattle.pf_base.specs.Permissions.{is_privileged};
 
     /// Whether a process may have these groups and this umask: permission bits alone, and not too many groups. A Spawn
     /// with others is refused with EINVAL. Neither the uid nor the gid is judged.
@@ -83,6 +84,14 @@ impl Cred {
         ensures { result ≡ is_valid (record { uid = 0; gid = 0; groups = groups.now; umask = umask }) }
     {
         umask <= MAX_UMASK && groups.as_slice().len() <= MAX_GROUPS
+    }
+
+    /// Whether the page limits of users don't hold for these credentials, and all access is granted: those of uid 0
+    /// (this profile's choice).
+    pub fn is_privileged(&self) -> bool
+        ensures { result ≡ is_privileged self.now }
+    {
+        self.uid == 0
     }
 
     /// Whether a process may have these credentials.

@@ -62,6 +62,9 @@ pub const MAX_UMASK: u32 = 0o777;
 /// The longest write in bytes (this profile's limit).
 pub const MAX_WRITE: usize = 1_048_576;
 
+/// The largest capacity in bytes that may be asked for (this profile's limit).
+pub const MAX_SIZE: u64 = 2_147_483_648;
+
 /// The slots of a new pipe where no limit makes it smaller (pipe(7), "Pipe capacity").
 pub const DEFAULT_SLOTS: u32 = 16;
 

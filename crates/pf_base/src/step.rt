@@ -46,6 +46,18 @@ pub enum Step {
         n: u64,
         nonblock: bool,
     },
+    /// A pipe gets another capacity: the least power of two of pages that holds so many bytes, and at least one page
+    /// (fcntl(2), F_SETPIPE_SZ).
+    SetSize {
+        pid: u32,
+        fd: u32,
+        bytes: u64,
+    },
+    /// A pipe's capacity in bytes (fcntl(2), F_GETPIPE_SZ).
+    GetSize {
+        pid: u32,
+        fd: u32,
+    },
     /// At most `n` bytes of one pipe moved to the end of another (splice(2)). `source` and `sink` are descriptors.
     Splice {
         pid: u32,

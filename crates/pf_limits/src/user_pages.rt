@@ -56,6 +56,13 @@ impl UserPages {
         }
     }
 
+    /// The namespace's limits.
+    pub fn config(&self) -> Config
+        ensures { result ≡ self.now.limits }
+    {
+        self.config
+    }
+
     /// The pages that a user is charged with, 0 for one that has none.
     pub fn charged(&self, uid: u32) -> u32
         ensures number { result ≡ charged_to self.now uid }

@@ -180,6 +180,24 @@ pub queues_after : (f g : Live) (rings : List Ring) (k : ℕ) (r : Ring) (src : 
     → Keeps src (ring_at rings k).windows r.windows f g → map (queue_of g) (set rings k r) ≡ set (map (queue_of f) rings) k (queue_of g r)
 queues_after f g rings k r src l j c = map-set (queue_of g) rings k r ∙ set_same (queue_of g) (queue_of f) rings k (queue_of g r) (λ i n. queue_stays f g rings k i r src j c n)
 
+-- a ring with other slots, as many as are in use at least, where all slots stay within the reservation
+pub joined_resized : (f : Live) (rings : List Ring) (k slots : ℕ) → k < length rings → Joined f rings → slots_used (ring_at rings k) ≤ slots
+    → sum_by slots_of rings + slots ≤ f.reserved + slots_of (ring_at rings k) → Joined f (set rings k (record { capacity = slots; windows = (ring_at rings k).windows }))
+joined_resized f rings k slots l j u within =
+    let r : Ring = record { capacity = slots; windows = (ring_at rings k).windows } in
+    record {
+      counts = λ q. omega (arith, sum_by-set (named_by q) rings k r no_ring l, j.counts q);
+      total = omega (arith, sum_by-set slots_used rings k r no_ring l, j.total);
+      single = λ q. omega (arith, sum_by-set (opens_by q) rings k r no_ring l, j.single q);
+      within = λ q i. set_all (λ (x : Ring). reach q x.windows ≤ PAGE_SIZE) rings k r i l (j.within q k) (λ n. j.within q i);
+      apart = λ q a b. set_all (λ (x : Ring). reach q x.windows ≤ limit q (ring_at (set rings k r) b).windows) rings k r a l
+          (set_all (λ (y : Ring). reach q r.windows ≤ limit q y.windows) rings k r b l (j.apart q k k) (λ n. j.apart q k b))
+          (λ m. set_all (λ (y : Ring). reach q (ring_at rings a).windows ≤ limit q y.windows) rings k r b l (j.apart q a k) (λ n. j.apart q a b));
+      some = λ i. set_all (λ (x : Ring). NoEmpty x.windows) rings k r i l (j.some k) (λ n. j.some i);
+      fits = λ i. set_all (λ (x : Ring). slots_used x ≤ slots_of x) rings k r i l u (λ n. j.fits i);
+      reserve = omega (arith, sum_by-set slots_of rings k r no_ring l, within);
+    }
+
 -- what joined_after asks of src
 pub no_source : (rings : List Ring) (q j : ℕ) → reach q [] ≤ limit q (ring_at rings j).windows
 no_source rings q j = omega arith

@@ -1,11 +1,12 @@
 -- Who makes a step, as the tables find it and as the machine does.
 
-use Rattle.std.proofs.Common.{◌≡◌, ℕ, zero, suc, ◌-◌, Option, Some, None, Ok, refl, ap, ◌∙◌, arith}
+use Rattle.std.proofs.Common.{◌≡◌, ℕ, zero, suc, ◌-◌, Option, Some, None, Ok, Err, refl, ap, ◌∙◌, arith}
 use Rattle.std.specs.Option.{option_map}
 use Rattle.pf_base.specs.Refusals.{or_refuse}
 use Rattle.pf_base.specs.Numbered.{at}
 use Rattle.pf_base.proofs.NumberedLaws.{at-map}
 use Rattle.pf_base.specs.State.{living}
+use Rattle.pf_base.specs.declared.errno.Errno.{Errno}
 use Rattle.pf_base.specs.declared.errno.Errno.TheVariants.{ESRCH}
 use Rattle.pf_frame.specs.Live.{Live}
 use Rattle.pf_space.specs.Meaning.{meaning}
@@ -26,6 +27,13 @@ module _ (f : Live) (ps : ProcessRows) (ds : DescriptionRows) (pipes : PipeRows)
 
   pub lives : (p : Process) → process_in ps pid ≡ Ok p → living (meaning f (state_of ps ds pipes)) pid ≡ Ok (process_of p)
   lives p h = living_shown ∙ ap (λ o. or_refuse ESRCH (option_map process_of o)) (found (process_at ps pid) p h)
+
+  none : (e : Errno) (o : Option Process) → or_refuse ESRCH o ≡ Err e → or_refuse ESRCH (option_map process_of o) ≡ Err e
+  none e None h = let same : ESRCH ≡ e = cc in ap Err same
+  none e (Some p) h = absurd (cc)
+
+  pub lives_not : (e : Errno) → process_in ps pid ≡ Err e → living (meaning f (state_of ps ds pipes)) pid ≡ Err e
+  lives_not e h = living_shown ∙ none e (process_at ps pid) h
 
   -- its place is one below its pid
   pub place_is : (p : Process) → process_in ps pid ≡ Ok p → at ps (pid - 1) ≡ Some p

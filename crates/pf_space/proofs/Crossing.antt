@@ -27,10 +27,11 @@ use Rattle.pf_pipe.specs.Pipe.{SameButWindows, Crosses}
 use Rattle.pf_ring.specs.Ring.{Ring, queue_of}
 use Rattle.pf_ring.specs.Windows.{reach, limit, Stands, Keeps}
 use Rattle.pf_ring.specs.Table.{Joined, ring_at, slots_used, slots_of, no_source, source_at, rings_stand, queue_stays}
-use Rattle.pf_space.specs.Meaning.{Namespace, meaning, rings_of, pages, occupied}
+use Rattle.pf_limits.specs.UserPages.{UserPages}
+use Rattle.pf_space.specs.Meaning.{Namespace, meaning, rings_of, pages, occupied, Charged}
 use Rattle.pf_space.specs.MeaningLaws.{meaning-with_queue, settled-meaning}
 use Rattle.pf_space.specs.Owns.{Owns}
-use Rattle.pf_space.specs.OwnsLaws.{ring_at-pipe, others_written, joined_written, pages-with_queue, pages-without, pages_within, occupied_pages, used-rings}
+use Rattle.pf_space.specs.OwnsLaws.{ring_at-pipe, others_written, joined_written, charged-with_queue, pages-without, pages_within, occupied_pages, used-rings}
 use Rattle.pf_space.specs.Rows.{ProcessRows, DescriptionRows, PipeRows, Description, Pipe, pipe_of, processes_of, descriptions_of, pipes_of, state_of, end_in, Tied, Kept}
 use Rattle.pf_space.specs.Told.{attempted_cross, Arrived}
 use Rattle.pf_space.proofs.Ends.{end_of_rows, Found, refused, found, counted}
@@ -62,10 +63,10 @@ set_around (x ∷ xs) (suc i) zero a b c ne = refl
 set_around (x ∷ xs) (suc i) (suc k) a b c ne = ap (λ ys. x ∷ ys) (set_around xs i k a b c (λ e. ne (ap suc e)))
 
 -- what is known before
-module _ (f : Live) (limits : Limits) (charge : ℕ) (ps : ProcessRows) (ds : DescriptionRows) (pipes : PipeRows) (k : Kept charge ps ds pipes)
+module _ (f : Live) (limits : Limits) (charges : UserPages) (ps : ProcessRows) (ds : DescriptionRows) (pipes : PipeRows) (k : Kept charges ps ds pipes)
     (n : Namespace) (view : record { limits = limits; state = state_of ps ds pipes } ≡ n) (owns : Owns f n) where
   own : Owns f (record { limits = limits; state = state_of ps ds pipes })
-  own = owned f limits charge ps ds pipes k n view owns
+  own = owned f limits charges ps ds pipes k n view owns
 
   -- The two pipes that were found, where one is taken out and the other handed out
   module _ (i o : Description) (differ : i.pipe.serial ≢ o.pipe.serial) where
@@ -79,10 +80,10 @@ module _ (f : Live) (limits : Limits) (charge : ℕ) (ps : ProcessRows) (ds : De
 
     module _ (r s : Pipe) (from : find pipes i.pipe.place i.pipe.serial ≡ Some r) (to : find pipes o.pipe.place o.pipe.serial ≡ Some s) where
       source_there : at (pipes_of pipes) i.pipe.serial ≡ Some (pipe_of (i.pipe.place, r))
-      source_there = there f limits charge ps ds pipes k n view owns i r from
+      source_there = there f limits charges ps ds pipes k n view owns i r from
 
       sink_there : at (pipes_of pipes) o.pipe.serial ≡ Some (pipe_of (o.pipe.place, s))
-      sink_there = there f limits charge ps ds pipes k n view owns o s to
+      sink_there = there f limits charges ps ds pipes k n view owns o s to
 
       source_ring : ring_at (rings_of (state_of ps ds pipes)) i.pipe.serial ≡ r.ring
       source_ring = ring_at-pipe (pipes_of pipes) i.pipe.serial (pipe_of (i.pipe.place, r)) source_there
@@ -111,8 +112,8 @@ module _ (f : Live) (limits : Limits) (charge : ℕ) (ps : ProcessRows) (ds : De
         same_back e d =
             in_turn
             ∙ ap (λ (xs : PipeRows). put_at xs i.pipe.serial (i.pipe.place, r'))
-            (set_same pipes o.pipe.serial (Some (o.pipe.place, s')) (ap (λ x. Some (o.pipe.place, x)) d ∙ sym (stands f limits charge ps ds pipes k n view owns o s to)))
-            ∙ set_same pipes i.pipe.serial (Some (i.pipe.place, r')) (ap (λ x. Some (i.pipe.place, x)) e ∙ sym (stands f limits charge ps ds pipes k n view owns i r from))
+            (set_same pipes o.pipe.serial (Some (o.pipe.place, s')) (ap (λ x. Some (o.pipe.place, x)) d ∙ sym (stands f limits charges ps ds pipes k n view owns o s to)))
+            ∙ set_same pipes i.pipe.serial (Some (i.pipe.place, r')) (ap (λ x. Some (i.pipe.place, x)) e ∙ sym (stands f limits charges ps ds pipes k n view owns i r from))
 
         pub same_view : r' ≡ r → s' ≡ s → record { limits = limits; state = state_of ps ds back } ≡ n
         same_view e d = ap (λ x. record { limits = limits; state = state_of ps ds x }) (same_back e d) ∙ view
@@ -132,7 +133,7 @@ module _ (f : Live) (limits : Limits) (charge : ℕ) (ps : ProcessRows) (ds : De
               ∙ ap (λ x. set (pipes_of rows) d.pipe.serial (option_map (holding p'.ring) x)) (sym is))
 
           source_still : at mid i.pipe.serial ≡ Some (i.pipe.place, r)
-          source_still = get_or-set_other pipes o.pipe.serial i.pipe.serial (Some (o.pipe.place, s')) None differ ∙ stands f limits charge ps ds pipes k n view owns i r from
+          source_still = get_or-set_other pipes o.pipe.serial i.pipe.serial (Some (o.pipe.place, s')) None differ ∙ stands f limits charges ps ds pipes k n view owns i r from
 
           source_shown : at (pipes_of mid) i.pipe.serial ≡ Some (pipe_of (i.pipe.place, r))
           source_shown = shown pipe_of mid i.pipe.serial (i.pipe.place, r) source_still
@@ -146,18 +147,19 @@ module _ (f : Live) (limits : Limits) (charge : ℕ) (ps : ProcessRows) (ds : De
           crossed-tied : Tied ps ds pipes'
           crossed-tied =
               requeued [] [] ps ds mid i.pipe r source_still r' c.source_is.readers c.source_is.writers
-              (requeued [] [] ps ds pipes o.pipe s (stands f limits charge ps ds pipes k n view owns o s to) s' c.sink_is.readers c.sink_is.writers k.tied)
+              (requeued [] [] ps ds pipes o.pipe s (stands f limits charges ps ds pipes k n view owns o s to) s' c.sink_is.readers c.sink_is.writers k.tied)
 
-          kept_in_turn : Kept charge ps ds pipes'
+          kept_in_turn : Kept charges ps ds pipes'
           kept_in_turn = record {
             tied = crossed-tied;
-            total = k.total
-                ∙ sym (ap pages source_written ∙ pages-with_queue (state_of ps ds mid) i.pipe.serial (pipe_of (i.pipe.place, r)) r'.ring source_shown c.source_is.capacity
-                ∙ ap pages sink_written ∙ pages-with_queue (state_of ps ds pipes) o.pipe.serial (pipe_of (o.pipe.place, s)) s'.ring sink_there c.sink_is.capacity);
+            charged =
+                subst (Charged charges) (sym source_written)
+                (charged-with_queue charges (state_of ps ds mid) i.pipe.serial (pipe_of (i.pipe.place, r)) r'.ring source_shown c.source_is.capacity
+                (subst (Charged charges) (sym sink_written) (charged-with_queue charges (state_of ps ds pipes) o.pipe.serial (pipe_of (o.pipe.place, s)) s'.ring sink_there c.sink_is.capacity k.charged)));
           }
 
-          pub crossed-kept : Kept charge ps ds back
-          crossed-kept = subst (Kept charge ps ds) (sym in_turn) kept_in_turn
+          pub crossed-kept : Kept charges ps ds back
+          crossed-kept = subst (Kept charges ps ds) (sym in_turn) kept_in_turn
 
           -- the frames between the two changes
           abbrev between : Live
@@ -192,7 +194,7 @@ module _ (f : Live) (limits : Limits) (charge : ℕ) (ps : ProcessRows) (ds : De
           sink_at_mid : ring_at (rings_of (state_of ps ds mid)) o.pipe.serial ≡ s'.ring
           sink_at_mid =
               ring_at-pipe (pipes_of mid) o.pipe.serial (pipe_of (o.pipe.place, s'))
-              (shown pipe_of mid o.pipe.serial (o.pipe.place, s') (put_there pipes o.pipe.serial (o.pipe.place, s) (o.pipe.place, s') (stands f limits charge ps ds pipes k n view owns o s to)))
+              (shown pipe_of mid o.pipe.serial (o.pipe.place, s') (put_there pipes o.pipe.serial (o.pipe.place, s) (o.pipe.place, s') (stands f limits charges ps ds pipes k n view owns o s to)))
             where
               put_there : {X : Type 0} (xs : List (Option X)) (j : ℕ) (x y : X) → at xs j ≡ Some x → at (put_at xs j y) j ≡ Some y
               put_there [] j x y h = absurd (cc)
@@ -225,7 +227,7 @@ module _ (f : Live) (limits : Limits) (charge : ℕ) (ps : ProcessRows) (ds : De
   pub few : (o : Description) (s : Pipe) → find pipes o.pipe.place o.pipe.serial ≡ Some s → limits.reserve ≤ MAX_RESERVE → f.shares + s.ring.capacity < 2 ^ 32
   few o s to most =
       let st : State Ring = state_of ps ds pipes in
-      let one : s.ring.capacity ≤ pages st = pages_at (pipes_of pipes) o.pipe.serial (pipe_of (o.pipe.place, s)) (there f limits charge ps ds pipes k n view owns o s to) in
+      let one : s.ring.capacity ≤ pages st = pages_at (pipes_of pipes) o.pipe.serial (pipe_of (o.pipe.place, s)) (there f limits charges ps ds pipes k n view owns o s to) in
       let all : sum_by slots_used (rings_of st) ≡ occupied st = used-rings (pipes_of pipes) in
       omega (arith, own.joined.total, all, one, most, occupied_pages f (record { limits = limits; state = st }) own, pages_within f (record { limits = limits; state = st }) own)
     where
@@ -251,23 +253,23 @@ module _ (f : Live) (limits : Limits) (charge : ℕ) (ps : ProcessRows) (ds : De
     in_view : (r : Result Tried Errno) → tries r → attempted_cross c (meaning f n.state) pid source sink m ≡ r
     in_view r h = subst (λ (v : Namespace). attempted_cross c (meaning f v.state) pid source sink m ≡ r) view h
 
-    pub no_source_end : (e : Errno) → end_in sides.Read ps ds pid source ≡ Err e → attempted_cross c (meaning f n.state) pid source sink m ≡ Err e
-    no_source_end e h = in_view (Err e) (goes_on (Err e) (first_err (λ p. reading_end s p source) (λ p. writing_end s p sink) test (living s pid) e (refused f sides.Read ps ds pipes k.tied pid source e h)))
+    pub no_source_end : (e : Errno) → end_in (Some sides.Read) ps ds pid source ≡ Err e → attempted_cross c (meaning f n.state) pid source sink m ≡ Err e
+    no_source_end e h = in_view (Err e) (goes_on (Err e) (first_err (λ p. reading_end s p source) (λ p. writing_end s p sink) test (living s pid) e (refused f (Some sides.Read) ps ds pipes k.tied pid source e h)))
 
-    module _ (i : Description) (reads : end_in sides.Read ps ds pid source ≡ Ok i) where
-      at_source : Found f sides.Read ps ds pipes pid source i
-      at_source = found f sides.Read ps ds pipes k.tied pid source i reads
+    module _ (i : Description) (reads : end_in (Some sides.Read) ps ds pid source ≡ Ok i) where
+      at_source : Found f (Some sides.Read) ps ds pipes pid source i
+      at_source = found f (Some sides.Read) ps ds pipes k.tied pid source i reads
 
-      pub no_sink_end : (e : Errno) → end_in sides.Write ps ds pid sink ≡ Err e → attempted_cross c (meaning f n.state) pid source sink m ≡ Err e
+      pub no_sink_end : (e : Errno) → end_in (Some sides.Write) ps ds pid sink ≡ Err e → attempted_cross c (meaning f n.state) pid source sink m ≡ Err e
       no_sink_end e h =
-          in_view (Err e) (goes_on (Err e) (second_err (λ p. reading_end s p source) (λ p. writing_end s p sink) test (living s pid) (end_of_rows f i at_source.pipe) e at_source.is (refused f sides.Write ps ds pipes k.tied pid sink e h)))
+          in_view (Err e) (goes_on (Err e) (second_err (λ p. reading_end s p source) (λ p. writing_end s p sink) test (living s pid) (end_of_rows f i at_source.pipe) e at_source.is (refused f (Some sides.Write) ps ds pipes k.tied pid sink e h)))
 
       pub source_stands : IsSome (find pipes i.pipe.place i.pipe.serial)
       source_stands = ap is_some (find_at pipes i.pipe.place i.pipe.serial at_source.pipe at_source.stands)
 
-      module _ (o : Description) (writes : end_in sides.Write ps ds pid sink ≡ Ok o) where
-        at_sink : Found f sides.Write ps ds pipes pid sink o
-        at_sink = found f sides.Write ps ds pipes k.tied pid sink o writes
+      module _ (o : Description) (writes : end_in (Some sides.Write) ps ds pid sink ≡ Ok o) where
+        at_sink : Found f (Some sides.Write) ps ds pipes pid sink o
+        at_sink = found f (Some sides.Write) ps ds pipes k.tied pid sink o writes
 
         pub sink_stands : IsSome (find pipes o.pipe.place o.pipe.serial)
         sink_stands = ap is_some (find_at pipes o.pipe.place o.pipe.serial at_sink.pipe at_sink.stands)
@@ -297,10 +299,10 @@ module _ (f : Live) (limits : Limits) (charge : ℕ) (ps : ProcessRows) (ds : De
               ∙ (λ j. Ok (try_cross c s (record { source = end_of_rows f i (same_row i at_source.pipe r at_source.stands from j); sink = end_of_rows f o (same_row o at_sink.pipe t at_sink.stands to j) }) m)))
 
           source_counts : (readers s i.pipe.serial ≡ r.readers) × (writers s i.pipe.serial ≡ r.writers)
-          source_counts = counted f sides.Read ps ds pipes k.tied pid source i.pipe.serial i.pipe.place r (find_was pipes i.pipe.place i.pipe.serial r from)
+          source_counts = counted f (Some sides.Read) ps ds pipes k.tied pid source i.pipe.serial i.pipe.place r (find_was pipes i.pipe.place i.pipe.serial r from)
 
           sink_counts : (readers s o.pipe.serial ≡ t.readers) × (writers s o.pipe.serial ≡ t.writers)
-          sink_counts = counted f sides.Write ps ds pipes k.tied pid sink o.pipe.serial o.pipe.place t (find_was pipes o.pipe.place o.pipe.serial t to)
+          sink_counts = counted f (Some sides.Write) ps ds pipes k.tied pid sink o.pipe.serial o.pipe.place t (find_was pipes o.pipe.place o.pipe.serial t to)
 
           abbrev result : Crossed
           result = cross_now c (queue_of f r.ring) (queue_of f t.ring) (writers s i.pipe.serial) (readers s o.pipe.serial) m

@@ -7,7 +7,7 @@ use Rattle.pf_base.specs.Queue.{Queue}
 use Rattle.pf_base.specs.Numbered.{at}
 use Rattle.pf_base.proofs.NumberedLaws.{at-map}
 use Rattle.pf_base.specs.State as machine
-use Rattle.pf_base.specs.State.{State, End, living, end_at, reading_end, writing_end}
+use Rattle.pf_base.specs.State.{State, End, living, end_at, end_of, reading_end, writing_end}
 use Rattle.pf_base.specs.Counts.{readers, writers}
 use Rattle.pf_base.specs.declared.errno.Errno.{Errno}
 use Rattle.pf_base.specs.declared.errno.Errno.TheVariants.{ESRCH, EBADF}
@@ -21,10 +21,11 @@ use Rattle.pf_space.proofs.Held.{finds}
 use Rattle.pf_space.proofs.Shown.{shown, find_at}
 use Rattle.pf_space.proofs.Swept.{readers_shown, writers_shown}
 
--- the machine's end of a side
-abbrev pub side_end : Side → State Queue → machine.Process → ℕ → Result (End Queue) Errno
-side_end sides.Read s p fd = reading_end s p fd
-side_end sides.Write s p fd = writing_end s p fd
+-- the machine's end of a side, or any where none is asked for
+abbrev pub side_end : Option Side → State Queue → machine.Process → ℕ → Result (End Queue) Errno
+side_end None s p fd = end_of s p fd
+side_end (Some sides.Read) s p fd = reading_end s p fd
+side_end (Some sides.Write) s p fd = writing_end s p fd
 
 -- the machine's end that two rows show
 abbrev pub end_of_rows : Live → Description → Pipe → End Queue
@@ -34,13 +35,13 @@ end_of_rows f d r = record {
 }
 
 -- what is known of an end that the tables found: its pipe, and that the machine finds the same
-pub record Found (f : Live) (side : Side) (ps : ProcessRows) (ds : DescriptionRows) (pipes : PipeRows) (pid fd : ℕ) (d : Description) : Type 0 where
+pub record Found (f : Live) (side : Option Side) (ps : ProcessRows) (ds : DescriptionRows) (pipes : PipeRows) (pid fd : ℕ) (d : Description) : Type 0 where
   pub pipe : Pipe
   pub stands : at pipes d.pipe.serial ≡ Some (d.pipe.place, pipe)
   pub is : (living (meaning f (state_of ps ds pipes)) pid >>= (λ p. side_end side (meaning f (state_of ps ds pipes)) p fd)) ≡ Ok (end_of_rows f d pipe)
   pub lives : IsSome (process_at ps pid)
 
-module _ (f : Live) (side : Side) (ps : ProcessRows) (ds : DescriptionRows) (pipes : PipeRows) (t : Tied ps ds pipes) (pid fd : ℕ) where
+module _ (f : Live) (side : Option Side) (ps : ProcessRows) (ds : DescriptionRows) (pipes : PipeRows) (t : Tied ps ds pipes) (pid fd : ℕ) where
   abbrev s : State Queue
   s = meaning f (state_of ps ds pipes)
 
@@ -52,16 +53,18 @@ module _ (f : Live) (side : Side) (ps : ProcessRows) (ds : DescriptionRows) (pip
   by_side : (p : machine.Process) (d : Description) (r : Pipe) → option_and_then (end_at s) (at p.descriptors fd) ≡ Some (end_of_rows f d r) → side_end side s p fd ≡ sided (has side d) (end_of_rows f d r)
   by_side p d r h = of_side side
     where
-      of_side : (x : Side) → side_end x s p fd ≡ sided (has x d) (end_of_rows f d r)
-      of_side sides.Read = ap (λ o. or_refuse EBADF o >>= (λ e. refuse_if (not e.description.reads) EBADF >> Ok e)) h
-      of_side sides.Write = ap (λ o. or_refuse EBADF o >>= (λ e. refuse_if (not e.description.writes) EBADF >> Ok e)) h
+      of_side : (x : Option Side) → side_end x s p fd ≡ sided (has x d) (end_of_rows f d r)
+      of_side None = ap (or_refuse EBADF) h
+      of_side (Some sides.Read) = ap (λ o. or_refuse EBADF o >>= (λ e. refuse_if (not e.description.reads) EBADF >> Ok e)) h
+      of_side (Some sides.Write) = ap (λ o. or_refuse EBADF o >>= (λ e. refuse_if (not e.description.writes) EBADF >> Ok e)) h
 
   no_side : (p : machine.Process) → at p.descriptors fd ≡ None → side_end side s p fd ≡ Err EBADF
   no_side p h = of_side side
     where
-      of_side : (x : Side) → side_end x s p fd ≡ Err EBADF
-      of_side sides.Read = ap (λ o. or_refuse EBADF (option_and_then (end_at s) o) >>= (λ e. refuse_if (not e.description.reads) EBADF >> Ok e)) h
-      of_side sides.Write = ap (λ o. or_refuse EBADF (option_and_then (end_at s) o) >>= (λ e. refuse_if (not e.description.writes) EBADF >> Ok e)) h
+      of_side : (x : Option Side) → side_end x s p fd ≡ Err EBADF
+      of_side None = ap (λ o. or_refuse EBADF (option_and_then (end_at s) o)) h
+      of_side (Some sides.Read) = ap (λ o. or_refuse EBADF (option_and_then (end_at s) o) >>= (λ e. refuse_if (not e.description.reads) EBADF >> Ok e)) h
+      of_side (Some sides.Write) = ap (λ o. or_refuse EBADF (option_and_then (end_at s) o) >>= (λ e. refuse_if (not e.description.writes) EBADF >> Ok e)) h
 
   shown_key : (p : Process) (o : Option Key) → at p.descriptors fd ≡ o → at (process_of p).descriptors fd ≡ option_map (λ k. k.serial) o
   shown_key p o g = at-map (λ (k : Key). k.serial) p.descriptors fd ∙ ap (option_map (λ (k : Key). k.serial)) g

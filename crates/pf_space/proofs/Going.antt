@@ -1,13 +1,14 @@
 -- What goes, in the meaning of the state that it leaves: a descriptor with whatever nobody can reach any more, and a
 -- process.
 
-use Rattle.std.proofs.Common.{◌≡◌, ℕ, zero, suc, ◌+◌, ◌-◌, ◌<◌, List, [], map, set, Option, Some, None, Ok, refl, ap, sym, ◌∙◌, subst, arith}
+use Rattle.std.proofs.Common.{◌≡◌, ℕ, zero, suc, ◌-◌, ◌<◌, ◌≤◌, List, [], map, set, Option, Some, None, Ok, refl, ap, sym, ◌∙◌, subst, arith}
 use Rattle.std.specs.Option.{option_map}
 use Rattle.std.proofs.lemmas.List.{map-set}
 use Rattle.pf_base.specs.Refusals.{◌>>=◌, or_refuse}
 use Rattle.pf_base.specs.Limits.{Limits}
-use Rattle.pf_base.specs.Numbered.{at, clear_at, sum_of}
+use Rattle.pf_base.specs.Numbered.{at, clear_at}
 use Rattle.pf_base.proofs.NumberedLaws.{at-map}
+use Rattle.pf_base.specs.State as machine
 use Rattle.pf_base.specs.State.{Pipe, with_process, without_process}
 use Rattle.pf_base.specs.Descriptors.{named, without_descriptor}
 use Rattle.pf_base.specs.declared.errno.Errno.TheVariants.{EBADF}
@@ -18,10 +19,13 @@ use Rattle.pf_frame.specs.Live.{Live}
 use Rattle.pf_ring.specs.Ring.{Ring}
 use Rattle.pf_ring.specs.Windows.{Keeps, Stands}
 use Rattle.pf_ring.specs.Table.{no_source, Joined}
+use Rattle.pf_limits.specs.Sums.{AreSumsOf}
+use Rattle.pf_limits.specs.UserPages.{UserPages, charged_to, Charges}
+use Rattle.pf_limits.proofs.SumLaws.{covers, gone as refunded}
 use Rattle.pf_space.specs.Meaning.{Namespace, meaning, pipe_meaning, ring_or, rings_of}
 use Rattle.pf_space.specs.MeaningLaws.{sweep-meaning, pipes-without}
 use Rattle.pf_space.specs.Owns.{Owns}
-use Rattle.pf_space.specs.OwnsLaws.{stands_at, joined_gone, others_written, pages-without}
+use Rattle.pf_space.specs.OwnsLaws.{stands_at, joined_gone, others_written}
 use Rattle.pf_space.specs.Rows as rows
 use Rattle.pf_space.specs.Rows.{pipe_of, ProcessRows, DescriptionRows, PipeRows, Key, Process, process_in, key_at, keys_of, process_of, processes_of, descriptions_of, pipes_of, state_of, Tied, Kept}
 use Rattle.pf_space.specs.Tables.{closed, exited, descriptor, emptied, without_place, Left}
@@ -32,11 +36,7 @@ use Rattle.pf_space.proofs.Shown.{shown, none_was, set_same}
 use Rattle.pf_space.proofs.Swept.{changed-swept, within_same}
 use Rattle.pf_space.proofs.Vacating.{gone}
 
--- the pages of some pipes
-abbrev pages_in : List (Option (Pipe Ring)) → ℕ
-pages_in pipes = sum_of (λ (p : Pipe Ring). p.queue.capacity) pipes
-
-module _ (f : Live) (limits : Limits) (charge : ℕ) (ps : ProcessRows) (ds : DescriptionRows) (pipes : PipeRows) (k : Kept charge ps ds pipes)
+module _ (f : Live) (limits : Limits) (charges : UserPages) (ps : ProcessRows) (ds : DescriptionRows) (pipes : PipeRows) (k : Kept charges ps ds pipes)
     (n : Namespace) (view : record { limits = limits; state = state_of ps ds pipes } ≡ n) (owns : Owns f n)
     (i fd : ℕ) (ps' : ProcessRows) (ds' : DescriptionRows) (pipes' : PipeRows) (l : Left ps ds pipes ps' ds' pipes' i fd) where
   abbrev new : Namespace
@@ -65,11 +65,19 @@ module _ (f : Live) (limits : Limits) (charge : ℕ) (ps : ProcessRows) (ds : De
     pub gone_stands : Stands f p.ring.windows
     gone_stands = stands_at f (state_of ps ds pipes) m _ owned.joined there
 
-    pub gone_pages : pages_in (pipes_of pipes') + p.ring.capacity ≡ charge
-    gone_pages = ap (λ xs. pages_in xs + p.ring.capacity) left ∙ pages-without (pipes_of pipes) m _ there ∙ sym k.total
+    -- its pages are among its owner's
+    pub gone_covered : (owner pages : ℕ) → owner ≡ p.owner → pages ≡ p.ring.capacity → pages ≤ charged_to charges owner
+    gone_covered owner pages o e =
+        omega (arith, covers (λ (q : machine.Pipe Ring). q.owner) (λ (q : machine.Pipe Ring). q.queue.capacity) charges (pipes_of pipes) m _ k.charged there, e, ap (charged_to charges) o)
 
-    pub gone_kept : (charge' : ℕ) → charge' ≡ charge - p.ring.capacity → Kept charge' ps' ds' pipes'
-    gone_kept charge' e = record { tied = l.tied; total = omega (arith, e, gone_pages) }
+    pub gone_kept : (charges' : UserPages) (owner pages : ℕ) → owner ≡ p.owner → pages ≡ p.ring.capacity → Charges charges' charges owner pages → Kept charges' ps' ds' pipes'
+    gone_kept charges' owner pages o e refunds =
+        let back : Charges charges' charges p.owner p.ring.capacity = subst (λ (n : ℕ). Charges charges' charges p.owner n) e (subst (λ (u : ℕ). Charges charges' charges u pages) o refunds) in
+        record {
+          tied = l.tied;
+          charged = subst (λ (xs : List (Option (machine.Pipe Ring))). AreSumsOf (λ (q : machine.Pipe Ring). q.owner) (λ (q : machine.Pipe Ring). q.queue.capacity) charges' xs) (sym left)
+              (refunded (λ (q : machine.Pipe Ring). q.owner) (λ (q : machine.Pipe Ring). q.queue.capacity) charges charges' (pipes_of pipes) k.charged m _ there back);
+        }
 
     module _ (g : Live) (keeps : Keeps [] p.ring.windows [] f g) where
       same_meaning : map (option_map (pipe_meaning g)) (clear_at (pipes_of pipes) m) ≡ map (option_map (pipe_meaning f)) (clear_at (pipes_of pipes) m)
@@ -88,7 +96,7 @@ module _ (f : Live) (limits : Limits) (charge : ℕ) (ps : ProcessRows) (ds : De
 
 -- A process that has no descriptors
 
-module _ (f : Live) (limits : Limits) (charge : ℕ) (ps : ProcessRows) (ds : DescriptionRows) (pipes : PipeRows) (k : Kept charge ps ds pipes)
+module _ (f : Live) (limits : Limits) (charges : UserPages) (ps : ProcessRows) (ds : DescriptionRows) (pipes : PipeRows) (k : Kept charges ps ds pipes)
     (n : Namespace) (view : record { limits = limits; state = state_of ps ds pipes } ≡ n)
     (i : ℕ) (i_in : i < MAX_PROCESSES) (bare : (fd : ℕ) → descriptor n.state i fd ≡ None) (ps' : ProcessRows) (is : ps' ≡ clear_at ps i) where
   bare_key : (fd : ℕ) → key_at fd (at ps i) ≡ None
@@ -105,8 +113,8 @@ module _ (f : Live) (limits : Limits) (charge : ℕ) (ps : ProcessRows) (ds : De
       by_place None e = subst (λ x. Tied x ds pipes) (sym (set_same ps i None (sym e))) k.tied
       by_place (Some p) e = gone ps ds pipes k.tied i i_in p e (bare_all p e)
 
-  pub vacated-kept : Kept charge ps' ds pipes
-  vacated-kept = record { tied = vacated; total = k.total }
+  pub vacated-kept : Kept charges ps' ds pipes
+  vacated-kept = record { tied = vacated; charged = k.charged }
 
   pub vacated-becomes : Owns f n → Becomes f f n (record { limits = limits; state = state_of ps' ds pipes }) (without_place (meaning f n.state) i)
   vacated-becomes owns =

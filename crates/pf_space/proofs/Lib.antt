@@ -7,6 +7,7 @@ mod Going
 mod Held
 mod Making
 mod Opening
+mod Resizing
 mod Small
 mod Shown
 mod Steps

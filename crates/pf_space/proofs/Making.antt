@@ -11,6 +11,7 @@ use Rattle.pf_base.specs.State.{State, vacant, with_process}
 use Rattle.pf_base.specs.Sweep.{sweep}
 use Rattle.pf_base.specs.declared.TheConstants.{MAX_PROCESSES}
 use Rattle.pf_frame.specs.Live.{Live}
+use Rattle.pf_limits.specs.UserPages.{UserPages}
 use Rattle.pf_space.specs.Meaning.{Namespace, meaning}
 use Rattle.pf_space.specs.MeaningLaws.{settled-meaning}
 use Rattle.pf_space.specs.Owns.{Owns}
@@ -25,7 +26,7 @@ becomes f g old new s owns limits is still = record { owns = owns; limits = limi
 
 -- A process under the lowest free pid
 
-module _ (charge : ℕ) (ps : ProcessRows) (ds : DescriptionRows) (pipes : PipeRows) (k : Kept charge ps ds pipes)
+module _ (charges : UserPages) (ps : ProcessRows) (ds : DescriptionRows) (pipes : PipeRows) (k : Kept charges ps ds pipes)
     (pid : ℕ) (lowest : pid ≡ first_free (processes_of ps) + 1) (within : pid ≤ MAX_PROCESSES) (p : Process) (empty : p.descriptors ≡ vacant) where
   place : pid - 1 ≡ first_free ps
   place = omega (arith, first_free-map process_of ps)
@@ -37,11 +38,11 @@ module _ (charge : ℕ) (ps : ProcessRows) (ds : DescriptionRows) (pipes : PipeR
   bare zero = refl
   bare (suc m) = ap (λ xs. at xs m) empty ∙ vacant_at m
 
-  pub spawned-kept : (ps' : ProcessRows) → ps' ≡ after → Kept charge ps' ds pipes
+  pub spawned-kept : (ps' : ProcessRows) → ps' ≡ after → Kept charges ps' ds pipes
   spawned-kept ps' is =
-      subst (λ x. Kept charge x ds pipes) (sym is) (record {
+      subst (λ x. Kept charges x ds pipes) (sym is) (record {
         tied = made ps ds pipes k.tied (pid - 1) (omega arith) (ap (at ps) place ∙ at-first_free ps) p bare (ap length empty ∙ length-vacant Key);
-        total = k.total;
+        charged = k.charged;
       })
 
   spawned-shown : state_of after ds pipes ≡ with_process (state_of ps ds pipes) pid (record { cred = p.cred; descriptors = vacant })

@@ -1,32 +1,39 @@
 -- A pipe is made: two descriptions and a pipe under the next numbers, and two keys at the lowest free descriptors.
 
-use Rattle.std.proofs.Common.{◌≡◌, ℕ, zero, suc, ◌+◌, ◌-◌, ◌<◌, ◌≤◌, Bool, true, false, List, [], ◌∷◌, ◌++◌, length, set, Option, Some, None, Result, Ok, Err, refl, sym, ap, subst, ◌∙◌, inl, inr, arith, append_assoc, nat_le}
+use Rattle.std.proofs.Common.{◌≡◌, ℕ, zero, suc, ◌+◌, ◌-◌, ◌<◌, ◌≤◌, Bool, true, false, List, [], ◌∷◌, ◌++◌, length, set, Option, Some, None, Result, Ok, Err, nat_lt, refl, sym, ap, subst, ◌∙◌, inl, inr, arith, append_assoc, nat_eq, nat_le, if◌then◌else◌}
 use Rattle.std.specs.Option.{option_map}
-use Rattle.std.proofs.lemmas.Bool.{cases_lt}
+use Rattle.std.proofs.lemmas.Bool.{cases_lt, ltb-false}
 use Rattle.std.proofs.lemmas.Bool.Decides.{nat_tests}
 use Rattle.std.proofs.lemmas.List.{map-set, length-map, map_push, length_push, set_past, set-set}
 use Rattle.std.proofs.Math.Seq.{set-append_seam}
 use Rattle.pf_base.specs.Refusals.{◌>>=◌, refuse_if}
 use Rattle.pf_base.specs.Limits.{Limits}
-use Rattle.pf_base.specs.Numbered.{at, put_at, change_at, first_free, sum_of}
-use Rattle.pf_base.proofs.NumberedLaws.{at-push_new, at_within, at-put_same, at-first_free, first_free-map, sum_of-push}
-use Rattle.pf_base.specs.Counts.{total}
+use Rattle.pf_base.specs.Numbered.{at, put_at, change_at, first_free}
+use Rattle.pf_base.proofs.NumberedLaws.{at-push_new, at_within, at-put_same, at-first_free, first_free-map, sum_of-map}
+use Rattle.pf_base.specs.Counts.{charged, total}
+use Rattle.pf_base.specs.Capacities.{new_capacity, slots_for, told_as}
+use Rattle.pf_base.specs.declared.capacity.LimitFault.TheVariants.{Hard, Reserve}
+use Rattle.pf_base.specs.Permissions.{is_privileged}
+use Rattle.pf_base.specs.Queue.{Queue}
 use Rattle.pf_base.specs.State as machine
 use Rattle.pf_base.specs.State.{State, living}
-use Rattle.pf_base.specs.Pipes.{first_descriptor, second_descriptor, reading as machine_reading, writing as machine_writing, with_two, opened}
+use Rattle.pf_base.specs.Pipes.{first_descriptor, second_descriptor, capacity_for, reading as machine_reading, writing as machine_writing, with_two, opened}
 use Rattle.pf_base.specs.declared.TheConstants.{MAX_DESCRIPTORS}
 use Rattle.pf_base.specs.declared.errno.Errno.{Errno}
-use Rattle.pf_base.specs.declared.errno.Errno.TheVariants.{EMFILE}
+use Rattle.pf_base.specs.declared.errno.Errno.TheVariants.{EMFILE, ENFILE}
 use Rattle.pf_fds.specs.Descriptions.{one_more}
 use Rattle.pf_frame.specs.Live.{Live}
 use Rattle.pf_ring.specs.Table.{Joined}
-use Rattle.pf_space.specs.Meaning.{Namespace, meaning, rings_of}
+use Rattle.pf_limits.specs.Sums.{AreSumsOf}
+use Rattle.pf_limits.specs.UserPages.{UserPages, charged_to, Charges}
+use Rattle.pf_limits.proofs.SumLaws.{made}
+use Rattle.pf_space.specs.Meaning.{Namespace, meaning, pipe_meaning, rings_of}
 use Rattle.pf_space.specs.MeaningLaws.{total-meaning}
 use Rattle.pf_space.specs.Owns.{Owns}
-use Rattle.pf_space.specs.OwnsLaws.{joined_opened, meaning-opened, pages_within}
+use Rattle.pf_space.specs.OwnsLaws.{joined_opened, meaning-opened}
 use Rattle.pf_space.specs.Rows.{ProcessRows, DescriptionRows, PipeRows, Key, Process, Description, Pipe, Ring, process_in, with_keys, process_of, description_of, pipe_of, processes_of, descriptions_of, pipes_of, state_of, Tied, Kept, Named}
-use Rattle.pf_space.specs.Tables.{HasTwo, FindsTwo, Opens}
-use Rattle.pf_space.proofs.Callers.{lives, place_is}
+use Rattle.pf_space.specs.Tables.{HasTwo, FindsTwo, Opens, capacity_of_caller}
+use Rattle.pf_space.proofs.Callers.{lives, lives_not, place_is}
 use Rattle.pf_space.proofs.Held.{finds-new, miss, once, sides, described, piped, swapped}
 use Rattle.pf_space.proofs.Making.{becomes}
 use Rattle.pf_space.proofs.Small.{put}
@@ -84,16 +91,40 @@ pub record Makes (ps : ProcessRows) (ds : DescriptionRows) (pipes : PipeRows) (p
   pub named_to : ds' ≡ (ds ++ Some (j.place, once (reading r nonblocking)) ∷ []) ++ Some (k.place, once (writing r nonblocking)) ∷ []
   pub set_to : ps' ≡ set ps (pid - 1) (with_keys free.0 j free.1 k (at ps (pid - 1)))
 
+-- The reservation has room for a new pipe's slots
+pub has_room : (c : Limits) (privileged : Bool) (charged total slots : ℕ) → new_capacity c privileged charged total ≡ Ok slots → total + slots ≤ c.reserve
+has_room c privileged charged total slots is =
+    let under : (nat_lt c.reserve (total + slots_for c privileged charged total) ≡ false) × (slots_for c privileged charged total ≡ slots) = by_tests _ _ _ is in
+    omega (arith, ltb-false _ _ under.0, under.1)
+  where
+    by_tests : (hard reserve : Bool) (k : ℕ) → (if hard then Err Hard else if reserve then Err Reserve else Ok k) ≡ Ok slots → (reserve ≡ false) × (k ≡ slots)
+    by_tests true reserve k h = absurd (cc)
+    by_tests false true k h = absurd (cc)
+    by_tests false false k h = let same : k ≡ slots = cc in (refl, same)
+
 -- What stands before and after
 
-module _ (f : Live) {charge : ℕ} {limits : Limits} {ps : ProcessRows} {ds : DescriptionRows} {pipes : PipeRows} (kept : Kept charge ps ds pipes)
+module _ (f : Live) {charges : UserPages} {limits : Limits} {ps : ProcessRows} {ds : DescriptionRows} {pipes : PipeRows} (kept : Kept charges ps ds pipes)
     {n : Namespace} (view : record { limits = limits; state = state_of ps ds pipes } ≡ n) where
-  -- what all pipes are charged with
-  pub charge_is : charge ≡ total (meaning f n.state)
-  charge_is = subst (λ (m : Namespace). charge ≡ total (meaning f m.state)) view (kept.total ∙ sym (total-meaning f (state_of ps ds pipes)))
+  -- what all pipes are charged with, and those of a user
+  pub total_is : charges.total ≡ total (meaning f n.state)
+  total_is = subst (λ (m : Namespace). charges.total ≡ total (meaning f m.state)) view (kept.charged.total ∙ sym (total-meaning f (state_of ps ds pipes)))
 
-  pub charge_within : Owns f n → charge ≤ n.limits.reserve
-  charge_within o = omega (arith, charge_is, total-meaning f n.state, pages_within f n o)
+  pub charged_is : (uid : ℕ) → charged_to charges uid ≡ charged (meaning f n.state) uid
+  charged_is uid =
+      subst (λ (m : Namespace). charged_to charges uid ≡ charged (meaning f m.state) uid) view
+      (kept.charged.users uid ∙ sym (sum_of-map (pipe_meaning f) (λ (q : machine.Pipe Queue). if nat_eq q.owner uid then q.queue.capacity else 0) (pipes_of pipes)))
+
+  -- how many slots a new pipe gets
+  pub capacity_is : (pid : ℕ) (p : Process) → process_in ps pid ≡ Ok p → limits ≡ charges.limits
+      → capacity_of_caller n.limits (meaning f n.state) pid ≡ told_as ENFILE (new_capacity charges.limits (is_privileged p.cred) (charged_to charges p.cred.uid) charges.total)
+  capacity_is pid p is same =
+      ap (λ r. r >>= (λ q. told_as ENFILE (capacity_for n.limits (meaning f n.state) q.cred))) (subst (λ (m : Namespace). living (meaning f m.state) pid ≡ Ok (process_of p)) view (lives f ps ds pipes pid p is))
+      ∙ (λ j. told_as ENFILE (new_capacity ((sym (ap (λ (m : Namespace). m.limits) view) ∙ same) j) (is_privileged p.cred) (sym (charged_is p.cred.uid) j) (sym total_is j)))
+
+  pub no_capacity : (pid : ℕ) (e : Errno) → process_in ps pid ≡ Err e → capacity_of_caller n.limits (meaning f n.state) pid ≡ Err e
+  no_capacity pid e is =
+      ap (λ r. r >>= (λ q. told_as ENFILE (capacity_for n.limits (meaning f n.state) q.cred))) (subst (λ (m : Namespace). living (meaning f m.state) pid ≡ Err e) view (lives_not f ps ds pipes pid e is))
 
   module _ (pid : ℕ) {p : Process} (is : process_in ps pid ≡ Ok p) where
     opener : living (meaning f n.state) pid ≡ Ok (process_of p)
@@ -180,13 +211,18 @@ module _ (f : Live) {charge : ℕ} {limits : Limits} {ps : ProcessRows} {ds : De
             let second = put [] [] (put_at ps (pid - 1) one) ds2 pipes1 (pid - 1) free.1 one (at-put_same ps (pid - 1) (Some one) (at_within ps (pid - 1) p stands)) two.within m.k (ap (at one.descriptors) (second_is m.j) ∙ at-first_free one.descriptors) first in
             subst (λ x. Tied x ds2 pipes1) (set-set ps (pid - 1) (Some one) (Some both)) second
 
-        pub opened-kept : (charge' : ℕ) → charge' ≡ total (meaning f n.state) + slots → Kept charge' ps' ds' pipes'
-        opened-kept charge' e =
-            let more =
-            ap (sum_of (λ (x : machine.Pipe Ring). x.queue.capacity)) (map_push (option_map pipe_of) pipes (Some (m.r.place, two_ended slots p.cred.uid)))
-            ∙ sum_of-push (λ (x : machine.Pipe Ring). x.queue.capacity) (pipes_of pipes) (Some (pipe_of (m.r.place, two_ended slots p.cred.uid))) in
-            subst (λ x. Kept charge' x ds' pipes') (sym processes_are) (subst (λ y. Kept charge' (put_at ps (pid - 1) both) y pipes') (sym m.named_to)
-            (subst (λ z. Kept charge' (put_at ps (pid - 1) both) ds2 z) (sym m.piped_to) (record { tied = now_tied; total = omega (arith, e, charge_is, kept.total, more) })))
+        pub opened-kept : (charges' : UserPages) → Charges charges charges' p.cred.uid slots → Kept charges' ps' ds' pipes'
+        opened-kept charges' more =
+            let now_charged : AreSumsOf (λ (q : machine.Pipe Ring). q.owner) (λ (q : machine.Pipe Ring). q.queue.capacity) charges' (pipes_of pipes1) =
+            subst (λ xs. AreSumsOf (λ (q : machine.Pipe Ring). q.owner) (λ (q : machine.Pipe Ring). q.queue.capacity) charges' xs) (sym (map_push (option_map pipe_of) pipes (Some (m.r.place, two_ended slots p.cred.uid))))
+            (made (λ (q : machine.Pipe Ring). q.owner) (λ (q : machine.Pipe Ring). q.queue.capacity) charges charges' (pipes_of pipes) kept.charged (pipe_of (m.r.place, two_ended slots p.cred.uid)) more) in
+            subst (λ x. Kept charges' x ds' pipes') (sym processes_are) (subst (λ y. Kept charges' (put_at ps (pid - 1) both) y pipes') (sym m.named_to)
+            (subst (λ z. Kept charges' (put_at ps (pid - 1) both) ds2 z) (sym m.piped_to) (record { tied = now_tied; charged = now_charged })))
+
+        tied_after : Tied ps' ds' pipes'
+        tied_after =
+            subst (λ x. Tied x ds' pipes') (sym processes_are) (subst (λ y. Tied (put_at ps (pid - 1) both) y pipes') (sym m.named_to)
+            (subst (λ z. Tied (put_at ps (pid - 1) both) ds2 z) (sym m.piped_to) now_tied))
 
         -- what it means
         keys_shown : process_of both ≡ with_two (length (descriptions_of ds)) (process_of p)
@@ -228,5 +264,5 @@ module _ (f : Live) {charge : ℕ} {limits : Limits} {ps : ProcessRows} {ds : De
               becomes = becomes f f n (record { limits = limits; state = state_of ps' ds' pipes' }) _
                   (record { joined = subst (λ x. Joined f (rings_of x)) (sym shown) joined; reserve = ap (λ (o : Namespace). o.limits.reserve) view ∙ owns.reserve })
                   (ap (λ (o : Namespace). o.limits) view) (ap (meaning f) shown ∙ meaning-opened f n.state pid nonblocking slots (process_of p))
-                  (settled ps' ds' pipes' (opened-kept (total (meaning f n.state) + slots) refl).tied);
+                  (settled ps' ds' pipes' tied_after);
             }

@@ -26,10 +26,11 @@ use Rattle.pf_pipe.specs.Pipe.{Passes}
 use Rattle.pf_ring.specs.Ring.{Ring, queue_of}
 use Rattle.pf_ring.specs.Windows.{Stands}
 use Rattle.pf_ring.specs.Table.{Joined, slots_used, slots_of, no_source}
-use Rattle.pf_space.specs.Meaning.{Namespace, meaning, rings_of, pages}
+use Rattle.pf_limits.specs.UserPages.{UserPages}
+use Rattle.pf_space.specs.Meaning.{Namespace, meaning, rings_of, Charged}
 use Rattle.pf_space.specs.MeaningLaws.{meaning-with_queue, settled-meaning}
 use Rattle.pf_space.specs.Owns.{Owns}
-use Rattle.pf_space.specs.OwnsLaws.{ring_at-pipe, stands_at, credits_at, others_written, joined_written, pages-with_queue}
+use Rattle.pf_space.specs.OwnsLaws.{ring_at-pipe, stands_at, credits_at, others_written, joined_written, charged-with_queue}
 use Rattle.pf_space.specs.Rows.{ProcessRows, DescriptionRows, PipeRows, Process, Description, Pipe, process_of, pipe_of, processes_of, descriptions_of, pipes_of, state_of, process_at, end_in, Kept}
 use Rattle.pf_space.specs.Told.{attempted_read, attempted_write, Came}
 use Rattle.pf_space.proofs.Ends.{side_end, end_of_rows, refused, found, counted}
@@ -43,7 +44,7 @@ bind-bind (Ok a) h go = refl
 bind-bind (Err e) h go = refl
 
 -- what is known before
-module _ (f : Live) (limits : Limits) (charge : ℕ) (ps : ProcessRows) (ds : DescriptionRows) (pipes : PipeRows) (k : Kept charge ps ds pipes)
+module _ (f : Live) (limits : Limits) (charges : UserPages) (ps : ProcessRows) (ds : DescriptionRows) (pipes : PipeRows) (k : Kept charges ps ds pipes)
     (n : Namespace) (view : record { limits = limits; state = state_of ps ds pipes } ≡ n) (owns : Owns f n) where
   pub owned : Owns f (record { limits = limits; state = state_of ps ds pipes })
   owned = subst (Owns f) (sym view) owns
@@ -65,8 +66,8 @@ module _ (f : Live) (limits : Limits) (charge : ℕ) (ps : ProcessRows) (ds : De
     pub same_pipes : (r' : Pipe) → r' ≡ r → put_at pipes d.pipe.serial (d.pipe.place, r') ≡ pipes
     same_pipes r' e = set_same pipes d.pipe.serial (Some (d.pipe.place, r')) (ap (λ x. Some (d.pipe.place, x)) e ∙ sym stands)
 
-    pub same_kept : (r' : Pipe) → r' ≡ r → Kept charge ps ds (put_at pipes d.pipe.serial (d.pipe.place, r'))
-    same_kept r' e = subst (Kept charge ps ds) (sym (same_pipes r' e)) k
+    pub same_kept : (r' : Pipe) → r' ≡ r → Kept charges ps ds (put_at pipes d.pipe.serial (d.pipe.place, r'))
+    same_kept r' e = subst (Kept charges ps ds) (sym (same_pipes r' e)) k
 
     pub same_view : (r' : Pipe) → r' ≡ r → record { limits = limits; state = state_of ps ds (put_at pipes d.pipe.serial (d.pipe.place, r')) } ≡ n
     same_view r' e = ap (λ x. record { limits = limits; state = state_of ps ds x }) (same_pipes r' e) ∙ view
@@ -86,10 +87,10 @@ module _ (f : Live) (limits : Limits) (charge : ℕ) (ps : ProcessRows) (ds : De
           ∙ ap (λ (o : ℕ). set (pipes_of pipes) d.pipe.serial (Some (record { queue = r'.ring; owner = o }))) passes.owner
           ∙ ap (λ o. set (pipes_of pipes) d.pipe.serial (option_map (holding r'.ring) o)) (sym there))
 
-      pub passed-kept : Kept charge ps ds pipes'
+      pub passed-kept : Kept charges ps ds pipes'
       passed-kept = record {
         tied = requeued [] [] ps ds pipes d.pipe r stands r' passes.readers passes.writers k.tied;
-        total = k.total ∙ sym (ap pages shows ∙ pages-with_queue (state_of ps ds pipes) d.pipe.serial (pipe_of (d.pipe.place, r)) r'.ring there passes.capacity);
+        charged = subst (Charged charges) (sym shows) (charged-with_queue charges (state_of ps ds pipes) d.pipe.serial (pipe_of (d.pipe.place, r)) r'.ring there passes.capacity k.charged);
       }
 
       pub passed-owns : Owns g (record { limits = limits; state = state_of ps ds pipes' })
@@ -112,21 +113,21 @@ module _ (f : Live) (limits : Limits) (charge : ℕ) (ps : ProcessRows) (ds : De
     abbrev s : State Queue
     s = meaning f (state_of ps ds pipes)
 
-    pub no_write : (x : List ℕ) (e : Errno) → end_in sides.Write ps ds pid fd ≡ Err e → attempted_write (meaning f n.state) pid fd x ≡ Err e
+    pub no_write : (x : List ℕ) (e : Errno) → end_in (Some sides.Write) ps ds pid fd ≡ Err e → attempted_write (meaning f n.state) pid fd x ≡ Err e
     no_write x e h =
         subst (λ (v : Namespace). attempted_write (meaning f v.state) pid fd x ≡ Err e) view
-        (bind-bind (living s pid) (λ p. writing_end s p fd) _ ∙ ap (λ r. r >>= (λ e. refuse_if (nat_lt MAX_WRITE (length x)) EINVAL >> Ok (try_write s e x))) (refused f sides.Write ps ds pipes k.tied pid fd e h))
+        (bind-bind (living s pid) (λ p. writing_end s p fd) _ ∙ ap (λ r. r >>= (λ e. refuse_if (nat_lt MAX_WRITE (length x)) EINVAL >> Ok (try_write s e x))) (refused f (Some sides.Write) ps ds pipes k.tied pid fd e h))
 
-    pub no_read : (m : ℕ) (e : Errno) → end_in sides.Read ps ds pid fd ≡ Err e → attempted_read (meaning f n.state) pid fd m ≡ Err e
+    pub no_read : (m : ℕ) (e : Errno) → end_in (Some sides.Read) ps ds pid fd ≡ Err e → attempted_read (meaning f n.state) pid fd m ≡ Err e
     no_read m e h =
         subst (λ (v : Namespace). attempted_read (meaning f v.state) pid fd m ≡ Err e) view
-        (bind-bind (living s pid) (λ p. reading_end s p fd) _ ∙ ap (λ r. r >>= (λ e. Ok (try_read s e m))) (refused f sides.Read ps ds pipes k.tied pid fd e h))
+        (bind-bind (living s pid) (λ p. reading_end s p fd) _ ∙ ap (λ r. r >>= (λ e. Ok (try_read s e m))) (refused f (Some sides.Read) ps ds pipes k.tied pid fd e h))
 
     module _ (d : Description) where
-      pub pipe_there : (side : Side) → end_in side ps ds pid fd ≡ Ok d → IsSome (find pipes d.pipe.place d.pipe.serial)
+      pub pipe_there : (side : Option Side) → end_in side ps ds pid fd ≡ Ok d → IsSome (find pipes d.pipe.place d.pipe.serial)
       pipe_there side h = let w = found f side ps ds pipes k.tied pid fd d h in ap is_some (find_at pipes d.pipe.place d.pipe.serial w.pipe w.stands)
 
-      pub lives : (side : Side) → end_in side ps ds pid fd ≡ Ok d → IsSome (process n.state pid)
+      pub lives : (side : Option Side) → end_in side ps ds pid fd ≡ Ok d → IsSome (process n.state pid)
       lives side h = subst (λ (v : Namespace). IsSome (process v.state pid)) view (by_pid pid (found f side ps ds pipes k.tied pid fd d h).lives)
         where
           by_pid : (i : ℕ) → IsSome (process_at ps i) → IsSome (process (state_of ps ds pipes) i)
@@ -138,7 +139,7 @@ module _ (f : Live) (limits : Limits) (charge : ℕ) (ps : ProcessRows) (ds : De
               some (Some p) h = refl
 
       -- how a transfer through the pipe that was found goes on
-      through : (side : Side) {B : Type 0} (go : End Queue → Result B Errno) (r : Pipe) → end_in side ps ds pid fd ≡ Ok d → find pipes d.pipe.place d.pipe.serial ≡ Some r
+      through : (side : Option Side) {B : Type 0} (go : End Queue → Result B Errno) (r : Pipe) → end_in side ps ds pid fd ≡ Ok d → find pipes d.pipe.place d.pipe.serial ≡ Some r
           → (living s pid >>= (λ p. side_end side s p fd >>= go)) ≡ go (end_of_rows f d r)
       through side go r h handed =
           let w = found f side ps ds pipes k.tied pid fd d h in
@@ -147,23 +148,23 @@ module _ (f : Live) (limits : Limits) (charge : ℕ) (ps : ProcessRows) (ds : De
           let same : w.pipe ≡ r = ap (λ (x : ℕ × Pipe). x.1) pair in
           bind-bind (living s pid) (λ p. side_end side s p fd) go ∙ ap (λ x. x >>= go) w.is ∙ ap (λ x. go (end_of_rows f d x)) same
 
-      pub too_long : (x : List ℕ) → end_in sides.Write ps ds pid fd ≡ Ok d → MAX_WRITE < length x → attempted_write (meaning f n.state) pid fd x ≡ Err EINVAL
+      pub too_long : (x : List ℕ) → end_in (Some sides.Write) ps ds pid fd ≡ Ok d → MAX_WRITE < length x → attempted_write (meaning f n.state) pid fd x ≡ Err EINVAL
       too_long x h long =
-          let w = found f sides.Write ps ds pipes k.tied pid fd d h in
+          let w = found f (Some sides.Write) ps ds pipes k.tied pid fd d h in
           let go : Bool → Result Tried Errno = λ b. refuse_if b EINVAL >> Ok (try_write s (end_of_rows f d w.pipe) x) in
           subst (λ (v : Namespace). attempted_write (meaning f v.state) pid fd x ≡ Err EINVAL) view
-          (through sides.Write (λ e. refuse_if (nat_lt MAX_WRITE (length x)) EINVAL >> Ok (try_write s e x)) w.pipe h (find_at pipes d.pipe.place d.pipe.serial w.pipe w.stands)
+          (through (Some sides.Write) (λ e. refuse_if (nat_lt MAX_WRITE (length x)) EINVAL >> Ok (try_write s e x)) w.pipe h (find_at pipes d.pipe.place d.pipe.serial w.pipe w.stands)
           ∙ ap go (lt-ltb MAX_WRITE (length x) long))
 
       -- what a transfer through the pipe that was found left
       module _ (r : Pipe) (handed : find pipes d.pipe.place d.pipe.serial ≡ Some r) (g : Live) (r' : Pipe) (progress : Progress) where
         counts : (readers s d.pipe.serial ≡ r.readers) × (writers s d.pipe.serial ≡ r.writers)
-        counts = counted f sides.Read ps ds pipes k.tied pid fd d.pipe.serial d.pipe.place r (find_was pipes d.pipe.place d.pipe.serial r handed)
+        counts = counted f (Some sides.Read) ps ds pipes k.tied pid fd d.pipe.serial d.pipe.place r (find_was pipes d.pipe.place d.pipe.serial r handed)
 
         abbrev after : Namespace
         after = record { limits = limits; state = state_of ps ds (put_at pipes d.pipe.serial (d.pipe.place, r')) }
 
-        pub wrote : (x : List ℕ) (whole : Bool) → end_in sides.Write ps ds pid fd ≡ Ok d → length x ≤ MAX_WRITE → whole ≡ nat_le (length x) PIPE_BUF
+        pub wrote : (x : List ℕ) (whole : Bool) → end_in (Some sides.Write) ps ds pid fd ≡ Ok d → length x ≤ MAX_WRITE → whole ≡ nat_le (length x) PIPE_BUF
             → Passes r r' f g progress (write_now (queue_of f r.ring) r.readers whole x) → Came g after (attempted_write (meaning f n.state) pid fd x) progress (take (moved progress) x)
         wrote x whole h short is_whole passes =
             let machine : Passed = write_now (queue_of f r.ring) (readers s d.pipe.serial) (nat_le (length x) PIPE_BUF) x in
@@ -173,13 +174,13 @@ module _ (f : Live) (limits : Limits) (charge : ℕ) (ps : ProcessRows) (ds : De
             subst (λ (v : Namespace). Came g after (attempted_write (meaning f v.state) pid fd x) progress (take (moved progress) x)) view
             (record {
               tried = try_write s (end_of_rows f d r) x;
-              is = through sides.Write (λ e. refuse_if (nat_lt MAX_WRITE (length x)) EINVAL >> Ok (try_write s e x)) r h handed ∙ ap go (le-ltb MAX_WRITE (length x) short);
+              is = through (Some sides.Write) (λ e. refuse_if (nat_lt MAX_WRITE (length x)) EINVAL >> Ok (try_write s e x)) r h handed ∙ ap go (le-ltb MAX_WRITE (length x) short);
               progress_is = told;
               bytes_are = ap (λ p. take (moved p) x) told;
               state = passed-state d r handed g r' progress machine (subst (Passes r r' f g progress) same passes);
             })
 
-        pub was_read : (m : ℕ) (bytes : List ℕ) → end_in sides.Read ps ds pid fd ≡ Ok d → bytes ≡ taken (queue_of f r.ring) (moved progress)
+        pub was_read : (m : ℕ) (bytes : List ℕ) → end_in (Some sides.Read) ps ds pid fd ≡ Ok d → bytes ≡ taken (queue_of f r.ring) (moved progress)
             → Passes r r' f g progress (read_now (queue_of f r.ring) r.writers m) → Came g after (attempted_read (meaning f n.state) pid fd m) progress bytes
         was_read m bytes h are passes =
             let machine : Passed = read_now (queue_of f r.ring) (writers s d.pipe.serial) m in
@@ -188,7 +189,7 @@ module _ (f : Live) (limits : Limits) (charge : ℕ) (ps : ProcessRows) (ds : De
             subst (λ (v : Namespace). Came g after (attempted_read (meaning f v.state) pid fd m) progress bytes) view
             (record {
               tried = try_read s (end_of_rows f d r) m;
-              is = through sides.Read (λ e. Ok (try_read s e m)) r h handed;
+              is = through (Some sides.Read) (λ e. Ok (try_read s e m)) r h handed;
               progress_is = told;
               bytes_are = ap (λ p. taken (queue_of f r.ring) (moved p)) told ∙ sym are;
               state = passed-state d r handed g r' progress machine (subst (Passes r r' f g progress) same passes);

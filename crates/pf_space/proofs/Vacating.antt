@@ -4,10 +4,13 @@ use Rattle.std.proofs.Common.{◌≡◌, ℕ, ◌<◌, [], length, map, subst, r
 use Rattle.std.specs.Option.{option_map}
 use Rattle.std.proofs.lemmas.Bool.{cases_lt}
 use Rattle.std.proofs.lemmas.List.{length-map, length-replicate, get_or-replicate}
+use Rattle.pf_base.specs.Limits.{Limits}
 use Rattle.pf_base.specs.Numbered.{at, put_at, clear_at, weight}
 use Rattle.pf_base.proofs.NumberedLaws.{at-map, at_past, same_at, sum_of-none}
 use Rattle.pf_base.specs.State.{vacant, opening}
 use Rattle.pf_base.specs.declared.TheConstants.{MAX_PROCESSES, MAX_DESCRIPTORS}
+use Rattle.pf_limits.specs.UserPages.{UserPages}
+use Rattle.pf_space.specs.Meaning.{Charged}
 use Rattle.pf_space.specs.Rows.{ProcessRows, DescriptionRows, PipeRows, Process, process_of, state_of, keys_of, keys_to, names_it, Tied}
 use Rattle.pf_space.proofs.Held.{reseated}
 
@@ -57,6 +60,12 @@ module _ (ps : ProcessRows) (ds : DescriptionRows) (pipes : PipeRows) (bare : ps
         ends_in_hand = tt;
         uses = λ n. (refl, refl);
       }
+
+  -- nobody is charged
+  pub nothing_charged : (limits : Limits) (u : UserPages) → u ≡ record { limits = limits; users = []; total = 0 } → Charged u (state_of ps ds pipes)
+  nothing_charged limits u is =
+      subst (λ (v : UserPages). Charged v (state_of ps ds pipes)) (sym is)
+      (subst (λ (xs : PipeRows). Charged (record { limits = limits; users = []; total = 0 }) (state_of ps ds xs)) (sym no_pipe) (record { users = λ w. refl; total = refl }))
 
   pub nothing_shown : state_of ps ds pipes ≡ opening
   nothing_shown =

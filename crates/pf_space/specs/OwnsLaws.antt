@@ -1,6 +1,6 @@
 -- How a namespace's frames and its rings stay together when a ring changes, a pipe comes and a pipe goes.
 
-use Rattle.std.proofs.Common.{◌≡◌, ℕ, ◌+◌, ◌<◌, ◌≤◌, Bool, List, [], ◌∷◌, ◌++◌, length, map, refl, ap, sym, ◌∙◌, subst, arith, set, ◌-◌}
+use Rattle.std.proofs.Common.{◌≡◌, ℕ, ◌+◌, ◌<◌, ◌≤◌, Bool, List, [], ◌∷◌, ◌++◌, length, map, refl, ap, sym, ◌∙◌, subst, arith, set, ◌-◌, nat_eq, if◌then◌else◌}
 use Rattle.std.specs.Prelude.{Option, Some, None}
 use Rattle.std.specs.List.{sum_by}
 use Rattle.std.proofs.lemmas.List.{set-set, get_or-set_same, length-map, map-set, map_push}
@@ -13,13 +13,17 @@ use Rattle.pf_base.proofs.NumberedLaws.{at_within, sum_of-set, sum_of-le}
 use Rattle.pf_base.specs.State.{State, Process, Pipe, opening, with_queue, holding}
 use Rattle.pf_base.specs.Pipes.{opened, reading, writing, with_two}
 use Rattle.pf_frame.specs.Live.{Live, IsSound}
+use Rattle.pf_limits.specs.Sums.{AreSumsOf}
+use Rattle.pf_limits.specs.UserPages.{UserPages}
+use Rattle.pf_limits.proofs.SumLaws.{kept}
 use Rattle.pf_ring.specs.Ring.{Ring, queue_of, no_ring}
 use Rattle.pf_ring.specs.Windows.{reach, limit, Keeps, Stands}
 use Rattle.pf_ring.specs.declared.ring.Window.{Window}
 use Rattle.pf_ring.specs.Table.{Joined, ring_at, slots_of, joined_after, queue_stays, joined_pushed, joined_cleared, joined_nothing, ring_stands, credits_for, slots_used, held_le_used, none_held_bytes}
-use Rattle.pf_space.specs.Meaning.{Namespace, meaning, pipe_meaning, ring_or, rings_of, pages, occupied, AreEmpty}
+use Rattle.pf_space.specs.Meaning.{Namespace, meaning, pipe_meaning, ring_or, rings_of, pages, Charged, occupied, AreEmpty}
 use Rattle.pf_space.specs.MeaningLaws.{Others, others_stay, ring_at-rings}
 use Rattle.pf_space.specs.Owns.{Owns}
+use Rattle.pf_space.specs.Recharging.{Recharges}
 
 -- the ring of a pipe that is there
 pub ring_at-pipe : (pipes : List (Option (Pipe Ring))) (n : ℕ) (p : Pipe Ring) → at pipes n ≡ Some p → ring_at (map ring_or pipes) n ≡ p.queue
@@ -84,11 +88,29 @@ stands_at f s n p joined there = subst (λ (r : Ring). Stands f r.windows) (ring
 pub credits_at : (f : Live) (s : State Ring) (n : ℕ) (p : Pipe Ring) → IsSound f → Joined f (rings_of s) → at s.pipes n ≡ Some p → f.held + (p.queue.capacity - length p.queue.windows) ≤ f.reserved
 credits_at f s n p sound joined there = subst (λ (r : Ring). f.held + (r.capacity - length r.windows) ≤ f.reserved) (ring_at-pipe s.pipes n p there) (credits_for f (rings_of s) n sound joined)
 
--- the pages stay where a ring keeps its capacity
-pub pages-with_queue : (s : State Ring) (n : ℕ) (p : Pipe Ring) (r : Ring) → at s.pipes n ≡ Some p → r.capacity ≡ p.queue.capacity → pages (with_queue s n r) ≡ pages s
-pages-with_queue s n p r there same =
-    let h : Pipe Ring → ℕ = λ (q : Pipe Ring). q.queue.capacity in
-    omega (arith, same, sum_of-set h s.pipes n (option_map (holding r) (at s.pipes n)) (at_within s.pipes n p there), ap (weight h) there, ap (λ (o : Option (Pipe Ring)). weight h (option_map (holding r) o)) there)
+-- the counters stay the sums where a ring keeps its capacity
+pub charged-with_queue : (charges : UserPages) (s : State Ring) (n : ℕ) (p : Pipe Ring) (r : Ring) → at s.pipes n ≡ Some p → r.capacity ≡ p.queue.capacity → Charged charges s → Charged charges (with_queue s n r)
+charged-with_queue charges s n p r there same is =
+    subst (λ (o : Option (Pipe Ring)). AreSumsOf (λ (q : Pipe Ring). q.owner) (λ (q : Pipe Ring). q.queue.capacity) charges (set s.pipes n (option_map (holding r) o))) (sym there)
+    (kept (λ (q : Pipe Ring). q.owner) (λ (q : Pipe Ring). q.queue.capacity) charges s.pipes n p (holding r p) is there refl same)
+
+-- and where its owner is charged with what it has then
+pub recharged : (old new : UserPages) (s : State Ring) (n : ℕ) (p : Pipe Ring) (r : Ring) → at s.pipes n ≡ Some p → Recharges old new p.owner p.queue.capacity r.capacity → Charged old s → Charged new (with_queue s n r)
+recharged old new s n p r there re is =
+    let q : Option (Pipe Ring) = option_map (holding r) (at s.pipes n) in
+    let after : q ≡ Some (holding r p) = ap (option_map (holding r)) there in
+    record {
+      users = λ u.
+          let h : Pipe Ring → ℕ = λ (x : Pipe Ring). if nat_eq x.owner u then x.queue.capacity else 0 in
+          omega (arith, re.users u, is.users u, sum_of-set h s.pipes n q (at_within s.pipes n p there), ap (weight h) there, ap (weight h) after);
+      total =
+          let h : Pipe Ring → ℕ = λ (x : Pipe Ring). x.queue.capacity in
+          omega (arith, re.total, is.total, sum_of-set h s.pipes n q (at_within s.pipes n p there), ap (weight h) there, ap (weight h) after);
+    }
+
+-- nobody is charged otherwise
+pub charged-same : (old new : UserPages) (owner : ℕ) (s : State Ring) → Recharges old new owner 0 0 → Charged old s → Charged new s
+charged-same old new owner s re is = record { users = λ u. omega (arith, re.users u, is.users u); total = omega (arith, re.total, is.total) }
 
 -- and a pipe that goes takes its own with it
 pub pages-without : (pipes : List (Option (Pipe Ring))) (n : ℕ) (p : Pipe Ring) → at pipes n ≡ Some p → sum_of (λ (q : Pipe Ring). q.queue.capacity) (clear_at pipes n) + p.queue.capacity ≡ sum_of (λ (q : Pipe Ring). q.queue.capacity) pipes

@@ -1,6 +1,6 @@
 -- What the tables mean to the lone machine, and how their counters are tied to it. No public clause cites this module.
 
-use Rattle.std.specs.Prelude.{◌≡◌, ℕ, zero, suc, ◌+◌, ◌-◌, ◌<◌, Bool, not, ◌&&◌, List, [], ◌∷◌, length, map, Option, Some, None, nat_lt, nat_eq, ⊤, if◌then◌else◌, Result, Ok}
+use Rattle.std.specs.Prelude.{◌≡◌, ℕ, zero, suc, ◌+◌, ◌-◌, ◌<◌, Bool, true, not, ◌&&◌, List, [], ◌∷◌, length, map, Option, Some, None, nat_lt, nat_eq, ⊤, if◌then◌else◌, Result, Ok}
 use Rattle.std.specs.Option.{option_map}
 use Rattle.pf_base.specs.Refusals.{◌>>=◌, ◌>>◌, refuse_if, or_refuse}
 use Rattle.pf_base.specs.Numbered.{at, put_at, clear_at, sum_of, one_if}
@@ -18,7 +18,8 @@ pub use Rattle.pf_ring.specs.Ring.{Ring}
 pub use Rattle.pf_pipe.specs.Pipe.{CountedPipe as Pipe}
 pub use Rattle.pf_space.specs.declared.tables.Process.{Process}
 pub use Rattle.pf_space.specs.declared.tables.Description.{Description}
-use Rattle.pf_space.specs.Meaning.{pages}
+use Rattle.pf_limits.specs.UserPages.{UserPages}
+use Rattle.pf_space.specs.Meaning.{Charged}
 
 -- The rows of the tables: what stands at each number, with the place that a registry keeps it in
 abbrev pub ProcessRows : Type 0
@@ -53,17 +54,18 @@ abbrev pub with_keys : ℕ → Key → ℕ → Key → Option Process → Option
 with_keys a j b k None = None
 with_keys a j b k (Some p) = Some (record p { descriptors = put_at (put_at p.descriptors a j) b k })
 
--- whether a description is for a side
-abbrev pub has : Side → Description → Bool
-has sides.Read d = d.reads
-has sides.Write d = d.writes
+-- whether a description is for a side, where one is asked for
+abbrev pub has : Option Side → Description → Bool
+has None d = true
+has (Some sides.Read) d = d.reads
+has (Some sides.Write) d = d.writes
 
 -- the description of a key
 abbrev pub description_in : DescriptionRows → Key → Option Description
 description_in ds k = option_map (λ n. n.value) (find ds k.place k.serial)
 
--- the description of an end of a side that a process's descriptor names
-abbrev pub end_in : Side → ProcessRows → DescriptionRows → ℕ → ℕ → Result Description Errno
+-- the description of the end that a process's descriptor names, of a side where one is asked for
+abbrev pub end_in : Option Side → ProcessRows → DescriptionRows → ℕ → ℕ → Result Description Errno
 end_in side ps ds pid fd = do
   p ← process_in ps pid
   k ← or_refuse EBADF (at p.descriptors fd)
@@ -196,7 +198,7 @@ module _ (keys : List Key) (ends : List Description) (ps : ProcessRows) (ds : De
 abbrev pub Tied : ProcessRows → DescriptionRows → PipeRows → Type 0
 Tied ps ds pipes = TiedWith [] [] ps ds pipes
 
--- the counters are tied, and the running total is the pages of all pipes
-pub record Kept (charge : ℕ) (ps : ProcessRows) (ds : DescriptionRows) (pipes : PipeRows) : Type 0 where
+-- the counters are tied, and those of pages are the sums over all pipes
+pub record Kept (charges : UserPages) (ps : ProcessRows) (ds : DescriptionRows) (pipes : PipeRows) : Type 0 where
   pub tied : Tied ps ds pipes
-  pub total : charge ≡ pages (state_of ps ds pipes)
+  pub charged : Charged charges (state_of ps ds pipes)

@@ -1,22 +1,28 @@
 -- What the calls of the tables do, in terms of the lone machine's state.
 
-use Rattle.std.specs.Prelude.{◌≡◌, ℕ, ◌<◌, Bool, List, Option, Some, None, Result, Ok, Err, nat_le}
+use Rattle.std.specs.Prelude.{◌≡◌, ℕ, ◌*◌, ◌<◌, ◌≤◌, ⊤, length, nat_lt, if◌then◌else◌, Bool, List, Option, Some, None, Result, Ok, Err, nat_le}
 use Rattle.std.specs.Option.{option_and_then}
 use Rattle.pf_base.specs.Refusals.{◌>>=◌, refuse_if}
 use Rattle.pf_base.specs.Queue.{Queue, empty}
 use Rattle.pf_base.specs.Numbered.{at, clear_at, change_at, keep}
-use Rattle.pf_base.specs.State.{State, Process, Pipe, living, with_process, without_process}
+use Rattle.pf_base.specs.State.{State, Process, Pipe, Outcome, living, end_of, done, with_process, without_process}
 use Rattle.pf_base.specs.Descriptors.{named, without_descriptor}
 use Rattle.pf_base.specs.Sweep.{sweep}
-use Rattle.pf_base.specs.Pipes.{first_descriptor, second_descriptor, opened}
-use Rattle.pf_base.specs.declared.TheConstants.{MAX_DESCRIPTORS}
+use Rattle.pf_base.specs.Pipes.{first_descriptor, second_descriptor, capacity_for, set_size, opened}
+use Rattle.pf_base.specs.Capacities.{may_grow, told_as}
+use Rattle.pf_base.specs.Limits.{Limits}
+use Rattle.pf_base.specs.declared.TheConstants.{PAGE_SIZE, MAX_DESCRIPTORS}
 use Rattle.pf_base.specs.declared.errno.Errno.{Errno}
-use Rattle.pf_base.specs.declared.errno.Errno.TheVariants.{EMFILE}
+use Rattle.pf_base.specs.declared.errno.Errno.TheVariants.{EMFILE, ENFILE, EPERM, EBUSY}
+use Rattle.pf_base.specs.declared.fault.Fault.{Fault}
+use Rattle.pf_base.specs.declared.fault.Fault.TheVariants as faults
+use Rattle.pf_limits.specs.UserPages.{UserPages, charged_to}
 use Rattle.pf_frame.specs.Live.{Live}
 use Rattle.pf_ring.specs.Ring.{Ring}
 use Rattle.pf_space.specs.Meaning.{Namespace, meaning}
 use Rattle.pf_space.specs.Rows as rows
 use Rattle.pf_space.specs.Rows.{ProcessRows, DescriptionRows, PipeRows, state_of, Tied}
+use Rattle.pf_space.specs.Recharging.{Recharges}
 use Rattle.pf_space.specs.Told.{Becomes}
 
 -- a process without its first n descriptors
@@ -64,6 +70,57 @@ pub record HasTwo (s : State Queue) (pid : ℕ) (free : ℕ × ℕ) : Type 0 whe
 abbrev pub FindsTwo : State Queue → ℕ → Result (ℕ × ℕ) Errno → Type 0
 FindsTwo s pid (Ok free) = HasTwo s pid free
 FindsTwo s pid (Err e) = (living s pid >>= (λ p. refuse_if (nat_le MAX_DESCRIPTORS (second_descriptor p)) EMFILE)) ≡ Err e
+
+-- how many slots a new pipe of the process of a pid gets, or why it gets none
+abbrev pub capacity_of_caller : Limits → State Queue → ℕ → Result ℕ Errno
+capacity_of_caller c s pid = do
+  p ← living s pid
+  told_as ENFILE (capacity_for c s p.cred)
+
+-- the capacity in bytes of the pipe that a process's descriptor names
+abbrev pub size_of_end : State Queue → ℕ → ℕ → Result ℕ Errno
+size_of_end s pid fd = do
+  p ← living s pid
+  e ← end_of s p fd
+  Ok (PAGE_SIZE * e.pipe.queue.capacity)
+
+-- a call that gives it another one
+abbrev pub sized : Limits → State Queue → ℕ → ℕ → ℕ → Result Outcome Errno
+sized c s pid fd bytes = living s pid >>= (λ p. set_size c s p fd bytes)
+
+-- it was made, and told the size; or its refusal is the machine's; or memory was wanted
+pub record Sized (f : Live) (old new : Namespace) (machine : Result Outcome Errno) (size : ℕ) : Type 0 where
+  pub state : State Queue
+  pub is : machine ≡ Ok (done state size)
+  pub becomes : Becomes f f old new state
+
+abbrev pub HasResized : Live → Namespace → Namespace → Result ℕ Fault → Result Outcome Errno → Type 0
+HasResized f old new (Ok size) machine = Sized f old new machine size
+HasResized f old new (Err (faults.Errno e)) machine = machine ≡ Err e
+HasResized f old new (Err faults.NoMemory) machine = ⊤
+
+-- whether a pipe of an owner with so many pages may have so many slots
+abbrev pub verdict : UserPages → Bool → rows.Pipe → ℕ → Result (Unit {0}) Errno
+verdict u privileged p to =
+    if nat_lt p.ring.capacity to
+    then told_as EPERM (may_grow u.limits privileged (charged_to u p.owner) u.total p.ring.capacity to)
+    else refuse_if (nat_lt to (length p.ring.windows)) EBUSY
+
+-- a pipe has so many slots, and its owner is charged with them; or it has not, and nobody is charged otherwise
+pub record Resizes (u v : UserPages) (p q : rows.Pipe) (privileged : Bool) (to : ℕ) : Type 0 where
+  pub may : verdict u privileged p to ≡ Ok tt
+  pub pipe : q ≡ record p { ring = record { capacity = to; windows = p.ring.windows } }
+  pub fits : length p.ring.windows ≤ to
+  pub charges : Recharges u v p.owner p.ring.capacity to
+
+pub record Refuses (u v : UserPages) (p q : rows.Pipe) : Type 0 where
+  pub pipe : q ≡ p
+  pub charges : Recharges u v p.owner 0 0
+
+abbrev pub Resizing : UserPages → UserPages → rows.Pipe → rows.Pipe → Bool → ℕ → Result (Unit {0}) Fault → Type 0
+Resizing u v p q privileged to (Ok done) = Resizes u v p q privileged to
+Resizing u v p q privileged to (Err (faults.Errno e)) = (verdict u privileged p to ≡ Err e) × Refuses u v p q
+Resizing u v p q privileged to (Err faults.NoMemory) = Refuses u v p q
 
 -- one more pipe, of so many slots, owned by a process that has its two ends
 pub record Opens (f : Live) (old new : Namespace) (pid : ℕ) (nonblocking : Bool) (slots : ℕ) : Type 0 where

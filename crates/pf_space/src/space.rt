@@ -99,6 +99,8 @@ impl Space {
             Step::Close { pid, fd } => self.close(door, *pid, *fd),
             Step::Read { pid, fd, n } => self.read(door, *pid, *fd, *n),
             Step::Write { pid, fd, payload } => self.write(door, *pid, *fd, payload.as_slice()),
+            Step::SetSize { pid, fd, bytes } => self.set_size(door, *pid, *fd, *bytes),
+            Step::GetSize { pid, fd } => self.get_size(door, *pid, *fd),
             Step::Tee {
                 pid,
                 source,

@@ -13,6 +13,7 @@ mod transfers;
 
 use pf_base::{Config, Cred, Errno, Side};
 use pf_fds::{Descriptions, FdTable, Key, Places, Registry};
+use pf_limits::UserPages;
 use pf_pipe::Pipe;
 use std::alloc::{AllocError, Global};
 use std::marker::Model;
@@ -37,13 +38,14 @@ impl Description {
     ghost use Rattle.std.specs.Prelude.{◌≡◌};
     ghost use Rattle.pf_space.specs.Rows.{has};
 
-    // Whether it is for this side.
-    fn has(&self, side: Side) -> bool
+    // Whether it is for this side, where one is asked for.
+    fn has(&self, side: Option<Side>) -> bool
         ensures { result ≡ has side self.now }
     {
         match side {
-            Side::Read => self.reads,
-            Side::Write => self.writes,
+            Some(Side::Read) => self.reads,
+            Some(Side::Write) => self.writes,
+            None => true,
         }
     }
 }
@@ -54,9 +56,8 @@ impl Description {
 /// can reach goes at once, so the tables are swept at all times.
 #[derive(Drop)]
 pub struct Tables {
-    config: Config,
-    // The pages that all pipes are charged with.
-    total: usize,
+    // The limits, and the pages that each user and all together are charged with.
+    pages: UserPages,
     // 256 places: the process of a pid is in the place before it.
     processes: Places<Process>,
     descriptions: Descriptions<Description>,
@@ -71,11 +72,11 @@ impl Model for Tables {
     ghost use Rattle.pf_space.specs.Rows.{state_of, Kept};
 
     ghost view = { λ t. record {
-      limits = t.config;
+      limits = t.pages.limits;
       state = state_of t.processes t.descriptions.items t.pipes.items;
     } };
 
-    ghost invariant = { λ t. Kept t.total t.processes t.descriptions.items t.pipes.items };
+    ghost invariant = { λ t. Kept t.pages t.processes t.descriptions.items t.pipes.items };
 }
 
 // The process of a pid. No other place of the code says that there is none.
@@ -92,13 +93,13 @@ fn caller(processes: &Places<Process>, pid: u32) -> Result<&Process, Errno>
     }
 }
 
-// The description of an end of this side that a process's descriptor names.
+// The description of the end that a process's descriptor names, of this side where one is asked for.
 fn end(
     processes: &Places<Process>,
     descriptions: &Descriptions<Description>,
     pid: u32,
     fd: u32,
-    side: Side,
+    side: Option<Side>,
 ) -> Result<Description, Errno>
     ensures { result ≡ end_in side processes.now descriptions.now.items pid fd }
 {
@@ -126,8 +127,7 @@ impl Tables {
     {
         let processes = Places::new(alloc)?;
         Ok(Tables {
-            config,
-            total: 0,
+            pages: UserPages::new(alloc, &config),
             processes,
             descriptions: Descriptions::new(alloc),
             pipes: Registry::new(alloc),
@@ -139,6 +139,6 @@ impl Tables {
         ensures { self.now.state ≡ sweep self.now.state }
     {
         // Whoever looks at a field knows the invariant.
-        let _ = &self.total;
+        let _ = &self.pages;
     }
 }

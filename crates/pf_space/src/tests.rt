@@ -32,6 +32,14 @@ fn close(pid: u32, fd: u32) -> Step {
     Step::Close { pid, fd }
 }
 
+fn get_size(pid: u32, fd: u32) -> Step {
+    Step::GetSize { pid, fd }
+}
+
+fn set_size(fd: u32, bytes: u64) -> Step {
+    Step::SetSize { pid: 1, fd, bytes }
+}
+
 fn read(fd: u32, n: u64) -> Step {
     Step::Read { pid: 1, fd, n }
 }
@@ -173,6 +181,67 @@ fn hello_through_a_pipe(rt: HostRuntime) -> Result<(), Fail> {
         assert_eq!(rt; answers.as_slice(), told.as_slice());
         assert_eq!(rt; credits, 16);
     }
+    Ok(())
+}
+
+// A pipe's capacity goes up and down by whole powers of two of pages, down to what is in use, and up to what its owner
+// and the reservation have.
+#[test]
+fn capacities_are_set_and_told(rt: HostRuntime) -> Result<(), Fail> {
+    let alloc = rt.alloc();
+    let steps = Vec::from_array(
+        alloc,
+        [
+            spawn(alloc),
+            pipe(1),
+            get_size(1, 0),
+            write(alloc, 1, 0x61, 5000)?,
+            set_size(1, 4096),
+            set_size(1, 8192),
+            get_size(1, 1),
+            set_size(0, 8193),
+            set_size(0, 2_147_483_649),
+            set_size(0, 1_048_577),
+            set_size(0, 1_048_576),
+            set_size(0, 131_072),
+            get_size(1, 0),
+            get_size(1, 2),
+            get_size(2, 0),
+            set_size(2, 2_147_483_649),
+            read(0, 4999),
+            set_size(0, 0),
+            pipe(1),
+            get_size(1, 2),
+        ],
+    )?;
+    let told = Vec::from_array(
+        alloc,
+        [
+            Answer::Done(Reply::Pid(1)),
+            Answer::Done(Reply::Fds(0, 1)),
+            number(65_536),
+            number(5000),
+            refused(Errno::EBUSY),
+            number(8192),
+            number(8192),
+            number(16_384),
+            refused(Errno::EINVAL),
+            refused(Errno::EPERM),
+            refused(Errno::ENFILE),
+            number(131_072),
+            number(131_072),
+            refused(Errno::EBADF),
+            refused(Errno::ESRCH),
+            refused(Errno::EBADF),
+            bytes(alloc, &[0x61; 4999])?,
+            number(4096),
+            Answer::Done(Reply::Fds(2, 3)),
+            number(65_536),
+        ],
+    )?;
+    let (answers, credits) = played(&rt, alloc, 32, 165, &steps)?;
+    assert_eq!(rt; answers.as_slice(), told.as_slice());
+    assert_eq!(rt; credits, 31);
     Ok(())
 }
 

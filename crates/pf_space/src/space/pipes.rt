@@ -1,6 +1,6 @@
-//! Pipes: pipe(2).
+//! Pipes: pipe(2), and their capacities: fcntl(2), F_SETPIPE_SZ and F_GETPIPE_SZ.
 
-ghost use Rattle.std.specs.Prelude.{◌≡◌, Err, IsSome};
+ghost use Rattle.std.specs.Prelude.{◌≡◌, ◌≢◌, Err, IsSome};
 ghost use Rattle.pf_base.specs.Machine.{call};
 ghost use Rattle.pf_base.specs.State.{process};
 ghost use Rattle.pf_space.specs.Meaning.{meaning};
@@ -33,12 +33,46 @@ impl Space {
         if self.tables.is_spent(door) {
             return Err(Errno::ENFILE.into());
         }
-        let slots = self.tables.new_capacity(door);
-        if !self.tables.has_room(door, slots) {
-            return Err(Errno::ENFILE.into());
-        }
+        let slots = self.tables.new_capacity(door, pid)?;
         self.tables
             .open_pipe(door, self.alloc, pid, free, nonblock, slots)?;
         Ok(Reply::Fds(free.0, free.1))
+    }
+
+    /// Gives the pipe that a process's descriptor names another capacity (fcntl(2), F_SETPIPE_SZ).
+    pub(super) fn set_size<F: Frames>(
+        &mut self,
+        door: &mut F,
+        pid: u32,
+        fd: u32,
+        bytes: u64,
+    ) -> Result<Reply, Fault>
+        requires fact { F.fact door.old }
+        requires owns { Owns (F.live door.old) self.old }
+        ensures fact { F.fact door.new }
+        ensures rest { F.rest door.new ≡ F.rest door.old }
+        ensures told { Told (F.live door.old) (F.live door.new) self.old self.new result
+            (call self.old.limits (meaning (F.live door.old) self.old.state) (Step.SetSize pid fd bytes)) }
+        // Memory is wanted for a process that lives, and then nothing has changed.
+        ensures unchanged { result ≡ Err Fault.NoMemory → (self.new ≡ self.old) × (door.new ≡ door.old) }
+        ensures lives { result ≡ Err Fault.NoMemory → IsSome (process self.old.state pid) }
+    {
+        let size = self.tables.set_size(door, self.alloc, pid, fd, bytes)?;
+        Ok(Reply::Num(size))
+    }
+
+    /// Tells the capacity of the pipe that a process's descriptor names, in bytes (fcntl(2), F_GETPIPE_SZ).
+    pub(super) fn get_size<F: Frames>(&mut self, door: &mut F, pid: u32, fd: u32) -> Result<Reply, Fault>
+        requires fact { F.fact door.old }
+        requires owns { Owns (F.live door.old) self.old }
+        ensures fact { F.fact door.new }
+        ensures rest { F.rest door.new ≡ F.rest door.old }
+        ensures told { Told (F.live door.old) (F.live door.new) self.old self.new result
+            (call self.old.limits (meaning (F.live door.old) self.old.state) (Step.GetSize pid fd)) }
+        ensures succeeds { result ≢ Err Fault.NoMemory }
+    {
+        self.tables.settled();
+        let size = self.tables.size(door, pid, fd)?;
+        Ok(Reply::Num(size))
     }
 }

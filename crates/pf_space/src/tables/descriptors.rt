@@ -87,7 +87,7 @@ impl Tables {
         ensures emptied { Becomes (F.live door.old) (F.live door.new) self.old self.new
             (emptied (meaning (F.live door.old) self.old.state) i fd) }
     {
-        let _ = &self.total;
+        let _ = &self.pages;
         let gone = let_go(
             &mut self.processes,
             &mut self.descriptions,
@@ -96,7 +96,7 @@ impl Tables {
             fd,
         );
         if let Some(mut pipe) = gone {
-            self.total -= pipe.slots();
+            self.pages.refund(pipe.owner(), pipe.slots() as u32);
             pipe.clear(door);
         }
     }

@@ -1,18 +1,21 @@
 //! Pipes: what makes one with its two ends.
 
-ghost use Rattle.std.specs.Prelude.{◌≡◌, ◌+◌, ◌-◌, ◌^◌, ◌<◌, ◌≤◌, false, IsTrue, ◌↔◌, Some, IsSome, IfOk, OnOk, OnErr, slice_set, length, [], ◌∷◌, ◌++◌};
+ghost use Rattle.std.specs.Prelude.{◌≡◌, ◌+◌, ◌-◌, ◌^◌, ◌<◌, ◌≤◌, false, Err, Some, IsSome, IfOk, OnOk, OnErr, slice_set, length, [], ◌∷◌, ◌++◌, not, ◌&&◌, nat_lt};
 ghost use Rattle.pf_base.specs.Numbered.{at};
 ghost use Rattle.pf_base.specs.Counts.{total};
-ghost use Rattle.pf_base.specs.Pipes.{is_spent, new_capacity};
+ghost use Rattle.pf_base.specs.Pipes.{is_spent};
 ghost use Rattle.pf_space.specs.Meaning.{meaning};
+ghost use Rattle.pf_base.specs.State.{process};
+ghost use Rattle.pf_limits.specs.UserPages.{charged_to};
 ghost use Rattle.pf_space.specs.Owns.{Owns};
 ghost use Rattle.pf_space.specs.Rows.{with_keys};
-ghost use Rattle.pf_space.specs.Tables.{HasTwo, FindsTwo, Opens};
+ghost use Rattle.pf_space.specs.Tables.{HasTwo, FindsTwo, Opens, Resizing, HasResized, capacity_of_caller, size_of_end, sized};
 
-use super::{Description, Process, Tables, caller};
-use pf_base::{DEFAULT_SLOTS, Errno, LEAST_SLOTS, MAX_DESCRIPTORS, Side};
+use super::{Description, Process, Tables, caller, end};
+use pf_base::{Config, Errno, Fault, MAX_DESCRIPTORS, MAX_SIZE, PAGE_SIZE, Side, pages_for};
 use pf_fds::{Descriptions, Key, Places};
 use pf_frame::Frames;
+use pf_limits::UserPages;
 use pf_pipe::Pipe;
 use std::alloc::{AllocError, Global};
 
@@ -66,6 +69,43 @@ fn two_ended(alloc: Global, slots: usize, owner: u32) -> Result<Pipe, AllocError
     Ok(pipe)
 }
 
+// Whether a capacity in bytes is above pipe-max-size, for a caller that is held to it.
+fn is_too_large(config: Config, privileged: bool, size: u64) -> bool
+    ensures { result ≡ not privileged && nat_lt config.max size }
+{
+    !privileged && size > config.max() as u64
+}
+
+// Gives a pipe another number of slots, as far as its owner may have them and its slots in use allow.
+fn resize(
+    pages: &mut UserPages,
+    pipe: &mut Pipe,
+    alloc: Global,
+    privileged: bool,
+    slots: u32,
+) -> Result<(), Fault>
+    requires covered { pipe.old.ring.capacity ≤ charged_to pages.old pipe.old.owner }
+    ensures { Resizing pages.old pages.new pipe.old pipe.new privileged slots result }
+{
+    let owner = pipe.owner();
+    let from = pipe.slots() as u32;
+    if slots <= from {
+        pipe.set_size(alloc, slots as usize)?;
+        pages.refund(owner, from - slots);
+        return Ok(());
+    }
+    if let Err(fault) = pages.may_grow(owner, privileged, from, slots) {
+        return Err(fault.errno(Errno::EPERM).into());
+    }
+    pages.charge(owner, slots - from)?;
+    if pipe.set_size(alloc, slots as usize).is_err() {
+        // It was memory that was refused: what is in use fits.
+        pages.refund(owner, slots - from);
+        return Err(Fault::NoMemory);
+    }
+    Ok(())
+}
+
 impl Tables {
     /// The two lowest free descriptors of a process, or why it has not two.
     pub fn free_descriptors<F: Frames>(&self, door: &F, pid: u32) -> Result<(u32, u32), Errno>
@@ -93,36 +133,19 @@ impl Tables {
         self.descriptions.drawn() > u64::MAX - 2 || self.pipes.drawn() > u64::MAX - 1
     }
 
-    // The pages that all pipes are charged with. They are within the reservation.
-    fn pages<F: Frames>(&self, door: &F) -> usize
-        requires { Owns (F.live door.now) self.now }
-        ensures number { result ≡ total (meaning (F.live door.now) self.now.state) }
-        ensures most { result ≤ self.now.limits.reserve }
+    /// How many slots a new pipe of a process gets, or why it gets none.
+    pub fn new_capacity<F: Frames>(&self, door: &F, pid: u32) -> Result<u32, Errno>
+        ensures found { let state = meaning (F.live door.now) self.now.state in
+            result ≡ capacity_of_caller self.now.limits state pid }
+        ensures room { IfOk result
+            (λ slots. total (meaning (F.live door.now) self.now.state) + slots ≤ self.now.limits.reserve) }
     {
         let _door = door;
-        self.total
-    }
-
-    /// How many slots a new pipe gets: fewer where the reservation has no room for the usual number.
-    pub fn new_capacity<F: Frames>(&self, door: &F) -> u32
-        requires { Owns (F.live door.now) self.now }
-        ensures { result ≡ new_capacity self.now.limits (meaning (F.live door.now) self.now.state) }
-    {
-        let reserve = self.config.reserve() as usize;
-        if self.pages(door) + DEFAULT_SLOTS as usize > reserve {
-            return LEAST_SLOTS;
+        let cred = &caller(&self.processes, pid)?.cred;
+        match self.pages.new_capacity(cred.uid, cred.is_privileged()) {
+            Ok(slots) => Ok(slots),
+            Err(fault) => Err(fault.errno(Errno::ENFILE)),
         }
-        DEFAULT_SLOTS
-    }
-
-    /// Whether the reservation has room for so many more pages.
-    pub fn has_room<F: Frames>(&self, door: &F, slots: u32) -> bool
-        requires { Owns (F.live door.now) self.now }
-        ensures { IsTrue result
-            ↔ (total (meaning (F.live door.now) self.now.state) + slots ≤ self.now.limits.reserve) }
-    {
-        let reserve = self.config.reserve() as usize;
-        self.pages(door) + slots as usize <= reserve
     }
 
     /// Makes a pipe of so many slots, owned by a process that has its two ends at its two lowest free
@@ -143,14 +166,16 @@ impl Tables {
         ensures made { OnOk result (Opens (F.live door.now) self.old self.new pid nonblocking slots) }
         ensures refused { OnErr result (self.new ≡ self.old) }
     {
-        let charge = self.pages(door) + slots as usize;
+        let _door = door;
         let Ok(process) = caller(&self.processes, pid) else {
             unreachable!()
         };
+        let owner = process.cred.uid;
         // What may be refused comes first.
-        let pipe = two_ended(alloc, slots as usize, process.cred.uid)?;
+        let pipe = two_ended(alloc, slots as usize, owner)?;
         self.descriptions.reserve(2)?;
         self.pipes.reserve(1)?;
+        self.pages.charge(owner, slots)?;
         let pipe = self.pipes.insert_reserved(pipe);
         let reader = Description {
             pipe,
@@ -168,7 +193,50 @@ impl Tables {
         let i = pid as usize - 1;
         let (first, second) = (free.0 as usize, free.1 as usize);
         set_descriptors(&mut self.processes, i, first, reading, second, writing);
-        self.total = charge;
         Ok(())
+    }
+
+    /// The capacity in bytes of the pipe that a process's descriptor names.
+    pub fn size<F: Frames>(&self, door: &F, pid: u32, fd: u32) -> Result<u64, Errno>
+        ensures { result ≡ size_of_end (meaning (F.live door.now) self.now.state) pid fd }
+    {
+        let _door = door;
+        let end = end(&self.processes, &self.descriptions, pid, fd, None)?;
+        let Some(pipe) = self.pipes.get(end.pipe) else {
+            return Err(Errno::EBADF);
+        };
+        Ok(pipe.slots() as u64 * PAGE_SIZE as u64)
+    }
+
+    /// Gives the pipe that a process's descriptor names the capacity that holds so many bytes, and tells it in bytes. Its
+    /// owner is charged with the pages by which it grows, and gets those back by which it shrinks.
+    pub fn set_size<F: Frames>(
+        &mut self,
+        door: &F,
+        alloc: Global,
+        pid: u32,
+        fd: u32,
+        bytes: u64,
+    ) -> Result<u64, Fault>
+        requires owns { Owns (F.live door.now) self.old }
+        ensures resized { HasResized (F.live door.now) self.old self.new result
+            (sized self.old.limits (meaning (F.live door.now) self.old.state) pid fd bytes) }
+        ensures lives { result ≡ Err Fault.NoMemory → IsSome (process self.old.state pid) }
+        ensures refused { OnErr result (self.new ≡ self.old) }
+    {
+        let _door = door;
+        let end = end(&self.processes, &self.descriptions, pid, fd, None)?;
+        let privileged = caller(&self.processes, pid)?.cred.is_privileged();
+        if bytes > MAX_SIZE {
+            return Err(Errno::EINVAL.into());
+        }
+        let slots = pages_for(bytes);
+        let size = slots * PAGE_SIZE as u64;
+        if is_too_large(self.pages.config(), privileged, size) {
+            return Err(Errno::EPERM.into());
+        }
+        let pipe = self.pipes.value_mut(end.pipe);
+        resize(&mut self.pages, pipe, alloc, privileged, slots as u32)?;
+        Ok(size)
     }
 }

@@ -46,7 +46,7 @@ impl Tables {
             (λ progress. moved progress ≡ 0 → (self.new ≡ self.old) × (door.new ≡ door.old)) }
         ensures refused { OnErr result ((self.new ≡ self.old) × (door.new ≡ door.old)) }
     {
-        let end = end(&self.processes, &self.descriptions, pid, fd, Side::Write)?;
+        let end = end(&self.processes, &self.descriptions, pid, fd, Some(Side::Write))?;
         if bytes.len() > MAX_WRITE {
             return Err(Errno::EINVAL);
         }
@@ -82,7 +82,7 @@ impl Tables {
             (λ t. moved t.progress ≡ 0 → (self.new ≡ self.old) × (door.new ≡ door.old)) }
         ensures refused { OnErr result ((self.new ≡ self.old) × (door.new ≡ door.old)) }
     {
-        let end = end(&self.processes, &self.descriptions, pid, fd, Side::Read)?;
+        let end = end(&self.processes, &self.descriptions, pid, fd, Some(Side::Read))?;
         let pipe = self.pipes.value_mut(end.pipe);
         let count = pipe.len().min(n as usize);
         let mut bytes = Vec::with_capacity(alloc, count)?;
@@ -119,13 +119,13 @@ impl Tables {
             (λ progress. moved progress ≡ 0 → (self.new ≡ self.old) × (door.new ≡ door.old)) }
         ensures refused { OnErr result ((self.new ≡ self.old) × (door.new ≡ door.old)) }
     {
-        let from = end(&self.processes, &self.descriptions, pid, source, Side::Read)?;
-        let to = end(&self.processes, &self.descriptions, pid, sink, Side::Write)?;
+        let from = end(&self.processes, &self.descriptions, pid, source, Some(Side::Read))?;
+        let to = end(&self.processes, &self.descriptions, pid, sink, Some(Side::Write))?;
         if from.pipe.serial == to.pipe.serial {
             return Err(Errno::EINVAL);
         }
         // All slots together are within the reservation, which is far below the end of a count.
-        let _most = self.config.reserve();
+        let _most = self.pages.config().reserve();
         let mut taken = self.pipes.take_out(to.pipe);
         let pipe = self.pipes.value_mut(from.pipe);
         let progress = pipe.cross_now(door, crossing, &mut taken, n as usize);

@@ -1,4 +1,5 @@
-use Rattle.std.proofs.Common.{ap, sym, ◌∙◌, rules}
+use Rattle.std.proofs.Common.{ap, arith, sym, ◌∙◌, rules}
+use Rattle.pf_base.specs.Limits.{Limits}
 use Rattle.pf_base.specs.Numbered.{put_at}
 use Rattle.pf_fds.specs.Registry.{find}
 use Rattle.pf_space.specs.Rows.{PipeRows}
@@ -38,7 +39,7 @@ cross_now-progress-requires-clause-stands g c =
 
 pub cross_now-progress-requires-clause-few : goal.cross_now-progress-requires-clause-few
 cross_now-progress-requires-clause-few g c =
-    lemmas.few (g.F.Frames.live c.args.door.now) _ _ _ _ _ c.self.invariant _ c.self.view_is c.requires.owns c.in_ok-to.to _ c.take_out-taken.ensures.value (rw (sym c.reserve-most.ensures.value) c.reserve-most.ensures.most)
+    lemmas.few (g.F.Frames.live c.args.door.now) _ _ _ _ _ c.self.invariant _ c.self.view_is c.requires.owns c.in_ok-to.to _ c.take_out-taken.ensures.value (omega (arith, c.reserve-most.ensures.value, c.reserve-most.ensures.most, ap (λ (l : Limits). l.reserve) c.config.ensures))
 
 pub invariant_of-self : goal.invariant_of-self
 invariant_of-self g c =

@@ -1,33 +1,36 @@
-use Rattle.std.proofs.Common.{ap, ◌-◌, arith}
+use Rattle.std.proofs.Common.{subst}
+use Rattle.pf_base.specs.Limits.{Limits}
+use Rattle.pf_space.specs.Meaning.{meaning}
+use Rattle.pf_space.specs.Rows.{state_of}
+use Rattle.pf_space.specs.Tables.{emptied}
+use Rattle.pf_space.specs.Told.{Becomes}
 use Rattle.pf_space.proofs.Going as lemmas
 use Rattle.pf_space.proofs.tables.Tables.empty.Goals as goal
 
-pub overflow_sub-self : goal.overflow_sub-self
-overflow_sub-self g c =
+pub refund-requires : goal.refund-requires
+refund-requires g c =
     let w = c.in-Some.ensures.pipe in
-    omega (
-      arith,
-      c.slots.ensures.number,
-      lemmas.gone_pages (g.F.Frames.live c.args.door.now) c.self.inside.config _ _ _ _ c.self.invariant c.args.self.now c.self.view_is c.requires.owns c.args.i c.args.fd _ _ _ c.in-Some.ensures.left w.0 c.in-Some.pipe w.1 w.2,
-    )
+    lemmas.gone_covered (g.F.Frames.live c.args.door.now) c.self.inside.pages.limits _ _ _ _ c.self.invariant c.args.self.now c.self.view_is c.requires.owns c.args.i c.args.fd _ _ _ c.in-Some.ensures.left w.0 c.in-Some.pipe w.1 w.2
+    _ _ c.owner.ensures c.slots.ensures.number
 
 pub clear-requires-clause-stands : goal.clear-requires-clause-stands
 clear-requires-clause-stands g c =
     let w = c.in-Some.ensures.pipe in
-    lemmas.gone_stands (g.F.Frames.live c.args.door.now) c.self.inside.config _ _ _ _ c.self.invariant c.args.self.now c.self.view_is c.requires.owns c.args.i c.args.fd _ _ _ c.in-Some.ensures.left w.0 c.in-Some.pipe w.1 w.2
+    lemmas.gone_stands (g.F.Frames.live c.args.door.now) c.self.inside.pages.limits _ _ _ _ c.self.invariant c.args.self.now c.self.view_is c.requires.owns c.args.i c.args.fd _ _ _ c.in-Some.ensures.left w.0 c.in-Some.pipe w.1 w.2
 
 pub invariant_of-self : goal.invariant_of-self
 invariant_of-self g c =
     let w = c.in-Some.ensures.pipe in
-    lemmas.gone_kept (g.F.Frames.live c.args.door.now) c.self.inside.config _ _ _ _ c.self.invariant c.args.self.now c.self.view_is c.requires.owns c.args.i c.args.fd _ _ _ c.in-Some.ensures.left w.0 c.in-Some.pipe w.1 w.2
-    _ (ap (λ n. c.self.inside.total - n) c.slots.ensures.number)
+    lemmas.gone_kept (g.F.Frames.live c.args.door.now) c.self.inside.pages.limits _ _ _ _ c.self.invariant c.args.self.now c.self.view_is c.requires.owns c.args.i c.args.fd _ _ _ c.in-Some.ensures.left w.0 c.in-Some.pipe w.1 w.2
+    _ _ _ c.owner.ensures c.slots.ensures.number c.refund.ensures
 
 pub returns-in-Some-clause-emptied : goal.returns-in-Some-clause-emptied
 returns-in-Some-clause-emptied g c =
     let w = c.in-Some.ensures.pipe in
-    lemmas.gone_becomes (g.F.Frames.live c.args.door.now) c.self.inside.config _ _ _ _ c.self.invariant c.args.self.now c.self.view_is c.requires.owns c.args.i c.args.fd _ _ _ c.in-Some.ensures.left w.0 c.in-Some.pipe w.1 w.2
-    (g.F.Frames.live c.clear.new.f) c.clear.ensures.keeps
+    subst (λ (l : Limits). Becomes (g.F.Frames.live c.args.door.now) (g.F.Frames.live c.clear.new.f) c.args.self.now (record { limits = l; state = state_of c.let_go-gone.new.processes c.let_go-gone.new.descriptions.items c.let_go-gone.new.pipes.items }) (emptied (meaning (g.F.Frames.live c.args.door.now) c.args.self.now.state) c.args.i c.args.fd)) c.refund.ensures.limits
+    (lemmas.gone_becomes (g.F.Frames.live c.args.door.now) c.self.inside.pages.limits _ _ _ _ c.self.invariant c.args.self.now c.self.view_is c.requires.owns c.args.i c.args.fd _ _ _ c.in-Some.ensures.left w.0 c.in-Some.pipe w.1 w.2
+    (g.F.Frames.live c.clear.new.f) c.clear.ensures.keeps)
 
 pub returns-in_default-clause-emptied : goal.returns-in_default-clause-emptied
 returns-in_default-clause-emptied g c =
-    lemmas.pipes_stay (g.F.Frames.live c.args.door.now) c.self.inside.config _ _ _ _ c.self.invariant c.args.self.now c.self.view_is c.requires.owns c.args.i c.args.fd _ _ _ c.let_go-gone.ensures.left c.in_default.ensures.pipe
+    lemmas.pipes_stay (g.F.Frames.live c.args.door.now) c.self.inside.pages.limits _ _ _ _ c.self.invariant c.args.self.now c.self.view_is c.requires.owns c.args.i c.args.fd _ _ _ c.let_go-gone.ensures.left c.in_default.ensures.pipe

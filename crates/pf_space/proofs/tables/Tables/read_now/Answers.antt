@@ -1,4 +1,4 @@
-use Rattle.std.proofs.Common.{refl, sym, ◌∙◌, ap, ◌++◌, rules}
+use Rattle.std.proofs.Common.{Some, refl, sym, ◌∙◌, ap, ◌++◌, rules}
 use Rattle.pf_base.specs.Progress.{moved}
 use Rattle.pf_base.specs.Queue.{taken}
 use Rattle.pf_base.specs.declared.progress.Side.TheVariants.{Read}
@@ -13,7 +13,7 @@ returns-in_err-end-clause-read g c =
 
 pub value_mut-pipe-requires : goal.value_mut-pipe-requires
 value_mut-pipe-requires g c = record {
-  stands = lemmas.pipe_there (g.F.Frames.live c.args.door.now) _ _ _ _ _ c.self.invariant _ c.self.view_is c.requires.owns c.args.pid c.args.fd c.in_ok-end.end Read (sym c.in_ok-end.ensures);
+  stands = lemmas.pipe_there (g.F.Frames.live c.args.door.now) _ _ _ _ _ c.self.invariant _ c.self.view_is c.requires.owns c.args.pid c.args.fd c.in_ok-end.end (Some Read) (sym c.in_ok-end.ensures);
 }
 
 pub invariant_of-self : goal.invariant_of-self

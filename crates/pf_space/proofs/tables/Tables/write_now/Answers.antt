@@ -1,4 +1,4 @@
-use Rattle.std.proofs.Common.{refl, sym, rules}
+use Rattle.std.proofs.Common.{Some, refl, sym, rules}
 use Rattle.pf_base.specs.declared.progress.Side.TheVariants.{Write}
 use Rattle.pf_space.proofs.Transfers as lemmas
 use Rattle.pf_space.proofs.tables.Tables.write_now.Goals as goal
@@ -14,7 +14,7 @@ returns-then-bytes-gt-MAX_WRITE-clause-wrote g c =
 
 pub value_mut-pipe-requires : goal.value_mut-pipe-requires
 value_mut-pipe-requires g c = record {
-  stands = lemmas.pipe_there (g.F.Frames.live c.args.door.now) _ _ _ _ _ c.self.invariant _ c.self.view_is c.requires.owns c.args.pid c.args.fd c.in_ok-end.end Write (sym c.in_ok-end.ensures);
+  stands = lemmas.pipe_there (g.F.Frames.live c.args.door.now) _ _ _ _ _ c.self.invariant _ c.self.view_is c.requires.owns c.args.pid c.args.fd c.in_ok-end.end (Some Write) (sym c.in_ok-end.ensures);
 }
 
 pub write_now-requires-clause-stands : goal.write_now-requires-clause-stands

@@ -1,0 +1,12 @@
+use Rattle.std.proofs.Common.{◌≡◌, Ok, sym, subst}
+use Rattle.pf_base.specs.Sweep.{sweep}
+use Rattle.pf_space.specs.Meaning.{Namespace, meaning}
+use Rattle.pf_space.specs.Tables.{size_of_end}
+use Rattle.pf_space.proofs.Resizing.{tells_size}
+use Rattle.pf_space.proofs.space.Space.get_size.Goals as goal
+
+pub returns-clause-told : goal.returns-clause-told
+returns-clause-told g c =
+    let still = subst (λ (n : Namespace). n.state ≡ sweep n.state) c.self.view_is c.settled.ensures in
+    let found = subst (λ (n : Namespace). size_of_end (meaning (g.F.Frames.live c.args.door.now) n.state) c.args.pid c.args.fd ≡ Ok c.in_ok-size.size) c.self.view_is (sym c.in_ok-size.ensures) in
+    tells_size (g.F.Frames.live c.args.door.now) c.args.self.now c.args.pid c.args.fd c.in_ok-size.size c.requires.owns still found
