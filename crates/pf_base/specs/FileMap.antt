@@ -24,6 +24,15 @@ Path = List Name
 abbrev pub Files : Type 0
 Files = List (Path × File)
 
+-- the root directory, which all may read, change and search, of the uid 0 and the gid 0 (this profile's choice): the file of
+-- the number 0
+abbrev pub root : File
+root = record { meta = record { kind = Directory; mode = 511; uid = 0; gid = 0 }; number = 0 }
+
+-- the root with nothing in it
+abbrev pub root_alone : Files
+root_alone = ([], root) ∷ []
+
 -- names by bytes
 abbrev pub name_cmp : Name → Name → Ordering
 name_cmp a b = slice_cmp nat_cmp a b

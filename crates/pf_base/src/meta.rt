@@ -86,3 +86,21 @@ pub struct File {
     pub meta: Meta,
     pub number: u64,
 }
+
+impl File {
+    ghost use Rattle.pf_base.specs.FileMap.{root};
+
+    /// A namespace's root directory, which all may read, change and search, of the uid 0 and the gid 0 (this profile's
+    /// choice).
+    pub fn root() -> Self
+        ensures { result ≡ root }
+    {
+        let meta = Meta {
+            kind: Kind::Directory,
+            mode: Mode { bits: Mode::MOST },
+            uid: 0,
+            gid: 0,
+        };
+        File { meta, number: 0 }
+    }
+}

@@ -112,7 +112,7 @@ impl Passage {
 }
 
 /// One step, where there is such a namespace.
-fn step(hub: &mut Hub, ns: u32, step: &Step) -> Answer {
+fn step(hub: &mut Hub<Global>, ns: u32, step: &Step) -> Answer {
     if ns as usize >= hub.namespaces() {
         return Answer::NoMemory;
     }
@@ -120,7 +120,11 @@ fn step(hub: &mut Hub, ns: u32, step: &Step) -> Answer {
 }
 
 /// A hub of so many frames, which its namespaces share evenly, with a process and two pipes in namespace 0.
-fn open(alloc: Global, namespaces: u32, frames_len: u32) -> Result<Option<Hub>, AllocError> {
+fn open(
+    alloc: Global,
+    namespaces: u32,
+    frames_len: u32,
+) -> Result<Option<Hub<Global>>, AllocError> {
     let mut frames = Vec::new(alloc);
     for _ in 0..frames_len {
         frames.push(Frame::filled(alloc, 0)?)?;
@@ -138,7 +142,7 @@ fn open(alloc: Global, namespaces: u32, frames_len: u32) -> Result<Option<Hub>, 
     };
     let mut configs = Vec::new(alloc);
     for _ in 0..namespaces {
-        configs.push(config)?;
+        configs.push((config, alloc))?;
     }
     let Ok(mut hub) = Hub::new(alloc, frames, configs) else {
         return Ok(None);
@@ -163,12 +167,12 @@ fn open(alloc: Global, namespaces: u32, frames_len: u32) -> Result<Option<Hub>, 
 }
 
 /// Whether a step is answered by this number of bytes.
-fn counts(hub: &mut Hub, asked: &Step, number: usize) -> bool {
+fn counts(hub: &mut Hub<Global>, asked: &Step, number: usize) -> bool {
     step(hub, 0, asked) == Answer::Done(Reply::Num(number as u64))
 }
 
 /// What a step reads, if it is this number of bytes.
-fn take(hub: &mut Hub, read: &Step, number: usize) -> Option<ByteString> {
+fn take(hub: &mut Hub<Global>, read: &Step, number: usize) -> Option<ByteString> {
     match step(hub, 0, read) {
         Answer::Done(Reply::Bytes(bytes)) if bytes.as_slice().len() == number => Some(bytes),
         _ => None,
@@ -176,7 +180,7 @@ fn take(hub: &mut Hub, read: &Step, number: usize) -> Option<ByteString> {
 }
 
 /// What a pair reads, if both its answers count as many bytes as it wrote.
-fn play(hub: &mut Hub, pair: &Pair) -> Option<ByteString> {
+fn play(hub: &mut Hub<Global>, pair: &Pair) -> Option<ByteString> {
     let size = pair.payload.len();
     let Answer::Done(Reply::Num(written)) = step(hub, 0, &pair.write) else {
         return None;
@@ -188,7 +192,7 @@ fn play(hub: &mut Hub, pair: &Pair) -> Option<ByteString> {
 }
 
 /// Whether a tee or a splice brings each byte to where it is to be, and the reads leave nothing.
-fn brings_all(hub: &mut Hub, passage: &Passage) -> bool {
+fn brings_all(hub: &mut Hub<Global>, passage: &Passage) -> bool {
     let size = passage.payload.len();
     if !counts(hub, &passage.write, size) || !counts(hub, &passage.cross, size) {
         return false;
@@ -232,7 +236,12 @@ fn play_fixed(alloc: Global) -> Result<bool, AllocError> {
 }
 
 /// How many nanoseconds a pair takes, if each answer was right.
-fn time_pair(rt: &HostRuntime, hub: &mut Hub, size: usize, pairs: u32) -> io::Result<Option<u128>> {
+fn time_pair(
+    rt: &HostRuntime,
+    hub: &mut Hub<Global>,
+    size: usize,
+    pairs: u32,
+) -> io::Result<Option<u128>> {
     let pair = Pair::new(rt.alloc(), size)?;
     let mut least = u128::MAX;
     for _ in 0..(pairs / BATCH).max(1) {
@@ -255,7 +264,11 @@ struct Spent {
 }
 
 /// Times so many tees or splices alone, if each answer was right.
-fn time_batch(rt: &HostRuntime, hub: &mut Hub, passage: &Passage) -> io::Result<Option<Spent>> {
+fn time_batch(
+    rt: &HostRuntime,
+    hub: &mut Hub<Global>,
+    passage: &Passage,
+) -> io::Result<Option<Spent>> {
     let size = passage.payload.len();
     let mut spent = Spent { calls: 0, clock: 0 };
     for _ in 0..BATCH {
@@ -282,7 +295,7 @@ fn time_batch(rt: &HostRuntime, hub: &mut Hub, passage: &Passage) -> io::Result<
 /// How many nanoseconds a tee or a splice alone takes, the clock's own taken off, if each answer was right.
 fn time_crossing(
     rt: &HostRuntime,
-    hub: &mut Hub,
+    hub: &mut Hub<Global>,
     crossing: Crossing,
     size: usize,
     rounds: u32,

@@ -3,6 +3,7 @@
 use Rattle.std.proofs.Common.{◌≡◌, ℕ, zero, suc, ◌-◌, List, [], ◌∷◌, length, map, refl, ap, sym, ◌∙◌, subst, arith}
 use Rattle.std.specs.Prelude.{slice_index}
 use Rattle.std.proofs.lemmas.List.{length-map}
+use Rattle.std.proofs.lemmas.Simd.{map-map}
 use Rattle.pf_base.specs.Limits.{Limits}
 use Rattle.pf_frame.specs.Live.{Live}
 use Rattle.pf_pool.specs.declared.pool.FramePool.{FramePool}
@@ -12,7 +13,7 @@ use Rattle.pf_space.specs.Owns.{Owns}
 use Rattle.pf_space.specs.OwnsLaws.{owns_opening}
 use Rattle.pf_hub.specs.Tenants.{tenants_from}
 use Rattle.pf_hub.specs.Shared.{IsShared, space_at, hub_of}
-use Rattle.pf_hub.specs.Opening.{new_space, new_tenant, new_hub}
+use Rattle.pf_hub.specs.Opening.{limits_of, new_space, new_tenant, new_hub}
 
 -- the namespace at a place is that of the limits there, of which there are none past the end
 new_at : (configs : List Limits) (n : ℕ) → space_at (map new_space configs) n ≡ new_space (space_at (map new_space configs) n).limits
@@ -31,8 +32,17 @@ new_tenants : (live : ℕ → Live) (i : ℕ) (configs : List Limits) → ((n : 
 new_tenants live i [] none = refl
 new_tenants live i (c ∷ cs) none = λ j. record { limits = c; state = (new_tenant c).state; held = none i j } ∷ new_tenants live (suc i) cs none j
 
-module _ {p : FramePool} {frames : ℕ} {reserves : List ℕ} {ss : List Namespace} (configs : List Limits)
-    (fresh : IsFresh p frames reserves) (reserved : reserves ≡ map (λ (l : Limits). l.reserve) configs) (made : ss ≡ map new_space configs) where
+module _ {Z : Type 0} {p : FramePool} {frames : ℕ} {reserves : List ℕ} {ss : List Namespace} (given : List (Limits × Z))
+    (fresh : IsFresh p frames reserves) (reserves_are : reserves ≡ map (λ e. e.0.reserve) given) (spaces_are : ss ≡ map (λ e. new_space e.0) given) where
+  abbrev configs : List Limits
+  configs = limits_of given
+
+  reserved : reserves ≡ map (λ (l : Limits). l.reserve) configs
+  reserved = reserves_are ∙ sym (map-map (λ (l : Limits). l.reserve) (λ e. e.0) given)
+
+  made : ss ≡ map new_space configs
+  made = spaces_are ∙ sym (map-map new_space (λ e. e.0) given)
+
   pub opening_shared : IsShared p ss
   opening_shared = subst (IsShared p) (sym made) (record {
     doors = ap length (fresh.reserved ∙ reserved) ∙ length-map configs (λ (l : Limits). l.reserve) ∙ sym (length-map configs new_space);

@@ -8,6 +8,10 @@ use Rattle.pf_pool.specs.Faults.{fault_of}
 use Rattle.pf_space.specs.Meaning.{Namespace}
 use Rattle.pf_hub.specs.Tenants.{Tenant, Tenants}
 
+-- the limits alone, without the allocators that stand beside them
+abbrev pub limits_of : {Z : Type 0} → List (Limits × Z) → List Limits
+limits_of configs = map (λ e. e.0) configs
+
 -- a namespace of these limits that nothing has happened to
 abbrev pub new_space : Limits → Namespace
 new_space limits = record { limits = limits; state = opening }

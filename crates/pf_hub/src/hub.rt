@@ -1,5 +1,5 @@
 ghost use Rattle.std.specs.Prelude.{◌≡◌, ◌<◌, ◌≤◌, length, map, sum, IfOk};
-ghost use Rattle.pf_hub.specs.Opening.{new_space, first_fault};
+ghost use Rattle.pf_hub.specs.Opening.{new_space, limits_of, first_fault};
 ghost use Rattle.pf_hub.specs.Shared.{space_at};
 ghost use Rattle.pf_hub.specs.Stepped.{Moved};
 ghost use Rattle.pf_space.specs.Owns.{Owns};
@@ -8,7 +8,7 @@ use pf_base::{Answer, Config, MAX_NAMESPACES, Step};
 use pf_frame::{Frame, FrameTable, Frames, PoolFault};
 use pf_pool::FramePool;
 use pf_space::Space;
-use std::alloc::{AllocError, Global};
+use std::alloc::{AllocError, Allocator, Global};
 use std::marker::Model;
 
 /// Many namespaces over one pool of frames.
@@ -16,13 +16,13 @@ use std::marker::Model;
 /// A contract sees each namespace's limits, the state of the lone machine that it is in, and how many frames it
 /// holds; and how many frames nobody holds.
 #[derive(Drop)]
-pub struct Hub {
+pub struct Hub<A: Allocator> {
     alloc: Global,
     pool: FramePool,
-    spaces: Vec<Space>,
+    spaces: Vec<Space<A>>,
 }
 
-impl Model for Hub {
+impl<A: Allocator> Model for Hub<A> {
     ghost use Rattle.pf_hub.specs.Tenants.{Tenants};
 
     ghost Value = { Tenants };
@@ -44,19 +44,19 @@ pub enum RunFault {
 }
 
 // The sum of the reservations of some limits.
-fn sum_of(configs: &[Config]) -> u64
+fn sum_of<A: Allocator>(configs: &[(Config, A)]) -> u64
     requires { length configs.now ≤ 64 }
-    ensures { result ≡ sum (map (λ l. l.reserve) configs.now) }
+    ensures { result ≡ sum (map (λ e. e.0.reserve) configs.now) }
 {
     configs
         .iter()
-        .map(|config| u64::from(config.reserve()))
+        .map(|config| u64::from(config.0.reserve()))
         .sum()
 }
 
 // The first test that so many frames and these limits fail. It takes no memory, so none is wanted before it.
-fn first_fault(frames: usize, configs: &[Config]) -> Option<PoolFault>
-    ensures { result ≡ first_fault frames configs.now }
+fn first_fault<A: Allocator>(frames: usize, configs: &[(Config, A)]) -> Option<PoolFault>
+    ensures { result ≡ first_fault frames (limits_of configs.now) }
 {
     if configs.len() > MAX_NAMESPACES {
         return Some(PoolFault::TooManyNamespaces);
@@ -73,26 +73,37 @@ fn first_fault(frames: usize, configs: &[Config]) -> Option<PoolFault>
 }
 
 // The reservations of some limits.
-fn reserves_of(alloc: Global, configs: &[Config]) -> Result<Vec<u32>, AllocError>
-    ensures { IfOk result (λ v. v.items ≡ map (λ l. l.reserve) configs.now) }
+fn reserves_of<A: Allocator>(alloc: Global, configs: &[(Config, A)]) -> Result<Vec<u32>, AllocError>
+    ensures { IfOk result (λ v. v.items ≡ map (λ e. e.0.reserve) configs.now) }
 {
-    configs.iter().map(|config| config.reserve()).collect(alloc)
+    configs
+        .iter()
+        .map(|config| config.0.reserve())
+        .collect(alloc)
 }
 
-// The namespaces of some limits, each at its opening state.
-fn spaces_of(alloc: Global, configs: &[Config]) -> Result<Vec<Space>, AllocError>
-    ensures { IfOk result (λ v. v.items ≡ map new_space configs.now) }
+// The namespaces of some limits, each at its opening state, with its files in memory of its own allocator.
+fn spaces_of<A: Allocator + Clone>(
+    alloc: Global,
+    configs: Vec<(Config, A)>,
+) -> Result<Vec<Space<A>>, AllocError>
+    ensures { IfOk result (λ v. v.items ≡ map (λ e. new_space e.0) configs.items) }
 {
     let mut spaces = Vec::with_capacity(alloc, configs.len())?;
-    for config in configs {
-        let space = Space::new(alloc, *config)?;
+    for (config, tree) in configs {
+        let space = Space::new(alloc, tree, config)?;
         spaces.push_reserved(space);
     }
     Ok(spaces)
 }
 
 // A step of one of some namespaces, through the door of its own frames.
-fn step_over<F: Frames>(spaces: &mut [Space], ns: usize, door: &mut F, step: &Step) -> Answer
+fn step_over<A: Allocator + Clone, F: Frames>(
+    spaces: &mut [Space<A>],
+    ns: usize,
+    door: &mut F,
+    step: &Step,
+) -> Answer
     requires exists { ns < length spaces.old }
     requires fact { F.fact door.old }
     requires owns { Owns (F.live door.old) (space_at spaces.old ns) }
@@ -103,44 +114,53 @@ fn step_over<F: Frames>(spaces: &mut [Space], ns: usize, door: &mut F, step: &St
     spaces[ns].step(door, step)
 }
 
-impl Hub {
+impl<A: Allocator + Clone> Hub<A> {
     ghost use Rattle.std.specs.Prelude.{◌≡◌, ◌≢◌, ℕ, ◌<◌, length, IfOk, IfErr, IsOk, None, false};
     ghost use Rattle.pf_base.specs.Machine.{Answers, may_want_memory};
     ghost use Rattle.pf_base.specs.Events.{IsDone};
     ghost use Rattle.pf_pool.specs.Faults.{IsFault};
     ghost use Rattle.pf_hub.specs.Tenants.{tenant_at, limits_at, state_at, held_at, frames_in};
     ghost use Rattle.pf_hub.specs.Covered.{IsCovered};
-    ghost use Rattle.pf_hub.specs.Opening.{new_hub, first_fault};
+    ghost use Rattle.pf_hub.specs.Opening.{new_hub, limits_of, first_fault};
     ghost use Rattle.pf_hub.specs.Stepped.{Stepped};
     ghost use Rattle.pf_hub.specs.Isolation.{Ran, first_missing, IsRunFault, AreAlone};
 
-    /// A hub of these frames, with a namespace of each of these limits: their numbers are their places.
+    /// A hub of these frames, with a namespace of each of these limits: their numbers are their places. A namespace's files,
+    /// and nothing else, stand in memory of the allocator beside its limits.
     ///
     /// The frames keep the bytes that they have; no read of a pipe shows them. The frames and limits are tested
     /// before any memory is asked for.
-    pub fn new(alloc: Global, frames: Vec<Frame>, configs: Vec<Config>) -> Result<Hub, PoolFault>
-        ensures tested { IsOk result → first_fault (length frames.items) configs.items ≡ None }
-        ensures opened { IfOk result (λ hub. hub ≡ new_hub configs.items (length frames.items)) }
+    pub fn new(
+        alloc: Global,
+        frames: Vec<Frame>,
+        configs: Vec<(Config, A)>,
+    ) -> Result<Self, PoolFault>
+        ensures tested { IsOk result → first_fault (length frames.items) (limits_of configs.items) ≡ None }
+        ensures opened { IfOk result (λ hub. hub ≡ new_hub (limits_of configs.items) (length frames.items)) }
         ensures covered { IfOk result IsCovered }
         // the first test that fails, and want of memory only where none does
-        ensures fault { IfErr result (IsFault (first_fault (length frames.items) configs.items)) }
+        ensures fault { IfErr result (IsFault (first_fault (length frames.items) (limits_of configs.items))) }
     {
         if let Some(fault) = first_fault(frames.len(), &configs) {
             return Err(fault);
         }
-        match Hub::within(alloc, frames, &configs) {
+        match Hub::within(alloc, frames, configs) {
             Ok(hub) => Ok(hub),
             Err(_) => Err(PoolFault::NoMemory),
         }
     }
 
     // The hub of frames and limits that pass each test.
-    fn within(alloc: Global, frames: Vec<Frame>, configs: &[Config]) -> Result<Hub, AllocError>
-        requires { first_fault (length frames.items) configs.now ≡ None }
-        ensures opened { IfOk result (λ hub. hub ≡ new_hub configs.now (length frames.items)) }
+    fn within(
+        alloc: Global,
+        frames: Vec<Frame>,
+        configs: Vec<(Config, A)>,
+    ) -> Result<Self, AllocError>
+        requires { first_fault (length frames.items) (limits_of configs.items) ≡ None }
+        ensures opened { IfOk result (λ hub. hub ≡ new_hub (limits_of configs.items) (length frames.items)) }
         ensures covered { IfOk result IsCovered }
     {
-        let reserves = reserves_of(alloc, configs)?;
+        let reserves = reserves_of(alloc, &configs)?;
         let Ok(pool) = FramePool::new(alloc, frames, reserves) else {
             return Err(AllocError);
         };

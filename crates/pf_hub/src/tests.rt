@@ -19,7 +19,7 @@ fn frames(alloc: Global, count: usize, fill: Option<u8>) -> Result<Vec<Frame>, A
 }
 
 // A hub with a namespace of each of these reservations.
-fn open(alloc: Global, frames: Vec<Frame>, reserves: &[u32]) -> Result<Hub, PoolFault> {
+fn open(alloc: Global, frames: Vec<Frame>, reserves: &[u32]) -> Result<Hub<Global>, PoolFault> {
     let mut configs = Vec::new(alloc);
     for reserve in reserves {
         let Ok(config) = Config::new(
@@ -30,7 +30,7 @@ fn open(alloc: Global, frames: Vec<Frame>, reserves: &[u32]) -> Result<Hub, Pool
         ) else {
             return Err(PoolFault::NoMemory);
         };
-        if configs.push(config).is_err() {
+        if configs.push((config, alloc)).is_err() {
             return Err(PoolFault::NoMemory);
         }
     }
@@ -70,7 +70,7 @@ fn read(n: u64) -> Step {
 }
 
 // One step, where there is such a namespace.
-fn play(hub: &mut Hub, ns: u32, step: &Step) -> Answer {
+fn play(hub: &mut Hub<Global>, ns: u32, step: &Step) -> Answer {
     if ns as usize >= hub.namespaces() {
         return Answer::NoMemory;
     }
@@ -210,7 +210,13 @@ fn a_full_neighbour_takes_nothing(rt: HostRuntime) -> Result<(), Fail> {
 }
 
 // A full pipe, and an empty one again.
-fn pass(rt: &impl Abort, alloc: Global, hub: &mut Hub, ns: u32, byte: u8) -> Result<(), Fail> {
+fn pass(
+    rt: &impl Abort,
+    alloc: Global,
+    hub: &mut Hub<Global>,
+    ns: u32,
+    byte: u8,
+) -> Result<(), Fail> {
     let payload = write(alloc, byte, 65_536)?;
     assert_eq!(rt; play(hub, ns, &payload), number(65_536));
     assert_eq!(rt; (hub.held(ns), hub.free()), (16, 16));

@@ -12,6 +12,7 @@ use Rattle.std.proofs.lemmas.List.{map-append}
 use Rattle.std.proofs.lemmas.Option.{slice_get-map}
 use Rattle.pf_base.specs.Limits.{Limits}
 use Rattle.pf_base.specs.Script.{place_of, reserved}
+use Rattle.pf_hub.specs.Opening as opening
 use Rattle.pf_play.specs.Named.{named}
 
 place_from : (name : List ℕ) (i : ℕ) (entries : List (Vec ℕ Global × Limits)) → position_from (λ k. bytes_eq name k.items) i (keys_of entries) ≡ position_from (λ s. bytes_eq s.0 name) i (named entries)
@@ -40,6 +41,11 @@ none_is name entries none = none_from name 0 entries none
 pub limits_of : (entries : List (Vec ℕ Global × Limits)) → map (λ s. s.1) (named entries) ≡ values_of entries
 limits_of [] = refl
 limits_of (e ∷ es) = ap (λ ls. e.1 ∷ ls) (limits_of es)
+
+-- limits with an allocator beside each are those limits
+pub limits_beside : (alloc : Global) (limits : List Limits) → opening.limits_of (map (λ l. (l, alloc)) limits) ≡ limits
+limits_beside alloc [] = refl
+limits_beside alloc (l ∷ ls) = ap (λ rest. l ∷ rest) (limits_beside alloc ls)
 
 -- a map that a name was put into last
 pub grown : (old new : List (Vec ℕ Global × Limits)) (key : Vec ℕ Global) (limits : Limits) (name : List ℕ) → new ≡ old ++ (key, limits) ∷ [] → key.items ≡ name → named new ≡ named old ++ (name, limits) ∷ []

@@ -4,7 +4,7 @@ ghost use Rattle.pf_play.specs.Filled.{AreFilled};
 ghost use Rattle.pf_play.specs.Played.{IsPlayed};
 
 use crate::script::Script;
-use pf_base::Answer;
+use pf_base::{Answer, Config};
 use pf_frame::{Frame, PoolFault};
 use pf_hub::{Hub, RunFault};
 use std::alloc::{AllocError, Global};
@@ -28,13 +28,24 @@ pub fn frames_of(alloc: Global, count: u32, options: &Options) -> Result<Vec<Fra
     Ok(frames)
 }
 
+/// Limits, each with an allocator for its namespace's files: the global one.
+pub fn with_allocators(
+    alloc: Global,
+    limits: &[Config],
+) -> Result<Vec<(Config, Global)>, AllocError>
+    ensures { IfOk result (λ configs. configs.items ≡ map (λ l. (l, alloc)) limits.now) }
+{
+    limits.iter().map(|config| (*config, alloc)).collect(alloc)
+}
+
 /// A hub of a script's namespaces over these frames. A script reserves no more than its pool has, and keeps a hub's
 /// limits, so nothing but want of memory stops it.
-fn hub_of(alloc: Global, script: &Script, frames: Vec<Frame>) -> Result<Hub, AllocError>
+fn hub_of(alloc: Global, script: &Script, frames: Vec<Frame>) -> Result<Hub<Global>, AllocError>
     requires { length frames.items ≡ script.now.frames }
     ensures { IfOk result (λ hub. hub ≡ new_hub (map (λ s. s.1) script.now.spaces) script.now.frames) }
 {
-    let configs = script.configs(alloc)?;
+    let limits = script.configs(alloc)?;
+    let configs = with_allocators(alloc, limits.as_slice())?;
     match Hub::new(alloc, frames, configs) {
         Ok(hub) => Ok(hub),
         Err(PoolFault::NoMemory) => Err(AllocError),

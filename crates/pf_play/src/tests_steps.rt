@@ -3,7 +3,7 @@
 
 use crate::Options;
 use crate::cut::pieces;
-use crate::engine::frames_of;
+use crate::engine::{frames_of, with_allocators};
 use crate::script::read_text;
 use crate::tests_rows::{FILLS, push_words};
 use crate::text::push_answer;
@@ -247,10 +247,11 @@ const TURNS: [(u32, Row); 33] = [
 ];
 
 /// A hub of the namespaces that these lines of a script name, over frames that hold this byte throughout.
-fn open(alloc: Global, lines: &str, fill: u8) -> Result<Hub, Fail> {
+fn open(alloc: Global, lines: &str, fill: u8) -> Result<Hub<Global>, Fail> {
     let script = read_text(alloc, lines.as_bytes())?;
     let frames = frames_of(alloc, script.frames(), &Options { fill })?;
-    let configs = script.configs(alloc)?;
+    let limits = script.configs(alloc)?;
+    let configs = with_allocators(alloc, limits.as_slice())?;
     Ok(Hub::new(alloc, frames, configs)?)
 }
 
@@ -298,7 +299,7 @@ fn read_step(alloc: Global, line: &str) -> Result<Step, Fail> {
 fn told(
     rt: &impl Abort,
     alloc: Global,
-    hub: &mut Hub,
+    hub: &mut Hub<Global>,
     ns: u32,
     line: &str,
 ) -> Result<Vec<u8>, Fail> {
@@ -329,7 +330,13 @@ fn lines_of(alloc: Global, line: &str) -> Result<Vec<String>, Fail> {
 }
 
 /// Plays rows of one namespace: each step has its answer, and leaves the namespace so many frames.
-fn play(rt: &impl Abort, alloc: Global, hub: &mut Hub, ns: u32, rows: &[Row]) -> Result<(), Fail> {
+fn play(
+    rt: &impl Abort,
+    alloc: Global,
+    hub: &mut Hub<Global>,
+    ns: u32,
+    rows: &[Row],
+) -> Result<(), Fail> {
     for (line, answer, held) in rows {
         let mut text = String::new(alloc);
         push_words(&mut text, alloc, answer)?;

@@ -4,7 +4,7 @@ ghost use Rattle.pf_base.specs.Machine.{call};
 use crate::tables::Tables;
 use pf_base::{Answer, Config, Crossing, Fault, Reply, Step};
 use pf_frame::Frames;
-use std::alloc::{AllocError, Global};
+use std::alloc::{AllocError, Allocator, Global};
 use std::marker::Model;
 
 mod descriptors;
@@ -17,12 +17,12 @@ mod transfers;
 /// A contract sees its limits and the lone machine's state, with a ring in each pipe in place of its queue. The
 /// bytes stand in the frames of the door that each step is handed.
 #[derive(Drop)]
-pub struct Space {
+pub struct Space<A: Allocator> {
     alloc: Global,
-    tables: Tables,
+    tables: Tables<A>,
 }
 
-impl Model for Space {
+impl<A: Allocator> Model for Space<A> {
     ghost use Rattle.pf_space.specs.Meaning.{Namespace};
 
     ghost Value = { Namespace };
@@ -30,7 +30,7 @@ impl Model for Space {
     ghost view = { λ s. s.tables };
 }
 
-impl Space {
+impl<A: Allocator + Clone> Space<A> {
     ghost use Rattle.std.specs.Prelude.{◌≡◌, ◌≢◌, ◌≤◌, Err, IfOk, false};
     ghost use Rattle.pf_base.specs.State.{opening};
     ghost use Rattle.pf_base.specs.Machine.{Answers, call, may_want_memory};
@@ -39,11 +39,11 @@ impl Space {
     ghost use Rattle.pf_space.specs.Owns.{Owns};
     ghost use Rattle.pf_space.specs.Told.{Told};
 
-    /// A namespace at its opening state.
-    pub fn new(alloc: Global, config: Config) -> Result<Self, AllocError>
+    /// A namespace at its opening state, with its files in memory of an allocator of their own. Nothing else stands there.
+    pub fn new(alloc: Global, tree: A, config: Config) -> Result<Self, AllocError>
         ensures { IfOk result (λ s. s ≡ record { limits = config; state = opening }) }
     {
-        let tables = Tables::new(alloc, config)?;
+        let tables = Tables::new(alloc, tree, config)?;
         Ok(Space { alloc, tables })
     }
 

@@ -11,11 +11,12 @@ mod pipes;
 mod processes;
 mod transfers;
 
-use pf_base::{Config, Cred, Errno, Side};
+use pf_base::{Config, Cred, Errno, File, Side};
 use pf_fds::{Descriptions, FdTable, Key, Places, Registry};
 use pf_limits::UserPages;
 use pf_pipe::Pipe;
-use std::alloc::{AllocError, Global};
+use pf_tree::Tree;
+use std::alloc::{AllocError, Allocator, Global};
 use std::marker::Model;
 
 // A process: its credentials, and at each of its 256 descriptors the key of an open file description.
@@ -55,16 +56,18 @@ impl Description {
 /// A contract sees its limits, and the lone machine's state with a ring in each pipe in place of its queue. What nobody
 /// can reach goes at once, so the tables are swept at all times.
 #[derive(Drop)]
-pub struct Tables {
+pub struct Tables<A: Allocator> {
     // The limits, and the pages that each user and all together are charged with.
     pages: UserPages,
     // 256 places: the process of a pid is in the place before it.
     processes: Places<Process>,
     descriptions: Descriptions<Description>,
     pipes: Registry<Pipe>,
+    // The files: all that stands in memory of A.
+    files: Tree<A>,
 }
 
-impl Model for Tables {
+impl<A: Allocator> Model for Tables<A> {
     ghost use Rattle.pf_space.specs.Meaning.{Namespace};
 
     ghost Value = { Namespace };
@@ -116,13 +119,13 @@ fn end(
     Ok(*description)
 }
 
-impl Tables {
+impl<A: Allocator> Tables<A> {
     ghost use Rattle.std.specs.Prelude.{◌≡◌, IfOk};
     ghost use Rattle.pf_base.specs.State.{opening};
     ghost use Rattle.pf_base.specs.Sweep.{sweep};
 
     /// Nothing in them.
-    pub fn new(alloc: Global, config: Config) -> Result<Self, AllocError>
+    pub fn new(alloc: Global, tree: A, config: Config) -> Result<Self, AllocError>
         ensures { IfOk result (λ t. t ≡ record { limits = config; state = opening }) }
     {
         let processes = Places::new(alloc)?;
@@ -131,6 +134,7 @@ impl Tables {
             processes,
             descriptions: Descriptions::new(alloc),
             pipes: Registry::new(alloc),
+            files: Tree::new(tree, File::root()),
         })
     }
 

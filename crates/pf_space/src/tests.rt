@@ -85,7 +85,7 @@ fn filled(alloc: Global, count: u32, fill: u8) -> Result<Vec<Frame>, AllocError>
 
 // Which of the first descriptors of the first two processes may write, and how many frames could still be taken. It
 // takes no memory, and changes nothing.
-fn probed(alloc: Global, space: &mut Space, frames: &mut OwnFrames) -> ([bool; 12], u32)
+fn probed(alloc: Global, space: &mut Space<Global>, frames: &mut OwnFrames) -> ([bool; 12], u32)
     requires owns { Owns (own_live frames.old) space.old }
     ensures owns { Owns (own_live frames.new) space.new }
 {
@@ -105,7 +105,7 @@ fn probed(alloc: Global, space: &mut Space, frames: &mut OwnFrames) -> ([bool; 1
 fn answered(
     rt: &impl Abort,
     alloc: Global,
-    space: &mut Space,
+    space: &mut Space<Global>,
     frames: &mut OwnFrames,
     step: &Step,
 ) -> Answer
@@ -138,7 +138,7 @@ fn played(
         return Err(Fail::from(AllocError));
     };
     let mut frames = OwnFrames::new(alloc, filled(alloc, config.reserve(), fill)?)?;
-    let mut space = Space::new(alloc, config)?;
+    let mut space = Space::new(alloc, alloc, config)?;
     let mut answers = Vec::with_capacity(alloc, steps.len())?;
     for step in steps {
         let answer = answered(rt, alloc, &mut space, &mut frames, step);

@@ -9,8 +9,9 @@ ghost use Rattle.pf_space.specs.Told.{Told};
 use super::Space;
 use pf_base::{Fault, Reply, Step};
 use pf_frame::Frames;
+use std::alloc::Allocator;
 
-impl Space {
+impl<A: Allocator + Clone> Space<A> {
     /// A descriptor of a process goes (close(2)).
     pub(super) fn close<F: Frames>(
         &mut self,

@@ -10,8 +10,9 @@ ghost use Rattle.pf_space.specs.Told.{Told};
 use super::Space;
 use pf_base::{Errno, Fault, Reply, Step};
 use pf_frame::Frames;
+use std::alloc::Allocator;
 
-impl Space {
+impl<A: Allocator + Clone> Space<A> {
     /// Makes a pipe that has its two ends at the two lowest free descriptors of a process (pipe(2)).
     pub(super) fn pipe<F: Frames>(
         &mut self,
@@ -62,7 +63,12 @@ impl Space {
     }
 
     /// Tells the capacity of the pipe that a process's descriptor names, in bytes (fcntl(2), F_GETPIPE_SZ).
-    pub(super) fn get_size<F: Frames>(&mut self, door: &mut F, pid: u32, fd: u32) -> Result<Reply, Fault>
+    pub(super) fn get_size<F: Frames>(
+        &mut self,
+        door: &mut F,
+        pid: u32,
+        fd: u32,
+    ) -> Result<Reply, Fault>
         requires fact { F.fact door.old }
         requires owns { Owns (F.live door.old) self.old }
         ensures fact { F.fact door.new }

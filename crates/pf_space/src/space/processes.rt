@@ -9,8 +9,9 @@ ghost use Rattle.pf_space.specs.Told.{Told};
 use super::Space;
 use pf_base::{Cred, Errno, Fault, Groups, Reply, Step};
 use pf_frame::Frames;
+use std::alloc::Allocator;
 
-impl Space {
+impl<A: Allocator + Clone> Space<A> {
     /// Makes a process with these credentials and no descriptors, under the lowest free pid.
     pub(super) fn spawn<F: Frames>(
         &mut self,

@@ -10,8 +10,9 @@ ghost use Rattle.pf_space.specs.Told.{Told, called_cross};
 use super::Space;
 use pf_base::{ByteString, Crossing, Errno, Fault, Progress, Reply, Step};
 use pf_frame::Frames;
+use std::alloc::Allocator;
 
-impl Space {
+impl<A: Allocator + Clone> Space<A> {
     /// Writes bytes, as many as go in at once, into the pipe that a process's descriptor names (write(2)).
     pub(super) fn write<F: Frames>(
         &mut self,

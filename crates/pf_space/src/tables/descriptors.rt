@@ -15,6 +15,7 @@ use pf_base::{Errno, Side};
 use pf_fds::{Descriptions, Key, Places, Registry};
 use pf_frame::Frames;
 use pf_pipe::Pipe;
+use std::alloc::Allocator;
 
 // Empties a descriptor of the process in a place, and gives out the key that was there.
 fn take_key(processes: &mut Places<Process>, i: usize, fd: usize) -> Option<Key>
@@ -77,7 +78,7 @@ fn let_go(
     drop_end(pipes, end)
 }
 
-impl Tables {
+impl<A: Allocator> Tables<A> {
     // Drops a descriptor of the process in a place, if there is one, and what nobody can reach any more.
     pub(super) fn empty<F: Frames>(&mut self, door: &mut F, i: usize, fd: usize)
         requires fact { F.fact door.old }

@@ -17,7 +17,7 @@ use pf_fds::{Descriptions, Key, Places};
 use pf_frame::Frames;
 use pf_limits::UserPages;
 use pf_pipe::Pipe;
-use std::alloc::{AllocError, Global};
+use std::alloc::{AllocError, Allocator, Global};
 
 // Puts keys at two descriptors of the process in a place.
 fn set_descriptors(
@@ -106,7 +106,7 @@ fn resize(
     Ok(())
 }
 
-impl Tables {
+impl<A: Allocator> Tables<A> {
     /// The two lowest free descriptors of a process, or why it has not two.
     pub fn free_descriptors<F: Frames>(&self, door: &F, pid: u32) -> Result<(u32, u32), Errno>
         ensures { FindsTwo (meaning (F.live door.now) self.now.state) pid result }

@@ -13,9 +13,9 @@ use super::{Process, Tables, caller};
 use pf_base::{Cred, Errno, MAX_DESCRIPTORS, MAX_PROCESSES};
 use pf_fds::FdTable;
 use pf_frame::Frames;
-use std::alloc::{AllocError, Global};
+use std::alloc::{AllocError, Allocator, Global};
 
-impl Tables {
+impl<A: Allocator> Tables<A> {
     /// The lowest pid under which no process lives, if there is one.
     pub fn free_pid(&self) -> Option<u32>
         ensures some { IfSome result

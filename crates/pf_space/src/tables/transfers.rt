@@ -11,7 +11,7 @@ ghost use Rattle.pf_space.specs.Told.{attempted_read, attempted_write, attempted
 use super::{Tables, end};
 use pf_base::{Crossing, Errno, Fault, MAX_WRITE, PIPE_BUF, Progress, Side};
 use pf_frame::Frames;
-use std::alloc::Global;
+use std::alloc::{Allocator, Global};
 
 /// What a read came to: how far, and the bytes.
 #[derive(Debug, Drop)]
@@ -22,7 +22,7 @@ pub struct Taken {
     pub bytes: Vec<u8>,
 }
 
-impl Tables {
+impl<A: Allocator> Tables<A> {
     /// Puts bytes at the end of the pipe that a process's descriptor writes, as many as go in now.
     pub fn write_now<F: Frames>(
         &mut self,

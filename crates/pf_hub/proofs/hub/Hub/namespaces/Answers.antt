@@ -4,6 +4,6 @@ use Rattle.pf_hub.proofs.PoolLemmas as lemmas
 use Rattle.pf_hub.proofs.hub.Hub.namespaces.Goals as goal
 
 pub returns : goal.returns
-returns c =
+returns g c =
     let spaces : c.len.result ≡ length c.self.inside.spaces.items = search rules in
     spaces ∙ sym (lemmas.number c.self.inside.pool c.self.inside.spaces.items c.args.self.now c.self.view_is)

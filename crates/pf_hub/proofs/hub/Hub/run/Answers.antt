@@ -10,23 +10,23 @@ use Rattle.pf_hub.proofs.RunLemmas.{at_next, exists_at}
 use Rattle.pf_hub.proofs.hub.Hub.run.Goals as goal
 
 pub returns-in-Some-clause-covered : goal.returns-in-Some-clause-covered
-returns-in-Some-clause-covered c = is_covered c.self.invariant c.self.view_is
+returns-in-Some-clause-covered g c = is_covered c.self.invariant c.self.view_is
 
 pub returns-in_default-with_capacity-clause-covered : goal.returns-in_default-with_capacity-clause-covered
-returns-in_default-with_capacity-clause-covered c = is_covered c.self.invariant c.self.view_is
+returns-in_default-with_capacity-clause-covered g c = is_covered c.self.invariant c.self.view_is
 
 pub loop-event-init : goal.loop-event-init
-loop-event-init c = let covered = is_covered c.self.invariant c.self.view_is in search rules
+loop-event-init g c = let covered = is_covered c.self.invariant c.self.view_is in search rules
 
 pub step_in-answer-requires : goal.step_in-answer-requires
-step_in-answer-requires c =
+step_in-answer-requires g c =
     let d = c.event-item.result in
     let none : first_missing (length c.args.self.now.tenants) c.args.events.now ≡ None = sym c.missing.ensures ∙ c.in_default.is in
     let here = exists_at (length c.args.self.now.tenants) c.args.events.now c.loop-event.event-index d none c.loop-event-test.true in
     record { exists = subst (λ (n : ℕ). d.0 < n) (sym c.loop-event.invariant.ran.tenants) (subst (λ (e : ℕ × Step). e.0 < length c.args.self.now.tenants) (sym c.event-item.is) here) }
 
 pub loop-event-preserved : goal.loop-event-preserved
-loop-event-preserved c =
+loop-event-preserved g c =
     let e = c.event-item.result in
     let taken = take_more c.args.events.now c.loop-event.event-index e c.loop-event-test.true in
     let so = at_next c.args.self.now c.loop-event.self c.step_in-answer.new.self (take c.loop-event.event-index c.args.events.now) e c.loop-event.answers.items c.step_in-answer.result c.loop-event.invariant.ran c.step_in-answer.ensures.stepped in

@@ -6,7 +6,7 @@ use Rattle.pf_hub.specs.Isolation.{Ran}
 use Rattle.pf_hub.proofs.hub.Hub.run.Given as goal
 
 abbrev pub invariant-loop-event : goal.invariant-loop-event
-invariant-loop-event l = record {
+invariant-loop-event g l = record {
   ran : Ran l.fn.self (take l.event-index l.events) l.answers.items l.self;
   made : length l.answers.items ≡ l.event-index;
   room : vec_capacity l.answers ≡ length l.events;
