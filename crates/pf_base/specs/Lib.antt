@@ -17,6 +17,7 @@ pub mod Descriptors
 pub mod Capacities
 pub mod Pipes
 pub mod Transfers
+pub mod Files
 pub mod Machine
 pub mod Runs
 pub mod Events

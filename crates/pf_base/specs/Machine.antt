@@ -6,9 +6,11 @@ use Rattle.pf_base.specs.Refusals.{◌>>=◌}
 use Rattle.pf_base.specs.Limits.{Limits}
 use Rattle.pf_base.specs.Queue.{Queue}
 use Rattle.pf_base.specs.declared.errno.Errno.{Errno}
+use Rattle.pf_base.specs.declared.meta.Kind.TheVariants as kinds
 use Rattle.pf_base.specs.declared.progress.Crossing.TheVariants as crossings
 use Rattle.pf_base.specs.declared.step.Step.{Step}
 use Rattle.pf_base.specs.declared.step.Step.TheVariants.{Spawn, Exit, Pipe, Close, Read, Write, Tee, Splice, SetSize, GetSize}
+use Rattle.pf_base.specs.declared.step.Step.TheVariants.{Mkdir, Mkfifo, Unlink, Rmdir, Chmod, Stat, List as Lists}
 use Rattle.pf_base.specs.declared.step.Answer.{Answer}
 use Rattle.pf_base.specs.declared.step.Answer.TheVariants.{Done, NoMemory}
 use Rattle.pf_base.specs.State.{State, Outcome, settle, process, living}
@@ -16,6 +18,7 @@ use Rattle.pf_base.specs.Processes.{spawn, exit}
 use Rattle.pf_base.specs.Descriptors.{close}
 use Rattle.pf_base.specs.Pipes.{pipe, set_size, get_size}
 use Rattle.pf_base.specs.Transfers.{read, write, cross}
+use Rattle.pf_base.specs.Files.{make, unlink, rmdir, chmod, stat, list}
 use Rattle.pf_base.specs.Sweep.{sweep}
 
 -- Steps
@@ -32,6 +35,13 @@ call c s (Tee pid source sink n nonblock) = living s pid >>= (λ p. cross crossi
 call c s (Splice pid source sink n nonblock) = living s pid >>= (λ p. cross crossings.Splice s p source sink n)
 call c s (SetSize pid fd bytes) = living s pid >>= (λ p. set_size c s p fd bytes)
 call c s (GetSize pid fd) = living s pid >>= (λ p. get_size s p fd)
+call c s (Mkdir pid path mode) = living s pid >>= (λ p. make kinds.Directory s p path mode)
+call c s (Mkfifo pid path mode) = living s pid >>= (λ p. make kinds.Fifo s p path mode)
+call c s (Unlink pid path) = living s pid >>= (λ p. unlink s p path)
+call c s (Rmdir pid path) = living s pid >>= (λ p. rmdir s p path)
+call c s (Chmod pid path mode) = living s pid >>= (λ p. chmod s p path mode)
+call c s (Stat pid path) = living s pid >>= (λ p. stat s p path)
+call c s (Lists pid path) = living s pid >>= (λ p. list s p path)
 
 -- before the sweep
 abbrev pub act : Limits → State Queue → Step → Outcome
@@ -66,8 +76,16 @@ pid_of (Tee pid source sink n nonblock) = Some pid
 pid_of (Splice pid source sink n nonblock) = Some pid
 pid_of (SetSize pid fd bytes) = Some pid
 pid_of (GetSize pid fd) = Some pid
+pid_of (Mkdir pid path mode) = Some pid
+pid_of (Mkfifo pid path mode) = Some pid
+pid_of (Unlink pid path) = Some pid
+pid_of (Rmdir pid path) = Some pid
+pid_of (Chmod pid path mode) = Some pid
+pid_of (Stat pid path) = Some pid
+pid_of (Lists pid path) = Some pid
 
--- whether steps of a kind make a process or a pipe, give a pipe other slots, or hand out bytes
+-- whether steps of a kind make a process or a pipe, give a pipe other slots, hand out bytes, or walk a path, whose names
+-- stand in memory
 abbrev pub takes_memory : Step → Bool
 takes_memory (Spawn uid gid groups umask) = true
 takes_memory (Exit pid) = false
@@ -79,6 +97,13 @@ takes_memory (Tee pid source sink n nonblock) = false
 takes_memory (Splice pid source sink n nonblock) = false
 takes_memory (SetSize pid fd bytes) = true
 takes_memory (GetSize pid fd) = false
+takes_memory (Mkdir pid path mode) = true
+takes_memory (Mkfifo pid path mode) = true
+takes_memory (Unlink pid path) = true
+takes_memory (Rmdir pid path) = true
+takes_memory (Chmod pid path mode) = true
+takes_memory (Stat pid path) = true
+takes_memory (Lists pid path) = true
 
 module _ {Q : Type 0} where
   -- whether a process lives, where there is to be one

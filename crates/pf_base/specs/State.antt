@@ -5,6 +5,7 @@ use Rattle.std.specs.Prelude.{ℕ, zero, suc, ◌-◌, Bool, not, List, [], Opti
 use Rattle.std.specs.Option.{option_map, option_and_then}
 use Rattle.pf_base.specs.Refusals.{◌>>=◌, ◌>>◌, refuse_if, or_refuse}
 use Rattle.pf_base.specs.Queue.{Queue}
+use Rattle.pf_base.specs.FileMap.{Files, root_alone}
 use Rattle.pf_base.specs.Numbered.{at, put_at, clear_at, change_at}
 use Rattle.pf_base.specs.declared.TheConstants.{MAX_PROCESSES}
 use Rattle.pf_base.specs.declared.cred.Cred.{Cred}
@@ -32,11 +33,14 @@ pub record Pipe (Q : Type 0) : Type 0 where
   pub queue : Q
   pub owner : ℕ
 
--- processes: MAX_PROCESSES places, the pid 1 first. descriptions and pipes: a place for each number ever drawn
+-- processes: MAX_PROCESSES places, the pid 1 first. descriptions and pipes: a place for each number ever drawn. files: the
+-- map of the files that are there, and how many were ever made besides the root
 pub record State (Q : Type 0) : Type 0 where
   pub processes : List (Option Process)
   pub descriptions : List (Option Description)
   pub pipes : List (Option (Pipe Q))
+  pub files : Files
+  pub files_made : ℕ
 
 -- what a step leaves, and the reply to it
 pub record Outcome : Type 0 where
@@ -47,9 +51,9 @@ pub record Outcome : Type 0 where
 unfoldable pub vacant : {X : Type 0} → List (Option X)
 vacant = replicate MAX_PROCESSES None
 
--- the opening state: nothing but numbers to draw
+-- the opening state: nothing but the root directory, and numbers to draw
 abbrev pub opening : {Q : Type 0} → State Q
-opening = record { processes = vacant; descriptions = []; pipes = [] }
+opening = record { processes = vacant; descriptions = []; pipes = []; files = root_alone; files_made = 0 }
 
 -- Outcomes
 

@@ -1,12 +1,15 @@
 -- The text that a run prints.
 
-use Rattle.std.specs.Prelude.{ℕ, ◌+◌, nat_eq, List, [], ◌∷◌, ◌++◌, length, codes, decimal, if◌then◌else◌}
+use Rattle.std.specs.Prelude.{ℕ, ◌+◌, ◌/◌, ◌%◌, nat_eq, List, [], ◌∷◌, ◌++◌, length, filter, codes, decimal, if◌then◌else◌}
 use Rattle.hex.specs.Hex.{encode_lower}
 use Rattle.pf_base.specs.declared.step.Step.{Step}
 use Rattle.pf_base.specs.declared.step.Reply.{Reply}
 use Rattle.pf_base.specs.declared.step.Reply.TheVariants as kinds
 use Rattle.pf_base.specs.declared.step.Answer.{Answer}
 use Rattle.pf_base.specs.declared.step.Answer.TheVariants.{Done, NoMemory}
+use Rattle.pf_base.specs.declared.meta.Kind.{Kind}
+use Rattle.pf_base.specs.declared.meta.Kind.TheVariants.{Fifo, Directory}
+use Rattle.pf_base.specs.declared.meta.Meta.{Meta}
 use Rattle.pf_base.specs.Errors.{name_of}
 use Rattle.pf_base.specs.Limits.{Limits}
 use Rattle.pf_base.specs.Script.{Draft}
@@ -16,11 +19,35 @@ abbrev pub hex_text : List ℕ → List ℕ
 hex_text [] = codes "-"
 hex_text (b ∷ bs) = encode_lower (b ∷ bs)
 
+-- a mode in four octal digits
+abbrev pub octal_text : ℕ → List ℕ
+octal_text m = (48 + m / 512 % 8) ∷ (48 + m / 64 % 8) ∷ (48 + m / 8 % 8) ∷ (48 + m % 8) ∷ []
+
+abbrev pub kind_text : Kind → List ℕ
+kind_text Fifo = codes "fifo"
+kind_text Directory = codes "dir"
+
+abbrev pub meta_text : Meta → List ℕ
+meta_text m =
+    codes "meta " ++ kind_text m.kind ++ codes " " ++ octal_text m.mode ++ codes " " ++ decimal m.uid ++ codes " "
+    ++ decimal m.gid
+
+-- how many names there are, where each has a slash behind it
+abbrev pub number_of_names : List ℕ → ℕ
+number_of_names bytes = length (filter (λ b. nat_eq b 47) bytes)
+
+-- each name after a space: what stands before each slash. name: what is read already of the next
+unfoldable pub names_text : List ℕ → List ℕ → List ℕ
+names_text name [] = []
+names_text name (b ∷ bs) = if nat_eq b 47 then codes " " ++ name ++ names_text [] bs else names_text (name ++ b ∷ []) bs
+
 abbrev pub reply_text : Reply → List ℕ
 reply_text (kinds.Num n) = codes "num " ++ decimal n
 reply_text (kinds.Pid p) = codes "pid " ++ decimal p
 reply_text (kinds.Fds a b) = codes "fds " ++ decimal a ++ codes " " ++ decimal b
 reply_text (kinds.Bytes bytes) = codes "bytes " ++ decimal (length bytes) ++ codes " " ++ hex_text bytes
+reply_text (kinds.Names bytes) = codes "names " ++ decimal (number_of_names bytes) ++ names_text [] bytes
+reply_text (kinds.Meta m) = meta_text m
 reply_text (kinds.Err e) = codes "err " ++ name_of e
 
 abbrev pub answer_text : Answer → List ℕ

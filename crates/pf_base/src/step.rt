@@ -1,6 +1,7 @@
 use crate::bytes::ByteString;
 use crate::cred::Groups;
 use crate::errno::Errno;
+use crate::meta::Meta;
 
 /// A call of one process of a namespace. `pid`s count from 1, descriptors (`fd`) from 0.
 #[derive(Debug, PartialEq, Eq, Drop)]
@@ -66,6 +67,46 @@ pub enum Step {
         n: u64,
         nonblock: bool,
     },
+
+    // Files. A path is any bytes; a mode counts its bits as `Mode` does.
+    /// A new directory (mkdir()).
+    Mkdir {
+        pid: u32,
+        path: ByteString,
+        mode: u32,
+    },
+    /// A new FIFO (mkfifo()).
+    Mkfifo {
+        pid: u32,
+        path: ByteString,
+        mode: u32,
+    },
+    /// A FIFO's name goes (unlink()).
+    Unlink {
+        pid: u32,
+        path: ByteString,
+    },
+    /// A directory goes that has no entries (rmdir()).
+    Rmdir {
+        pid: u32,
+        path: ByteString,
+    },
+    /// A file gets another mode (chmod()).
+    Chmod {
+        pid: u32,
+        path: ByteString,
+        mode: u32,
+    },
+    /// What is known of a file (stat()).
+    Stat {
+        pid: u32,
+        path: ByteString,
+    },
+    /// The names in a directory (this profile's own).
+    List {
+        pid: u32,
+        path: ByteString,
+    },
 }
 
 /// What a process is told.
@@ -79,6 +120,10 @@ pub enum Reply {
     Fds(u32, u32),
     /// The bytes that were read.
     Bytes(ByteString),
+    /// The names in a directory, by bytes, without `.` and `..`: each with a slash behind it.
+    Names(ByteString),
+    /// What is known of a file.
+    Meta(Meta),
     /// The call was refused.
     Err(Errno),
 }

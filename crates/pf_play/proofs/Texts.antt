@@ -1,7 +1,7 @@
 -- Text that is pushed part by part.
 
-use Rattle.std.proofs.Common.{◌≡◌, ℕ, ◌+◌, ◌<◌, ◌≤◌, List, [], ◌∷◌, ◌++◌, length, take, drop, get_or, refl, ap, append_assoc, sym, ◌∙◌}
-use Rattle.std.specs.Prelude.{nat_eq, true, false, ◌≢◌, map, slice_get, Some}
+use Rattle.std.proofs.Common.{◌≡◌, ℕ, ◌+◌, ◌<◌, ◌≤◌, List, [], ◌∷◌, ◌++◌, length, take, drop, get_or, refl, ap, append_assoc, sym, ◌∙◌, arith}
+use Rattle.std.specs.Prelude.{nat_eq, zero, suc, true, false, ◌≢◌, codes, map, slice_get, Some, None, if◌then◌else◌}
 use Rattle.std.proofs.Common.{eq-eqb}
 use Rattle.std.proofs.lemmas.Bool.{ne_eqb}
 use Rattle.std.proofs.lemmas.List.{take-append-drop, append-nil}
@@ -11,7 +11,8 @@ use Rattle.hex.specs.Hex.{encode_with, encode_lower, lower_digits}
 use Rattle.pf_base.specs.declared.step.Answer.{Answer}
 use Rattle.pf_base.specs.declared.step.Step.{Step}
 use Rattle.pf_base.specs.Limits.{Limits}
-use Rattle.pf_base.specs.Text.{line_text, lines_text, answers_of, section, sections}
+use Rattle.memchr.specs.Find.{IsFirstByte, is_byte}
+use Rattle.pf_base.specs.Text.{names_text, line_text, lines_text, answers_of, section, sections}
 use Rattle.pf_play.proofs.Cutting.{next_of}
 
 encode_append : (t xs ys : List ℕ) → encode_with t (xs ++ ys) ≡ encode_with t xs ++ encode_with t ys
@@ -24,6 +25,42 @@ pub digits_on : (text rest all : List ℕ) (n : ℕ) → text ++ encode_lower re
 digits_on text rest all n same =
     append_assoc text (encode_lower (take n rest)) (encode_lower (drop n rest))
     ∙ (ap (λ t. text ++ t) (sym (encode_append lower_digits (take n rest) (drop n rest)) ∙ ap encode_lower (take-append-drop n rest)) ∙ same)
+
+-- the first name, and those behind it
+first_name : (name cs : List ℕ) (k : ℕ) → IsFirstByte (is_byte 47) cs (Some k) → names_text name cs ≡ codes " " ++ (name ++ take k cs) ++ names_text [] (drop (k + 1) cs)
+unfolding names_text
+first_name name [] k found = absurd (omega (arith, found.0.high))
+first_name name (c ∷ cs) zero found = rw (found.1, append-nil name) refl
+first_name name (c ∷ cs) (suc k) found =
+    let step : suc k + 1 ≡ suc (k + 1) = omega arith in
+    let rest = first_name (name ++ c ∷ []) cs k (record { low = omega arith; high = omega (arith, found.0.high); before = λ j low high is. found.0.before (suc j) (omega arith) (omega arith) is }, found.1) in
+    let front : (name ++ c ∷ []) ++ take k cs ≡ name ++ c ∷ take k cs = append_assoc name (c ∷ []) (take k cs) in
+    rw step (elim (nat_eq c 47) as (λ b. nat_eq c 47 ≡ b → (if b then codes " " ++ name ++ names_text [] cs else names_text (name ++ c ∷ []) cs) ≡ codes " " ++ (name ++ c ∷ take k cs) ++ names_text [] (drop (k + 1) cs)) [
+      | true ↦ λ is. absurd (found.0.before 0 (omega arith) (omega arith) is)
+      | false ↦ λ is. rest ∙ ap (λ xs. codes " " ++ xs ++ names_text [] (drop (k + 1) cs)) front
+    ] refl)
+
+no_name : (name cs : List ℕ) → IsFirstByte (is_byte 47) cs None → names_text name cs ≡ []
+unfolding names_text
+no_name name [] found = refl
+no_name name (c ∷ cs) found =
+    let rest = no_name (name ++ c ∷ []) cs (λ k low high is. found (suc k) (omega arith) (omega arith) is) in
+    elim (nat_eq c 47) as (λ b. nat_eq c 47 ≡ b → (if b then codes " " ++ name ++ names_text [] cs else names_text (name ++ c ∷ []) cs) ≡ []) [
+      | true ↦ λ is. absurd (found 0 (omega arith) (omega arith) is)
+      | false ↦ λ is. rest
+    ] refl
+
+-- a name was pushed
+pub name_on : (text rest all name : List ℕ) (k : ℕ) → IsFirstByte (is_byte 47) rest (Some k) → name ≡ take k rest → text ++ names_text [] rest ≡ all → ((text ++ codes " ") ++ name) ++ names_text [] (drop (k + 1) rest) ≡ all
+name_on text rest all name k first is same =
+    ap (λ t. t ++ names_text [] (drop (k + 1) rest)) (append_assoc text (codes " ") name)
+    ∙ append_assoc text (codes " " ++ name) (names_text [] (drop (k + 1) rest))
+    ∙ ap (λ x. text ++ ((codes " " ++ x) ++ names_text [] (drop (k + 1) rest))) is
+    ∙ ap (λ x. text ++ x) (sym (first_name [] rest k first))
+    ∙ same
+
+pub names_end : (text rest all : List ℕ) → IsFirstByte (is_byte 47) rest None → text ++ names_text [] rest ≡ all → text ≡ all
+names_end text rest all none same = sym (append-nil text) ∙ ap (λ x. text ++ x) (sym (no_name [] rest none)) ∙ same
 
 -- a line was pushed
 pub mine_on : (text all : List ℕ) (k i place : ℕ) (steps : List (ℕ × Step)) (answers : List Answer) (ds : ℕ × Step) (da : Answer) → i < length steps → i < length answers → ds ≡ get_or steps i ds → da ≡ get_or answers i da → ds.0 ≡ place →

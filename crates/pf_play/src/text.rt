@@ -1,11 +1,13 @@
-ghost use Rattle.std.specs.Prelude.{◌≡◌, ◌+◌, ◌++◌, ◌<◌, ◌≤◌, codes, decimal, length, IfOk, OnOk};
-ghost use Rattle.pf_base.specs.Text.{hex_text, reply_text, answer_text, line_text, header, section, answers_of, lines_text, sections, print};
+ghost use Rattle.std.specs.Prelude.{◌≡◌, ◌+◌, ◌++◌, ◌<◌, ◌≤◌, [], codes, decimal, length, IfOk, OnOk};
+ghost use Rattle.pf_base.specs.Text.{hex_text, octal_text, kind_text, number_of_names, names_text, meta_text, reply_text, answer_text, line_text, header, section, answers_of, lines_text, sections, print};
 ghost use Rattle.pf_play.specs.Played.{nomem_of};
 ghost use Rattle.hex.specs.Hex.{encode_lower};
 
+use crate::cut::cut_at;
 use crate::script::Script;
 use itoa::Buffer;
-use pf_base::{Answer, Reply, Step};
+use memchr::memchr;
+use pf_base::{Answer, Kind, Meta, Mode, Reply, Step};
 use std::alloc::{AllocError, Global};
 
 /// How many bytes are turned into digits at once.
@@ -55,6 +57,65 @@ fn push_bytes(text: &mut Vec<u8>, bytes: &[u8]) -> Result<(), AllocError>
     }
 }
 
+/// Pushes each name after a space, where each has a slash behind it.
+fn push_names(text: &mut Vec<u8>, bytes: &[u8]) -> Result<(), AllocError>
+    ensures { OnOk result (text.new.items ≡ text.old.items ++ names_text [] bytes.now) }
+{
+    let mut rest = bytes;
+    while let Some(k) = memchr(b'/', rest) {
+        let (name, after) = cut_at(rest, k);
+        text.extend_from_slice(b" ")?;
+        text.extend_from_slice(name)?;
+        rest = after;
+    }
+    Ok(())
+}
+
+/// How many names there are, where each has a slash behind it.
+fn count_names(bytes: &[u8]) -> usize
+    ensures { result ≡ number_of_names bytes.now }
+{
+    bytes.iter().filter(|byte| **byte == b'/').count()
+}
+
+/// Pushes a mode in four octal digits.
+fn push_mode(text: &mut Vec<u8>, mode: Mode) -> Result<(), AllocError>
+    ensures { OnOk result (text.new.items ≡ text.old.items ++ octal_text mode) }
+{
+    let bits = mode.bits();
+    let digits = [
+        b'0' + (bits / 512 % 8) as u8,
+        b'0' + (bits / 64 % 8) as u8,
+        b'0' + (bits / 8 % 8) as u8,
+        b'0' + (bits % 8) as u8,
+    ];
+    text.extend_from_slice(&digits)
+}
+
+/// Pushes the word for a kind of file.
+fn push_kind(text: &mut Vec<u8>, kind: Kind) -> Result<(), AllocError>
+    ensures { OnOk result (text.new.items ≡ text.old.items ++ kind_text kind) }
+{
+    match kind {
+        Kind::Fifo => text.extend_from_slice(b"fifo"),
+        Kind::Directory => text.extend_from_slice(b"dir"),
+    }
+}
+
+/// Pushes what is known of a file.
+fn push_meta(text: &mut Vec<u8>, meta: &Meta) -> Result<(), AllocError>
+    ensures { OnOk result (text.new.items ≡ text.old.items ++ meta_text meta.now) }
+{
+    text.extend_from_slice(b"meta ")?;
+    push_kind(text, meta.kind)?;
+    text.extend_from_slice(b" ")?;
+    push_mode(text, meta.mode)?;
+    text.extend_from_slice(b" ")?;
+    push_number(text, u64::from(meta.uid))?;
+    text.extend_from_slice(b" ")?;
+    push_number(text, u64::from(meta.gid))
+}
+
 fn push_reply(text: &mut Vec<u8>, reply: &Reply) -> Result<(), AllocError>
     ensures { OnOk result (text.new.items ≡ text.old.items ++ reply_text reply.now) }
 {
@@ -79,6 +140,12 @@ fn push_reply(text: &mut Vec<u8>, reply: &Reply) -> Result<(), AllocError>
             text.extend_from_slice(b" ")?;
             push_bytes(text, bytes.as_slice())
         }
+        Reply::Names(names) => {
+            text.extend_from_slice(b"names ")?;
+            push_number(text, count_names(names.as_slice()) as u64)?;
+            push_names(text, names.as_slice())
+        }
+        Reply::Meta(meta) => push_meta(text, meta),
         Reply::Err(errno) => {
             text.extend_from_slice(b"err ")?;
             text.extend_from_slice(errno.name().as_bytes())

@@ -5,6 +5,7 @@ use Rattle.std.specs.Option.{option_map}
 use Rattle.std.specs.List.{sum_by}
 use Rattle.std.proofs.lemmas.Bool.{eq-eqb, ne_eqb}
 use Rattle.std.proofs.lemmas.List.{map-set, set-set, get_or-set_other}
+use Rattle.pf_base.specs.FileMap.{Files}
 use Rattle.pf_base.specs.Limits.{Limits}
 use Rattle.pf_base.specs.Refusals.{◌>>=◌, ◌>>◌, refuse_if}
 use Rattle.pf_base.specs.Queue.{Queue}
@@ -63,9 +64,9 @@ set_around (x ∷ xs) (suc i) zero a b c ne = refl
 set_around (x ∷ xs) (suc i) (suc k) a b c ne = ap (λ ys. x ∷ ys) (set_around xs i k a b c (λ e. ne (ap suc e)))
 
 -- what is known before
-module _ (f : Live) (limits : Limits) (charges : UserPages) (ps : ProcessRows) (ds : DescriptionRows) (pipes : PipeRows) (k : Kept charges ps ds pipes)
-    (n : Namespace) (view : record { limits = limits; state = state_of ps ds pipes } ≡ n) (owns : Owns f n) where
-  own : Owns f (record { limits = limits; state = state_of ps ds pipes })
+module _ {files : Files} {files_made : ℕ} (f : Live) (limits : Limits) (charges : UserPages) (ps : ProcessRows) (ds : DescriptionRows) (pipes : PipeRows) (k : Kept charges ps ds pipes)
+    (n : Namespace) (view : record { limits = limits; state = state_of ps ds pipes files files_made } ≡ n) (owns : Owns f n) where
+  own : Owns f (record { limits = limits; state = state_of ps ds pipes files files_made })
   own = owned f limits charges ps ds pipes k n view owns
 
   -- The two pipes that were found, where one is taken out and the other handed out
@@ -85,17 +86,17 @@ module _ (f : Live) (limits : Limits) (charges : UserPages) (ps : ProcessRows) (
       sink_there : at (pipes_of pipes) o.pipe.serial ≡ Some (pipe_of (o.pipe.place, s))
       sink_there = there f limits charges ps ds pipes k n view owns o s to
 
-      source_ring : ring_at (rings_of (state_of ps ds pipes)) i.pipe.serial ≡ r.ring
+      source_ring : ring_at (rings_of (state_of ps ds pipes files files_made)) i.pipe.serial ≡ r.ring
       source_ring = ring_at-pipe (pipes_of pipes) i.pipe.serial (pipe_of (i.pipe.place, r)) source_there
 
-      sink_ring : ring_at (rings_of (state_of ps ds pipes)) o.pipe.serial ≡ s.ring
+      sink_ring : ring_at (rings_of (state_of ps ds pipes files files_made)) o.pipe.serial ≡ s.ring
       sink_ring = ring_at-pipe (pipes_of pipes) o.pipe.serial (pipe_of (o.pipe.place, s)) sink_there
 
       pub stand_together : Stands f (r.ring.windows ++ s.ring.windows)
       stand_together =
           subst (λ (x : Ring). Stands f (r.ring.windows ++ x.windows)) sink_ring
-          (subst (λ (x : Ring). Stands f (x.windows ++ (ring_at (rings_of (state_of ps ds pipes)) o.pipe.serial).windows)) source_ring
-          (rings_stand f (rings_of (state_of ps ds pipes)) i.pipe.serial o.pipe.serial (λ e. differ (sym e)) own.joined))
+          (subst (λ (x : Ring). Stands f (x.windows ++ (ring_at (rings_of (state_of ps ds pipes files files_made)) o.pipe.serial).windows)) source_ring
+          (rings_stand f (rings_of (state_of ps ds pipes files files_made)) i.pipe.serial o.pipe.serial (λ e. differ (sym e)) own.joined))
 
       -- what was found is put back as it was, or with other windows
       module _ (r' s' : Pipe) where
@@ -115,8 +116,8 @@ module _ (f : Live) (limits : Limits) (charges : UserPages) (ps : ProcessRows) (
             (set_same pipes o.pipe.serial (Some (o.pipe.place, s')) (ap (λ x. Some (o.pipe.place, x)) d ∙ sym (stands f limits charges ps ds pipes k n view owns o s to)))
             ∙ set_same pipes i.pipe.serial (Some (i.pipe.place, r')) (ap (λ x. Some (i.pipe.place, x)) e ∙ sym (stands f limits charges ps ds pipes k n view owns i r from))
 
-        pub same_view : r' ≡ r → s' ≡ s → record { limits = limits; state = state_of ps ds back } ≡ n
-        same_view e d = ap (λ x. record { limits = limits; state = state_of ps ds x }) (same_back e d) ∙ view
+        pub same_view : r' ≡ r → s' ≡ s → record { limits = limits; state = state_of ps ds back files files_made } ≡ n
+        same_view e d = ap (λ x. record { limits = limits; state = state_of ps ds x files files_made }) (same_back e d) ∙ view
 
         -- A transfer went from one to the other
         module _ (g : Live) (progress : Progress) (m : Crossed) (c : Crosses r r' s s' f g progress m) where
@@ -125,9 +126,9 @@ module _ (f : Live) (limits : Limits) (charges : UserPages) (ps : ProcessRows) (
 
           -- one pipe with other windows
           rewritten : (rows : PipeRows) (d : Description) (p p' : Pipe) → at (pipes_of rows) d.pipe.serial ≡ Some (pipe_of (d.pipe.place, p)) → SameButWindows p p'
-              → state_of ps ds (put_at rows d.pipe.serial (d.pipe.place, p')) ≡ with_queue (state_of ps ds rows) d.pipe.serial p'.ring
+              → state_of ps ds (put_at rows d.pipe.serial (d.pipe.place, p')) files files_made ≡ with_queue (state_of ps ds rows files files_made) d.pipe.serial p'.ring
           rewritten rows d p p' is same =
-              ap (λ xs. record { processes = processes_of ps; descriptions = descriptions_of ds; pipes = xs })
+              ap (λ xs. record { processes = processes_of ps; descriptions = descriptions_of ds; pipes = xs; files = files; files_made = files_made })
               (map-set (option_map pipe_of) rows d.pipe.serial (Some (d.pipe.place, p'))
               ∙ ap (λ (owner : ℕ). set (pipes_of rows) d.pipe.serial (Some (record { queue = p'.ring; owner = owner }))) same.owner
               ∙ ap (λ x. set (pipes_of rows) d.pipe.serial (option_map (holding p'.ring) x)) (sym is))
@@ -138,10 +139,10 @@ module _ (f : Live) (limits : Limits) (charges : UserPages) (ps : ProcessRows) (
           source_shown : at (pipes_of mid) i.pipe.serial ≡ Some (pipe_of (i.pipe.place, r))
           source_shown = shown pipe_of mid i.pipe.serial (i.pipe.place, r) source_still
 
-          sink_written : state_of ps ds mid ≡ with_queue (state_of ps ds pipes) o.pipe.serial s'.ring
+          sink_written : state_of ps ds mid files files_made ≡ with_queue (state_of ps ds pipes files files_made) o.pipe.serial s'.ring
           sink_written = rewritten pipes o s s' sink_there c.sink_is
 
-          source_written : state_of ps ds pipes' ≡ with_queue (state_of ps ds mid) i.pipe.serial r'.ring
+          source_written : state_of ps ds pipes' files files_made ≡ with_queue (state_of ps ds mid files files_made) i.pipe.serial r'.ring
           source_written = rewritten mid i r r' source_shown c.source_is
 
           crossed-tied : Tied ps ds pipes'
@@ -154,8 +155,8 @@ module _ (f : Live) (limits : Limits) (charges : UserPages) (ps : ProcessRows) (
             tied = crossed-tied;
             charged =
                 subst (Charged charges) (sym source_written)
-                (charged-with_queue charges (state_of ps ds mid) i.pipe.serial (pipe_of (i.pipe.place, r)) r'.ring source_shown c.source_is.capacity
-                (subst (Charged charges) (sym sink_written) (charged-with_queue charges (state_of ps ds pipes) o.pipe.serial (pipe_of (o.pipe.place, s)) s'.ring sink_there c.sink_is.capacity k.charged)));
+                (charged-with_queue charges (state_of ps ds mid files files_made) i.pipe.serial (pipe_of (i.pipe.place, r)) r'.ring source_shown c.source_is.capacity
+                (subst (Charged charges) (sym sink_written) (charged-with_queue charges (state_of ps ds pipes files files_made) o.pipe.serial (pipe_of (o.pipe.place, s)) s'.ring sink_there c.sink_is.capacity k.charged)));
           }
 
           pub crossed-kept : Kept charges ps ds back
@@ -165,8 +166,8 @@ module _ (f : Live) (limits : Limits) (charges : UserPages) (ps : ProcessRows) (
           abbrev between : Live
           between = c.moves.between
 
-          source_bound : (q j : ℕ) → reach q r.ring.windows ≤ limit q (ring_at (rings_of (state_of ps ds pipes)) j).windows
-          source_bound = subst (λ (x : Ring). (q j : ℕ) → reach q x.windows ≤ limit q (ring_at (rings_of (state_of ps ds pipes)) j).windows) source_ring (source_at f (rings_of (state_of ps ds pipes)) i.pipe.serial own.joined)
+          source_bound : (q j : ℕ) → reach q r.ring.windows ≤ limit q (ring_at (rings_of (state_of ps ds pipes files files_made)) j).windows
+          source_bound = subst (λ (x : Ring). (q j : ℕ) → reach q x.windows ≤ limit q (ring_at (rings_of (state_of ps ds pipes files files_made)) j).windows) source_ring (source_at f (rings_of (state_of ps ds pipes files files_made)) i.pipe.serial own.joined)
 
           sink_fits : length s'.ring.windows ≤ s'.ring.capacity
           sink_fits = c.sink_is.fits (subst (λ (x : Ring). slots_used x ≤ slots_of x) sink_ring (own.joined.fits o.pipe.serial))
@@ -174,24 +175,24 @@ module _ (f : Live) (limits : Limits) (charges : UserPages) (ps : ProcessRows) (
           source_fits : length r'.ring.windows ≤ r'.ring.capacity
           source_fits = c.source_is.fits (subst (λ (x : Ring). slots_used x ≤ slots_of x) source_ring (own.joined.fits i.pipe.serial))
 
-          joined_between : Joined between (rings_of (state_of ps ds mid))
+          joined_between : Joined between (rings_of (state_of ps ds mid files files_made))
           joined_between =
               subst (λ (x : State Ring). Joined between (rings_of x)) (sym sink_written)
-              (joined_written f between (state_of ps ds pipes) o.pipe.serial (pipe_of (o.pipe.place, s)) s'.ring r.ring.windows source_bound own.joined sink_there c.moves.copied c.sink_is.capacity sink_fits)
+              (joined_written f between (state_of ps ds pipes files files_made) o.pipe.serial (pipe_of (o.pipe.place, s)) s'.ring r.ring.windows source_bound own.joined sink_there c.moves.copied c.sink_is.capacity sink_fits)
 
-          joined_in_turn : Joined g (rings_of (state_of ps ds pipes'))
+          joined_in_turn : Joined g (rings_of (state_of ps ds pipes' files files_made))
           joined_in_turn =
               subst (λ (x : State Ring). Joined g (rings_of x)) (sym source_written)
-              (joined_written between g (state_of ps ds mid) i.pipe.serial (pipe_of (i.pipe.place, r)) r'.ring [] (no_source (rings_of (state_of ps ds mid))) joined_between source_shown c.moves.dropped c.source_is.capacity source_fits)
+              (joined_written between g (state_of ps ds mid files files_made) i.pipe.serial (pipe_of (i.pipe.place, r)) r'.ring [] (no_source (rings_of (state_of ps ds mid files files_made))) joined_between source_shown c.moves.dropped c.source_is.capacity source_fits)
 
-          pub crossed-owns : Owns g (record { limits = limits; state = state_of ps ds back })
+          pub crossed-owns : Owns g (record { limits = limits; state = state_of ps ds back files files_made })
           crossed-owns = record {
-            joined = subst (λ (rows : PipeRows). Joined g (rings_of (state_of ps ds rows))) (sym in_turn) joined_in_turn;
+            joined = subst (λ (rows : PipeRows). Joined g (rings_of (state_of ps ds rows files files_made))) (sym in_turn) joined_in_turn;
             reserve = own.reserve ∙ sym (c.moves.dropped.reservation ∙ c.moves.copied.reservation);
           }
 
           -- what was put shows the same once the source has lost it
-          sink_at_mid : ring_at (rings_of (state_of ps ds mid)) o.pipe.serial ≡ s'.ring
+          sink_at_mid : ring_at (rings_of (state_of ps ds mid files files_made)) o.pipe.serial ≡ s'.ring
           sink_at_mid =
               ring_at-pipe (pipes_of mid) o.pipe.serial (pipe_of (o.pipe.place, s'))
               (shown pipe_of mid o.pipe.serial (o.pipe.place, s') (put_there pipes o.pipe.serial (o.pipe.place, s) (o.pipe.place, s') (stands f limits charges ps ds pipes k n view owns o s to)))
@@ -201,32 +202,32 @@ module _ (f : Live) (limits : Limits) (charges : UserPages) (ps : ProcessRows) (
               put_there (z ∷ xs) zero x y h = refl
               put_there (z ∷ xs) (suc j) x y h = put_there xs j x y h
 
-          source_at_mid : ring_at (rings_of (state_of ps ds mid)) i.pipe.serial ≡ r.ring
+          source_at_mid : ring_at (rings_of (state_of ps ds mid files files_made)) i.pipe.serial ≡ r.ring
           source_at_mid = ring_at-pipe (pipes_of mid) i.pipe.serial (pipe_of (i.pipe.place, r)) source_shown
 
           sink_stays : queue_of between s'.ring ≡ queue_of g s'.ring
           sink_stays =
               sym (subst (λ (x : Ring). queue_of g x ≡ queue_of between x) sink_at_mid
-              (queue_stays between g (rings_of (state_of ps ds mid)) i.pipe.serial o.pipe.serial r'.ring [] joined_between
+              (queue_stays between g (rings_of (state_of ps ds mid files files_made)) i.pipe.serial o.pipe.serial r'.ring [] joined_between
               (subst (λ (x : Ring). Keeps [] x.windows r'.ring.windows between g) (sym source_at_mid) c.moves.dropped) (λ e. differ (sym e))))
 
-          pub crossed-state : meaning g (state_of ps ds back) ≡ sweep (with_queue (with_queue (meaning f (state_of ps ds pipes)) o.pipe.serial m.sink) i.pipe.serial m.source)
+          pub crossed-state : meaning g (state_of ps ds back files files_made) ≡ sweep (with_queue (with_queue (meaning f (state_of ps ds pipes files files_made)) o.pipe.serial m.sink) i.pipe.serial m.source)
           crossed-state =
-              ap (λ (rows : PipeRows). meaning g (state_of ps ds rows)) in_turn
-              ∙ settled-meaning g (state_of ps ds pipes') (settled ps ds pipes' crossed-tied)
+              ap (λ (rows : PipeRows). meaning g (state_of ps ds rows files files_made)) in_turn
+              ∙ settled-meaning g (state_of ps ds pipes' files files_made) (settled ps ds pipes' files files_made crossed-tied)
               ∙ ap sweep
               (ap (meaning g) source_written
-              ∙ meaning-with_queue between g (state_of ps ds mid) i.pipe.serial r'.ring (others_written between g (state_of ps ds mid) i.pipe.serial (pipe_of (i.pipe.place, r)) r'.ring [] (no_source (rings_of (state_of ps ds mid))) joined_between source_shown c.moves.dropped)
+              ∙ meaning-with_queue between g (state_of ps ds mid files files_made) i.pipe.serial r'.ring (others_written between g (state_of ps ds mid files files_made) i.pipe.serial (pipe_of (i.pipe.place, r)) r'.ring [] (no_source (rings_of (state_of ps ds mid files files_made))) joined_between source_shown c.moves.dropped)
               ∙ ap (λ x. with_queue x i.pipe.serial (queue_of g r'.ring))
               (ap (meaning between) sink_written
-              ∙ meaning-with_queue f between (state_of ps ds pipes) o.pipe.serial s'.ring (others_written f between (state_of ps ds pipes) o.pipe.serial (pipe_of (o.pipe.place, s)) s'.ring r.ring.windows source_bound own.joined sink_there c.moves.copied)
-              ∙ ap (with_queue (meaning f (state_of ps ds pipes)) o.pipe.serial) sink_stays)
-              ∙ ap (λ (x : Crossed). with_queue (with_queue (meaning f (state_of ps ds pipes)) o.pipe.serial x.sink) i.pipe.serial x.source) (sym c.told))
+              ∙ meaning-with_queue f between (state_of ps ds pipes files files_made) o.pipe.serial s'.ring (others_written f between (state_of ps ds pipes files files_made) o.pipe.serial (pipe_of (o.pipe.place, s)) s'.ring r.ring.windows source_bound own.joined sink_there c.moves.copied)
+              ∙ ap (with_queue (meaning f (state_of ps ds pipes files files_made)) o.pipe.serial) sink_stays)
+              ∙ ap (λ (x : Crossed). with_queue (with_queue (meaning f (state_of ps ds pipes files files_made)) o.pipe.serial x.sink) i.pipe.serial x.source) (sym c.told))
 
   -- No count comes near the end of its type: all slots together are within the reservation
   pub few : (o : Description) (s : Pipe) → find pipes o.pipe.place o.pipe.serial ≡ Some s → limits.reserve ≤ MAX_RESERVE → f.shares + s.ring.capacity < 2 ^ 32
   few o s to most =
-      let st : State Ring = state_of ps ds pipes in
+      let st : State Ring = state_of ps ds pipes files files_made in
       let one : s.ring.capacity ≤ pages st = pages_at (pipes_of pipes) o.pipe.serial (pipe_of (o.pipe.place, s)) (there f limits charges ps ds pipes k n view owns o s to) in
       let all : sum_by slots_used (rings_of st) ≡ occupied st = used-rings (pipes_of pipes) in
       omega (arith, own.joined.total, all, one, most, occupied_pages f (record { limits = limits; state = st }) own, pages_within f (record { limits = limits; state = st }) own)
@@ -238,7 +239,7 @@ module _ (f : Live) (limits : Limits) (charges : UserPages) (ps : ProcessRows) (
 
   module _ (c : Crossing) (pid source sink m : ℕ) where
     abbrev s : State Queue
-    s = meaning f (state_of ps ds pipes)
+    s = meaning f (state_of ps ds pipes files files_made)
 
     -- the machine's test of two ends, and what goes on from there
     abbrev test : End Queue → End Queue → Result Ends Errno
@@ -254,22 +255,22 @@ module _ (f : Live) (limits : Limits) (charges : UserPages) (ps : ProcessRows) (
     in_view r h = subst (λ (v : Namespace). attempted_cross c (meaning f v.state) pid source sink m ≡ r) view h
 
     pub no_source_end : (e : Errno) → end_in (Some sides.Read) ps ds pid source ≡ Err e → attempted_cross c (meaning f n.state) pid source sink m ≡ Err e
-    no_source_end e h = in_view (Err e) (goes_on (Err e) (first_err (λ p. reading_end s p source) (λ p. writing_end s p sink) test (living s pid) e (refused f (Some sides.Read) ps ds pipes k.tied pid source e h)))
+    no_source_end e h = in_view (Err e) (goes_on (Err e) (first_err (λ p. reading_end s p source) (λ p. writing_end s p sink) test (living s pid) e (refused f (Some sides.Read) ps ds pipes files files_made k.tied pid source e h)))
 
     module _ (i : Description) (reads : end_in (Some sides.Read) ps ds pid source ≡ Ok i) where
-      at_source : Found f (Some sides.Read) ps ds pipes pid source i
-      at_source = found f (Some sides.Read) ps ds pipes k.tied pid source i reads
+      at_source : Found f (Some sides.Read) ps ds pipes files files_made pid source i
+      at_source = found f (Some sides.Read) ps ds pipes files files_made k.tied pid source i reads
 
       pub no_sink_end : (e : Errno) → end_in (Some sides.Write) ps ds pid sink ≡ Err e → attempted_cross c (meaning f n.state) pid source sink m ≡ Err e
       no_sink_end e h =
-          in_view (Err e) (goes_on (Err e) (second_err (λ p. reading_end s p source) (λ p. writing_end s p sink) test (living s pid) (end_of_rows f i at_source.pipe) e at_source.is (refused f (Some sides.Write) ps ds pipes k.tied pid sink e h)))
+          in_view (Err e) (goes_on (Err e) (second_err (λ p. reading_end s p source) (λ p. writing_end s p sink) test (living s pid) (end_of_rows f i at_source.pipe) e at_source.is (refused f (Some sides.Write) ps ds pipes files files_made k.tied pid sink e h)))
 
       pub source_stands : IsSome (find pipes i.pipe.place i.pipe.serial)
       source_stands = ap is_some (find_at pipes i.pipe.place i.pipe.serial at_source.pipe at_source.stands)
 
       module _ (o : Description) (writes : end_in (Some sides.Write) ps ds pid sink ≡ Ok o) where
-        at_sink : Found f (Some sides.Write) ps ds pipes pid sink o
-        at_sink = found f (Some sides.Write) ps ds pipes k.tied pid sink o writes
+        at_sink : Found f (Some sides.Write) ps ds pipes files files_made pid sink o
+        at_sink = found f (Some sides.Write) ps ds pipes files files_made k.tied pid sink o writes
 
         pub sink_stands : IsSome (find pipes o.pipe.place o.pipe.serial)
         sink_stands = ap is_some (find_at pipes o.pipe.place o.pipe.serial at_sink.pipe at_sink.stands)
@@ -299,10 +300,10 @@ module _ (f : Live) (limits : Limits) (charges : UserPages) (ps : ProcessRows) (
               ∙ (λ j. Ok (try_cross c s (record { source = end_of_rows f i (same_row i at_source.pipe r at_source.stands from j); sink = end_of_rows f o (same_row o at_sink.pipe t at_sink.stands to j) }) m)))
 
           source_counts : (readers s i.pipe.serial ≡ r.readers) × (writers s i.pipe.serial ≡ r.writers)
-          source_counts = counted f (Some sides.Read) ps ds pipes k.tied pid source i.pipe.serial i.pipe.place r (find_was pipes i.pipe.place i.pipe.serial r from)
+          source_counts = counted f (Some sides.Read) ps ds pipes files files_made k.tied pid source i.pipe.serial i.pipe.place r (find_was pipes i.pipe.place i.pipe.serial r from)
 
           sink_counts : (readers s o.pipe.serial ≡ t.readers) × (writers s o.pipe.serial ≡ t.writers)
-          sink_counts = counted f (Some sides.Write) ps ds pipes k.tied pid sink o.pipe.serial o.pipe.place t (find_was pipes o.pipe.place o.pipe.serial t to)
+          sink_counts = counted f (Some sides.Write) ps ds pipes files files_made k.tied pid sink o.pipe.serial o.pipe.place t (find_was pipes o.pipe.place o.pipe.serial t to)
 
           abbrev result : Crossed
           result = cross_now c (queue_of f r.ring) (queue_of f t.ring) (writers s i.pipe.serial) (readers s o.pipe.serial) m
@@ -311,10 +312,10 @@ module _ (f : Live) (limits : Limits) (charges : UserPages) (ps : ProcessRows) (
           same_result = λ j. cross_now c (queue_of f r.ring) (queue_of f t.ring) (sym source_counts.1 j) (sym sink_counts.0 j) m
 
           -- in whatever form the rows are given
-          pub arrived : (rows : PipeRows) → rows ≡ back i o differ r t from to r' t' → Arrived g (record { limits = limits; state = state_of ps ds rows }) (attempted_cross c (meaning f n.state) pid source sink m) progress
+          pub arrived : (rows : PipeRows) → rows ≡ back i o differ r t from to r' t' → Arrived g (record { limits = limits; state = state_of ps ds rows files files_made }) (attempted_cross c (meaning f n.state) pid source sink m) progress
           arrived rows e = record {
             tried = try_cross c s ends m;
             is = is_tried;
             progress_is = ap (λ (x : Crossed). x.progress) (sym same_result ∙ crosses.told);
-            state = ap (λ (xs : PipeRows). meaning g (state_of ps ds xs)) e ∙ crossed-state i o differ r t from to r' t' g progress result (subst (Crosses r r' t t' f g progress) same_result crosses);
+            state = ap (λ (xs : PipeRows). meaning g (state_of ps ds xs files files_made)) e ∙ crossed-state i o differ r t from to r' t' g progress result (subst (Crosses r r' t t' f g progress) same_result crosses);
           }

@@ -2,6 +2,7 @@
 
 use Rattle.std.proofs.Common.{◌≡◌, ℕ, zero, suc, ◌+◌, Bool, true, false, not, Option, Some, None, IsSome, Result, Ok, Err, refl, sym, ap, subst, ◌∙◌, arith}
 use Rattle.std.specs.Option.{option_map, option_and_then}
+use Rattle.pf_base.specs.FileMap.{Files}
 use Rattle.pf_base.specs.Refusals.{◌>>=◌, ◌>>◌, refuse_if, or_refuse}
 use Rattle.pf_base.specs.Queue.{Queue}
 use Rattle.pf_base.specs.Numbered.{at}
@@ -35,15 +36,15 @@ end_of_rows f d r = record {
 }
 
 -- what is known of an end that the tables found: its pipe, and that the machine finds the same
-pub record Found (f : Live) (side : Option Side) (ps : ProcessRows) (ds : DescriptionRows) (pipes : PipeRows) (pid fd : ℕ) (d : Description) : Type 0 where
+pub record Found (f : Live) (side : Option Side) (ps : ProcessRows) (ds : DescriptionRows) (pipes : PipeRows) (files : Files) (files_made : ℕ) (pid fd : ℕ) (d : Description) : Type 0 where
   pub pipe : Pipe
   pub stands : at pipes d.pipe.serial ≡ Some (d.pipe.place, pipe)
-  pub is : (living (meaning f (state_of ps ds pipes)) pid >>= (λ p. side_end side (meaning f (state_of ps ds pipes)) p fd)) ≡ Ok (end_of_rows f d pipe)
+  pub is : (living (meaning f (state_of ps ds pipes files files_made)) pid >>= (λ p. side_end side (meaning f (state_of ps ds pipes files files_made)) p fd)) ≡ Ok (end_of_rows f d pipe)
   pub lives : IsSome (process_at ps pid)
 
-module _ (f : Live) (side : Option Side) (ps : ProcessRows) (ds : DescriptionRows) (pipes : PipeRows) (t : Tied ps ds pipes) (pid fd : ℕ) where
+module _ (f : Live) (side : Option Side) (ps : ProcessRows) (ds : DescriptionRows) (pipes : PipeRows) (files : Files) (files_made : ℕ) (t : Tied ps ds pipes) (pid fd : ℕ) where
   abbrev s : State Queue
-  s = meaning f (state_of ps ds pipes)
+  s = meaning f (state_of ps ds pipes files files_made)
 
   -- whether an end is of the side
   abbrev sided : Bool → End Queue → Result (End Queue) Errno
@@ -109,14 +110,14 @@ module _ (f : Live) (side : Option Side) (ps : ProcessRows) (ds : DescriptionRow
   agree (suc i) = by_place i (at ps i) refl
 
   both_find : (r : Result Description Errno) → end_in side ps ds pid fd ≡ r → Agrees r (living s pid >>= (λ p. side_end side s p fd))
-  both_find r h = subst (λ x. Agrees x (living s pid >>= (λ p. side_end side s p fd))) h (subst (λ x. Agrees (end_in side ps ds pid fd) (x >>= (λ p. side_end side s p fd))) (sym (living_shown f ps ds pipes pid)) (agree pid))
+  both_find r h = subst (λ x. Agrees x (living s pid >>= (λ p. side_end side s p fd))) h (subst (λ x. Agrees (end_in side ps ds pid fd) (x >>= (λ p. side_end side s p fd))) (sym (living_shown f ps ds pipes files files_made pid)) (agree pid))
 
   -- The machine refuses what the tables refuse
   pub refused : (err : Errno) → end_in side ps ds pid fd ≡ Err err → (living s pid >>= (λ p. side_end side s p fd)) ≡ Err err
   refused err h = both_find (Err err) h
 
   -- and finds what they find
-  pub found : (d : Description) → end_in side ps ds pid fd ≡ Ok d → Found f side ps ds pipes pid fd d
+  pub found : (d : Description) → end_in side ps ds pid fd ≡ Ok d → Found f side ps ds pipes files files_made pid fd d
   found d h = let w = both_find (Ok d) h in record { pipe = w.0; stands = w.1; is = w.2; lives = by_row (process_at ps pid) h }
     where
       by_row : (o : Option Process) → (or_refuse ESRCH o >>= (λ p. of_key (at p.descriptors fd))) ≡ Ok d → IsSome o
@@ -127,4 +128,4 @@ module _ (f : Live) (side : Option Side) (ps : ProcessRows) (ds : DescriptionRow
   pub counted : (n place : ℕ) (r : Pipe) → at pipes n ≡ Some (place, r) → (readers s n ≡ r.readers) × (writers s n ≡ r.writers)
   counted n place r h =
       let row = subst (UsedRow (read_by ds n + 0) (written_by ds n + 0)) h (t.uses n) in
-      (omega (arith, row.0, readers_shown ps ds pipes n), omega (arith, row.1, writers_shown ps ds pipes n))
+      (omega (arith, row.0, readers_shown ps ds pipes files files_made n), omega (arith, row.1, writers_shown ps ds pipes files files_made n))

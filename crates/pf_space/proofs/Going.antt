@@ -5,6 +5,7 @@ use Rattle.std.proofs.Common.{◌≡◌, ℕ, zero, suc, ◌-◌, ◌<◌, ◌�
 use Rattle.std.specs.Option.{option_map}
 use Rattle.std.proofs.lemmas.List.{map-set}
 use Rattle.pf_base.specs.Refusals.{◌>>=◌, or_refuse}
+use Rattle.pf_base.specs.FileMap.{Files}
 use Rattle.pf_base.specs.Limits.{Limits}
 use Rattle.pf_base.specs.Numbered.{at, clear_at}
 use Rattle.pf_base.proofs.NumberedLaws.{at-map}
@@ -36,13 +37,13 @@ use Rattle.pf_space.proofs.Shown.{shown, none_was, set_same}
 use Rattle.pf_space.proofs.Swept.{changed-swept, within_same}
 use Rattle.pf_space.proofs.Vacating.{gone}
 
-module _ (f : Live) (limits : Limits) (charges : UserPages) (ps : ProcessRows) (ds : DescriptionRows) (pipes : PipeRows) (k : Kept charges ps ds pipes)
-    (n : Namespace) (view : record { limits = limits; state = state_of ps ds pipes } ≡ n) (owns : Owns f n)
+module _ {files : Files} {files_made : ℕ} (f : Live) (limits : Limits) (charges : UserPages) (ps : ProcessRows) (ds : DescriptionRows) (pipes : PipeRows) (k : Kept charges ps ds pipes)
+    (n : Namespace) (view : record { limits = limits; state = state_of ps ds pipes files files_made } ≡ n) (owns : Owns f n)
     (i fd : ℕ) (ps' : ProcessRows) (ds' : DescriptionRows) (pipes' : PipeRows) (l : Left ps ds pipes ps' ds' pipes' i fd) where
   abbrev new : Namespace
-  new = record { limits = limits; state = state_of ps' ds' pipes' }
+  new = record { limits = limits; state = state_of ps' ds' pipes' files files_made }
 
-  owned : Owns f (record { limits = limits; state = state_of ps ds pipes })
+  owned : Owns f (record { limits = limits; state = state_of ps ds pipes files files_made })
   owned = subst (Owns f) (sym view) owns
 
   -- the state by the meaning of the one before, where the pipes that are left mean the same
@@ -52,7 +53,7 @@ module _ (f : Live) (limits : Limits) (charges : UserPages) (ps : ProcessRows) (
       (record {
         owns = own;
         limits = refl;
-        state = ap (λ xs. record { processes = processes_of ps'; descriptions = descriptions_of ds'; pipes = xs }) same ∙ ap (meaning f) l.state ∙ sym (sweep-meaning f (emptied (state_of ps ds pipes) i fd));
+        state = ap (λ xs. record { processes = processes_of ps'; descriptions = descriptions_of ds'; pipes = xs; files = files; files_made = files_made }) same ∙ ap (meaning f) (l.state files files_made) ∙ sym (sweep-meaning f (emptied (state_of ps ds pipes files files_made) i fd));
       })
 
   -- No pipe went
@@ -63,7 +64,7 @@ module _ (f : Live) (limits : Limits) (charges : UserPages) (ps : ProcessRows) (
   -- A pipe went, and its ring was cleared
   module _ (m : ℕ) (p : rows.Pipe) (there : at (pipes_of pipes) m ≡ Some (pipe_of (0, p))) (left : pipes_of pipes' ≡ clear_at (pipes_of pipes) m) where
     pub gone_stands : Stands f p.ring.windows
-    gone_stands = stands_at f (state_of ps ds pipes) m _ owned.joined there
+    gone_stands = stands_at f (state_of ps ds pipes files files_made) m _ owned.joined there
 
     -- its pages are among its owner's
     pub gone_covered : (owner pages : ℕ) → owner ≡ p.owner → pages ≡ p.ring.capacity → pages ≤ charged_to charges owner
@@ -82,25 +83,25 @@ module _ (f : Live) (limits : Limits) (charges : UserPages) (ps : ProcessRows) (
     module _ (g : Live) (keeps : Keeps [] p.ring.windows [] f g) where
       same_meaning : map (option_map (pipe_meaning g)) (clear_at (pipes_of pipes) m) ≡ map (option_map (pipe_meaning f)) (clear_at (pipes_of pipes) m)
       same_meaning =
-          pipes-without f g (pipes_of pipes) m (others_written f g (state_of ps ds pipes) m _ (record { capacity = p.ring.capacity; windows = [] }) [] (no_source (rings_of (state_of ps ds pipes))) owned.joined there keeps)
+          pipes-without f g (pipes_of pipes) m (others_written f g (state_of ps ds pipes files files_made) m _ (record { capacity = p.ring.capacity; windows = [] }) [] (no_source (rings_of (state_of ps ds pipes files files_made))) owned.joined there keeps)
           ∙ sym (map-set (option_map (pipe_meaning f)) (pipes_of pipes) m None)
 
       pub gone_becomes : Becomes f g n new (emptied (meaning f n.state) i fd)
       gone_becomes =
           away g
           (record {
-            joined = subst (λ xs. Joined g (map ring_or xs)) (sym left) (joined_gone f g (state_of ps ds pipes) m _ (record { capacity = p.ring.capacity; windows = [] }) [] (no_source (rings_of (state_of ps ds pipes))) owned.joined there keeps refl);
+            joined = subst (λ xs. Joined g (map ring_or xs)) (sym left) (joined_gone f g (state_of ps ds pipes files files_made) m _ (record { capacity = p.ring.capacity; windows = [] }) [] (no_source (rings_of (state_of ps ds pipes files files_made))) owned.joined there keeps refl);
             reserve = owned.reserve ∙ sym keeps.reservation;
           })
           (subst (λ xs. map (option_map (pipe_meaning g)) xs ≡ map (option_map (pipe_meaning f)) xs) (sym left) same_meaning)
 
 -- A process that has no descriptors
 
-module _ (f : Live) (limits : Limits) (charges : UserPages) (ps : ProcessRows) (ds : DescriptionRows) (pipes : PipeRows) (k : Kept charges ps ds pipes)
-    (n : Namespace) (view : record { limits = limits; state = state_of ps ds pipes } ≡ n)
+module _ {files : Files} {files_made : ℕ} (f : Live) (limits : Limits) (charges : UserPages) (ps : ProcessRows) (ds : DescriptionRows) (pipes : PipeRows) (k : Kept charges ps ds pipes)
+    (n : Namespace) (view : record { limits = limits; state = state_of ps ds pipes files files_made } ≡ n)
     (i : ℕ) (i_in : i < MAX_PROCESSES) (bare : (fd : ℕ) → descriptor n.state i fd ≡ None) (ps' : ProcessRows) (is : ps' ≡ clear_at ps i) where
   bare_key : (fd : ℕ) → key_at fd (at ps i) ≡ None
-  bare_key fd = none_was (λ (k : Key). k.serial) (key_at fd (at ps i)) (sym (descriptor_shown ps ds pipes i fd) ∙ ap (λ (m : Namespace). descriptor m.state i fd) view ∙ bare fd)
+  bare_key fd = none_was (λ (k : Key). k.serial) (key_at fd (at ps i)) (sym (descriptor_shown ps ds pipes files files_made i fd) ∙ ap (λ (m : Namespace). descriptor m.state i fd) view ∙ bare fd)
 
   vacated : Tied ps' ds pipes
   vacated = subst (λ x. Tied x ds pipes) (sym is) (by_place (at ps i) refl)
@@ -116,28 +117,28 @@ module _ (f : Live) (limits : Limits) (charges : UserPages) (ps : ProcessRows) (
   pub vacated-kept : Kept charges ps' ds pipes
   vacated-kept = record { tied = vacated; charged = k.charged }
 
-  pub vacated-becomes : Owns f n → Becomes f f n (record { limits = limits; state = state_of ps' ds pipes }) (without_place (meaning f n.state) i)
+  pub vacated-becomes : Owns f n → Becomes f f n (record { limits = limits; state = state_of ps' ds pipes files files_made }) (without_place (meaning f n.state) i)
   vacated-becomes owns =
-      subst (λ (m : Namespace). Owns f m → Becomes f f m (record { limits = limits; state = state_of ps' ds pipes }) (without_place (meaning f m.state) i)) view
+      subst (λ (m : Namespace). Owns f m → Becomes f f m (record { limits = limits; state = state_of ps' ds pipes files files_made }) (without_place (meaning f m.state) i)) view
       (λ o. record {
         owns = record { joined = o.joined; reserve = o.reserve };
         limits = refl;
         state = ap (meaning f)
-            (changed-swept ps' ds pipes vacated (state_of ps ds pipes) (within_same (descriptions_of ds)) (within_same (pipes_of pipes))
-            ∙ ap (λ qs. sweep (with_processes (state_of ps ds pipes) qs)) (ap processes_of is ∙ map-set (option_map process_of) ps i None))
-            ∙ sym (sweep-meaning f (without_place (state_of ps ds pipes) i));
+            (changed-swept ps' ds pipes files files_made vacated (state_of ps ds pipes files files_made) (within_same (descriptions_of ds)) (within_same (pipes_of pipes))
+            ∙ ap (λ qs. sweep (with_processes (state_of ps ds pipes files files_made) qs)) (ap processes_of is ∙ map-set (option_map process_of) ps i None))
+            ∙ sym (sweep-meaning f (without_place (state_of ps ds pipes files files_made) i));
       }) owns
 
 -- What the machine does, from what the tables find
 
-module _ (f : Live) (ps : ProcessRows) (ds : DescriptionRows) (pipes : PipeRows) (limits : Limits) (n : Namespace) (view : record { limits = limits; state = state_of ps ds pipes } ≡ n)
+module _ {files : Files} {files_made : ℕ} (f : Live) (ps : ProcessRows) (ds : DescriptionRows) (pipes : PipeRows) (limits : Limits) (n : Namespace) (view : record { limits = limits; state = state_of ps ds pipes files files_made } ≡ n)
     (pid : ℕ) (p : Process) (caller : process_in ps pid ≡ Ok p) where
   pub closed_is : (fd : ℕ) (k : Key) → at p.descriptors fd ≡ Some k → closed (meaning f n.state) pid fd ≡ Ok (emptied (meaning f n.state) (pid - 1) fd)
   closed_is fd k h =
       subst (λ (m : Namespace). closed (meaning f m.state) pid fd ≡ Ok (emptied (meaning f m.state) (pid - 1) fd)) view
-      (ap (λ r. r >>= (λ q. named q fd >>= (λ _. Ok (with_process (meaning f (state_of ps ds pipes)) pid (without_descriptor fd q))))) (lives f ps ds pipes pid p caller)
-      ∙ ap (λ o. or_refuse EBADF o >>= (λ _. Ok (with_process (meaning f (state_of ps ds pipes)) pid (without_descriptor fd (process_of p))))) (at-map (λ (k : Key). k.serial) p.descriptors fd ∙ ap (option_map (λ (k : Key). k.serial)) h)
-      ∙ ap (λ o. Ok (record (meaning f (state_of ps ds pipes)) { processes = set (processes_of ps) (pid - 1) (option_map (without_descriptor fd) o) })) (sym (shown process_of ps (pid - 1) p (place_is f ps ds pipes pid p caller))))
+      (ap (λ r. r >>= (λ q. named q fd >>= (λ _. Ok (with_process (meaning f (state_of ps ds pipes files files_made)) pid (without_descriptor fd q))))) (lives f ps ds pipes files files_made pid p caller)
+      ∙ ap (λ o. or_refuse EBADF o >>= (λ _. Ok (with_process (meaning f (state_of ps ds pipes files files_made)) pid (without_descriptor fd (process_of p))))) (at-map (λ (k : Key). k.serial) p.descriptors fd ∙ ap (option_map (λ (k : Key). k.serial)) h)
+      ∙ ap (λ o. Ok (record (meaning f (state_of ps ds pipes files files_made)) { processes = set (processes_of ps) (pid - 1) (option_map (without_descriptor fd) o) })) (sym (shown process_of ps (pid - 1) p (place_is f ps ds pipes files files_made pid p caller))))
 
   pub exited_is : exited (meaning f n.state) pid ≡ Ok (without_place (meaning f n.state) (pid - 1))
-  exited_is = subst (λ (m : Namespace). exited (meaning f m.state) pid ≡ Ok (without_place (meaning f m.state) (pid - 1))) view (ap (λ r. r >>= (λ _. Ok (without_process (meaning f (state_of ps ds pipes)) pid))) (lives f ps ds pipes pid p caller))
+  exited_is = subst (λ (m : Namespace). exited (meaning f m.state) pid ≡ Ok (without_place (meaning f m.state) (pid - 1))) view (ap (λ r. r >>= (λ _. Ok (without_process (meaning f (state_of ps ds pipes files files_made)) pid))) (lives f ps ds pipes files files_made pid p caller))

@@ -3,6 +3,7 @@ mod Closing
 mod Crossing
 mod Ends
 mod Exiting
+mod Filing
 mod Going
 mod Held
 mod Making

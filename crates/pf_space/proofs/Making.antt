@@ -3,6 +3,7 @@
 use Rattle.std.proofs.Common.{◌≡◌, ℕ, zero, suc, ◌+◌, ◌-◌, ◌≤◌, map, length, Some, None, refl, sym, ap, subst, ◌∙◌, arith}
 use Rattle.std.specs.Option.{option_map}
 use Rattle.std.proofs.lemmas.List.{map-set}
+use Rattle.pf_base.specs.FileMap.{Files}
 use Rattle.pf_base.specs.Limits.{Limits}
 use Rattle.pf_base.specs.Queue.{Queue}
 use Rattle.pf_base.specs.Numbered.{at, put_at, first_free}
@@ -26,7 +27,7 @@ becomes f g old new s owns limits is still = record { owns = owns; limits = limi
 
 -- A process under the lowest free pid
 
-module _ (charges : UserPages) (ps : ProcessRows) (ds : DescriptionRows) (pipes : PipeRows) (k : Kept charges ps ds pipes)
+module _ (charges : UserPages) (ps : ProcessRows) (ds : DescriptionRows) (pipes : PipeRows) (files : Files) (files_made : ℕ) (k : Kept charges ps ds pipes)
     (pid : ℕ) (lowest : pid ≡ first_free (processes_of ps) + 1) (within : pid ≤ MAX_PROCESSES) (p : Process) (empty : p.descriptors ≡ vacant) where
   place : pid - 1 ≡ first_free ps
   place = omega (arith, first_free-map process_of ps)
@@ -45,15 +46,15 @@ module _ (charges : UserPages) (ps : ProcessRows) (ds : DescriptionRows) (pipes 
         charged = k.charged;
       })
 
-  spawned-shown : state_of after ds pipes ≡ with_process (state_of ps ds pipes) pid (record { cred = p.cred; descriptors = vacant })
+  spawned-shown : state_of after ds pipes files files_made ≡ with_process (state_of ps ds pipes files files_made) pid (record { cred = p.cred; descriptors = vacant })
   spawned-shown =
-      ap (λ qs. record { processes = qs; descriptions = descriptions_of ds; pipes = pipes_of pipes })
+      ap (λ qs. record { processes = qs; descriptions = descriptions_of ds; pipes = pipes_of pipes; files = files; files_made = files_made })
       (map-set (option_map process_of) ps (pid - 1) (Some p)
       ∙ ap (λ xs. put_at (processes_of ps) (pid - 1) (record { cred = p.cred; descriptors = xs })) (ap (map (option_map (λ (k : Key). k.serial))) empty ∙ map-vacant (λ (k : Key). k.serial)))
 
-  pub spawned-becomes : (f : Live) (limits : Limits) (n : Namespace) → record { limits = limits; state = state_of ps ds pipes } ≡ n → Owns f n → (ps' : ProcessRows) → ps' ≡ after
-      → Becomes f f n (record { limits = limits; state = state_of ps' ds pipes }) (with_process (meaning f n.state) pid (record { cred = p.cred; descriptors = vacant }))
+  pub spawned-becomes : (f : Live) (limits : Limits) (n : Namespace) → record { limits = limits; state = state_of ps ds pipes files files_made } ≡ n → Owns f n → (ps' : ProcessRows) → ps' ≡ after
+      → Becomes f f n (record { limits = limits; state = state_of ps' ds pipes files files_made }) (with_process (meaning f n.state) pid (record { cred = p.cred; descriptors = vacant }))
   spawned-becomes f limits n view owns ps' is =
-      subst (λ (m : Namespace). Owns f m → Becomes f f m (record { limits = limits; state = state_of ps' ds pipes }) (with_process (meaning f m.state) pid (record { cred = p.cred; descriptors = vacant }))) view
-      (λ o. becomes f f (record { limits = limits; state = state_of ps ds pipes }) (record { limits = limits; state = state_of ps' ds pipes }) _ (record { joined = o.joined; reserve = o.reserve }) refl
-      (ap (λ x. meaning f (state_of x ds pipes)) is ∙ ap (meaning f) spawned-shown) (settled ps' ds pipes (spawned-kept ps' is).tied)) owns
+      subst (λ (m : Namespace). Owns f m → Becomes f f m (record { limits = limits; state = state_of ps' ds pipes files files_made }) (with_process (meaning f m.state) pid (record { cred = p.cred; descriptors = vacant }))) view
+      (λ o. becomes f f (record { limits = limits; state = state_of ps ds pipes files files_made }) (record { limits = limits; state = state_of ps' ds pipes files files_made }) _ (record { joined = o.joined; reserve = o.reserve }) refl
+      (ap (λ x. meaning f (state_of x ds pipes files files_made)) is ∙ ap (meaning f) spawned-shown) (settled ps' ds pipes files files_made (spawned-kept ps' is).tied)) owns

@@ -7,6 +7,7 @@ use Rattle.std.proofs.lemmas.Bool.Decides.{nat_tests}
 use Rattle.std.proofs.lemmas.List.{map-set, length-map, map_push, length_push, set_past, set-set}
 use Rattle.std.proofs.Math.Seq.{set-append_seam}
 use Rattle.pf_base.specs.Refusals.{◌>>=◌, refuse_if}
+use Rattle.pf_base.specs.FileMap.{Files}
 use Rattle.pf_base.specs.Limits.{Limits}
 use Rattle.pf_base.specs.Numbered.{at, put_at, change_at, first_free}
 use Rattle.pf_base.proofs.NumberedLaws.{at-push_new, at_within, at-put_same, at-first_free, first_free-map, sum_of-map}
@@ -104,11 +105,11 @@ has_room c privileged charged total slots is =
 
 -- What stands before and after
 
-module _ (f : Live) {charges : UserPages} {limits : Limits} {ps : ProcessRows} {ds : DescriptionRows} {pipes : PipeRows} (kept : Kept charges ps ds pipes)
-    {n : Namespace} (view : record { limits = limits; state = state_of ps ds pipes } ≡ n) where
+module _ {files : Files} {files_made : ℕ} (f : Live) {charges : UserPages} {limits : Limits} {ps : ProcessRows} {ds : DescriptionRows} {pipes : PipeRows} (kept : Kept charges ps ds pipes)
+    {n : Namespace} (view : record { limits = limits; state = state_of ps ds pipes files files_made } ≡ n) where
   -- what all pipes are charged with, and those of a user
   pub total_is : charges.total ≡ total (meaning f n.state)
-  total_is = subst (λ (m : Namespace). charges.total ≡ total (meaning f m.state)) view (kept.charged.total ∙ sym (total-meaning f (state_of ps ds pipes)))
+  total_is = subst (λ (m : Namespace). charges.total ≡ total (meaning f m.state)) view (kept.charged.total ∙ sym (total-meaning f (state_of ps ds pipes files files_made)))
 
   pub charged_is : (uid : ℕ) → charged_to charges uid ≡ charged (meaning f n.state) uid
   charged_is uid =
@@ -119,19 +120,19 @@ module _ (f : Live) {charges : UserPages} {limits : Limits} {ps : ProcessRows} {
   pub capacity_is : (pid : ℕ) (p : Process) → process_in ps pid ≡ Ok p → limits ≡ charges.limits
       → capacity_of_caller n.limits (meaning f n.state) pid ≡ told_as ENFILE (new_capacity charges.limits (is_privileged p.cred) (charged_to charges p.cred.uid) charges.total)
   capacity_is pid p is same =
-      ap (λ r. r >>= (λ q. told_as ENFILE (capacity_for n.limits (meaning f n.state) q.cred))) (subst (λ (m : Namespace). living (meaning f m.state) pid ≡ Ok (process_of p)) view (lives f ps ds pipes pid p is))
+      ap (λ r. r >>= (λ q. told_as ENFILE (capacity_for n.limits (meaning f n.state) q.cred))) (subst (λ (m : Namespace). living (meaning f m.state) pid ≡ Ok (process_of p)) view (lives f ps ds pipes files files_made pid p is))
       ∙ (λ j. told_as ENFILE (new_capacity ((sym (ap (λ (m : Namespace). m.limits) view) ∙ same) j) (is_privileged p.cred) (sym (charged_is p.cred.uid) j) (sym total_is j)))
 
   pub no_capacity : (pid : ℕ) (e : Errno) → process_in ps pid ≡ Err e → capacity_of_caller n.limits (meaning f n.state) pid ≡ Err e
   no_capacity pid e is =
-      ap (λ r. r >>= (λ q. told_as ENFILE (capacity_for n.limits (meaning f n.state) q.cred))) (subst (λ (m : Namespace). living (meaning f m.state) pid ≡ Err e) view (lives_not f ps ds pipes pid e is))
+      ap (λ r. r >>= (λ q. told_as ENFILE (capacity_for n.limits (meaning f n.state) q.cred))) (subst (λ (m : Namespace). living (meaning f m.state) pid ≡ Err e) view (lives_not f ps ds pipes files files_made pid e is))
 
   module _ (pid : ℕ) {p : Process} (is : process_in ps pid ≡ Ok p) where
     opener : living (meaning f n.state) pid ≡ Ok (process_of p)
-    opener = subst (λ (m : Namespace). living (meaning f m.state) pid ≡ Ok (process_of p)) view (lives f ps ds pipes pid p is)
+    opener = subst (λ (m : Namespace). living (meaning f m.state) pid ≡ Ok (process_of p)) view (lives f ps ds pipes files files_made pid p is)
 
     stands : at ps (pid - 1) ≡ Some p
-    stands = place_is f ps ds pipes pid p is
+    stands = place_is f ps ds pipes files files_made pid p is
 
     no_second : (k : Key) (a : ℕ) → a ≡ first_free p.descriptors → MAX_DESCRIPTORS ≤ a → first_free (put_at p.descriptors a k) ≡ a
     no_second k a lowest past = ap first_free (set_past p.descriptors a (Some k) (omega (arith, kept.tied.wide (pid - 1) p stands))) ∙ sym lowest
@@ -236,7 +237,7 @@ module _ (f : Live) {charges : UserPages} {limits : Limits} {ps : ProcessRows} {
             let next : m.k.serial ≡ length (descriptions_of ds) + 1 = omega (arith, m.k_is, length_push ds (Some (m.j.place, once (reading m.r nonblocking))), drawn) in
             cc
 
-        now_shown : state_of (put_at ps (pid - 1) both) ds2 pipes1 ≡ opened (state_of ps ds pipes) pid nonblocking (record { capacity = slots; windows = [] }) (process_of p)
+        now_shown : state_of (put_at ps (pid - 1) both) ds2 pipes1 files files_made ≡ opened (state_of ps ds pipes files files_made) pid nonblocking (record { capacity = slots; windows = [] }) (process_of p)
         now_shown =
             let two_more =
             map_push (option_map description_of) ds1 (Some (m.k.place, once (writing m.r nonblocking)))
@@ -248,21 +249,23 @@ module _ (f : Live) {charges : UserPages} {limits : Limits} {ps : ProcessRows} {
               processes = (map-set (option_map process_of) ps (pid - 1) (Some both) ∙ ap (λ q. put_at (processes_of ps) (pid - 1) q) keys_shown) x;
               descriptions = (two_more ∙ ap (λ r. descriptions_of ds ++ Some (machine_reading r nonblocking) ∷ Some (machine_writing r nonblocking) ∷ []) number) x;
               pipes = one_more_pipe x;
+              files = files;
+              files_made = files_made;
             }
 
-        shown : state_of ps' ds' pipes' ≡ opened n.state pid nonblocking (record { capacity = slots; windows = [] }) (process_of p)
+        shown : state_of ps' ds' pipes' files files_made ≡ opened n.state pid nonblocking (record { capacity = slots; windows = [] }) (process_of p)
         shown =
-            (λ x. state_of (processes_are x) (m.named_to x) (m.piped_to x)) ∙ now_shown
+            (λ x. state_of (processes_are x) (m.named_to x) (m.piped_to x) files files_made) ∙ now_shown
             ∙ ap (λ (o : Namespace). opened o.state pid nonblocking (record { capacity = slots; windows = [] }) (process_of p)) view
 
-        pub opens : Owns f n → total (meaning f n.state) + slots ≤ n.limits.reserve → Opens f n (record { limits = limits; state = state_of ps' ds' pipes' }) pid nonblocking slots
+        pub opens : Owns f n → total (meaning f n.state) + slots ≤ n.limits.reserve → Opens f n (record { limits = limits; state = state_of ps' ds' pipes' files files_made }) pid nonblocking slots
         opens owns fits =
             let joined = joined_opened f n.state pid nonblocking slots (process_of p) owns.joined (omega (arith, fits, owns.reserve, total-meaning f n.state)) in
             record {
               p = process_of p;
               lives = opener;
-              becomes = becomes f f n (record { limits = limits; state = state_of ps' ds' pipes' }) _
+              becomes = becomes f f n (record { limits = limits; state = state_of ps' ds' pipes' files files_made }) _
                   (record { joined = subst (λ x. Joined f (rings_of x)) (sym shown) joined; reserve = ap (λ (o : Namespace). o.limits.reserve) view ∙ owns.reserve })
                   (ap (λ (o : Namespace). o.limits) view) (ap (meaning f) shown ∙ meaning-opened f n.state pid nonblocking slots (process_of p))
-                  (settled ps' ds' pipes' tied_after);
+                  (settled ps' ds' pipes' files files_made tied_after);
             }

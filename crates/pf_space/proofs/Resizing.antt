@@ -5,6 +5,7 @@ use Rattle.std.specs.Option.{option_map}
 use Rattle.std.proofs.lemmas.Bool.{lt-ltb, le-ltb, ltb-false, cases_lt}
 use Rattle.std.proofs.lemmas.List.{map-set, length-map}
 use Rattle.std.specs.List.{sum_by}
+use Rattle.pf_base.specs.FileMap.{Files}
 use Rattle.pf_base.specs.Limits.{Limits}
 use Rattle.pf_base.specs.Permissions.{is_privileged}
 use Rattle.pf_base.specs.Refusals.{◌>>=◌, ◌>>◌, refuse_if}
@@ -65,27 +66,27 @@ refuses u v p q privileged to (faults.Errno e) z = z.1
 refuses u v p q privileged to faults.NoMemory z = z
 
 -- what is known before
-module _ (f : Live) (limits : Limits) (charges : UserPages) (ps : ProcessRows) (ds : DescriptionRows) (pipes : PipeRows) (k : Kept charges ps ds pipes)
-    (n : Namespace) (view : record { limits = limits; state = state_of ps ds pipes } ≡ n) where
+module _ {files : Files} {files_made : ℕ} (f : Live) (limits : Limits) (charges : UserPages) (ps : ProcessRows) (ds : DescriptionRows) (pipes : PipeRows) (k : Kept charges ps ds pipes)
+    (n : Namespace) (view : record { limits = limits; state = state_of ps ds pipes files files_made } ≡ n) where
   abbrev s : State Queue
-  s = meaning f (state_of ps ds pipes)
+  s = meaning f (state_of ps ds pipes files files_made)
 
   module _ (pid fd : ℕ) where
     pub no_size : (e : Errno) → end_in None ps ds pid fd ≡ Err e → size_of_end (meaning f n.state) pid fd ≡ Err e
     no_size e h =
         subst (λ (v : Namespace). size_of_end (meaning f v.state) pid fd ≡ Err e) view
-        (stops (λ p. end_of s p fd) (λ p x. Ok (PAGE_SIZE * x.pipe.queue.capacity)) (living s pid) e (refused f None ps ds pipes k.tied pid fd e h))
+        (stops (λ p. end_of s p fd) (λ p x. Ok (PAGE_SIZE * x.pipe.queue.capacity)) (living s pid) e (refused f None ps ds pipes files files_made k.tied pid fd e h))
 
     pub not_sized : (bytes : ℕ) (e : Errno) → end_in None ps ds pid fd ≡ Err e → sized n.limits (meaning f n.state) pid fd bytes ≡ Err e
     not_sized bytes e h =
         subst (λ (v : Namespace). sized v.limits (meaning f v.state) pid fd bytes ≡ Err e) view
         (stops (λ p. end_of s p fd) (λ p x. refuse_if (nat_lt MAX_SIZE bytes) EINVAL >> (refuse_if (not (is_privileged p.cred) && nat_lt limits.max (PAGE_SIZE * pages_for bytes)) EPERM
         >> (may_resize limits s p.cred x.pipe (pages_for bytes) >> Ok (done (with_queue s x.description.pipe (with_capacity (pages_for bytes) x.pipe.queue)) (PAGE_SIZE * pages_for bytes)))))
-        (living s pid) e (refused f None ps ds pipes k.tied pid fd e h))
+        (living s pid) e (refused f None ps ds pipes files files_made k.tied pid fd e h))
 
     module _ (d : Description) (h : end_in None ps ds pid fd ≡ Ok d) where
-      at_end : Found f None ps ds pipes pid fd d
-      at_end = found f None ps ds pipes k.tied pid fd d h
+      at_end : Found f None ps ds pipes files files_made pid fd d
+      at_end = found f None ps ds pipes files files_made k.tied pid fd d h
 
       pub pipe_there : IsSome (find pipes d.pipe.place d.pipe.serial)
       pipe_there = ap is_some (find_at pipes d.pipe.place d.pipe.serial at_end.pipe at_end.stands)
@@ -102,10 +103,10 @@ module _ (f : Live) (limits : Limits) (charges : UserPages) (ps : ProcessRows) (
         same_rows = set_same pipes d.pipe.serial (Some (d.pipe.place, r')) (ap (λ x. Some (d.pipe.place, x)) z.pipe ∙ sym (find_was pipes d.pipe.place d.pipe.serial r handed))
 
         pub same_kept : Kept charges' ps ds (put_at pipes d.pipe.serial (d.pipe.place, r'))
-        same_kept = subst (Kept charges' ps ds) (sym same_rows) (record { tied = k.tied; charged = charged-same charges charges' r.owner (state_of ps ds pipes) z.charges k.charged })
+        same_kept = subst (Kept charges' ps ds) (sym same_rows) (record { tied = k.tied; charged = charged-same charges charges' r.owner (state_of ps ds pipes files files_made) z.charges k.charged })
 
-        pub same_view : limits ≡ charges.limits → record { limits = charges'.limits; state = state_of ps ds (put_at pipes d.pipe.serial (d.pipe.place, r')) } ≡ n
-        same_view same = (λ j. record { limits = (z.charges.limits ∙ sym same) j; state = state_of ps ds (same_rows j) }) ∙ view
+        pub same_view : limits ≡ charges.limits → record { limits = charges'.limits; state = state_of ps ds (put_at pipes d.pipe.serial (d.pipe.place, r')) files files_made } ≡ n
+        same_view same = (λ j. record { limits = (z.charges.limits ∙ sym same) j; state = state_of ps ds (same_rows j) files files_made }) ∙ view
 
       module _ (r : Pipe) (handed : find pipes d.pipe.place d.pipe.serial ≡ Some r) where
         same_row : at_end.pipe ≡ r
@@ -124,7 +125,7 @@ module _ (f : Live) (limits : Limits) (charges : UserPages) (ps : ProcessRows) (
 
       module _ (p : Process) (is : process_in ps pid ≡ Ok p) (r : Pipe) (handed : find pipes d.pipe.place d.pipe.serial ≡ Some r) where
         caller_is : living s pid ≡ Ok (process_of p)
-        caller_is = lives f ps ds pipes pid p is
+        caller_is = lives f ps ds pipes files files_made pid p is
 
         -- what the machine says, test by test
         abbrev tests : Bool → Bool → Result (Unit {0}) Errno → ℕ → Result Outcome Errno
@@ -150,7 +151,7 @@ module _ (f : Live) (limits : Limits) (charges : UserPages) (ps : ProcessRows) (
         verdict_is to same =
             let used : length (queue_of f r.ring).segments ≡ length r.ring.windows = length-map r.ring.windows (segment_of f) in
             λ j. if nat_lt r.ring.capacity to
-            then told_as EPERM (may_grow (same j) (is_privileged p.cred) (sym (charged_is f {limits = limits} k refl r.owner) j) (sym (total_is f {limits = limits} k refl) j) r.ring.capacity to)
+            then told_as EPERM (may_grow (same j) (is_privileged p.cred) (sym (charged_is {files = files} {files_made = files_made} f {limits = limits} k refl r.owner) j) (sym (total_is {files = files} {files_made = files_made} f {limits = limits} k refl) j) r.ring.capacity to)
             else refuse_if (nat_lt to (used j)) EBUSY
 
         -- the machine refuses what the counters, or the slots in use, refuse
@@ -178,9 +179,9 @@ module _ (f : Live) (limits : Limits) (charges : UserPages) (ps : ProcessRows) (
           there : at (pipes_of pipes) d.pipe.serial ≡ Some (pipe_of (d.pipe.place, r))
           there = shown pipe_of pipes d.pipe.serial (d.pipe.place, r) (find_was pipes d.pipe.place d.pipe.serial r handed)
 
-          shows : state_of ps ds pipes' ≡ with_queue (state_of ps ds pipes) d.pipe.serial ring'
+          shows : state_of ps ds pipes' files files_made ≡ with_queue (state_of ps ds pipes files files_made) d.pipe.serial ring'
           shows =
-              ap (λ xs. record { processes = processes_of ps; descriptions = descriptions_of ds; pipes = xs })
+              ap (λ xs. record { processes = processes_of ps; descriptions = descriptions_of ds; pipes = xs; files = files; files_made = files_made })
               (map-set (option_map pipe_of) pipes d.pipe.serial (Some (d.pipe.place, r'))
               ∙ ap (λ (q : Pipe). set (pipes_of pipes) d.pipe.serial (Some (pipe_of (d.pipe.place, q)))) z.pipe
               ∙ ap (λ x. set (pipes_of pipes) d.pipe.serial (option_map (holding ring') x)) (sym there))
@@ -191,10 +192,10 @@ module _ (f : Live) (limits : Limits) (charges : UserPages) (ps : ProcessRows) (
           pub resized-kept : Kept charges' ps ds pipes'
           resized-kept = record {
             tied = tied';
-            charged = subst (Charged charges') (sym shows) (recharged charges charges' (state_of ps ds pipes) d.pipe.serial (pipe_of (d.pipe.place, r)) ring' there z.charges k.charged);
+            charged = subst (Charged charges') (sym shows) (recharged charges charges' (state_of ps ds pipes files files_made) d.pipe.serial (pipe_of (d.pipe.place, r)) ring' there z.charges k.charged);
           }
 
-          owned : Owns f (record { limits = limits; state = state_of ps ds pipes })
+          owned : Owns f (record { limits = limits; state = state_of ps ds pipes files files_made })
           owned = subst (Owns f) (sym view) owns
 
           -- all slots stay within the reservation: those of a pipe that grew, by the test, and those of one that shrank anyway
@@ -211,43 +212,43 @@ module _ (f : Live) (limits : Limits) (charges : UserPages) (ps : ProcessRows) (
               let none : nat_lt charges.limits.reserve (charges.total - r.ring.capacity + to) ≡ false = by_tests _ _ _ asked in
               omega (arith, ltb-false _ _ none, ap (λ (l : Limits). l.reserve) same)
 
-          reserve_kept : sum_by slots_of (rings_of (state_of ps ds pipes)) + to ≤ f.reserved + r.ring.capacity
+          reserve_kept : sum_by slots_of (rings_of (state_of ps ds pipes files files_made)) + to ≤ f.reserved + r.ring.capacity
           reserve_kept =
-              let all : sum_by slots_of (rings_of (state_of ps ds pipes)) ≡ charges.total = slots-rings (pipes_of pipes) ∙ sym k.charged.total in
+              let all : sum_by slots_of (rings_of (state_of ps ds pipes files files_made)) ≡ charges.total = slots-rings (pipes_of pipes) ∙ sym k.charged.total in
               let own : r.ring.capacity ≤ charges.total = omega (arith, k.charged.total, pages-without (pipes_of pipes) d.pipe.serial (pipe_of (d.pipe.place, r)) there) in
               elim (cases_lt r.ring.capacity to) [
                 | inl more ↦ omega (arith, all, own, grown more, owned.reserve)
                 | inr less ↦ omega (arith, less, owned.joined.reserve)
               ]
 
-          resized-joined : Joined f (rings_of (state_of ps ds pipes'))
+          resized-joined : Joined f (rings_of (state_of ps ds pipes' files files_made))
           resized-joined =
-              let here : ring_at (rings_of (state_of ps ds pipes)) d.pipe.serial ≡ r.ring = ring_at-pipe (pipes_of pipes) d.pipe.serial (pipe_of (d.pipe.place, r)) there in
-              let within : d.pipe.serial < length (rings_of (state_of ps ds pipes)) = subst (λ m. d.pipe.serial < m) (sym (length-map (pipes_of pipes) ring_or)) (at_within (pipes_of pipes) d.pipe.serial (pipe_of (d.pipe.place, r)) there) in
-              let joined : Joined f (set (rings_of (state_of ps ds pipes)) d.pipe.serial ring') =
-              subst (λ (x : Ring). Joined f (set (rings_of (state_of ps ds pipes)) d.pipe.serial (record { capacity = to; windows = x.windows }))) here
-              (joined_resized f (rings_of (state_of ps ds pipes)) d.pipe.serial to within owned.joined (subst (λ (x : Ring). slots_used x ≤ to) (sym here) z.fits) (omega (arith, reserve_kept, ap slots_of here))) in
+              let here : ring_at (rings_of (state_of ps ds pipes files files_made)) d.pipe.serial ≡ r.ring = ring_at-pipe (pipes_of pipes) d.pipe.serial (pipe_of (d.pipe.place, r)) there in
+              let within : d.pipe.serial < length (rings_of (state_of ps ds pipes files files_made)) = subst (λ m. d.pipe.serial < m) (sym (length-map (pipes_of pipes) ring_or)) (at_within (pipes_of pipes) d.pipe.serial (pipe_of (d.pipe.place, r)) there) in
+              let joined : Joined f (set (rings_of (state_of ps ds pipes files files_made)) d.pipe.serial ring') =
+              subst (λ (x : Ring). Joined f (set (rings_of (state_of ps ds pipes files files_made)) d.pipe.serial (record { capacity = to; windows = x.windows }))) here
+              (joined_resized f (rings_of (state_of ps ds pipes files files_made)) d.pipe.serial to within owned.joined (subst (λ (x : Ring). slots_used x ≤ to) (sym here) z.fits) (omega (arith, reserve_kept, ap slots_of here))) in
               subst (λ (x : State Ring). Joined f (rings_of x)) (sym shows)
-              (subst (Joined f) (sym (map-set ring_or (pipes_of pipes) d.pipe.serial (option_map (holding ring') (at (pipes_of pipes) d.pipe.serial)) ∙ ap (λ (o : Option (machine.Pipe Ring)). set (rings_of (state_of ps ds pipes)) d.pipe.serial (ring_or (option_map (holding ring') o))) there)) joined)
+              (subst (Joined f) (sym (map-set ring_or (pipes_of pipes) d.pipe.serial (option_map (holding ring') (at (pipes_of pipes) d.pipe.serial)) ∙ ap (λ (o : Option (machine.Pipe Ring)). set (rings_of (state_of ps ds pipes files files_made)) d.pipe.serial (ring_or (option_map (holding ring') o))) there)) joined)
 
-          pub resized-becomes : Becomes f f n (record { limits = limits; state = state_of ps ds pipes' }) (with_queue (meaning f n.state) d.pipe.serial (with_capacity to (queue_of f r.ring)))
+          pub resized-becomes : Becomes f f n (record { limits = limits; state = state_of ps ds pipes' files files_made }) (with_queue (meaning f n.state) d.pipe.serial (with_capacity to (queue_of f r.ring)))
           resized-becomes =
-              subst (λ (v : Namespace). Becomes f f v (record { limits = limits; state = state_of ps ds pipes' }) (with_queue (meaning f v.state) d.pipe.serial (with_capacity to (queue_of f r.ring)))) view
+              subst (λ (v : Namespace). Becomes f f v (record { limits = limits; state = state_of ps ds pipes' files files_made }) (with_queue (meaning f v.state) d.pipe.serial (with_capacity to (queue_of f r.ring)))) view
               (record {
                 owns = record { joined = resized-joined; reserve = owned.reserve };
                 limits = refl;
-                state = settled-meaning f (state_of ps ds pipes') (settled ps ds pipes' tied')
-                    ∙ ap sweep (ap (meaning f) shows ∙ meaning-with_queue f f (state_of ps ds pipes) d.pipe.serial ring' (record { stay = λ q ne. refl }));
+                state = settled-meaning f (state_of ps ds pipes' files files_made) (settled ps ds pipes' files files_made tied')
+                    ∙ ap sweep (ap (meaning f) shows ∙ meaning-with_queue f f (state_of ps ds pipes files files_made) d.pipe.serial ring' (record { stay = λ q ne. refl }));
               })
 
           pub sized_done : (bytes size : ℕ) → to ≡ pages_for bytes → size ≡ PAGE_SIZE * pages_for bytes → bytes ≤ MAX_SIZE → (not (is_privileged p.cred) && nat_lt limits.max (PAGE_SIZE * pages_for bytes)) ≡ false
-              → Sized f n (record { limits = charges'.limits; state = state_of ps ds pipes' }) (sized n.limits (meaning f n.state) pid fd bytes) size
+              → Sized f n (record { limits = charges'.limits; state = state_of ps ds pipes' files files_made }) (sized n.limits (meaning f n.state) pid fd bytes) size
           sized_done bytes size slots all short under = record {
             state = with_queue (meaning f n.state) d.pipe.serial (with_capacity to (queue_of f r.ring));
             is =
                 sized_as bytes (Ok tt) short under (ap (λ m. may_resize limits s p.cred (end_of_rows f d r).pipe m) (sym slots) ∙ verdict_is to same ∙ z.may)
                 ∙ (λ j. Ok (done (with_queue (meaning f (view j).state) d.pipe.serial (with_capacity (sym slots j) (queue_of f r.ring))) (sym all j)));
-            becomes = subst (λ (l : Limits). Becomes f f n (record { limits = l; state = state_of ps ds pipes' }) (with_queue (meaning f n.state) d.pipe.serial (with_capacity to (queue_of f r.ring)))) (sym (z.charges.limits ∙ sym same)) resized-becomes;
+            becomes = subst (λ (l : Limits). Becomes f f n (record { limits = l; state = state_of ps ds pipes' files files_made }) (with_queue (meaning f n.state) d.pipe.serial (with_capacity to (queue_of f r.ring)))) (sym (z.charges.limits ∙ sym same)) resized-becomes;
           }
 
       -- a capacity that nobody may ask for, and one that an unprivileged caller may not

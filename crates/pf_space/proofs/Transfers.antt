@@ -4,6 +4,7 @@ use Rattle.std.proofs.Common.{◌≡◌, ℕ, zero, suc, ◌+◌, ◌-◌, ◌<�
 use Rattle.std.specs.Option.{option_map}
 use Rattle.std.proofs.lemmas.Bool.{lt-ltb, le-ltb}
 use Rattle.std.proofs.lemmas.List.{map-set}
+use Rattle.pf_base.specs.FileMap.{Files}
 use Rattle.pf_base.specs.Limits.{Limits}
 use Rattle.pf_base.specs.Refusals.{◌>>=◌, ◌>>◌, refuse_if}
 use Rattle.pf_base.specs.Queue.{Queue, taken}
@@ -44,9 +45,9 @@ bind-bind (Ok a) h go = refl
 bind-bind (Err e) h go = refl
 
 -- what is known before
-module _ (f : Live) (limits : Limits) (charges : UserPages) (ps : ProcessRows) (ds : DescriptionRows) (pipes : PipeRows) (k : Kept charges ps ds pipes)
-    (n : Namespace) (view : record { limits = limits; state = state_of ps ds pipes } ≡ n) (owns : Owns f n) where
-  pub owned : Owns f (record { limits = limits; state = state_of ps ds pipes })
+module _ {files : Files} {files_made : ℕ} (f : Live) (limits : Limits) (charges : UserPages) (ps : ProcessRows) (ds : DescriptionRows) (pipes : PipeRows) (k : Kept charges ps ds pipes)
+    (n : Namespace) (view : record { limits = limits; state = state_of ps ds pipes files files_made } ≡ n) (owns : Owns f n) where
+  pub owned : Owns f (record { limits = limits; state = state_of ps ds pipes files files_made })
   owned = subst (Owns f) (sym view) owns
 
   -- The pipe that was found, where it is handed out
@@ -58,10 +59,10 @@ module _ (f : Live) (limits : Limits) (charges : UserPages) (ps : ProcessRows) (
     there = shown pipe_of pipes d.pipe.serial (d.pipe.place, r) stands
 
     pub stands_in : Stands f r.ring.windows
-    stands_in = stands_at f (state_of ps ds pipes) d.pipe.serial (pipe_of (d.pipe.place, r)) owned.joined there
+    stands_in = stands_at f (state_of ps ds pipes files files_made) d.pipe.serial (pipe_of (d.pipe.place, r)) owned.joined there
 
     pub credits : IsSound f → f.held + (r.ring.capacity - length r.ring.windows) ≤ f.reserved
-    credits sound = credits_at f (state_of ps ds pipes) d.pipe.serial (pipe_of (d.pipe.place, r)) sound owned.joined there
+    credits sound = credits_at f (state_of ps ds pipes files files_made) d.pipe.serial (pipe_of (d.pipe.place, r)) sound owned.joined there
 
     pub same_pipes : (r' : Pipe) → r' ≡ r → put_at pipes d.pipe.serial (d.pipe.place, r') ≡ pipes
     same_pipes r' e = set_same pipes d.pipe.serial (Some (d.pipe.place, r')) (ap (λ x. Some (d.pipe.place, x)) e ∙ sym stands)
@@ -69,8 +70,8 @@ module _ (f : Live) (limits : Limits) (charges : UserPages) (ps : ProcessRows) (
     pub same_kept : (r' : Pipe) → r' ≡ r → Kept charges ps ds (put_at pipes d.pipe.serial (d.pipe.place, r'))
     same_kept r' e = subst (Kept charges ps ds) (sym (same_pipes r' e)) k
 
-    pub same_view : (r' : Pipe) → r' ≡ r → record { limits = limits; state = state_of ps ds (put_at pipes d.pipe.serial (d.pipe.place, r')) } ≡ n
-    same_view r' e = ap (λ x. record { limits = limits; state = state_of ps ds x }) (same_pipes r' e) ∙ view
+    pub same_view : (r' : Pipe) → r' ≡ r → record { limits = limits; state = state_of ps ds (put_at pipes d.pipe.serial (d.pipe.place, r')) files files_made } ≡ n
+    same_view r' e = ap (λ x. record { limits = limits; state = state_of ps ds x files files_made }) (same_pipes r' e) ∙ view
 
     -- A transfer went through it
     module _ (g : Live) (r' : Pipe) (progress : Progress) (m : Passed) (passes : Passes r r' f g progress m) where
@@ -80,9 +81,9 @@ module _ (f : Live) (limits : Limits) (charges : UserPages) (ps : ProcessRows) (
       fits : length r'.ring.windows ≤ r'.ring.capacity
       fits = passes.fits (subst (λ (x : Ring). slots_used x ≤ slots_of x) (ring_at-pipe (pipes_of pipes) d.pipe.serial (pipe_of (d.pipe.place, r)) there) (owned.joined.fits d.pipe.serial))
 
-      shows : state_of ps ds pipes' ≡ with_queue (state_of ps ds pipes) d.pipe.serial r'.ring
+      shows : state_of ps ds pipes' files files_made ≡ with_queue (state_of ps ds pipes files files_made) d.pipe.serial r'.ring
       shows =
-          ap (λ xs. record { processes = processes_of ps; descriptions = descriptions_of ds; pipes = xs })
+          ap (λ xs. record { processes = processes_of ps; descriptions = descriptions_of ds; pipes = xs; files = files; files_made = files_made })
           (map-set (option_map pipe_of) pipes d.pipe.serial (Some (d.pipe.place, r'))
           ∙ ap (λ (o : ℕ). set (pipes_of pipes) d.pipe.serial (Some (record { queue = r'.ring; owner = o }))) passes.owner
           ∙ ap (λ o. set (pipes_of pipes) d.pipe.serial (option_map (holding r'.ring) o)) (sym there))
@@ -90,47 +91,47 @@ module _ (f : Live) (limits : Limits) (charges : UserPages) (ps : ProcessRows) (
       pub passed-kept : Kept charges ps ds pipes'
       passed-kept = record {
         tied = requeued [] [] ps ds pipes d.pipe r stands r' passes.readers passes.writers k.tied;
-        charged = subst (Charged charges) (sym shows) (charged-with_queue charges (state_of ps ds pipes) d.pipe.serial (pipe_of (d.pipe.place, r)) r'.ring there passes.capacity k.charged);
+        charged = subst (Charged charges) (sym shows) (charged-with_queue charges (state_of ps ds pipes files files_made) d.pipe.serial (pipe_of (d.pipe.place, r)) r'.ring there passes.capacity k.charged);
       }
 
-      pub passed-owns : Owns g (record { limits = limits; state = state_of ps ds pipes' })
+      pub passed-owns : Owns g (record { limits = limits; state = state_of ps ds pipes' files files_made })
       passed-owns = record {
-        joined = subst (λ (s : State Ring). Joined g (rings_of s)) (sym shows) (joined_written f g (state_of ps ds pipes) d.pipe.serial (pipe_of (d.pipe.place, r)) r'.ring [] (no_source (rings_of (state_of ps ds pipes))) owned.joined there passes.keeps passes.capacity fits);
+        joined = subst (λ (s : State Ring). Joined g (rings_of s)) (sym shows) (joined_written f g (state_of ps ds pipes files files_made) d.pipe.serial (pipe_of (d.pipe.place, r)) r'.ring [] (no_source (rings_of (state_of ps ds pipes files files_made))) owned.joined there passes.keeps passes.capacity fits);
         reserve = owned.reserve ∙ sym passes.keeps.reservation;
       }
 
-      pub passed-state : meaning g (state_of ps ds pipes') ≡ sweep (with_queue (meaning f (state_of ps ds pipes)) d.pipe.serial m.queue)
+      pub passed-state : meaning g (state_of ps ds pipes' files files_made) ≡ sweep (with_queue (meaning f (state_of ps ds pipes files files_made)) d.pipe.serial m.queue)
       passed-state =
-          settled-meaning g (state_of ps ds pipes') (settled ps ds pipes' passed-kept.tied)
+          settled-meaning g (state_of ps ds pipes' files files_made) (settled ps ds pipes' files files_made passed-kept.tied)
           ∙ ap sweep
           (ap (meaning g) shows
-          ∙ meaning-with_queue f g (state_of ps ds pipes) d.pipe.serial r'.ring (others_written f g (state_of ps ds pipes) d.pipe.serial (pipe_of (d.pipe.place, r)) r'.ring [] (no_source (rings_of (state_of ps ds pipes))) owned.joined there passes.keeps)
-          ∙ ap (with_queue (meaning f (state_of ps ds pipes)) d.pipe.serial) (sym (ap (λ (p : Passed). p.queue) passes.told)))
+          ∙ meaning-with_queue f g (state_of ps ds pipes files files_made) d.pipe.serial r'.ring (others_written f g (state_of ps ds pipes files files_made) d.pipe.serial (pipe_of (d.pipe.place, r)) r'.ring [] (no_source (rings_of (state_of ps ds pipes files files_made))) owned.joined there passes.keeps)
+          ∙ ap (with_queue (meaning f (state_of ps ds pipes files files_made)) d.pipe.serial) (sym (ap (λ (p : Passed). p.queue) passes.told)))
 
   -- What the machine does, from what the tables find
 
   module _ (pid fd : ℕ) where
     abbrev s : State Queue
-    s = meaning f (state_of ps ds pipes)
+    s = meaning f (state_of ps ds pipes files files_made)
 
     pub no_write : (x : List ℕ) (e : Errno) → end_in (Some sides.Write) ps ds pid fd ≡ Err e → attempted_write (meaning f n.state) pid fd x ≡ Err e
     no_write x e h =
         subst (λ (v : Namespace). attempted_write (meaning f v.state) pid fd x ≡ Err e) view
-        (bind-bind (living s pid) (λ p. writing_end s p fd) _ ∙ ap (λ r. r >>= (λ e. refuse_if (nat_lt MAX_WRITE (length x)) EINVAL >> Ok (try_write s e x))) (refused f (Some sides.Write) ps ds pipes k.tied pid fd e h))
+        (bind-bind (living s pid) (λ p. writing_end s p fd) _ ∙ ap (λ r. r >>= (λ e. refuse_if (nat_lt MAX_WRITE (length x)) EINVAL >> Ok (try_write s e x))) (refused f (Some sides.Write) ps ds pipes files files_made k.tied pid fd e h))
 
     pub no_read : (m : ℕ) (e : Errno) → end_in (Some sides.Read) ps ds pid fd ≡ Err e → attempted_read (meaning f n.state) pid fd m ≡ Err e
     no_read m e h =
         subst (λ (v : Namespace). attempted_read (meaning f v.state) pid fd m ≡ Err e) view
-        (bind-bind (living s pid) (λ p. reading_end s p fd) _ ∙ ap (λ r. r >>= (λ e. Ok (try_read s e m))) (refused f (Some sides.Read) ps ds pipes k.tied pid fd e h))
+        (bind-bind (living s pid) (λ p. reading_end s p fd) _ ∙ ap (λ r. r >>= (λ e. Ok (try_read s e m))) (refused f (Some sides.Read) ps ds pipes files files_made k.tied pid fd e h))
 
     module _ (d : Description) where
       pub pipe_there : (side : Option Side) → end_in side ps ds pid fd ≡ Ok d → IsSome (find pipes d.pipe.place d.pipe.serial)
-      pipe_there side h = let w = found f side ps ds pipes k.tied pid fd d h in ap is_some (find_at pipes d.pipe.place d.pipe.serial w.pipe w.stands)
+      pipe_there side h = let w = found f side ps ds pipes files files_made k.tied pid fd d h in ap is_some (find_at pipes d.pipe.place d.pipe.serial w.pipe w.stands)
 
       pub lives : (side : Option Side) → end_in side ps ds pid fd ≡ Ok d → IsSome (process n.state pid)
-      lives side h = subst (λ (v : Namespace). IsSome (process v.state pid)) view (by_pid pid (found f side ps ds pipes k.tied pid fd d h).lives)
+      lives side h = subst (λ (v : Namespace). IsSome (process v.state pid)) view (by_pid pid (found f side ps ds pipes files files_made k.tied pid fd d h).lives)
         where
-          by_pid : (i : ℕ) → IsSome (process_at ps i) → IsSome (process (state_of ps ds pipes) i)
+          by_pid : (i : ℕ) → IsSome (process_at ps i) → IsSome (process (state_of ps ds pipes files files_made) i)
           by_pid zero h = h
           by_pid (suc i) h = rw (at-map process_of ps i) (some (at ps i) h)
             where
@@ -142,7 +143,7 @@ module _ (f : Live) (limits : Limits) (charges : UserPages) (ps : ProcessRows) (
       through : (side : Option Side) {B : Type 0} (go : End Queue → Result B Errno) (r : Pipe) → end_in side ps ds pid fd ≡ Ok d → find pipes d.pipe.place d.pipe.serial ≡ Some r
           → (living s pid >>= (λ p. side_end side s p fd >>= go)) ≡ go (end_of_rows f d r)
       through side go r h handed =
-          let w = found f side ps ds pipes k.tied pid fd d h in
+          let w = found f side ps ds pipes files files_made k.tied pid fd d h in
           let one : ◌≡◌ {A = Option (ℕ × Pipe)} (Some (d.pipe.place, w.pipe)) (Some (d.pipe.place, r)) = sym w.stands ∙ find_was pipes d.pipe.place d.pipe.serial r handed in
           let pair : ◌≡◌ {A = ℕ × Pipe} (d.pipe.place, w.pipe) (d.pipe.place, r) = cc in
           let same : w.pipe ≡ r = ap (λ (x : ℕ × Pipe). x.1) pair in
@@ -150,7 +151,7 @@ module _ (f : Live) (limits : Limits) (charges : UserPages) (ps : ProcessRows) (
 
       pub too_long : (x : List ℕ) → end_in (Some sides.Write) ps ds pid fd ≡ Ok d → MAX_WRITE < length x → attempted_write (meaning f n.state) pid fd x ≡ Err EINVAL
       too_long x h long =
-          let w = found f (Some sides.Write) ps ds pipes k.tied pid fd d h in
+          let w = found f (Some sides.Write) ps ds pipes files files_made k.tied pid fd d h in
           let go : Bool → Result Tried Errno = λ b. refuse_if b EINVAL >> Ok (try_write s (end_of_rows f d w.pipe) x) in
           subst (λ (v : Namespace). attempted_write (meaning f v.state) pid fd x ≡ Err EINVAL) view
           (through (Some sides.Write) (λ e. refuse_if (nat_lt MAX_WRITE (length x)) EINVAL >> Ok (try_write s e x)) w.pipe h (find_at pipes d.pipe.place d.pipe.serial w.pipe w.stands)
@@ -159,10 +160,10 @@ module _ (f : Live) (limits : Limits) (charges : UserPages) (ps : ProcessRows) (
       -- what a transfer through the pipe that was found left
       module _ (r : Pipe) (handed : find pipes d.pipe.place d.pipe.serial ≡ Some r) (g : Live) (r' : Pipe) (progress : Progress) where
         counts : (readers s d.pipe.serial ≡ r.readers) × (writers s d.pipe.serial ≡ r.writers)
-        counts = counted f (Some sides.Read) ps ds pipes k.tied pid fd d.pipe.serial d.pipe.place r (find_was pipes d.pipe.place d.pipe.serial r handed)
+        counts = counted f (Some sides.Read) ps ds pipes files files_made k.tied pid fd d.pipe.serial d.pipe.place r (find_was pipes d.pipe.place d.pipe.serial r handed)
 
         abbrev after : Namespace
-        after = record { limits = limits; state = state_of ps ds (put_at pipes d.pipe.serial (d.pipe.place, r')) }
+        after = record { limits = limits; state = state_of ps ds (put_at pipes d.pipe.serial (d.pipe.place, r')) files files_made }
 
         pub wrote : (x : List ℕ) (whole : Bool) → end_in (Some sides.Write) ps ds pid fd ≡ Ok d → length x ≤ MAX_WRITE → whole ≡ nat_le (length x) PIPE_BUF
             → Passes r r' f g progress (write_now (queue_of f r.ring) r.readers whole x) → Came g after (attempted_write (meaning f n.state) pid fd x) progress (take (moved progress) x)

@@ -4,14 +4,15 @@ use Rattle.std.proofs.Common.{◌≡◌, ℕ, ◌<◌, [], length, map, subst, r
 use Rattle.std.specs.Option.{option_map}
 use Rattle.std.proofs.lemmas.Bool.{cases_lt}
 use Rattle.std.proofs.lemmas.List.{length-map, length-replicate, get_or-replicate}
+use Rattle.pf_base.specs.FileMap.{Files, root_alone}
 use Rattle.pf_base.specs.Limits.{Limits}
 use Rattle.pf_base.specs.Numbered.{at, put_at, clear_at, weight}
 use Rattle.pf_base.proofs.NumberedLaws.{at-map, at_past, same_at, sum_of-none}
 use Rattle.pf_base.specs.State.{vacant, opening}
 use Rattle.pf_base.specs.declared.TheConstants.{MAX_PROCESSES, MAX_DESCRIPTORS}
 use Rattle.pf_limits.specs.UserPages.{UserPages}
-use Rattle.pf_space.specs.Meaning.{Charged}
-use Rattle.pf_space.specs.Rows.{ProcessRows, DescriptionRows, PipeRows, Process, process_of, state_of, keys_of, keys_to, names_it, Tied}
+use Rattle.pf_space.specs.Meaning.{AreCharged}
+use Rattle.pf_space.specs.Rows.{ProcessRows, DescriptionRows, PipeRows, Process, process_of, pipes_of, state_of, keys_of, keys_to, names_it, Tied}
 use Rattle.pf_space.proofs.Held.{reseated}
 
 pub vacant_at : {X : Type 0} (k : ℕ) → at {X = X} vacant k ≡ None
@@ -62,12 +63,13 @@ module _ (ps : ProcessRows) (ds : DescriptionRows) (pipes : PipeRows) (bare : ps
       }
 
   -- nobody is charged
-  pub nothing_charged : (limits : Limits) (u : UserPages) → u ≡ record { limits = limits; users = []; total = 0 } → Charged u (state_of ps ds pipes)
+  pub nothing_charged : (limits : Limits) (u : UserPages) → u ≡ record { limits = limits; users = []; total = 0 } → AreCharged u (pipes_of pipes)
   nothing_charged limits u is =
-      subst (λ (v : UserPages). Charged v (state_of ps ds pipes)) (sym is)
-      (subst (λ (xs : PipeRows). Charged (record { limits = limits; users = []; total = 0 }) (state_of ps ds xs)) (sym no_pipe) (record { users = λ w. refl; total = refl }))
+      subst (λ (v : UserPages). AreCharged v (pipes_of pipes)) (sym is)
+      (subst (λ (xs : PipeRows). AreCharged (record { limits = limits; users = []; total = 0 }) (pipes_of xs)) (sym no_pipe) (record { users = λ w. refl; total = refl }))
 
-  pub nothing_shown : state_of ps ds pipes ≡ opening
-  nothing_shown =
-      ap (λ xs. state_of xs ds pipes) bare ∙ ap (λ ys. state_of vacant ys pipes) none ∙ ap (λ zs. state_of vacant [] zs) no_pipe
-      ∙ ap (λ xs. record { processes = xs; descriptions = []; pipes = [] }) (map-vacant process_of)
+  pub nothing_shown : {files : Files} → files ≡ root_alone → state_of ps ds pipes files 0 ≡ opening
+  nothing_shown {files} alone =
+      ap (λ xs. state_of xs ds pipes files 0) bare ∙ ap (λ ys. state_of vacant ys pipes files 0) none ∙ ap (λ zs. state_of vacant [] zs files 0) no_pipe
+      ∙ ap (λ fs. state_of vacant [] [] fs 0) alone
+      ∙ ap (λ xs. record { processes = xs; descriptions = []; pipes = []; files = root_alone; files_made = 0 }) (map-vacant process_of)

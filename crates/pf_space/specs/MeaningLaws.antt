@@ -61,6 +61,8 @@ module _ (f : Live) where
     processes = s.processes;
     descriptions = live_descriptions s.processes s.descriptions;
     pipes = keep_from-map (pipe_meaning f) (λ p. nat_lt 0 (ends (live_descriptions s.processes s.descriptions) p)) 0 s.pipes i;
+    files = s.files;
+    files_made = s.files_made;
   }
 
   pub settled-meaning : (s : State Ring) → s ≡ sweep s → meaning f s ≡ sweep (meaning f s)
@@ -111,7 +113,7 @@ module _ (f g : Live) where
       λ i. o.stay 0 (λ (e : 0 ≡ suc n). omega arith) i ∷ pipes-with_queue ps n r (record { stay = λ k ne. o.stay (suc k) (λ (e : suc k ≡ suc n). ne (omega arith)) }) i
 
   pub meaning-with_queue : (s : State Ring) (n : ℕ) (r : Ring) → Others s.pipes n → meaning g (with_queue s n r) ≡ with_queue (meaning f s) n (queue_of g r)
-  meaning-with_queue s n r o = λ i. record { processes = s.processes; descriptions = s.descriptions; pipes = pipes-with_queue s.pipes n r o i }
+  meaning-with_queue s n r o = λ i. record { processes = s.processes; descriptions = s.descriptions; pipes = pipes-with_queue s.pipes n r o i; files = s.files; files_made = s.files_made }
 
   -- a pipe goes
   pub pipes-without : (pipes : List (Option (Pipe Ring))) (n : ℕ) → Others pipes n

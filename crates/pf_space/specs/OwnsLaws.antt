@@ -78,6 +78,8 @@ meaning-opened f s pid nonblock slots p = λ i. record {
   processes = put_at s.processes (pid - 1) (with_two (length s.descriptions) p);
   descriptions = s.descriptions ++ Some (reading (sym (length-map s.pipes (option_map (pipe_meaning f))) i) nonblock) ∷ Some (writing (sym (length-map s.pipes (option_map (pipe_meaning f))) i) nonblock) ∷ [];
   pipes = map_push (option_map (pipe_meaning f)) s.pipes (Some (record { queue = record { capacity = slots; windows = [] }; owner = p.cred.uid })) i;
+  files = s.files;
+  files_made = s.files_made;
 }
 
 -- the ring of a pipe that is there stands in the frames, and each of its free slots has a credit

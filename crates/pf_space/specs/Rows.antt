@@ -3,6 +3,7 @@
 use Rattle.std.specs.Prelude.{◌≡◌, ℕ, zero, suc, ◌+◌, ◌-◌, ◌<◌, Bool, true, not, ◌&&◌, List, [], ◌∷◌, length, map, Option, Some, None, nat_lt, nat_eq, ⊤, if◌then◌else◌, Result, Ok}
 use Rattle.std.specs.Option.{option_map}
 use Rattle.pf_base.specs.Refusals.{◌>>=◌, ◌>>◌, refuse_if, or_refuse}
+use Rattle.pf_base.specs.FileMap.{Files}
 use Rattle.pf_base.specs.Numbered.{at, put_at, clear_at, sum_of, one_if}
 use Rattle.pf_base.specs.State as machine
 use Rattle.pf_base.specs.State.{State}
@@ -19,7 +20,7 @@ pub use Rattle.pf_pipe.specs.Pipe.{CountedPipe as Pipe}
 pub use Rattle.pf_space.specs.declared.tables.Process.{Process}
 pub use Rattle.pf_space.specs.declared.tables.Description.{Description}
 use Rattle.pf_limits.specs.UserPages.{UserPages}
-use Rattle.pf_space.specs.Meaning.{Charged}
+use Rattle.pf_space.specs.Meaning.{AreCharged}
 
 -- The rows of the tables: what stands at each number, with the place that a registry keeps it in
 abbrev pub ProcessRows : Type 0
@@ -113,8 +114,14 @@ descriptions_of ds = map (option_map description_of) ds
 abbrev pub pipes_of : PipeRows → List (Option (machine.Pipe Ring))
 pipes_of ps = map (option_map pipe_of) ps
 
-abbrev pub state_of : ProcessRows → DescriptionRows → PipeRows → State Ring
-state_of ps ds pipes = record { processes = processes_of ps; descriptions = descriptions_of ds; pipes = pipes_of pipes }
+abbrev pub state_of : ProcessRows → DescriptionRows → PipeRows → Files → ℕ → State Ring
+state_of ps ds pipes files files_made = record {
+  processes = processes_of ps;
+  descriptions = descriptions_of ds;
+  pipes = pipes_of pipes;
+  files = files;
+  files_made = files_made;
+}
 
 -- Counted afresh over the rows, and over what the code holds in its hand
 
@@ -201,4 +208,4 @@ Tied ps ds pipes = TiedWith [] [] ps ds pipes
 -- the counters are tied, and those of pages are the sums over all pipes
 pub record Kept (charges : UserPages) (ps : ProcessRows) (ds : DescriptionRows) (pipes : PipeRows) : Type 0 where
   pub tied : Tied ps ds pipes
-  pub charged : Charged charges (state_of ps ds pipes)
+  pub charged : AreCharged charges (pipes_of pipes)

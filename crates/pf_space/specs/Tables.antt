@@ -3,11 +3,16 @@
 use Rattle.std.specs.Prelude.{◌≡◌, ℕ, ◌*◌, ◌<◌, ◌≤◌, ⊤, length, nat_lt, if◌then◌else◌, Bool, List, Option, Some, None, Result, Ok, Err, nat_le}
 use Rattle.std.specs.Option.{option_and_then}
 use Rattle.pf_base.specs.Refusals.{◌>>=◌, refuse_if}
+use Rattle.pf_base.specs.FileMap.{Files}
 use Rattle.pf_base.specs.Queue.{Queue, empty}
 use Rattle.pf_base.specs.Numbered.{at, clear_at, change_at, keep}
 use Rattle.pf_base.specs.State.{State, Process, Pipe, Outcome, living, end_of, done, with_process, without_process}
 use Rattle.pf_base.specs.Descriptors.{named, without_descriptor}
 use Rattle.pf_base.specs.Sweep.{sweep}
+use Rattle.pf_base.specs.FileCalls as calls
+use Rattle.pf_base.specs.Files.{make, unlink, rmdir, chmod}
+use Rattle.pf_base.specs.declared.meta.Kind.{Kind}
+use Rattle.pf_base.specs.declared.meta.Meta.{Meta}
 use Rattle.pf_base.specs.Pipes.{first_descriptor, second_descriptor, capacity_for, set_size, opened}
 use Rattle.pf_base.specs.Capacities.{may_grow, told_as}
 use Rattle.pf_base.specs.Limits.{Limits}
@@ -99,6 +104,31 @@ HasResized f old new (Ok size) machine = Sized f old new machine size
 HasResized f old new (Err (faults.Errno e)) machine = machine ≡ Err e
 HasResized f old new (Err faults.NoMemory) machine = ⊤
 
+-- a call on files that is told nothing but that it was made; or its refusal is the machine's; or memory was wanted
+abbrev pub HasFiled : Live → Namespace → Namespace → Result (Unit {0}) Fault → Result Outcome Errno → Type 0
+HasFiled f old new (Ok made) machine = Sized f old new machine 0
+HasFiled f old new (Err (faults.Errno e)) machine = machine ≡ Err e
+HasFiled f old new (Err faults.NoMemory) machine = ⊤
+
+abbrev pub making : Kind → State Queue → ℕ → List ℕ → ℕ → Result Outcome Errno
+making kind s pid path bits = living s pid >>= (λ p. make kind s p path bits)
+
+abbrev pub unlinking : State Queue → ℕ → List ℕ → Result Outcome Errno
+unlinking s pid path = living s pid >>= (λ p. unlink s p path)
+
+abbrev pub removing : State Queue → ℕ → List ℕ → Result Outcome Errno
+removing s pid path = living s pid >>= (λ p. rmdir s p path)
+
+abbrev pub remoding : State Queue → ℕ → List ℕ → ℕ → Result Outcome Errno
+remoding s pid path bits = living s pid >>= (λ p. chmod s p path bits)
+
+-- what is known of a file, and the names in a directory, as a process is told them
+abbrev pub known : State Queue → ℕ → List ℕ → Result Meta Errno
+known s pid path = living s pid >>= (λ p. calls.stat s.files p.cred path)
+
+abbrev pub names_in : State Queue → ℕ → List ℕ → Result (List ℕ) Errno
+names_in s pid path = living s pid >>= (λ p. calls.list s.files p.cred path)
+
 -- whether a pipe of an owner with so many pages may have so many slots
 abbrev pub verdict : UserPages → Bool → rows.Pipe → ℕ → Result (Unit {0}) Errno
 verdict u privileged p to =
@@ -131,7 +161,8 @@ pub record Opens (f : Live) (old new : Namespace) (pid : ℕ) (nonblocking : Boo
 -- the rows that are left are tied, and show the state without a descriptor and without what nobody can reach any more
 pub record Left (ps : ProcessRows) (ds : DescriptionRows) (pipes : PipeRows) (ps' : ProcessRows) (ds' : DescriptionRows) (pipes' : PipeRows) (i fd : ℕ) : Type 0 where
   pub tied : Tied ps' ds' pipes'
-  pub state : state_of ps' ds' pipes' ≡ sweep (emptied (state_of ps ds pipes) i fd)
+  pub state : (files : Files) (files_made : ℕ)
+      → state_of ps' ds' pipes' files files_made ≡ sweep (emptied (state_of ps ds pipes files files_made) i fd)
 
 -- which pipe went, if one did
 abbrev pub LetsGo : List (Option (Pipe Ring)) → List (Option (Pipe Ring)) → Option rows.Pipe → Type 0

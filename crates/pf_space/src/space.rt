@@ -8,6 +8,7 @@ use std::alloc::{AllocError, Allocator, Global};
 use std::marker::Model;
 
 mod descriptors;
+mod files;
 mod pipes;
 mod processes;
 mod transfers;
@@ -115,6 +116,13 @@ impl<A: Allocator + Clone> Space<A> {
                 n,
                 nonblock: _,
             } => self.cross(door, Crossing::Splice, *pid, *source, *sink, *n),
+            Step::Mkdir { pid, path, mode } => self.mkdir(door, *pid, path.as_slice(), *mode),
+            Step::Mkfifo { pid, path, mode } => self.mkfifo(door, *pid, path.as_slice(), *mode),
+            Step::Unlink { pid, path } => self.unlink(door, *pid, path.as_slice()),
+            Step::Rmdir { pid, path } => self.rmdir(door, *pid, path.as_slice()),
+            Step::Chmod { pid, path, mode } => self.chmod(door, *pid, path.as_slice(), *mode),
+            Step::Stat { pid, path } => self.stat(door, *pid, path.as_slice()),
+            Step::List { pid, path } => self.list(door, *pid, path.as_slice()),
         }
     }
 }

@@ -1,4 +1,5 @@
-//! What a namespace keeps: its limits, its processes with their descriptors, the open file descriptions and the pipes.
+//! What a namespace keeps: its limits, its processes with their descriptors, the open file descriptions, the pipes and the
+//! files.
 //!
 //! Whatever is said of a call here is said of the lone machine's state that the tables mean over the frames of a door:
 //! above this file nobody sees a ring.
@@ -7,6 +8,7 @@ ghost use Rattle.std.specs.Prelude.{◌≡◌, Ok, Err, Some, None, IfOk, IfSome
 ghost use Rattle.pf_space.specs.Rows.{process_in, end_in};
 
 mod descriptors;
+mod files;
 mod pipes;
 mod processes;
 mod transfers;
@@ -63,8 +65,9 @@ pub struct Tables<A: Allocator> {
     processes: Places<Process>,
     descriptions: Descriptions<Description>,
     pipes: Registry<Pipe>,
-    // The files: all that stands in memory of A.
+    // The files, which are all that stands in memory of A, and how many were ever made besides the root.
     files: Tree<A>,
+    files_made: u64,
 }
 
 impl<A: Allocator> Model for Tables<A> {
@@ -76,7 +79,7 @@ impl<A: Allocator> Model for Tables<A> {
 
     ghost view = { λ t. record {
       limits = t.pages.limits;
-      state = state_of t.processes t.descriptions.items t.pipes.items;
+      state = state_of t.processes t.descriptions.items t.pipes.items t.files t.files_made;
     } };
 
     ghost invariant = { λ t. Kept t.pages t.processes t.descriptions.items t.pipes.items };
@@ -124,7 +127,7 @@ impl<A: Allocator> Tables<A> {
     ghost use Rattle.pf_base.specs.State.{opening};
     ghost use Rattle.pf_base.specs.Sweep.{sweep};
 
-    /// Nothing in them.
+    /// Nothing in them but the root directory.
     pub fn new(alloc: Global, tree: A, config: Config) -> Result<Self, AllocError>
         ensures { IfOk result (λ t. t ≡ record { limits = config; state = opening }) }
     {
@@ -135,6 +138,7 @@ impl<A: Allocator> Tables<A> {
             descriptions: Descriptions::new(alloc),
             pipes: Registry::new(alloc),
             files: Tree::new(tree, File::root()),
+            files_made: 0,
         })
     }
 

@@ -1,7 +1,7 @@
 //! The calls on files. Each walks the path, with the refusals of `resolve`, then refuses in the order of its definition,
 //! then makes its one change. A refusal, and want of memory, leaves the files as they were.
 
-ghost use Rattle.std.specs.Prelude.{◌≡◌, ◌<◌, length, IfOk};
+ghost use Rattle.std.specs.Prelude.{◌≡◌, ◌<◌, ◌+◌, ◌^◌, length, IfOk};
 ghost use Rattle.pf_base.specs.FileMap.{find, front, IsDirectory};
 ghost use Rattle.pf_base.specs.FileCalls.{place, permitted_change, is_fifo, make, unlink, rmdir, chmod, stat, list};
 ghost use Rattle.pf_tree.specs.Subtrees.{path_of};
@@ -104,7 +104,9 @@ pub fn make<A: Allocator + Clone>(
     mode: Mode,
     made: u64,
 ) -> Result<(), Fault>
-    ensures { Changed result tree.old tree.new (make kind tree.old made cred.now path.now mode) }
+    ensures changed { Changed result tree.old tree.new (make kind tree.old made cred.now path.now mode) }
+    // There is a number for it.
+    ensures numbered { IfOk result (λ _. made + 1 < 2 ^ 64) }
 {
     let unnamed = Unnamed {
         root: Errno::EEXIST,
