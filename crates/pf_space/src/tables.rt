@@ -116,6 +116,30 @@ fn end(
     Ok(*description)
 }
 
+// The same, of an end that reads.
+fn reading_end(
+    processes: &Places<Process>,
+    descriptions: &Descriptions<Description>,
+    pid: u32,
+    fd: u32,
+) -> Result<Description, Errno>
+    ensures { result ≡ end_in (Some Side.Read) processes.now descriptions.now.items pid fd }
+{
+    end(processes, descriptions, pid, fd, Some(Side::Read))
+}
+
+// Or of one that writes.
+fn writing_end(
+    processes: &Places<Process>,
+    descriptions: &Descriptions<Description>,
+    pid: u32,
+    fd: u32,
+) -> Result<Description, Errno>
+    ensures { result ≡ end_in (Some Side.Write) processes.now descriptions.now.items pid fd }
+{
+    end(processes, descriptions, pid, fd, Some(Side::Write))
+}
+
 impl Tables {
     ghost use Rattle.std.specs.Prelude.{◌≡◌, IfOk};
     ghost use Rattle.pf_base.specs.State.{opening};

@@ -62,7 +62,12 @@ impl Space {
     }
 
     /// Tells the capacity of the pipe that a process's descriptor names, in bytes (fcntl(2), F_GETPIPE_SZ).
-    pub(super) fn get_size<F: Frames>(&mut self, door: &mut F, pid: u32, fd: u32) -> Result<Reply, Fault>
+    pub(super) fn get_size<F: Frames>(
+        &mut self,
+        door: &mut F,
+        pid: u32,
+        fd: u32,
+    ) -> Result<Reply, Fault>
         requires fact { F.fact door.old }
         requires owns { Owns (F.live door.old) self.old }
         ensures fact { F.fact door.new }
