@@ -6,7 +6,7 @@ use Rattle.std.proofs.Common.{inl, inr}
 use Rattle.pf_base.specs.declared.progress.Crossing.{Crossing}
 use Rattle.pf_base.specs.declared.progress.Crossing.TheVariants.{Tee, Splice}
 use Rattle.pf_parked.specs.UnfinishedWrite.{UnfinishedWrite, write_code}
-pub use Rattle.pf_parked.specs.declared.call.Call.{Call}
+use Rattle.pf_parked.specs.declared.call.Call.{Call}
 use Rattle.pf_parked.specs.declared.call.Call.TheVariants.{Open, Read, Write, Cross}
 
 -- a crossing is stored as whether it is a tee

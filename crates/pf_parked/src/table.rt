@@ -1,4 +1,4 @@
-ghost use Rattle.std.specs.Prelude.{◌≡◌, ℕ, ◌-◌, ◌<◌, ◌≤◌, List, Option, None, IfOk, option_copied};
+ghost use Rattle.std.specs.Prelude.{◌≡◌, ℕ, ◌-◌, ◌<◌, ◌≤◌, List, Option, None, IfOk, OnSome, option_copied};
 ghost use Rattle.pf_base.specs.Numbered.{at, put_at};
 ghost use Rattle.pf_base.specs.State.{vacant};
 ghost use Rattle.pf_base.specs.declared.TheConstants.{MAX_PROCESSES};
@@ -22,7 +22,8 @@ impl<D> Model for ParkedTable<D> {
     ghost use Rattle.std.specs.Prelude.{◌≡◌, List, Option, length};
     ghost use Rattle.std.specs.Coded.{coded_list, coded_option};
     ghost use Rattle.pf_base.specs.declared.TheConstants.{MAX_PROCESSES};
-    ghost use Rattle.pf_parked.specs.Call.{Call as Seen, call_code};
+    ghost use Rattle.pf_parked.specs.declared.call.Call.{Call as Seen};
+    ghost use Rattle.pf_parked.specs.Call.{call_code};
 
     ghost Value = { List (Option (Seen D)) };
 
@@ -47,7 +48,9 @@ impl<D> ParkedTable<D> {
 
     /// The call in which a process waits.
     pub fn get(&self, pid: u32) -> Option<&Call<D>>
-        ensures { option_copied result ≡ call_at self.now pid }
+        ensures call { option_copied result ≡ call_at self.now pid }
+        ensures from { OnSome result (0 < pid) }
+        ensures to { OnSome result (pid ≤ MAX_PROCESSES) }
     {
         if pid == 0 {
             return None;
@@ -74,6 +77,11 @@ impl<D> ParkedTable<D> {
     pub fn remove(&mut self, pid: u32) -> Option<Call<D>>
         ensures call { result ≡ call_at self.old pid }
         ensures calls { self.new ≡ without_call self.old pid }
+
+        // So it may park again.
+        ensures from { OnSome result (0 < pid) }
+        ensures to { OnSome result (pid ≤ MAX_PROCESSES) }
+        ensures free { call_at self.new pid ≡ None }
     {
         if pid == 0 {
             return None;
