@@ -13,6 +13,7 @@ mod WorkedPages
 mod WorkedCapacities
 mod WorkedCrossings
 mod WorkedFiles
+mod WorkedSharing
 mod WorkedScript
 pub mod ScriptLemmas
 mod ScriptExamples

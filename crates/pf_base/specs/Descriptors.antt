@@ -1,10 +1,10 @@
--- Descriptors: Close (close(2)).
+-- Descriptors: Close (close(2)) and SetNonblock (fcntl(2), F_SETFL with O_NONBLOCK).
 
-use Rattle.std.specs.Prelude.{ℕ, Result, Ok}
+use Rattle.std.specs.Prelude.{ℕ, Bool, Result, Ok}
 use Rattle.pf_base.specs.Refusals.{◌>>=◌, or_refuse}
 use Rattle.pf_base.specs.Queue.{Queue}
-use Rattle.pf_base.specs.Numbered.{at, clear_at}
-use Rattle.pf_base.specs.State.{State, Process, Outcome, with_process, done}
+use Rattle.pf_base.specs.Numbered.{at, clear_at, change_at}
+use Rattle.pf_base.specs.State.{State, Process, Description, Outcome, with_process, done}
 use Rattle.pf_base.specs.declared.errno.Errno.{Errno}
 use Rattle.pf_base.specs.declared.errno.Errno.TheVariants.{EBADF}
 
@@ -18,3 +18,14 @@ without_descriptor fd p = record p { descriptors = clear_at p.descriptors fd }
 
 abbrev pub close : State Queue → ℕ → Process → ℕ → Result Outcome Errno
 close s pid p fd = named p fd >>= (λ _. Ok (done (with_process s pid (without_descriptor fd p)) 0))
+
+-- a description with O_NONBLOCK, or without
+abbrev pub with_nonblocking : Bool → Description → Description
+with_nonblocking on d = record d { nonblocking = on }
+
+-- it is the description that has it: all descriptors that name it see it
+abbrev pub with_flag : {Q : Type 0} → State Q → ℕ → Bool → State Q
+with_flag s n on = record s { descriptions = change_at (with_nonblocking on) s.descriptions n }
+
+abbrev pub set_nonblock : State Queue → Process → ℕ → Bool → Result Outcome Errno
+set_nonblock s p fd on = named p fd >>= (λ n. Ok (done (with_flag s n on) 0))

@@ -3,9 +3,11 @@ mod Closing
 mod Crossing
 mod Ends
 mod Exiting
+mod Flagging
 mod Going
 mod Held
 mod Making
+mod Naming
 mod Opening
 mod Resizing
 mod Small

@@ -54,6 +54,10 @@ abbrev pub with_keys : ℕ → Key → ℕ → Key → Option Process → Option
 with_keys a j b k None = None
 with_keys a j b k (Some p) = Some (record p { descriptors = put_at (put_at p.descriptors a j) b k })
 
+-- the key at a process's descriptor
+abbrev pub key_in : ProcessRows → ℕ → ℕ → Result Key Errno
+key_in ps pid fd = process_in ps pid >>= (λ p. or_refuse EBADF (at p.descriptors fd))
+
 -- whether a description is for a side, where one is asked for
 abbrev pub has : Option Side → Description → Bool
 has None d = true

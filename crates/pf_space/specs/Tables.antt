@@ -6,7 +6,7 @@ use Rattle.pf_base.specs.Refusals.{◌>>=◌, refuse_if}
 use Rattle.pf_base.specs.Queue.{Queue, empty}
 use Rattle.pf_base.specs.Numbered.{at, clear_at, change_at, keep}
 use Rattle.pf_base.specs.State.{State, Process, Pipe, Outcome, living, end_of, done, with_process, without_process}
-use Rattle.pf_base.specs.Descriptors.{named, without_descriptor}
+use Rattle.pf_base.specs.Descriptors.{named, without_descriptor, with_flag}
 use Rattle.pf_base.specs.Sweep.{sweep}
 use Rattle.pf_base.specs.Pipes.{first_descriptor, second_descriptor, capacity_for, set_size, opened}
 use Rattle.pf_base.specs.Capacities.{may_grow, told_as}
@@ -57,6 +57,13 @@ abbrev pub exited : State Queue → ℕ → Result (State Queue) Errno
 exited s pid = do
   p ← living s pid
   Ok (without_process s pid)
+
+-- the description that a living process's descriptor names gets O_NONBLOCK, or loses it
+abbrev pub flagged : State Queue → ℕ → ℕ → Bool → Result (State Queue) Errno
+flagged s pid fd on = do
+  p ← living s pid
+  n ← named p fd
+  Ok (with_flag s n on)
 
 -- a process lives, and these are its two lowest free descriptors
 pub record HasTwo (s : State Queue) (pid : ℕ) (free : ℕ × ℕ) : Type 0 where

@@ -1,4 +1,4 @@
-//! Descriptors: Close (close(2)).
+//! Descriptors: Close (close(2)) and SetNonblock (fcntl(2), F_SETFL).
 
 ghost use Rattle.std.specs.Prelude.{◌≡◌, ◌≢◌, Err};
 ghost use Rattle.pf_base.specs.Machine.{call};
@@ -27,6 +27,24 @@ impl Space {
         ensures succeeds { result ≢ Err Fault.NoMemory }
     {
         self.tables.drop_descriptor(door, pid, fd)?;
+        Ok(Reply::Num(0))
+    }
+
+    /// Sets O_NONBLOCK of the open file description that a process's descriptor names, or takes it away (fcntl(2),
+    /// F_SETFL).
+    pub(super) fn set_nonblock<F: Frames>(
+        &mut self,
+        door: &F,
+        pid: u32,
+        fd: u32,
+        on: bool,
+    ) -> Result<Reply, Fault>
+        requires owns { Owns (F.live door.now) self.old }
+        ensures told { Told (F.live door.now) (F.live door.now) self.old self.new result
+            (call self.old.limits (meaning (F.live door.now) self.old.state) (Step.SetNonblock pid fd on)) }
+        ensures succeeds { result ≢ Err Fault.NoMemory }
+    {
+        self.tables.set_nonblocking(door, pid, fd, on)?;
         Ok(Reply::Num(0))
     }
 }

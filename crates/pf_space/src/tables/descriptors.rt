@@ -1,5 +1,6 @@
-//! Descriptors: what drops one. Where a description's last name goes, so does its end of the pipe; where a pipe's last
-//! end goes, so does the pipe: its slots are released, and its pages are charged no more.
+//! Descriptors: what sets the flag of the description that one names, and what drops one. Where a description's last name
+//! goes, so does its end of the pipe; where a pipe's last end goes, so does the pipe: its slots are released, and its
+//! pages are charged no more.
 
 ghost use Rattle.std.specs.Prelude.{◌≡◌, ℕ, ◌<◌, ◌≤◌, None, IsSome, IfSome, slice_set};
 ghost use Rattle.pf_base.specs.Numbered.{at, one_if};
@@ -7,10 +8,10 @@ ghost use Rattle.pf_fds.specs.Registry.{find};
 ghost use Rattle.pf_space.specs.Meaning.{meaning};
 ghost use Rattle.pf_space.specs.Owns.{Owns};
 ghost use Rattle.pf_space.specs.Rows.{key_at, without_key, with_fewer, left, gone, pipes_of, state_of, Tied};
-ghost use Rattle.pf_space.specs.Tables.{closed, descriptor, emptied, without_place, Left, LetsGo};
+ghost use Rattle.pf_space.specs.Tables.{closed, descriptor, emptied, flagged, without_place, Left, LetsGo};
 ghost use Rattle.pf_space.specs.Told.{Becomes, Leaves};
 
-use super::{Description, Process, Tables, caller};
+use super::{Description, Process, Tables, key_of};
 use pf_base::{Errno, Side};
 use pf_fds::{Descriptions, Key, Places, Registry};
 use pf_frame::Frames;
@@ -101,6 +102,25 @@ impl Tables {
         }
     }
 
+    /// Sets O_NONBLOCK of the description that a process's descriptor names, or takes it away. Whatever else names the
+    /// description sees it.
+    pub fn set_nonblocking<F: Frames>(
+        &mut self,
+        door: &F,
+        pid: u32,
+        fd: u32,
+        on: bool,
+    ) -> Result<(), Errno>
+        requires owns { Owns (F.live door.now) self.old }
+        ensures left { Leaves (F.live door.now) (F.live door.now) self.old self.new result
+            (flagged (meaning (F.live door.now) self.old.state) pid fd on) }
+    {
+        let _door = door;
+        let key = key_of(&self.processes, pid, fd)?;
+        self.descriptions.value_mut(key).nonblocking = on;
+        Ok(())
+    }
+
     /// Drops a process's descriptor (close(2)), and what nobody can reach any more.
     pub fn drop_descriptor<F: Frames>(
         &mut self,
@@ -115,10 +135,7 @@ impl Tables {
         ensures left { Leaves (F.live door.old) (F.live door.new) self.old self.new result
             (closed (meaning (F.live door.old) self.old.state) pid fd) }
     {
-        let process = caller(&self.processes, pid)?;
-        let Some(_) = process.descriptors.get(fd as usize) else {
-            return Err(Errno::EBADF);
-        };
+        key_of(&self.processes, pid, fd)?;
         self.empty(door, pid as usize - 1, fd as usize);
         Ok(())
     }

@@ -1,0 +1,30 @@
+-- Examples by computation: open file descriptions that several descriptors name.
+
+use Rattle.std.specs.Prelude.{◌≡◌, false, true, [], ◌∷◌, Some, refl}
+use Rattle.pf_base.specs.Limits.{Limits}
+use Rattle.pf_base.specs.State.{vacant, opening}
+use Rattle.pf_base.specs.Pipes.{reading, writing}
+use Rattle.pf_base.specs.Runs.{run_of, lone}
+use Rattle.pf_base.specs.declared.step.Step.TheVariants.{Spawn, Pipe, SetNonblock}
+use Rattle.pf_base.specs.declared.step.Reply.TheVariants.{Num, Pid, Fds, Err}
+use Rattle.pf_base.specs.declared.errno.Errno.TheVariants.{ESRCH, EBADF}
+
+-- a namespace of 64 frames
+abbrev limits : Limits
+limits = record { reserve = 64; soft = 16384; hard = 0; max = 1048576 }
+
+-- O_NONBLOCK
+
+-- it is set on one end, and the other keeps its own
+flag-is-set : (run_of limits opening (Spawn 5 5 [] 18 ∷ Pipe 1 false ∷ SetNonblock 1 0 true ∷ [])).state.descriptions ≡ Some (reading 0 true) ∷ Some (writing 0 false) ∷ []
+unfolding vacant
+flag-is-set = refl
+
+flag-is-taken-away : (run_of limits opening (Spawn 5 5 [] 18 ∷ Pipe 1 true ∷ SetNonblock 1 1 false ∷ [])).state.descriptions ≡ Some (reading 0 true) ∷ Some (writing 0 false) ∷ []
+unfolding vacant
+flag-is-taken-away = refl
+
+-- who calls comes first, then the descriptor
+flag-replies : lone limits (Spawn 5 5 [] 18 ∷ Pipe 1 false ∷ SetNonblock 1 1 true ∷ SetNonblock 1 1 true ∷ SetNonblock 1 2 true ∷ SetNonblock 2 2 true ∷ []) ≡ Pid 1 ∷ Fds 0 1 ∷ Num 0 ∷ Num 0 ∷ Err EBADF ∷ Err ESRCH ∷ []
+unfolding vacant
+flag-replies = refl
