@@ -1,16 +1,24 @@
--- Descriptors: Close (close(2)) and SetNonblock (fcntl(2), F_SETFL with O_NONBLOCK).
+-- Descriptors: Dup (dup(2)), Close (close(2)) and SetNonblock (fcntl(2), F_SETFL with O_NONBLOCK).
 
-use Rattle.std.specs.Prelude.{ℕ, Bool, Result, Ok}
-use Rattle.pf_base.specs.Refusals.{◌>>=◌, or_refuse}
+use Rattle.std.specs.Prelude.{ℕ, Bool, nat_le, Result, Ok}
+use Rattle.pf_base.specs.Refusals.{◌>>=◌, ◌>>◌, refuse_if, or_refuse}
 use Rattle.pf_base.specs.Queue.{Queue}
-use Rattle.pf_base.specs.Numbered.{at, clear_at, change_at}
-use Rattle.pf_base.specs.State.{State, Process, Description, Outcome, with_process, done}
+use Rattle.pf_base.specs.Numbered.{at, clear_at, change_at, first_free}
+use Rattle.pf_base.specs.State.{State, Process, Description, Outcome, with_process, with_descriptor, done}
+use Rattle.pf_base.specs.declared.TheConstants.{MAX_DESCRIPTORS}
 use Rattle.pf_base.specs.declared.errno.Errno.{Errno}
-use Rattle.pf_base.specs.declared.errno.Errno.TheVariants.{EBADF}
+use Rattle.pf_base.specs.declared.errno.Errno.TheVariants.{EBADF, EMFILE}
 
 -- the number of the description that a descriptor names
 abbrev pub named : Process → ℕ → Result ℕ Errno
 named p fd = or_refuse EBADF (at p.descriptors fd)
+
+-- the lowest free descriptor names the same description
+abbrev pub dup : State Queue → ℕ → Process → ℕ → Result Outcome Errno
+dup s pid p fd = do
+  n ← named p fd
+  refuse_if (nat_le MAX_DESCRIPTORS (first_free p.descriptors)) EMFILE
+  Ok (done (with_process s pid (with_descriptor (first_free p.descriptors) n p)) (first_free p.descriptors))
 
 -- a process without one of its descriptors
 abbrev pub without_descriptor : ℕ → Process → Process

@@ -58,6 +58,11 @@ pub enum Step {
         pid: u32,
         fd: u32,
     },
+    /// The lowest free descriptor names the open file description that another one names (dup(2)).
+    Dup {
+        pid: u32,
+        fd: u32,
+    },
     /// O_NONBLOCK of the open file description that a descriptor names is set or taken away, and with it of each
     /// descriptor that names it, in whichever process (fcntl(2), F_SETFL).
     SetNonblock {

@@ -1,6 +1,7 @@
 mod Callers
 mod Closing
 mod Crossing
+mod Duping
 mod Ends
 mod Exiting
 mod Flagging
@@ -11,6 +12,7 @@ mod Naming
 mod Opening
 mod Resizing
 mod Small
+mod Sharing
 mod Shown
 mod Steps
 mod Swept

@@ -1,6 +1,6 @@
 -- The description that a descriptor names, as the tables find it and as the machine does.
 
-use Rattle.std.proofs.Common.{◌≡◌, ℕ, suc, ◌-◌, Option, Some, None, IsSome, is_some, Result, Ok, Err, refl, ap, subst, ◌∙◌}
+use Rattle.std.proofs.Common.{◌≡◌, ℕ, suc, ◌-◌, Option, Some, None, IsSome, is_some, Result, Ok, Err, refl, sym, ap, subst, ◌∙◌}
 use Rattle.std.specs.Option.{option_map}
 use Rattle.pf_base.specs.Refusals.{◌>>=◌, or_refuse}
 use Rattle.pf_base.specs.Limits.{Limits}
@@ -43,6 +43,17 @@ module _ {A : Type 0} (go : machine.Process → ℕ → Result A Errno) (fd : �
 
   goes : (p : Process) → goes_on (process_of p) ≡ (or_refuse EBADF (option_map (λ (k : Key). k.serial) (at p.descriptors fd)) >>= go (process_of p))
   goes p = ap (λ o. or_refuse EBADF o >>= go (process_of p)) (at-map (λ (k : Key). k.serial) p.descriptors fd)
+
+-- the same where it is known who calls
+pub has_key : (ps : ProcessRows) (pid fd : ℕ) {p : Process} {k : Key} → process_in ps pid ≡ Ok p → key_in ps pid fd ≡ Ok k → at p.descriptors fd ≡ Some k
+has_key ps pid fd {p} {k} caller is =
+    let w = has ps pid fd is in
+    let one : ◌≡◌ {A = Result Process Errno} (Ok p) (Ok w.p) = sym caller ∙ w.caller in
+    let same : p ≡ w.p = cc in
+    ap (λ (q : Process). at q.descriptors fd) same ∙ w.names
+
+abbrev pub has_by : (ps : ProcessRows) (pid fd : ℕ) {p : Process} {k : Key} → process_in ps pid ≡ Ok p → key_in ps pid fd ≡ Ok k → Has ps pid fd k
+has_by ps pid fd {p = p} caller is = record { p = p; caller = caller; names = has_key ps pid fd caller is }
 
 module _ (f : Live) {limits : Limits} {ps : ProcessRows} {ds : DescriptionRows} {pipes : PipeRows} (t : Tied ps ds pipes)
     {n : Namespace} (view : record { limits = limits; state = state_of ps ds pipes } ≡ n) (pid fd : ℕ) where
