@@ -58,6 +58,11 @@ pub enum Step {
         pid: u32,
         fd: u32,
     },
+    /// A new process with the same credentials and the same descriptors, which name the same open file descriptions
+    /// (fork(2)).
+    Fork {
+        pid: u32,
+    },
     /// The lowest free descriptor names the open file description that another one names (dup(2)).
     Dup {
         pid: u32,

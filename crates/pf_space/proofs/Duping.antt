@@ -13,6 +13,7 @@ use Rattle.pf_base.specs.State.{State, Outcome, with_process, with_descriptor, d
 use Rattle.pf_base.specs.declared.TheConstants.{MAX_DESCRIPTORS}
 use Rattle.pf_base.specs.declared.errno.Errno.{Errno}
 use Rattle.pf_base.specs.declared.errno.Errno.TheVariants.{EMFILE}
+use Rattle.pf_base.specs.declared.step.Reply.TheVariants.{Num}
 use Rattle.pf_fds.specs.Descriptions.{names_of, one_more}
 use Rattle.pf_fds.specs.Registry.{find}
 use Rattle.pf_frame.specs.Live.{Live}
@@ -85,7 +86,7 @@ module _ (f : Live) {charges : UserPages} {limits : Limits} {ps : ProcessRows} {
       pub duped-kept : Kept charges qs es pipes
       duped-kept = record { tied = duped-tied; charged = kept.charged }
 
-      pub duped-tells : Owns f n → Tells f n (record { limits = limits; state = state_of qs es pipes }) (duped s pid fd) to
+      pub duped-tells : Owns f n → Tells f n (record { limits = limits; state = state_of qs es pipes }) (duped s pid fd) (Num to)
       duped-tells owns =
           let room : nat_le MAX_DESCRIPTORS to ≡ false = grind (arith, nat_tests) in
           record {

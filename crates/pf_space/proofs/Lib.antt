@@ -5,6 +5,7 @@ mod Duping
 mod Ends
 mod Exiting
 mod Flagging
+mod Forking
 mod Going
 mod Held
 mod Making

@@ -241,7 +241,7 @@ module _ (f : Live) (limits : Limits) (charges : UserPages) (ps : ProcessRows) (
               })
 
           pub sized_done : (bytes size : ℕ) → to ≡ pages_for bytes → size ≡ PAGE_SIZE * pages_for bytes → bytes ≤ MAX_SIZE → (not (is_privileged p.cred) && nat_lt limits.max (PAGE_SIZE * pages_for bytes)) ≡ false
-              → Tells f n (record { limits = charges'.limits; state = state_of ps ds pipes' }) (sized n.limits (meaning f n.state) pid fd bytes) size
+              → Tells f n (record { limits = charges'.limits; state = state_of ps ds pipes' }) (sized n.limits (meaning f n.state) pid fd bytes) (replies.Num size)
           sized_done bytes size slots all short under = record {
             state = with_queue (meaning f n.state) d.pipe.serial (with_capacity to (queue_of f r.ring));
             is =
