@@ -11,6 +11,7 @@ pub mod FileLaws
 mod WorkedQueues
 mod WorkedPages
 mod WorkedCapacities
+mod WorkedSizes
 mod WorkedCrossings
 mod WorkedFiles
 mod WorkedSharing

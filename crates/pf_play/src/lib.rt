@@ -26,4 +26,6 @@ mod tests;
 #[cfg(test)]
 mod tests_rows;
 #[cfg(test)]
+mod tests_sizes;
+#[cfg(test)]
 mod tests_steps;

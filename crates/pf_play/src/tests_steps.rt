@@ -16,21 +16,21 @@ use std::test::Fail;
 
 /// A step without its namespace's name, its answer, and how many frames its namespace holds after it. A step `both`
 /// stands for four in turn: a tee and a splice of its words, each without and with the flag `n`.
-type Row = (&'static str, &'static str, u32);
+pub(crate) type Row = (&'static str, &'static str, u32);
 
 /// What the four steps are that `both` stands for, before and behind the words.
 const BOTH: [(&str, &str); 4] = [("tee", ""), ("tee", " n"), ("splice", ""), ("splice", " n")];
 
 /// The numbers of the namespaces of a hub.
-const RED: u32 = 0;
+pub(crate) const RED: u32 = 0;
 
-const BLUE: u32 = 1;
+pub(crate) const BLUE: u32 = 1;
 
 /// What a table of red's steps is played over, where nothing else is said.
 const HEADER: &str = "pool 64\nspace red 64\n";
 
 /// What stands before such a table.
-const SPAWN: [Row; 1] = [("spawn 5 5 022", "pid 1", 0)];
+pub(crate) const SPAWN: [Row; 1] = [("spawn 5 5 022", "pid 1", 0)];
 
 /// A tee leaves the source's bytes where they are, and the frame takes more of them behind the copy's.
 const COPIES_SHARE_A_FRAME: [Row; 7] = [
@@ -285,11 +285,38 @@ fn crossing(alloc: Global, verb: &str, words: &str) -> Result<Step, Fail> {
     }
 }
 
+/// The change of a capacity that these words stand for: `PID FD BYTES`.
+fn set_size(alloc: Global, words: &str) -> Result<Step, Fail> {
+    let words = pieces(alloc, b' ', words.as_bytes())?;
+    let [pid, fd, bytes] = words.as_slice() else {
+        return Err(Fail::new("no words of a setsize"));
+    };
+    Ok(Step::SetSize {
+        pid: small_number(u32::MAX, pid)?,
+        fd: small_number(u32::MAX, fd)?,
+        bytes: number(u64::MAX, bytes)?,
+    })
+}
+
+/// The question for a capacity that these words stand for: `PID FD`.
+fn get_size(alloc: Global, words: &str) -> Result<Step, Fail> {
+    let words = pieces(alloc, b' ', words.as_bytes())?;
+    let [pid, fd] = words.as_slice() else {
+        return Err(Fail::new("no words of a getsize"));
+    };
+    Ok(Step::GetSize {
+        pid: small_number(u32::MAX, pid)?,
+        fd: small_number(u32::MAX, fd)?,
+    })
+}
+
 /// The step that a line stands for.
 fn read_step(alloc: Global, line: &str) -> Result<Step, Fail> {
     match line.split_once(' ') {
         Some(("tee", words)) => crossing(alloc, "tee", words),
         Some(("splice", words)) => crossing(alloc, "splice", words),
+        Some(("setsize", words)) => set_size(alloc, words),
+        Some(("getsize", words)) => get_size(alloc, words),
         _ => Ok(step_of(alloc, pieces(alloc, b' ', line.as_bytes())?.as_slice())?),
     }
 }
@@ -329,7 +356,13 @@ fn lines_of(alloc: Global, line: &str) -> Result<Vec<String>, Fail> {
 }
 
 /// Plays rows of one namespace: each step has its answer, and leaves the namespace so many frames.
-fn play(rt: &impl Abort, alloc: Global, hub: &mut Hub, ns: u32, rows: &[Row]) -> Result<(), Fail> {
+pub(crate) fn play(
+    rt: &impl Abort,
+    alloc: Global,
+    hub: &mut Hub,
+    ns: u32,
+    rows: &[Row],
+) -> Result<(), Fail> {
     for (line, answer, held) in rows {
         let mut text = String::new(alloc);
         push_words(&mut text, alloc, answer)?;
