@@ -14,6 +14,7 @@ mod WorkedCapacities
 mod WorkedSizes
 mod WorkedCrossings
 mod WorkedFiles
+mod WorkedSharing
 mod WorkedScript
 pub mod ScriptLemmas
 mod ScriptExamples

@@ -27,7 +27,7 @@ pub(crate) const RED: u32 = 0;
 pub(crate) const BLUE: u32 = 1;
 
 /// What a table of red's steps is played over, where nothing else is said.
-const HEADER: &str = "pool 64\nspace red 64\n";
+pub(crate) const HEADER: &str = "pool 64\nspace red 64\n";
 
 /// What stands before such a table.
 pub(crate) const SPAWN: [Row; 1] = [("spawn 5 5 022", "pid 1", 0)];
@@ -247,7 +247,7 @@ const TURNS: [(u32, Row); 33] = [
 ];
 
 /// A hub of the namespaces that these lines of a script name, over frames that hold this byte throughout.
-fn open(alloc: Global, lines: &str, fill: u8) -> Result<Hub, Fail> {
+pub(crate) fn open(alloc: Global, lines: &str, fill: u8) -> Result<Hub, Fail> {
     let script = read_text(alloc, lines.as_bytes())?;
     let frames = frames_of(alloc, script.frames(), &Options { fill })?;
     let configs = script.configs(alloc)?;
@@ -310,6 +310,36 @@ fn get_size(alloc: Global, words: &str) -> Result<Step, Fail> {
     })
 }
 
+/// The pid that this word is.
+fn pid_of(word: &str) -> Result<u32, Fail> {
+    Ok(small_number(u32::MAX, word.as_bytes())?)
+}
+
+/// The second name of a description that these words stand for: `PID FD`.
+fn dup(alloc: Global, words: &str) -> Result<Step, Fail> {
+    let words = pieces(alloc, b' ', words.as_bytes())?;
+    let [pid, fd] = words.as_slice() else {
+        return Err(Fail::new("no words of a dup"));
+    };
+    Ok(Step::Dup {
+        pid: small_number(u32::MAX, pid)?,
+        fd: small_number(u32::MAX, fd)?,
+    })
+}
+
+/// The change of a flag that these words stand for: `PID FD on` or `PID FD off`.
+fn set_nonblock(alloc: Global, words: &str) -> Result<Step, Fail> {
+    let words = pieces(alloc, b' ', words.as_bytes())?;
+    let [pid, fd, flag] = words.as_slice() else {
+        return Err(Fail::new("no words of a nonblock"));
+    };
+    Ok(Step::SetNonblock {
+        pid: small_number(u32::MAX, pid)?,
+        fd: small_number(u32::MAX, fd)?,
+        on: *flag == b"on".as_slice(),
+    })
+}
+
 /// The step that a line stands for.
 fn read_step(alloc: Global, line: &str) -> Result<Step, Fail> {
     match line.split_once(' ') {
@@ -317,12 +347,15 @@ fn read_step(alloc: Global, line: &str) -> Result<Step, Fail> {
         Some(("splice", words)) => crossing(alloc, "splice", words),
         Some(("setsize", words)) => set_size(alloc, words),
         Some(("getsize", words)) => get_size(alloc, words),
+        Some(("fork", word)) => Ok(Step::Fork { pid: pid_of(word)? }),
+        Some(("dup", words)) => dup(alloc, words),
+        Some(("nonblock", words)) => set_nonblock(alloc, words),
         _ => Ok(step_of(alloc, pieces(alloc, b' ', line.as_bytes())?.as_slice())?),
     }
 }
 
 /// What a namespace is told of the step that a line stands for.
-fn told(
+pub(crate) fn told(
     rt: &impl Abort,
     alloc: Global,
     hub: &mut Hub,
@@ -376,7 +409,7 @@ pub(crate) fn play(
 }
 
 /// Plays tables one behind the other in `red`, the one namespace that these lines name, over frames of each kind.
-fn play_in_red(rt: &impl Abort, alloc: Global, lines: &str, tables: &[&[Row]]) -> Result<(), Fail> {
+pub(crate) fn play_in_red(rt: &impl Abort, alloc: Global, lines: &str, tables: &[&[Row]]) -> Result<(), Fail> {
     for fill in FILLS {
         let mut hub = open(alloc, lines, fill)?;
         play(rt, alloc, &mut hub, RED, SPAWN.as_slice())?;

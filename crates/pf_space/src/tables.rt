@@ -4,7 +4,7 @@
 //! above this file nobody sees a ring.
 
 ghost use Rattle.std.specs.Prelude.{◌≡◌, Ok, Err, Some, None, IfOk, IfSome, IfNone, MatchResult};
-ghost use Rattle.pf_space.specs.Rows.{process_in, end_in};
+ghost use Rattle.pf_space.specs.Rows.{process_in, key_in, end_in};
 
 mod descriptors;
 mod pipes;
@@ -90,6 +90,16 @@ fn caller(processes: &Places<Process>, pid: u32) -> Result<&Process, Errno>
     match processes.get(pid as usize - 1) {
         Some(process) => Ok(process),
         None => Err(Errno::ESRCH),
+    }
+}
+
+// The key at a process's descriptor.
+fn key_of(processes: &Places<Process>, pid: u32, fd: u32) -> Result<Key, Errno>
+    ensures { result ≡ key_in processes.now pid fd }
+{
+    match caller(processes, pid)?.descriptors.get(fd as usize) {
+        Some(key) => Ok(key),
+        None => Err(Errno::EBADF),
     }
 }
 
