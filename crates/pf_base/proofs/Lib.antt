@@ -11,9 +11,11 @@ pub mod FileLaws
 mod WorkedQueues
 mod WorkedPages
 mod WorkedCapacities
+mod WorkedSizes
 mod WorkedCrossings
 mod WorkedFiles
 mod WorkedPaths
+mod WorkedSharing
 mod WorkedScript
 pub mod ScriptLemmas
 mod ScriptExamples

@@ -4,7 +4,7 @@ use Rattle.std.proofs.Common.{◌≡◌, ℕ, min, Bool, true, false, List, ◌+
 use Rattle.std.specs.Prelude.{◌&&◌, ◌||◌}
 use Rattle.std.proofs.lemmas.Bool.{cases_lt}
 use Rattle.std.proofs.lemmas.List.{take-append-drop, take_all, drop_all}
-use Rattle.pf_base.specs.Queue.{Queue, IsQueue, bytes_of, room_of, free_of, put, taken, after_take, tee_number, after_tee, after_splice}
+use Rattle.pf_base.specs.Queue.{Queue, IsQueue, bytes_of, room_of, free_of, put, taken, after_take, tee_number, after_tee}
 use Rattle.pf_base.specs.Progress.{Passed, Crossed, moved, portion, read_now, write_now, is_empty, source_after, cross_now}
 use Rattle.pf_base.specs.declared.progress.Crossing.{Crossing}
 use Rattle.pf_base.specs.declared.progress.Crossing.TheVariants.{Tee, Splice}

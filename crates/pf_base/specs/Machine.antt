@@ -9,13 +9,13 @@ use Rattle.pf_base.specs.declared.errno.Errno.{Errno}
 use Rattle.pf_base.specs.declared.meta.Kind.TheVariants as kinds
 use Rattle.pf_base.specs.declared.progress.Crossing.TheVariants as crossings
 use Rattle.pf_base.specs.declared.step.Step.{Step}
-use Rattle.pf_base.specs.declared.step.Step.TheVariants.{Spawn, Exit, Pipe, Close, Read, Write, Tee, Splice, SetSize, GetSize}
+use Rattle.pf_base.specs.declared.step.Step.TheVariants.{Spawn, Exit, Pipe, Close, Read, Write, Tee, Splice, SetSize, GetSize, Fork, Dup, SetNonblock}
 use Rattle.pf_base.specs.declared.step.Step.TheVariants.{Mkdir, Mkfifo, Unlink, Rmdir, Chmod, Stat, List as Lists}
 use Rattle.pf_base.specs.declared.step.Answer.{Answer}
 use Rattle.pf_base.specs.declared.step.Answer.TheVariants.{Done, NoMemory}
 use Rattle.pf_base.specs.State.{State, Outcome, settle, process, living}
-use Rattle.pf_base.specs.Processes.{spawn, exit}
-use Rattle.pf_base.specs.Descriptors.{close}
+use Rattle.pf_base.specs.Processes.{spawn, fork, exit}
+use Rattle.pf_base.specs.Descriptors.{dup, close, set_nonblock}
 use Rattle.pf_base.specs.Pipes.{pipe, set_size, get_size}
 use Rattle.pf_base.specs.Transfers.{read, write, cross}
 use Rattle.pf_base.specs.Files.{make, unlink, rmdir, chmod, stat, list}
@@ -35,6 +35,9 @@ call c s (Tee pid source sink n nonblock) = living s pid >>= (λ p. cross crossi
 call c s (Splice pid source sink n nonblock) = living s pid >>= (λ p. cross crossings.Splice s p source sink n)
 call c s (SetSize pid fd bytes) = living s pid >>= (λ p. set_size c s p fd bytes)
 call c s (GetSize pid fd) = living s pid >>= (λ p. get_size s p fd)
+call c s (Fork pid) = living s pid >>= (λ p. fork s p)
+call c s (Dup pid fd) = living s pid >>= (λ p. dup s pid p fd)
+call c s (SetNonblock pid fd on) = living s pid >>= (λ p. set_nonblock s p fd on)
 call c s (Mkdir pid path mode) = living s pid >>= (λ p. make kinds.Directory s p path mode)
 call c s (Mkfifo pid path mode) = living s pid >>= (λ p. make kinds.Fifo s p path mode)
 call c s (Unlink pid path) = living s pid >>= (λ p. unlink s p path)
@@ -76,6 +79,9 @@ pid_of (Tee pid source sink n nonblock) = Some pid
 pid_of (Splice pid source sink n nonblock) = Some pid
 pid_of (SetSize pid fd bytes) = Some pid
 pid_of (GetSize pid fd) = Some pid
+pid_of (Fork pid) = Some pid
+pid_of (Dup pid fd) = Some pid
+pid_of (SetNonblock pid fd on) = Some pid
 pid_of (Mkdir pid path mode) = Some pid
 pid_of (Mkfifo pid path mode) = Some pid
 pid_of (Unlink pid path) = Some pid
@@ -97,6 +103,9 @@ takes_memory (Tee pid source sink n nonblock) = false
 takes_memory (Splice pid source sink n nonblock) = false
 takes_memory (SetSize pid fd bytes) = true
 takes_memory (GetSize pid fd) = false
+takes_memory (Fork pid) = true
+takes_memory (Dup pid fd) = false
+takes_memory (SetNonblock pid fd on) = false
 takes_memory (Mkdir pid path mode) = true
 takes_memory (Mkfifo pid path mode) = true
 takes_memory (Unlink pid path) = true

@@ -1,4 +1,4 @@
--- Processes: Spawn and Exit (the profile's own).
+-- Processes: Spawn and Exit (the profile's own), Fork (fork(2)).
 
 use Rattle.std.specs.Prelude.{ℕ, ◌+◌, nat_le, not, Result, Ok}
 use Rattle.pf_base.specs.Refusals.{◌>>◌, refuse_if}
@@ -23,6 +23,10 @@ abbrev pub spawn : State Queue → Cred → Result Outcome Errno
 spawn s cred = do
   refuse_if (not (is_valid cred)) EINVAL
   born s (record { cred = cred; descriptors = vacant })
+
+-- with the same credentials, and descriptors that name the same descriptions
+abbrev pub fork : State Queue → Process → Result Outcome Errno
+fork s p = born s p
 
 -- the process goes, and its descriptors with it
 abbrev pub exit : State Queue → ℕ → Result Outcome Errno

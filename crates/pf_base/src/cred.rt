@@ -1,8 +1,9 @@
-ghost use Rattle.std.specs.Prelude.{◌≡◌, nat_eq};
+ghost use Rattle.std.specs.Prelude.{◌≡◌, nat_eq, IfOk};
 ghost use Rattle.std.specs.Cmp.Lexicographic.{pointwise, nat_list_eq_equiv};
 ghost use Rattle.std.specs.Cmp.{partial_equiv_from_equiv};
 
 use crate::{MAX_GROUPS, MAX_UMASK};
+use std::alloc::{AllocError, Global};
 use std::marker::Model;
 
 /// Supplementary group ids. A contract sees the list of them.
@@ -32,6 +33,14 @@ impl Groups {
         ensures { result.now ≡ self.now }
     {
         self.ids.as_slice()
+    }
+
+    /// The same groups again.
+    pub fn copy(&self, alloc: Global) -> Result<Groups, AllocError>
+        ensures { IfOk result (λ groups. groups ≡ self.now) }
+    {
+        let ids = Vec::from_slice(alloc, self.as_slice())?;
+        Ok(Groups { ids })
     }
 
     /// Gives the group ids back, with no allocation.
@@ -74,9 +83,22 @@ pub struct Cred {
 }
 
 impl Cred {
-    ghost use Rattle.std.specs.Prelude.{◌≡◌};
+    ghost use Rattle.std.specs.Prelude.{◌≡◌, IfOk};
     ghost use Rattle.pf_base.specs.Credentials.{is_valid};
     ghost use Rattle.pf_base.specs.Permissions.{is_privileged};
+
+    /// The same credentials again.
+    pub fn copy(&self, alloc: Global) -> Result<Cred, AllocError>
+        ensures { IfOk result (λ cred. cred ≡ self.now) }
+    {
+        let groups = self.groups.copy(alloc)?;
+        Ok(Cred {
+            uid: self.uid,
+            gid: self.gid,
+            groups,
+            umask: self.umask,
+        })
+    }
 
     /// Whether a process may have these groups and this umask: permission bits alone, and not too many groups. A Spawn
     /// with others is refused with EINVAL. Neither the uid nor the gid is judged.

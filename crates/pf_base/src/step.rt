@@ -59,6 +59,23 @@ pub enum Step {
         pid: u32,
         fd: u32,
     },
+    /// A new process with the same credentials and the same descriptors, which name the same open file descriptions
+    /// (fork(2)).
+    Fork {
+        pid: u32,
+    },
+    /// The lowest free descriptor names the open file description that another one names (dup(2)).
+    Dup {
+        pid: u32,
+        fd: u32,
+    },
+    /// O_NONBLOCK of the open file description that a descriptor names is set or taken away, and with it of each
+    /// descriptor that names it, in whichever process (fcntl(2), F_SETFL).
+    SetNonblock {
+        pid: u32,
+        fd: u32,
+        on: bool,
+    },
     /// At most `n` bytes of one pipe moved to the end of another (splice(2)). `source` and `sink` are descriptors.
     Splice {
         pid: u32,

@@ -79,6 +79,7 @@ fn credentials_have_at_most_32_groups(rt: HostRuntime) -> Result<(), Fail> {
             umask,
         };
         assert_eq!(rt; cred.is_valid(), want, "{count} {umask}");
+        assert_eq!(rt; cred.copy(rt.alloc())?, cred);
     }
     Ok(())
 }

@@ -26,4 +26,8 @@ mod tests;
 #[cfg(test)]
 mod tests_rows;
 #[cfg(test)]
+mod tests_sharing;
+#[cfg(test)]
+mod tests_sizes;
+#[cfg(test)]
 mod tests_steps;

@@ -16,21 +16,21 @@ use std::test::Fail;
 
 /// A step without its namespace's name, its answer, and how many frames its namespace holds after it. A step `both`
 /// stands for four in turn: a tee and a splice of its words, each without and with the flag `n`.
-type Row = (&'static str, &'static str, u32);
+pub(crate) type Row = (&'static str, &'static str, u32);
 
 /// What the four steps are that `both` stands for, before and behind the words.
 const BOTH: [(&str, &str); 4] = [("tee", ""), ("tee", " n"), ("splice", ""), ("splice", " n")];
 
 /// The numbers of the namespaces of a hub.
-const RED: u32 = 0;
+pub(crate) const RED: u32 = 0;
 
-const BLUE: u32 = 1;
+pub(crate) const BLUE: u32 = 1;
 
 /// What a table of red's steps is played over, where nothing else is said.
-const HEADER: &str = "pool 64\nspace red 64\n";
+pub(crate) const HEADER: &str = "pool 64\nspace red 64\n";
 
 /// What stands before such a table.
-const SPAWN: [Row; 1] = [("spawn 5 5 022", "pid 1", 0)];
+pub(crate) const SPAWN: [Row; 1] = [("spawn 5 5 022", "pid 1", 0)];
 
 /// A tee leaves the source's bytes where they are, and the frame takes more of them behind the copy's.
 const COPIES_SHARE_A_FRAME: [Row; 7] = [
@@ -247,7 +247,7 @@ const TURNS: [(u32, Row); 33] = [
 ];
 
 /// A hub of the namespaces that these lines of a script name, over frames that hold this byte throughout.
-fn open(alloc: Global, lines: &str, fill: u8) -> Result<Hub<Global>, Fail> {
+pub(crate) fn open(alloc: Global, lines: &str, fill: u8) -> Result<Hub<Global>, Fail> {
     let script = read_text(alloc, lines.as_bytes())?;
     let frames = frames_of(alloc, script.frames(), &Options { fill })?;
     let limits = script.configs(alloc)?;
@@ -286,17 +286,77 @@ fn crossing(alloc: Global, verb: &str, words: &str) -> Result<Step, Fail> {
     }
 }
 
+/// The change of a capacity that these words stand for: `PID FD BYTES`.
+fn set_size(alloc: Global, words: &str) -> Result<Step, Fail> {
+    let words = pieces(alloc, b' ', words.as_bytes())?;
+    let [pid, fd, bytes] = words.as_slice() else {
+        return Err(Fail::new("no words of a setsize"));
+    };
+    Ok(Step::SetSize {
+        pid: small_number(u32::MAX, pid)?,
+        fd: small_number(u32::MAX, fd)?,
+        bytes: number(u64::MAX, bytes)?,
+    })
+}
+
+/// The question for a capacity that these words stand for: `PID FD`.
+fn get_size(alloc: Global, words: &str) -> Result<Step, Fail> {
+    let words = pieces(alloc, b' ', words.as_bytes())?;
+    let [pid, fd] = words.as_slice() else {
+        return Err(Fail::new("no words of a getsize"));
+    };
+    Ok(Step::GetSize {
+        pid: small_number(u32::MAX, pid)?,
+        fd: small_number(u32::MAX, fd)?,
+    })
+}
+
+/// The pid that this word is.
+fn pid_of(word: &str) -> Result<u32, Fail> {
+    Ok(small_number(u32::MAX, word.as_bytes())?)
+}
+
+/// The second name of a description that these words stand for: `PID FD`.
+fn dup(alloc: Global, words: &str) -> Result<Step, Fail> {
+    let words = pieces(alloc, b' ', words.as_bytes())?;
+    let [pid, fd] = words.as_slice() else {
+        return Err(Fail::new("no words of a dup"));
+    };
+    Ok(Step::Dup {
+        pid: small_number(u32::MAX, pid)?,
+        fd: small_number(u32::MAX, fd)?,
+    })
+}
+
+/// The change of a flag that these words stand for: `PID FD on` or `PID FD off`.
+fn set_nonblock(alloc: Global, words: &str) -> Result<Step, Fail> {
+    let words = pieces(alloc, b' ', words.as_bytes())?;
+    let [pid, fd, flag] = words.as_slice() else {
+        return Err(Fail::new("no words of a nonblock"));
+    };
+    Ok(Step::SetNonblock {
+        pid: small_number(u32::MAX, pid)?,
+        fd: small_number(u32::MAX, fd)?,
+        on: *flag == b"on".as_slice(),
+    })
+}
+
 /// The step that a line stands for.
 fn read_step(alloc: Global, line: &str) -> Result<Step, Fail> {
     match line.split_once(' ') {
         Some(("tee", words)) => crossing(alloc, "tee", words),
         Some(("splice", words)) => crossing(alloc, "splice", words),
+        Some(("setsize", words)) => set_size(alloc, words),
+        Some(("getsize", words)) => get_size(alloc, words),
+        Some(("fork", word)) => Ok(Step::Fork { pid: pid_of(word)? }),
+        Some(("dup", words)) => dup(alloc, words),
+        Some(("nonblock", words)) => set_nonblock(alloc, words),
         _ => Ok(step_of(alloc, pieces(alloc, b' ', line.as_bytes())?.as_slice())?),
     }
 }
 
 /// What a namespace is told of the step that a line stands for.
-fn told(
+pub(crate) fn told(
     rt: &impl Abort,
     alloc: Global,
     hub: &mut Hub<Global>,
@@ -330,7 +390,7 @@ fn lines_of(alloc: Global, line: &str) -> Result<Vec<String>, Fail> {
 }
 
 /// Plays rows of one namespace: each step has its answer, and leaves the namespace so many frames.
-fn play(
+pub(crate) fn play(
     rt: &impl Abort,
     alloc: Global,
     hub: &mut Hub<Global>,
@@ -350,7 +410,7 @@ fn play(
 }
 
 /// Plays tables one behind the other in `red`, the one namespace that these lines name, over frames of each kind.
-fn play_in_red(rt: &impl Abort, alloc: Global, lines: &str, tables: &[&[Row]]) -> Result<(), Fail> {
+pub(crate) fn play_in_red(rt: &impl Abort, alloc: Global, lines: &str, tables: &[&[Row]]) -> Result<(), Fail> {
     for fill in FILLS {
         let mut hub = open(alloc, lines, fill)?;
         play(rt, alloc, &mut hub, RED, SPAWN.as_slice())?;

@@ -1,12 +1,9 @@
 -- Calls on files, as the tables make them and as the machine does: only the files change, and nobody sees them but the calls.
 
-use Rattle.std.proofs.Common.{◌≡◌, ℕ, ◌+◌, List, Result, Ok, Err, refl, sym, ap, subst, ◌∙◌}
+use Rattle.std.proofs.Common.{◌≡◌, ℕ, Result, Ok, Err, refl, sym, ap, subst, ◌∙◌}
 use Rattle.pf_base.specs.FileMap.{Files}
-use Rattle.pf_base.specs.FileCalls as calls
-use Rattle.pf_base.specs.Files.{with_files, with_new, make, unlink, rmdir, chmod}
 use Rattle.pf_base.specs.Limits.{Limits}
 use Rattle.pf_base.specs.Machine.{swept}
-use Rattle.pf_base.specs.Permissions.{mode_of}
 use Rattle.pf_base.specs.Queue.{Queue}
 use Rattle.pf_base.specs.Refusals.{◌>>=◌}
 use Rattle.pf_base.specs.State as machine
@@ -15,14 +12,14 @@ use Rattle.pf_base.specs.Sweep.{sweep}
 use Rattle.pf_base.specs.declared.errno.Errno.{Errno}
 use Rattle.pf_base.specs.declared.fault.Fault.{Fault}
 use Rattle.pf_base.specs.declared.fault.Fault.TheVariants as faults
-use Rattle.pf_base.specs.declared.meta.Kind.{Kind}
 use Rattle.pf_base.specs.declared.step.Reply.{Reply}
+use Rattle.pf_base.specs.declared.step.Reply.TheVariants.{Num}
 use Rattle.pf_frame.specs.Live.{Live}
 use Rattle.pf_space.specs.Meaning.{Namespace, meaning}
 use Rattle.pf_space.specs.MeaningLaws.{settled-meaning}
 use Rattle.pf_space.specs.Owns.{Owns}
 use Rattle.pf_space.specs.Rows.{ProcessRows, DescriptionRows, PipeRows, Process, process_of, state_of, process_in, Tied}
-use Rattle.pf_space.specs.Tables.{Sized, HasFiled}
+use Rattle.pf_space.specs.Tables.{Tells, HasFiled}
 use Rattle.pf_space.specs.Told.{Becomes, Told, settled as all_settled}
 use Rattle.pf_space.proofs.Callers.{lives}
 use Rattle.pf_space.proofs.Swept.{settled}
@@ -64,7 +61,7 @@ module _ (f : Live) {limits : Limits} {ps : ProcessRows} {ds : DescriptionRows} 
         }) owns
 
     pub filed-done : (step : Step Outcome) → step s (process_of p) ≡ Ok (done (filed s) 0)
-        → Sized f n (record { limits = limits; state = state_of ps ds pipes files' made' }) (living (meaning f n.state) pid >>= (λ q. step (meaning f n.state) q)) 0
+        → Tells f n (record { limits = limits; state = state_of ps ds pipes files' made' }) (living (meaning f n.state) pid >>= (λ q. step (meaning f n.state) q)) (Num 0)
     filed-done step said = record {
       state = filed (meaning f n.state);
       is = caller_told step (Ok (done (filed (meaning f n.state)) 0)) (said ∙ ap (λ (m : Namespace). Ok (done (filed (meaning f m.state)) 0)) view);

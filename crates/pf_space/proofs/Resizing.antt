@@ -39,7 +39,7 @@ use Rattle.pf_space.proofs.Opening.{charged_is, total_is}
 use Rattle.pf_space.proofs.Small.{requeued}
 use Rattle.pf_space.proofs.Swept.{settled}
 use Rattle.pf_space.specs.Rows.{ProcessRows, DescriptionRows, PipeRows, Process, Description, Pipe, process_of, pipe_of, processes_of, descriptions_of, pipes_of, state_of, process_in, end_in, Tied, Kept}
-use Rattle.pf_space.specs.Tables.{Sized, HasResized, sized, size_of_end, verdict, Resizes, Refuses, Resizing}
+use Rattle.pf_space.specs.Tables.{Tells, HasResized, sized, size_of_end, verdict, Resizes, Refuses, Resizing}
 use Rattle.pf_space.proofs.Callers.{lives}
 use Rattle.pf_space.proofs.Ends.{end_of_rows, Found, refused, found}
 use Rattle.pf_space.proofs.Shown.{shown, find_at, find_was, set_same}
@@ -242,7 +242,7 @@ module _ {files : Files} {files_made : ℕ} (f : Live) (limits : Limits) (charge
               })
 
           pub sized_done : (bytes size : ℕ) → to ≡ pages_for bytes → size ≡ PAGE_SIZE * pages_for bytes → bytes ≤ MAX_SIZE → (not (is_privileged p.cred) && nat_lt limits.max (PAGE_SIZE * pages_for bytes)) ≡ false
-              → Sized f n (record { limits = charges'.limits; state = state_of ps ds pipes' files files_made }) (sized n.limits (meaning f n.state) pid fd bytes) size
+              → Tells f n (record { limits = charges'.limits; state = state_of ps ds pipes' files files_made }) (sized n.limits (meaning f n.state) pid fd bytes) (replies.Num size)
           sized_done bytes size slots all short under = record {
             state = with_queue (meaning f n.state) d.pipe.serial (with_capacity to (queue_of f r.ring));
             is =

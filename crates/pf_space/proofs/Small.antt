@@ -6,7 +6,7 @@ use Rattle.std.proofs.lemmas.Bool.{ltb-true, ltb-false}
 use Rattle.pf_base.specs.Numbered.{at, put_at, clear_at, one_if}
 use Rattle.pf_base.specs.declared.TheConstants.{MAX_DESCRIPTORS}
 use Rattle.pf_space.specs.Rows.{ProcessRows, DescriptionRows, PipeRows, Key, Named, Process, Description, Pipe, with_fewer, is_used, left, names_it, named, reads_it, writes_it, read_by, written_by, held, holding, NamedRow, UsedRow, IsEnd, TiedWith}
-use Rattle.pf_space.proofs.Held.{moved, miss, names_one, names_none, redescribed, repiped, sides}
+use Rattle.pf_space.proofs.Held.{moved, found, miss, names_one, names_none, redescribed, repiped, sides}
 
 module _ (K : List Key) (E : List Description) (ps : ProcessRows) (ds : DescriptionRows) (pipes : PipeRows) where
   module _ (k : Key) (d : Named Description) (stands : at ds k.serial ≡ Some (k.place, d)) where
@@ -17,6 +17,13 @@ module _ (K : List Key) (E : List Description) (ps : ProcessRows) (ds : Descript
 
     pub names_row : {K' : List Key} → TiedWith K' E ps ds pipes → (d.names ≡ named ps k.serial + held (names_it k.serial) K') × (0 < named ps k.serial + held (names_it k.serial) K')
     names_row {K'} t = subst (NamedRow (named ps k.serial + held (names_it k.serial) K')) stands (t.names k.serial)
+
+    -- one name more, of a key in the hand
+    pub named_again : TiedWith K E ps ds pipes → TiedWith (k ∷ K) E ps (put_at ds k.serial (k.place, record d { names = d.names + 1 })) pipes
+    named_again t =
+        redescribed K E ps ds pipes t k.serial (k.place, d) stands (Some (k.place, record d { names = d.names + 1 })) (k ∷ K) E
+        (place_and_end t (d.names + 1)) (found ds k d stands, t.in_hand) (λ n ne. omega (arith, names_none n k (λ e. ne (sym e))))
+        (let r = names_row t in let one = names_one k in (omega (arith, r.0, one), omega (arith, r.1))) t.ends_in_hand (λ n. refl) (λ n. refl)
 
     -- one name less: others are left
     pub unnamed : TiedWith (k ∷ K) E ps ds pipes → d.names ≢ 1 → TiedWith K E ps (put_at ds k.serial (k.place, record d { names = d.names - 1 })) pipes

@@ -1,10 +1,10 @@
 -- What the tables mean to the lone machine, and how their counters are tied to it. No public clause cites this module.
 
-use Rattle.std.specs.Prelude.{◌≡◌, ℕ, zero, suc, ◌+◌, ◌-◌, ◌<◌, Bool, true, not, ◌&&◌, List, [], ◌∷◌, length, map, Option, Some, None, nat_lt, nat_eq, ⊤, if◌then◌else◌, Result, Ok}
+use Rattle.std.specs.Prelude.{◌≡◌, ℕ, zero, suc, ◌+◌, ◌-◌, ◌*◌, ◌<◌, ◌≤◌, Bool, true, not, ◌&&◌, List, [], ◌∷◌, length, map, Option, Some, None, nat_lt, nat_eq, ⊤, if◌then◌else◌, Result, Ok}
 use Rattle.std.specs.Option.{option_map}
 use Rattle.pf_base.specs.Refusals.{◌>>=◌, ◌>>◌, refuse_if, or_refuse}
 use Rattle.pf_base.specs.FileMap.{Files}
-use Rattle.pf_base.specs.Numbered.{at, put_at, clear_at, sum_of, one_if}
+use Rattle.pf_base.specs.Numbered.{at, put_at, clear_at, change_at, sum_of, one_if}
 use Rattle.pf_base.specs.State as machine
 use Rattle.pf_base.specs.State.{State}
 use Rattle.pf_base.specs.declared.TheConstants.{MAX_PROCESSES, MAX_DESCRIPTORS}
@@ -14,6 +14,7 @@ use Rattle.pf_base.specs.declared.progress.Side.{Side}
 use Rattle.pf_base.specs.declared.progress.Side.TheVariants as sides
 pub use Rattle.pf_fds.specs.declared.registry.Key.{Key}
 pub use Rattle.pf_fds.specs.declared.descriptions.Named.{Named}
+use Rattle.pf_fds.specs.Descriptions.{one_more}
 use Rattle.pf_fds.specs.Registry.{find}
 pub use Rattle.pf_ring.specs.Ring.{Ring}
 pub use Rattle.pf_pipe.specs.Pipe.{CountedPipe as Pipe}
@@ -51,9 +52,17 @@ abbrev pub without_key : ℕ → Option Process → Option Process
 without_key fd None = None
 without_key fd (Some p) = Some (record p { descriptors = clear_at p.descriptors fd })
 
+abbrev pub with_key : ℕ → Key → Option Process → Option Process
+with_key fd k None = None
+with_key fd k (Some p) = Some (record p { descriptors = put_at p.descriptors fd k })
+
 abbrev pub with_keys : ℕ → Key → ℕ → Key → Option Process → Option Process
 with_keys a j b k None = None
 with_keys a j b k (Some p) = Some (record p { descriptors = put_at (put_at p.descriptors a j) b k })
+
+-- the key at a process's descriptor
+abbrev pub key_in : ProcessRows → ℕ → ℕ → Result Key Errno
+key_in ps pid fd = process_in ps pid >>= (λ p. or_refuse EBADF (at p.descriptors fd))
 
 -- whether a description is for a side, where one is asked for
 abbrev pub has : Option Side → Description → Bool
@@ -173,6 +182,27 @@ holding (Some x) xs = x ∷ xs
 -- a key finds something: what stands at its number stands in its place
 abbrev pub Finds : {T : Type 0} → List (Option (ℕ × T)) → Key → Type 0
 Finds rows k = option_map (λ e. e.0) (at rows k.serial) ≡ Some k.place
+
+-- each of a process's keys finds a description
+abbrev pub AllFind : List (Option Key) → DescriptionRows → Type 0
+AllFind ks ds = (fd : ℕ) (k : Key) → at ks fd ≡ Some k → Finds ds k
+
+-- no description has more names than all processes together have descriptors
+abbrev pub AreFew : DescriptionRows → Type 0
+AreFew ds = (n : ℕ) (e : ℕ × Named Description) → at ds n ≡ Some e → e.1.names ≤ MAX_PROCESSES * MAX_DESCRIPTORS
+
+-- a description with one name more, where there is a key for it
+abbrev pub renamed : Option Key → DescriptionRows → DescriptionRows
+renamed None ds = ds
+renamed (Some k) ds = change_at one_more ds k.serial
+
+-- one name more for each of the first n keys, and for each of all
+abbrev pub first_renamed : ℕ → List (Option Key) → DescriptionRows → DescriptionRows
+first_renamed zero ks ds = ds
+first_renamed (suc n) ks ds = renamed (at ks n) (first_renamed n ks ds)
+
+abbrev pub named_once_more : List (Option Key) → DescriptionRows → DescriptionRows
+named_once_more ks ds = first_renamed (length ks) ks ds
 
 -- a description row by how many name it: nothing stands where nothing names it
 abbrev pub NamedRow : ℕ → Option (ℕ × Named Description) → Type 0

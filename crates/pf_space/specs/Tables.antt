@@ -6,8 +6,9 @@ use Rattle.pf_base.specs.Refusals.{◌>>=◌, refuse_if}
 use Rattle.pf_base.specs.FileMap.{Files}
 use Rattle.pf_base.specs.Queue.{Queue, empty}
 use Rattle.pf_base.specs.Numbered.{at, clear_at, change_at, keep}
-use Rattle.pf_base.specs.State.{State, Process, Pipe, Outcome, living, end_of, done, with_process, without_process}
-use Rattle.pf_base.specs.Descriptors.{named, without_descriptor}
+use Rattle.pf_base.specs.State.{State, Process, Pipe, Outcome, living, end_of, told, with_process, without_process}
+use Rattle.pf_base.specs.Processes.{fork}
+use Rattle.pf_base.specs.Descriptors.{named, dup, without_descriptor, with_flag}
 use Rattle.pf_base.specs.Sweep.{sweep}
 use Rattle.pf_base.specs.FileCalls as calls
 use Rattle.pf_base.specs.Files.{make, unlink, rmdir, chmod}
@@ -21,6 +22,8 @@ use Rattle.pf_base.specs.declared.errno.Errno.{Errno}
 use Rattle.pf_base.specs.declared.errno.Errno.TheVariants.{EMFILE, ENFILE, EPERM, EBUSY}
 use Rattle.pf_base.specs.declared.fault.Fault.{Fault}
 use Rattle.pf_base.specs.declared.fault.Fault.TheVariants as faults
+use Rattle.pf_base.specs.declared.step.Reply.{Reply}
+use Rattle.pf_base.specs.declared.step.Reply.TheVariants.{Num, Pid}
 use Rattle.pf_limits.specs.UserPages.{UserPages, charged_to}
 use Rattle.pf_frame.specs.Live.{Live}
 use Rattle.pf_ring.specs.Ring.{Ring}
@@ -63,6 +66,21 @@ exited s pid = do
   p ← living s pid
   Ok (without_process s pid)
 
+-- a living process gets a child
+abbrev pub forked : State Queue → ℕ → Result Outcome Errno
+forked s pid = living s pid >>= (λ p. fork s p)
+
+-- a living process's lowest free descriptor names what another one names
+abbrev pub duped : State Queue → ℕ → ℕ → Result Outcome Errno
+duped s pid fd = living s pid >>= (λ p. dup s pid p fd)
+
+-- the description that a living process's descriptor names gets O_NONBLOCK, or loses it
+abbrev pub flagged : State Queue → ℕ → ℕ → Bool → Result (State Queue) Errno
+flagged s pid fd on = do
+  p ← living s pid
+  n ← named p fd
+  Ok (with_flag s n on)
+
 -- a process lives, and these are its two lowest free descriptors
 pub record HasTwo (s : State Queue) (pid : ℕ) (free : ℕ × ℕ) : Type 0 where
   pub p : Process
@@ -93,20 +111,31 @@ size_of_end s pid fd = do
 abbrev pub sized : Limits → State Queue → ℕ → ℕ → ℕ → Result Outcome Errno
 sized c s pid fd bytes = living s pid >>= (λ p. set_size c s p fd bytes)
 
--- it was made, and told the size; or its refusal is the machine's; or memory was wanted
-pub record Sized (f : Live) (old new : Namespace) (machine : Result Outcome Errno) (size : ℕ) : Type 0 where
+-- it was made, and this is told
+pub record Tells (f : Live) (old new : Namespace) (machine : Result Outcome Errno) (reply : Reply) : Type 0 where
   pub state : State Queue
-  pub is : machine ≡ Ok (done state size)
+  pub is : machine ≡ Ok (told state reply)
   pub becomes : Becomes f f old new state
 
+-- or its refusal is the machine's
+abbrev pub HasDuped : Live → Namespace → Namespace → Result ℕ Errno → Result Outcome Errno → Type 0
+HasDuped f old new (Ok to) machine = Tells f old new machine (Num to)
+HasDuped f old new (Err e) machine = machine ≡ Err e
+
+-- or memory was wanted
 abbrev pub HasResized : Live → Namespace → Namespace → Result ℕ Fault → Result Outcome Errno → Type 0
-HasResized f old new (Ok size) machine = Sized f old new machine size
+HasResized f old new (Ok size) machine = Tells f old new machine (Num size)
 HasResized f old new (Err (faults.Errno e)) machine = machine ≡ Err e
 HasResized f old new (Err faults.NoMemory) machine = ⊤
 
+abbrev pub HasForked : Live → Namespace → Namespace → Result ℕ Fault → Result Outcome Errno → Type 0
+HasForked f old new (Ok pid) machine = Tells f old new machine (Pid pid)
+HasForked f old new (Err (faults.Errno e)) machine = machine ≡ Err e
+HasForked f old new (Err faults.NoMemory) machine = ⊤
+
 -- a call on files that is told nothing but that it was made; or its refusal is the machine's; or memory was wanted
 abbrev pub HasFiled : Live → Namespace → Namespace → Result (Unit {0}) Fault → Result Outcome Errno → Type 0
-HasFiled f old new (Ok made) machine = Sized f old new machine 0
+HasFiled f old new (Ok made) machine = Tells f old new machine (Num 0)
 HasFiled f old new (Err (faults.Errno e)) machine = machine ≡ Err e
 HasFiled f old new (Err faults.NoMemory) machine = ⊤
 

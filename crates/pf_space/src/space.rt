@@ -102,6 +102,9 @@ impl<A: Allocator + Clone> Space<A> {
             Step::Write { pid, fd, payload } => self.write(door, *pid, *fd, payload.as_slice()),
             Step::SetSize { pid, fd, bytes } => self.set_size(door, *pid, *fd, *bytes),
             Step::GetSize { pid, fd } => self.get_size(door, *pid, *fd),
+            Step::Fork { pid } => self.fork(door, *pid),
+            Step::Dup { pid, fd } => self.dup(door, *pid, *fd),
+            Step::SetNonblock { pid, fd, on } => self.set_nonblock(door, *pid, *fd, *on),
             Step::Tee {
                 pid,
                 source,

@@ -5,7 +5,7 @@
 //! above this file nobody sees a ring.
 
 ghost use Rattle.std.specs.Prelude.{◌≡◌, Ok, Err, Some, None, IfOk, IfSome, IfNone, MatchResult};
-ghost use Rattle.pf_space.specs.Rows.{process_in, end_in};
+ghost use Rattle.pf_space.specs.Rows.{process_in, key_in, end_in};
 
 mod descriptors;
 mod files;
@@ -99,6 +99,16 @@ fn caller(processes: &Places<Process>, pid: u32) -> Result<&Process, Errno>
     }
 }
 
+// The key at a process's descriptor.
+fn key_of(processes: &Places<Process>, pid: u32, fd: u32) -> Result<Key, Errno>
+    ensures { result ≡ key_in processes.now pid fd }
+{
+    match caller(processes, pid)?.descriptors.get(fd as usize) {
+        Some(key) => Ok(key),
+        None => Err(Errno::EBADF),
+    }
+}
+
 // The description of the end that a process's descriptor names, of this side where one is asked for.
 fn end(
     processes: &Places<Process>,
@@ -120,6 +130,30 @@ fn end(
         return Err(Errno::EBADF);
     }
     Ok(*description)
+}
+
+// The same, of an end that reads.
+fn reading_end(
+    processes: &Places<Process>,
+    descriptions: &Descriptions<Description>,
+    pid: u32,
+    fd: u32,
+) -> Result<Description, Errno>
+    ensures { result ≡ end_in (Some Side.Read) processes.now descriptions.now.items pid fd }
+{
+    end(processes, descriptions, pid, fd, Some(Side::Read))
+}
+
+// Or of one that writes.
+fn writing_end(
+    processes: &Places<Process>,
+    descriptions: &Descriptions<Description>,
+    pid: u32,
+    fd: u32,
+) -> Result<Description, Errno>
+    ensures { result ≡ end_in (Some Side.Write) processes.now descriptions.now.items pid fd }
+{
+    end(processes, descriptions, pid, fd, Some(Side::Write))
 }
 
 impl<A: Allocator> Tables<A> {

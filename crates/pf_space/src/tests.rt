@@ -40,6 +40,18 @@ fn set_size(fd: u32, bytes: u64) -> Step {
     Step::SetSize { pid: 1, fd, bytes }
 }
 
+fn fork(pid: u32) -> Step {
+    Step::Fork { pid }
+}
+
+fn dup(fd: u32) -> Step {
+    Step::Dup { pid: 1, fd }
+}
+
+fn exit(pid: u32) -> Step {
+    Step::Exit { pid }
+}
+
 fn read(fd: u32, n: u64) -> Step {
     Step::Read { pid: 1, fd, n }
 }
@@ -359,5 +371,103 @@ fn a_process_has_256_descriptors(rt: HostRuntime) -> Result<(), Fail> {
     assert_eq!(rt; answers.get(129), Some(&refused(Errno::EMFILE)));
     assert_eq!(rt; answers.get(131), Some(&refused(Errno::EMFILE)));
     assert_eq!(rt; answers.get(133), Some(&Answer::Done(Reply::Fds(4, 9))));
+    Ok(())
+}
+
+// 256 processes come from one, and each has 256 descriptors of one pipe. They go in another order than they came. The
+// last one still reads what was written before the others came, and then the pipe's pages are free again.
+#[test]
+fn a_family_shares_a_pipe(rt: HostRuntime) -> Result<(), Fail> {
+    let alloc = rt.alloc();
+    let mut steps = Vec::from_array(alloc, [spawn(alloc), pipe(1), write(alloc, 1, 0x61, 1)?])?;
+    let mut told = Vec::from_array(
+        alloc,
+        [
+            Answer::Done(Reply::Pid(1)),
+            Answer::Done(Reply::Fds(0, 1)),
+            number(1),
+        ],
+    )?;
+    for fd in 2..256 {
+        steps.push(dup(fd % 2))?;
+        told.push(number(fd as u64))?;
+    }
+    steps.push(dup(0))?;
+    told.push(refused(Errno::EMFILE))?;
+    for child in 2..257 {
+        steps.push(fork(child / 2))?;
+        told.push(Answer::Done(Reply::Pid(child)))?;
+    }
+    steps.push(fork(256))?;
+    told.push(refused(Errno::EAGAIN))?;
+    for k in 0..255 {
+        steps.push(exit(k * 101 % 256 + 1))?;
+        told.push(number(0))?;
+    }
+    let last = 255 * 101 % 256 + 1;
+    steps.push(Step::Read {
+        pid: last,
+        fd: 254,
+        n: 9,
+    })?;
+    told.push(bytes(alloc, b"a")?)?;
+    steps.push(exit(last))?;
+    told.push(number(0))?;
+    for step in [spawn(alloc), pipe(1), get_size(1, 0)] {
+        steps.push(step)?;
+    }
+    told.push(Answer::Done(Reply::Pid(1)))?;
+    told.push(Answer::Done(Reply::Fds(0, 1)))?;
+    told.push(number(65_536))?;
+    let (answers, credits) = played(&rt, alloc, 16, 165, &steps)?;
+    assert_eq!(rt; answers.as_slice(), told.as_slice());
+    assert_eq!(rt; credits, 16);
+    Ok(())
+}
+
+// A process with groups and descriptors comes twice, and each time has what its parent has.
+#[test]
+fn a_child_has_what_its_parent_has(rt: HostRuntime) -> Result<(), Fail> {
+    let alloc = rt.alloc();
+    let steps = Vec::from_array(
+        alloc,
+        [
+            Step::Spawn {
+                uid: 5,
+                gid: 6,
+                groups: Groups::new(Vec::from_slice(alloc, &[7, 8, 9])?),
+                umask: 0o022,
+            },
+            pipe(1),
+            fork(1),
+            fork(2),
+            exit(2),
+            Step::Write {
+                pid: 3,
+                fd: 1,
+                payload: ByteString::new(Vec::from_slice(alloc, b"x")?),
+            },
+            read(0, 9),
+            fork(2),
+            fork(3),
+        ],
+    )?;
+    let told = Vec::from_array(
+        alloc,
+        [
+            Answer::Done(Reply::Pid(1)),
+            Answer::Done(Reply::Fds(0, 1)),
+            Answer::Done(Reply::Pid(2)),
+            Answer::Done(Reply::Pid(3)),
+            number(0),
+            number(1),
+            bytes(alloc, b"x")?,
+            refused(Errno::ESRCH),
+            Answer::Done(Reply::Pid(2)),
+        ],
+    )?;
+    let (answers, credits) = played(&rt, alloc, 16, 165, &steps)?;
+    assert_eq!(rt; answers.as_slice(), told.as_slice());
+    assert_eq!(rt; credits, 16);
     Ok(())
 }

@@ -1,4 +1,4 @@
-//! Descriptors: Close (close(2)).
+//! Descriptors: Dup (dup(2)), Close (close(2)) and SetNonblock (fcntl(2), F_SETFL).
 
 ghost use Rattle.std.specs.Prelude.{◌≡◌, ◌≢◌, Err};
 ghost use Rattle.pf_base.specs.Machine.{call};
@@ -12,6 +12,17 @@ use pf_frame::Frames;
 use std::alloc::Allocator;
 
 impl<A: Allocator + Clone> Space<A> {
+    /// The lowest free descriptor of a process names the open file description that another one names (dup(2)).
+    pub(super) fn dup<F: Frames>(&mut self, door: &F, pid: u32, fd: u32) -> Result<Reply, Fault>
+        requires owns { Owns (F.live door.now) self.old }
+        ensures told { Told (F.live door.now) (F.live door.now) self.old self.new result
+            (call self.old.limits (meaning (F.live door.now) self.old.state) (Step.Dup pid fd)) }
+        ensures succeeds { result ≢ Err Fault.NoMemory }
+    {
+        let to = self.tables.dup(door, pid, fd)?;
+        Ok(Reply::Num(to as u64))
+    }
+
     /// A descriptor of a process goes (close(2)).
     pub(super) fn close<F: Frames>(
         &mut self,
@@ -28,6 +39,24 @@ impl<A: Allocator + Clone> Space<A> {
         ensures succeeds { result ≢ Err Fault.NoMemory }
     {
         self.tables.drop_descriptor(door, pid, fd)?;
+        Ok(Reply::Num(0))
+    }
+
+    /// Sets O_NONBLOCK of the open file description that a process's descriptor names, or takes it away (fcntl(2),
+    /// F_SETFL).
+    pub(super) fn set_nonblock<F: Frames>(
+        &mut self,
+        door: &F,
+        pid: u32,
+        fd: u32,
+        on: bool,
+    ) -> Result<Reply, Fault>
+        requires owns { Owns (F.live door.now) self.old }
+        ensures told { Told (F.live door.now) (F.live door.now) self.old self.new result
+            (call self.old.limits (meaning (F.live door.now) self.old.state) (Step.SetNonblock pid fd on)) }
+        ensures succeeds { result ≢ Err Fault.NoMemory }
+    {
+        self.tables.set_nonblocking(door, pid, fd, on)?;
         Ok(Reply::Num(0))
     }
 }

@@ -1,7 +1,8 @@
-//! Processes: Spawn and Exit (the profile's own).
+//! Processes: Spawn and Exit (the profile's own), Fork (fork(2)).
 
-ghost use Rattle.std.specs.Prelude.{◌≡◌, ◌≢◌, Err};
+ghost use Rattle.std.specs.Prelude.{◌≡◌, ◌≢◌, Err, IsSome};
 ghost use Rattle.pf_base.specs.Machine.{call};
+ghost use Rattle.pf_base.specs.State.{process};
 ghost use Rattle.pf_space.specs.Meaning.{meaning};
 ghost use Rattle.pf_space.specs.Owns.{Owns};
 ghost use Rattle.pf_space.specs.Told.{Told};
@@ -42,6 +43,19 @@ impl<A: Allocator + Clone> Space<A> {
         };
         self.tables.put_process(door, self.alloc, pid, cred)?;
         Ok(Reply::Pid(pid))
+    }
+
+    /// Makes a process with the credentials and the descriptors of another one, under the lowest free pid (fork(2)).
+    pub(super) fn fork<F: Frames>(&mut self, door: &F, pid: u32) -> Result<Reply, Fault>
+        requires owns { Owns (F.live door.now) self.old }
+        ensures told { Told (F.live door.now) (F.live door.now) self.old self.new result
+            (call self.old.limits (meaning (F.live door.now) self.old.state) (Step.Fork pid)) }
+        // Memory is wanted for a process that lives, and then nothing has changed.
+        ensures unchanged { result ≡ Err Fault.NoMemory → self.new ≡ self.old }
+        ensures lives { result ≡ Err Fault.NoMemory → IsSome (process self.old.state pid) }
+    {
+        let child = self.tables.fork(door, self.alloc, pid)?;
+        Ok(Reply::Pid(child))
     }
 
     /// A process goes, with its descriptors.

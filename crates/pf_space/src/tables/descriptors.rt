@@ -1,17 +1,18 @@
-//! Descriptors: what drops one. Where a description's last name goes, so does its end of the pipe; where a pipe's last
-//! end goes, so does the pipe: its slots are released, and its pages are charged no more.
+//! Descriptors: what gives a description one name more, what sets its flag, and what drops a name. Where a description's last name
+//! goes, so does its end of the pipe; where a pipe's last end goes, so does the pipe: its slots are released, and its
+//! pages are charged no more.
 
-ghost use Rattle.std.specs.Prelude.{◌≡◌, ℕ, ◌<◌, ◌≤◌, None, IsSome, IfSome, slice_set};
+ghost use Rattle.std.specs.Prelude.{◌≡◌, ℕ, ◌<◌, ◌≤◌, None, IsSome, IfSome, OnErr, slice_set};
 ghost use Rattle.pf_base.specs.Numbered.{at, one_if};
 ghost use Rattle.pf_fds.specs.Registry.{find};
 ghost use Rattle.pf_space.specs.Meaning.{meaning};
 ghost use Rattle.pf_space.specs.Owns.{Owns};
-ghost use Rattle.pf_space.specs.Rows.{key_at, without_key, with_fewer, left, gone, pipes_of, state_of, Tied};
-ghost use Rattle.pf_space.specs.Tables.{closed, descriptor, emptied, without_place, Left, LetsGo};
+ghost use Rattle.pf_space.specs.Rows.{key_at, with_key, without_key, with_fewer, left, gone, pipes_of, state_of, Tied};
+ghost use Rattle.pf_space.specs.Tables.{closed, descriptor, duped, emptied, flagged, without_place, HasDuped, Left, LetsGo};
 ghost use Rattle.pf_space.specs.Told.{Becomes, Leaves};
 
-use super::{Description, Process, Tables, caller};
-use pf_base::{Errno, Side};
+use super::{Description, Process, Tables, caller, key_of};
+use pf_base::{Errno, MAX_DESCRIPTORS, Side};
 use pf_fds::{Descriptions, Key, Places, Registry};
 use pf_frame::Frames;
 use pf_pipe::Pipe;
@@ -26,6 +27,15 @@ fn take_key(processes: &mut Places<Process>, i: usize, fd: usize) -> Option<Key>
         return None;
     }
     processes.value_mut(i).descriptors.clear(fd)
+}
+
+// Puts a key at a descriptor of the process in a place.
+fn give_key(processes: &mut Places<Process>, i: usize, fd: usize, key: Key)
+    requires there { IsSome (at processes.old i) }
+    requires fd_in { fd < 256 }
+    ensures { processes.new ≡ slice_set processes.old i (with_key fd key (at processes.old i)) }
+{
+    processes.value_mut(i).descriptors.set(fd, key);
 }
 
 // Counts an end of a pipe no more.
@@ -102,6 +112,44 @@ impl<A: Allocator> Tables<A> {
         }
     }
 
+    /// Gives the description that a process's descriptor names one name more, the lowest free descriptor (dup(2)), and
+    /// tells which that is.
+    pub fn dup<F: Frames>(&mut self, door: &F, pid: u32, fd: u32) -> Result<u32, Errno>
+        requires owns { Owns (F.live door.now) self.old }
+        ensures duped { HasDuped (F.live door.now) self.old self.new result
+            (duped (meaning (F.live door.now) self.old.state) pid fd) }
+        ensures refused { OnErr result (self.new ≡ self.old) }
+    {
+        let _door = door;
+        let key = key_of(&self.processes, pid, fd)?;
+        let to = caller(&self.processes, pid)?.descriptors.lowest();
+        if to >= MAX_DESCRIPTORS {
+            return Err(Errno::EMFILE);
+        }
+        self.descriptions.name(key);
+        give_key(&mut self.processes, pid as usize - 1, to, key);
+        Ok(to as u32)
+    }
+
+    /// Sets O_NONBLOCK of the description that a process's descriptor names, or takes it away. Whatever else names the
+    /// description sees it.
+    pub fn set_nonblocking<F: Frames>(
+        &mut self,
+        door: &F,
+        pid: u32,
+        fd: u32,
+        on: bool,
+    ) -> Result<(), Errno>
+        requires owns { Owns (F.live door.now) self.old }
+        ensures left { Leaves (F.live door.now) (F.live door.now) self.old self.new result
+            (flagged (meaning (F.live door.now) self.old.state) pid fd on) }
+    {
+        let _door = door;
+        let key = key_of(&self.processes, pid, fd)?;
+        self.descriptions.value_mut(key).nonblocking = on;
+        Ok(())
+    }
+
     /// Drops a process's descriptor (close(2)), and what nobody can reach any more.
     pub fn drop_descriptor<F: Frames>(
         &mut self,
@@ -116,10 +164,7 @@ impl<A: Allocator> Tables<A> {
         ensures left { Leaves (F.live door.old) (F.live door.new) self.old self.new result
             (closed (meaning (F.live door.old) self.old.state) pid fd) }
     {
-        let process = caller(&self.processes, pid)?;
-        let Some(_) = process.descriptors.get(fd as usize) else {
-            return Err(Errno::EBADF);
-        };
+        key_of(&self.processes, pid, fd)?;
         self.empty(door, pid as usize - 1, fd as usize);
         Ok(())
     }

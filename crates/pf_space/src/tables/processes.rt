@@ -1,19 +1,35 @@
 //! Processes: what makes one, and what lets one go.
 
-ghost use Rattle.std.specs.Prelude.{◌≡◌, ◌+◌, ◌≤◌, IfSome, IfNone, OnOk, OnErr};
+ghost use Rattle.std.specs.Prelude.{◌≡◌, ◌+◌, ◌≤◌, Err, IsSome, IfSome, IfNone, OnOk, OnErr, length};
 ghost use Rattle.pf_base.specs.Numbered.{first_free};
-ghost use Rattle.pf_base.specs.State.{with_process, vacant};
-ghost use Rattle.pf_base.specs.declared.TheConstants.{MAX_PROCESSES};
+ghost use Rattle.pf_base.specs.State.{process, with_process, vacant};
+ghost use Rattle.pf_base.specs.declared.TheConstants.{MAX_DESCRIPTORS, MAX_PROCESSES};
 ghost use Rattle.pf_space.specs.Meaning.{meaning};
 ghost use Rattle.pf_space.specs.Owns.{Owns};
-ghost use Rattle.pf_space.specs.Tables.{exited};
+ghost use Rattle.pf_space.specs.Rows.{AllFind, AreFew, named_once_more};
+ghost use Rattle.pf_space.specs.Tables.{exited, forked, HasForked};
 ghost use Rattle.pf_space.specs.Told.{Becomes, Leaves};
 
-use super::{Process, Tables, caller};
-use pf_base::{Cred, Errno, MAX_DESCRIPTORS, MAX_PROCESSES};
-use pf_fds::FdTable;
+use super::{Description, Process, Tables, caller};
+use pf_base::{Cred, Errno, Fault, MAX_DESCRIPTORS, MAX_PROCESSES};
+use pf_fds::{Descriptions, FdTable};
 use pf_frame::Frames;
 use std::alloc::{AllocError, Allocator, Global};
+
+// Gives each description that descriptors name one name more for each of them. The names can be counted: so far there
+// are at most those of 256 processes with 256 descriptors each.
+fn name_all(descriptions: &mut Descriptions<Description>, descriptors: &FdTable)
+    requires wide { length descriptors.now ≡ MAX_DESCRIPTORS }
+    requires stand { AllFind descriptors.now descriptions.old.items }
+    requires few { AreFew descriptions.old.items }
+    ensures { descriptions.new.items ≡ named_once_more descriptors.now descriptions.old.items }
+{
+    for fd in 0..MAX_DESCRIPTORS {
+        if let Some(key) = descriptors.get(fd) {
+            descriptions.name(key);
+        }
+    }
+}
 
 impl<A: Allocator> Tables<A> {
     /// The lowest pid under which no process lives, if there is one.
@@ -50,6 +66,29 @@ impl<A: Allocator> Tables<A> {
         self.processes
             .put(pid as usize - 1, Process { cred, descriptors });
         Ok(())
+    }
+
+    /// Makes a process with the credentials and the descriptors of another one under the lowest free pid, and tells
+    /// which that is (fork(2)). Where memory is refused, nothing has changed.
+    pub fn fork<F: Frames>(&mut self, door: &F, alloc: Global, pid: u32) -> Result<u32, Fault>
+        requires owns { Owns (F.live door.now) self.old }
+        ensures forked { HasForked (F.live door.now) self.old self.new result
+            (forked (meaning (F.live door.now) self.old.state) pid) }
+        ensures lives { result ≡ Err Fault.NoMemory → IsSome (process self.old.state pid) }
+        ensures refused { OnErr result (self.new ≡ self.old) }
+    {
+        let _door = door;
+        let parent = caller(&self.processes, pid)?;
+        let i = self.processes.lowest();
+        if i >= MAX_PROCESSES {
+            return Err(Errno::EAGAIN.into());
+        }
+        // What may be refused comes first.
+        let cred = parent.cred.copy(alloc)?;
+        let descriptors = parent.descriptors.copy(alloc)?;
+        name_all(&mut self.descriptions, &descriptors);
+        self.processes.put(i, Process { cred, descriptors });
+        Ok(i as u32 + 1)
     }
 
     /// Takes a process away, with its descriptors. What nobody can reach any more goes.

@@ -8,8 +8,8 @@ ghost use Rattle.pf_space.specs.Meaning.{meaning};
 ghost use Rattle.pf_space.specs.Owns.{Owns};
 ghost use Rattle.pf_space.specs.Told.{attempted_read, attempted_write, attempted_cross, HasRead, HasCrossed, Wrote};
 
-use super::{Tables, end};
-use pf_base::{Crossing, Errno, Fault, MAX_WRITE, PIPE_BUF, Progress, Side};
+use super::{Tables, reading_end, writing_end};
+use pf_base::{Crossing, Errno, Fault, MAX_WRITE, PIPE_BUF, Progress};
 use pf_frame::Frames;
 use std::alloc::{Allocator, Global};
 
@@ -46,7 +46,7 @@ impl<A: Allocator> Tables<A> {
             (λ progress. moved progress ≡ 0 → (self.new ≡ self.old) × (door.new ≡ door.old)) }
         ensures refused { OnErr result ((self.new ≡ self.old) × (door.new ≡ door.old)) }
     {
-        let end = end(&self.processes, &self.descriptions, pid, fd, Some(Side::Write))?;
+        let end = writing_end(&self.processes, &self.descriptions, pid, fd)?;
         if bytes.len() > MAX_WRITE {
             return Err(Errno::EINVAL);
         }
@@ -82,7 +82,7 @@ impl<A: Allocator> Tables<A> {
             (λ t. moved t.progress ≡ 0 → (self.new ≡ self.old) × (door.new ≡ door.old)) }
         ensures refused { OnErr result ((self.new ≡ self.old) × (door.new ≡ door.old)) }
     {
-        let end = end(&self.processes, &self.descriptions, pid, fd, Some(Side::Read))?;
+        let end = reading_end(&self.processes, &self.descriptions, pid, fd)?;
         let pipe = self.pipes.value_mut(end.pipe);
         let count = pipe.len().min(n as usize);
         let mut bytes = Vec::with_capacity(alloc, count)?;
@@ -119,8 +119,8 @@ impl<A: Allocator> Tables<A> {
             (λ progress. moved progress ≡ 0 → (self.new ≡ self.old) × (door.new ≡ door.old)) }
         ensures refused { OnErr result ((self.new ≡ self.old) × (door.new ≡ door.old)) }
     {
-        let from = end(&self.processes, &self.descriptions, pid, source, Some(Side::Read))?;
-        let to = end(&self.processes, &self.descriptions, pid, sink, Some(Side::Write))?;
+        let from = reading_end(&self.processes, &self.descriptions, pid, source)?;
+        let to = writing_end(&self.processes, &self.descriptions, pid, sink)?;
         if from.pipe.serial == to.pipe.serial {
             return Err(Errno::EINVAL);
         }

@@ -1,7 +1,18 @@
-use Rattle.std.proofs.Common.{sym, ◌∙◌}
+use Rattle.std.proofs.Common.{Ok, sym, rules}
+use Rattle.pf_base.specs.Descriptors.{without_descriptor}
+use Rattle.pf_base.specs.State.{with_process}
+use Rattle.pf_space.specs.Meaning.{meaning}
 use Rattle.pf_space.proofs.Going.{closed_is}
+use Rattle.pf_space.proofs.Naming.{has, names_nothing}
 use Rattle.pf_space.proofs.tables.Tables.drop_descriptor.Goals as goal
+
+pub returns-in_err-key_of-clause-left : goal.returns-in_err-key_of-clause-left
+returns-in_err-key_of-clause-left g c =
+    let refused = names_nothing (g.F.Frames.live c.args.door.now) c.self.invariant.tied c.self.view_is c.args.pid c.args.fd
+    (λ p _. Ok (with_process (meaning (g.F.Frames.live c.args.door.now) c.args.self.now.state) c.args.pid (without_descriptor c.args.fd p))) (sym c.in_err-key_of.ensures) in
+    search rules
 
 pub returns-clause-left : goal.returns-clause-left
 returns-clause-left g c =
-    (_, closed_is (g.F.Frames.live c.args.door.now) _ _ _ _ _ c.self.view_is c.args.pid c.in_ok-process.process.now c.in_ok-process.ensures c.args.fd _ (sym c.get.ensures ∙ c.in-Some.is), c.empty.ensures.emptied)
+    let w = has c.self.inside.processes c.args.pid c.args.fd (sym c.in_ok-key_of.ensures) in
+    (_, closed_is (g.F.Frames.live c.args.door.now) _ _ _ _ _ c.self.view_is c.args.pid w.p w.caller c.args.fd _ w.names, c.empty.ensures.emptied)

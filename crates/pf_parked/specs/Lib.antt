@@ -1,0 +1,3 @@
+pub mod UnfinishedWrite
+pub mod Call
+pub mod Parked
