@@ -145,8 +145,8 @@ impl<A: Allocator> Tables<A> {
             (flagged (meaning (F.live door.now) self.old.state) pid fd on) }
     {
         let _door = door;
-        let key = key_of(&self.processes, pid, fd)?;
-        self.descriptions.value_mut(key).nonblocking = on;
+        let end = self.descriptions.value_mut(key_of(&self.processes, pid, fd)?);
+        end.nonblocking = on;
         Ok(())
     }
 

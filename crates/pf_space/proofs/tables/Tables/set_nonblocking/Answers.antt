@@ -5,22 +5,22 @@ use Rattle.pf_space.proofs.Flagging as lemmas
 use Rattle.pf_space.proofs.Naming.{has, key_stands, names_nothing}
 use Rattle.pf_space.proofs.tables.Tables.set_nonblocking.Goals as goal
 
-pub value_mut-requires : goal.value_mut-requires
-value_mut-requires g c = record { stands = key_stands (g.F.Frames.live c.args.door.now) c.self.invariant.tied c.self.view_is c.args.pid c.args.fd (has _ _ _ (sym c.in_ok-key.ensures)) }
+pub value_mut-end-requires : goal.value_mut-end-requires
+value_mut-end-requires g c = record { stands = key_stands (g.F.Frames.live c.args.door.now) c.self.invariant.tied c.self.view_is c.args.pid c.args.fd (has _ _ _ (sym c.in_ok-key_of.ensures)) }
 
-pub invariant_of-self : goal.invariant_of-self
-invariant_of-self g c = lemmas.flagged-kept (g.F.Frames.live c.args.door.now) c.self.invariant c.self.view_is (has _ _ _ (sym c.in_ok-key.ensures)) _ c.value_mut.ensures.value c.args.on
+pub invariant_of-self-2 : goal.invariant_of-self-2
+invariant_of-self-2 g c = lemmas.flagged-kept (g.F.Frames.live c.args.door.now) c.self.invariant c.self.view_is (has _ _ _ (sym c.in_ok-key_of.ensures)) _ c.value_mut-end.ensures.value c.args.on
 
-pub returns-in_err-key : goal.returns-in_err-key
-returns-in_err-key g c =
-    let refused = names_nothing (g.F.Frames.live c.args.door.now) c.self.invariant.tied c.self.view_is c.args.pid c.args.fd (λ _ n. Ok (with_flag (meaning (g.F.Frames.live c.args.door.now) c.args.self.now.state) n c.args.on)) (sym c.in_err-key.ensures) in
+pub returns-in_err-key_of : goal.returns-in_err-key_of
+returns-in_err-key_of g c =
+    let refused = names_nothing (g.F.Frames.live c.args.door.now) c.self.invariant.tied c.self.view_is c.args.pid c.args.fd (λ _ n. Ok (with_flag (meaning (g.F.Frames.live c.args.door.now) c.args.self.now.state) n c.args.on)) (sym c.in_err-key_of.ensures) in
     search rules
 
 pub returns : goal.returns
 returns g c = record {
   left = (
     _,
-    lemmas.flagged_is (g.F.Frames.live c.args.door.now) c.self.invariant c.self.view_is (has _ _ _ (sym c.in_ok-key.ensures)) _ c.value_mut.ensures.value c.args.on,
-    lemmas.flagged-becomes (g.F.Frames.live c.args.door.now) c.self.invariant c.self.view_is (has _ _ _ (sym c.in_ok-key.ensures)) _ c.value_mut.ensures.value c.args.on c.requires.owns,
+    lemmas.flagged_is (g.F.Frames.live c.args.door.now) c.self.invariant c.self.view_is (has _ _ _ (sym c.in_ok-key_of.ensures)) _ c.value_mut-end.ensures.value c.args.on,
+    lemmas.flagged-becomes (g.F.Frames.live c.args.door.now) c.self.invariant c.self.view_is (has _ _ _ (sym c.in_ok-key_of.ensures)) _ c.value_mut-end.ensures.value c.args.on c.requires.owns,
   );
 }
