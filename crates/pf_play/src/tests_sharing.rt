@@ -15,7 +15,7 @@ const A_NAME_OUTLIVES_ANOTHER: [Row; 8] = [
     ("read 1 1 9", "err EAGAIN", 0),
 ];
 
-/// A description goes with its last name, and the last one that reads a pipe takes its bytes' readers along.
+/// A description goes with its last name, and then nobody reads the pipe any more.
 const THE_LAST_NAME_GOES: [Row; 8] = [
     ("pipe 1", "fds 0 1", 0),
     ("dup 1 0", "num 2", 0),
@@ -134,7 +134,13 @@ fn names_for_all_descriptors(rt: HostRuntime) -> Result<(), Fail> {
         let told = told(&rt, alloc, &mut hub, RED, "dup 1 0")?;
         assert_eq!(rt; told.as_slice(), format!(in alloc; "num {fd}")?.as_bytes());
     }
-    play(&rt, alloc, &mut hub, RED, ALL_DESCRIPTORS_ARE_TAKEN.as_slice())
+    play(
+        &rt,
+        alloc,
+        &mut hub,
+        RED,
+        ALL_DESCRIPTORS_ARE_TAKEN.as_slice(),
+    )
 }
 
 #[test]

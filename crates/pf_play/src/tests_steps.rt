@@ -410,7 +410,12 @@ pub(crate) fn play(
 }
 
 /// Plays tables one behind the other in `red`, the one namespace that these lines name, over frames of each kind.
-pub(crate) fn play_in_red(rt: &impl Abort, alloc: Global, lines: &str, tables: &[&[Row]]) -> Result<(), Fail> {
+pub(crate) fn play_in_red(
+    rt: &impl Abort,
+    alloc: Global,
+    lines: &str,
+    tables: &[&[Row]],
+) -> Result<(), Fail> {
     for fill in FILLS {
         let mut hub = open(alloc, lines, fill)?;
         play(rt, alloc, &mut hub, RED, SPAWN.as_slice())?;

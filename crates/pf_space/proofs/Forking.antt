@@ -23,7 +23,7 @@ use Rattle.pf_frame.specs.Live.{Live}
 use Rattle.pf_limits.specs.UserPages.{UserPages}
 use Rattle.pf_space.specs.Meaning.{Namespace, meaning}
 use Rattle.pf_space.specs.Owns.{Owns}
-use Rattle.pf_space.specs.Rows.{ProcessRows, DescriptionRows, PipeRows, Key, Named, Process, Description, process_in, keys_of, keys_to, names_it, held, holding, process_of, description_of, processes_of, descriptions_of, pipes_of, state_of, Finds, AllFind, AreFew, renamed, first_renamed, named_once_more, TiedWith, Tied, Kept}
+use Rattle.pf_space.specs.Rows.{ProcessRows, DescriptionRows, PipeRows, Key, Named, Process, Description, process_in, keys_of, keys_to, names_it, held, holding, process_of, description_of, processes_of, descriptions_of, pipes_of, state_of, Finds, AllFind, AreFew, with_name, with_first_names, named_once_more, TiedWith, Tied, Kept}
 use Rattle.pf_space.specs.Tables.{Tells, forked}
 use Rattle.pf_space.specs.Told.{Becomes}
 use Rattle.pf_space.proofs.Callers.{lives, lives_not, place_is}
@@ -47,53 +47,53 @@ module _ {Y : Type 0} (g : Row → Y) (same : (e : Row) → g (one_more e) ≡ g
       by_row None = refl
       by_row (Some e) = ap Some (same e)
 
-  all_changed : (n : ℕ) (ks : List (Option Key)) (ds : DescriptionRows) → map (option_map g) (first_renamed n ks ds) ≡ map (option_map g) ds
+  all_changed : (n : ℕ) (ks : List (Option Key)) (ds : DescriptionRows) → map (option_map g) (with_first_names n ks ds) ≡ map (option_map g) ds
   all_changed zero ks ds = refl
   all_changed (suc n) ks ds = by_key (at ks n) ∙ all_changed n ks ds
     where
-      by_key : (o : Option Key) → map (option_map g) (renamed o (first_renamed n ks ds)) ≡ map (option_map g) (first_renamed n ks ds)
+      by_key : (o : Option Key) → map (option_map g) (with_name o (with_first_names n ks ds)) ≡ map (option_map g) (with_first_names n ks ds)
       by_key None = refl
-      by_key (Some k) = changed (first_renamed n ks ds) k.serial
+      by_key (Some k) = changed (with_first_names n ks ds) k.serial
 
 abbrev place_of : Row → ℕ
 place_of e = e.0
 
 module _ (n : ℕ) (ks : List (Option Key)) (ds : DescriptionRows) where
-  renamed_shown : descriptions_of (first_renamed n ks ds) ≡ descriptions_of ds
-  renamed_shown = all_changed description_of (λ e. refl) n ks ds
+  names_unshown : descriptions_of (with_first_names n ks ds) ≡ descriptions_of ds
+  names_unshown = all_changed description_of (λ e. refl) n ks ds
 
-  still_finds : (k : Key) → Finds ds k → Finds (first_renamed n ks ds) k
-  still_finds k h = sym (at-map place_of (first_renamed n ks ds) k.serial) ∙ ap (λ xs. at xs k.serial) (all_changed place_of (λ e. refl) n ks ds) ∙ at-map place_of ds k.serial ∙ h
+  still_finds : (k : Key) → Finds ds k → Finds (with_first_names n ks ds) k
+  still_finds k h = sym (at-map place_of (with_first_names n ks ds) k.serial) ∙ ap (λ xs. at xs k.serial) (all_changed place_of (λ e. refl) n ks ds) ∙ at-map place_of ds k.serial ∙ h
 
 -- before each of its keys is named, its description stands and has few names
 module _ (ks : List (Option Key)) (ds : DescriptionRows) (all : AllFind ks ds) (few : AreFew ds) where
   abbrev FewAfter : ℕ → DescriptionRows → Type 0
   FewAfter n rows = (m : ℕ) (e : Row) → at rows m ≡ Some e → e.1.names ≤ 65536 + n
 
-  few_first : (n : ℕ) → FewAfter n (first_renamed n ks ds)
+  few_first : (n : ℕ) → FewAfter n (with_first_names n ks ds)
   few_first zero = λ m e h. omega (arith, few m e h)
   few_first (suc n) = by_key (at ks n) refl (few_first n)
     where
-      by_key : (o : Option Key) → at ks n ≡ o → FewAfter n (first_renamed n ks ds) → FewAfter (suc n) (renamed o (first_renamed n ks ds))
+      by_key : (o : Option Key) → at ks n ≡ o → FewAfter n (with_first_names n ks ds) → FewAfter (suc n) (with_name o (with_first_names n ks ds))
       by_key None g so_far = λ m e h. omega (arith, so_far m e h)
       by_key (Some k) g so_far =
-          let r = finds (first_renamed n ks ds) k (still_finds n ks ds k (all n k g)) in
-          λ m e h. by_set (λ _ x. x ≡ Some e → e.1.names ≤ 65536 + suc n) (first_renamed n ks ds) k.serial (Some (k.place, record r.0 { names = r.0.names + 1 })) (at_within (first_renamed n ks ds) k.serial (k.place, r.0) r.1)
+          let r = finds (with_first_names n ks ds) k (still_finds n ks ds k (all n k g)) in
+          λ m e h. by_set (λ _ x. x ≡ Some e → e.1.names ≤ 65536 + suc n) (with_first_names n ks ds) k.serial (Some (k.place, record r.0 { names = r.0.names + 1 })) (at_within (with_first_names n ks ds) k.serial (k.place, r.0) r.1)
           (λ i. let it : ◌≡◌ {A = Row} (k.place, record r.0 { names = r.0.names + 1 }) e = cc in
           omega (arith, ap (λ (x : Row). x.1.names) it, so_far k.serial (k.place, r.0) r.1))
-          (λ j _ i. omega (arith, so_far j e i)) m (sym (ap (λ xs. at xs m) (named_row (first_renamed n ks ds) k r.0 r.1)) ∙ h)
+          (λ j _ i. omega (arith, so_far j e i)) m (sym (ap (λ xs. at xs m) (named_row (with_first_names n ks ds) k r.0 r.1)) ∙ h)
 
   module _ (n : ℕ) (k : Key) (is : at ks n ≡ Some k) where
-    row : (e : Named Description) × (at (first_renamed n ks ds) k.serial ≡ Some (k.place, e))
-    row = finds (first_renamed n ks ds) k (still_finds n ks ds k (all n k is))
+    row : (e : Named Description) × (at (with_first_names n ks ds) k.serial ≡ Some (k.place, e))
+    row = finds (with_first_names n ks ds) k (still_finds n ks ds k (all n k is))
 
-    found : find (first_renamed n ks ds) k.place k.serial ≡ Some row.0
-    found = find_at (first_renamed n ks ds) k.place k.serial row.0 row.1
+    found : find (with_first_names n ks ds) k.place k.serial ≡ Some row.0
+    found = find_at (with_first_names n ks ds) k.place k.serial row.0 row.1
 
-    pub stands : IsSome (find (first_renamed n ks ds) k.place k.serial)
+    pub stands : IsSome (find (with_first_names n ks ds) k.place k.serial)
     stands = ap is_some found
 
-    pub below : n < 256 → names_of (find (first_renamed n ks ds) k.place k.serial) < 2 ^ 32 - 1
+    pub below : n < 256 → names_of (find (with_first_names n ks ds) k.place k.serial) < 2 ^ 32 - 1
     below l = omega (arith, ap names_of found, few_first n k.serial (k.place, row.0) row.1, l)
 
 -- The keys that the child is to have are in the hand, the last one on top
@@ -112,16 +112,16 @@ held_all h [] = refl
 held_all h (x ∷ ks) = omega (arith, held_first h (length ks) x ks, held_all h ks)
 
 module _ (ps : ProcessRows) (ds : DescriptionRows) (pipes : PipeRows) (t : Tied ps ds pipes) (i : ℕ) (p : Process) (there : at ps i ≡ Some p) where
-  tied_first : (n : ℕ) → TiedWith (hand n p.descriptors) [] ps (first_renamed n p.descriptors ds) pipes
+  tied_first : (n : ℕ) → TiedWith (hand n p.descriptors) [] ps (with_first_names n p.descriptors ds) pipes
   tied_first zero = t
   tied_first (suc n) = by_key (at p.descriptors n) refl (tied_first n)
     where
-      by_key : (o : Option Key) → at p.descriptors n ≡ o → TiedWith (hand n p.descriptors) [] ps (first_renamed n p.descriptors ds) pipes → TiedWith (holding o (hand n p.descriptors)) [] ps (renamed o (first_renamed n p.descriptors ds)) pipes
+      by_key : (o : Option Key) → at p.descriptors n ≡ o → TiedWith (hand n p.descriptors) [] ps (with_first_names n p.descriptors ds) pipes → TiedWith (holding o (hand n p.descriptors)) [] ps (with_name o (with_first_names n p.descriptors ds)) pipes
       by_key None h u = u
       by_key (Some k) h u =
-          let r = finds (first_renamed n p.descriptors ds) k (u.finds i (suc n) p k there h) in
-          subst (λ x. TiedWith (k ∷ hand n p.descriptors) [] ps x pipes) (sym (named_row (first_renamed n p.descriptors ds) k r.0 r.1))
-          (named_again (hand n p.descriptors) [] ps (first_renamed n p.descriptors ds) pipes k r.0 r.1 u)
+          let r = finds (with_first_names n p.descriptors ds) k (u.finds i (suc n) p k there h) in
+          subst (λ x. TiedWith (k ∷ hand n p.descriptors) [] ps x pipes) (sym (named_row (with_first_names n p.descriptors ds) k r.0 r.1))
+          (named_again (hand n p.descriptors) [] ps (with_first_names n p.descriptors ds) pipes k r.0 r.1 u)
 
   -- and are put down at once
   module _ (j : ℕ) (free : at ps j ≡ None) (j_in : j < MAX_PROCESSES) where
@@ -188,7 +188,7 @@ module _ (f : Live) {charges : UserPages} {limits : Limits} {ps : ProcessRows} {
         now_shown : state_of qs es pipes files files_made ≡ with_process (state_of ps ds pipes files files_made) (i + 1) (process_of p)
         now_shown =
             (λ j. state_of (put_is j) (named_is j) pipes files files_made)
-            ∙ (λ j. record { processes = map-set (option_map process_of) ps i (Some p) j; descriptions = renamed_shown (length p.descriptors) p.descriptors ds j; pipes = pipes_of pipes; files = files; files_made = files_made })
+            ∙ (λ j. record { processes = map-set (option_map process_of) ps i (Some p) j; descriptions = names_unshown (length p.descriptors) p.descriptors ds j; pipes = pipes_of pipes; files = files; files_made = files_made })
             ∙ (let place : i ≡ i + 1 - 1 = omega arith in ap (λ m. record (state_of ps ds pipes files files_made) { processes = put_at (processes_of ps) m (process_of p) }) place)
 
         pub forked-tells : Owns f n → Tells f n (record { limits = limits; state = state_of qs es pipes files files_made }) (forked s pid) (Pid (i + 1))

@@ -192,17 +192,17 @@ abbrev pub AreFew : DescriptionRows → Type 0
 AreFew ds = (n : ℕ) (e : ℕ × Named Description) → at ds n ≡ Some e → e.1.names ≤ MAX_PROCESSES * MAX_DESCRIPTORS
 
 -- a description with one name more, where there is a key for it
-abbrev pub renamed : Option Key → DescriptionRows → DescriptionRows
-renamed None ds = ds
-renamed (Some k) ds = change_at one_more ds k.serial
+abbrev pub with_name : Option Key → DescriptionRows → DescriptionRows
+with_name None ds = ds
+with_name (Some k) ds = change_at one_more ds k.serial
 
 -- one name more for each of the first n keys, and for each of all
-abbrev pub first_renamed : ℕ → List (Option Key) → DescriptionRows → DescriptionRows
-first_renamed zero ks ds = ds
-first_renamed (suc n) ks ds = renamed (at ks n) (first_renamed n ks ds)
+abbrev pub with_first_names : ℕ → List (Option Key) → DescriptionRows → DescriptionRows
+with_first_names zero ks ds = ds
+with_first_names (suc n) ks ds = with_name (at ks n) (with_first_names n ks ds)
 
 abbrev pub named_once_more : List (Option Key) → DescriptionRows → DescriptionRows
-named_once_more ks ds = first_renamed (length ks) ks ds
+named_once_more ks ds = with_first_names (length ks) ks ds
 
 -- a description row by how many name it: nothing stands where nothing names it
 abbrev pub NamedRow : ℕ → Option (ℕ × Named Description) → Type 0

@@ -1,6 +1,6 @@
-//! Descriptors: what gives a description one name more, what sets its flag, and what drops a name. Where a description's last name
-//! goes, so does its end of the pipe; where a pipe's last end goes, so does the pipe: its slots are released, and its
-//! pages are charged no more.
+//! Descriptors: what gives a description one name more, what sets its flag, and what drops a name. Where a
+//! description's last name goes, so does its end of the pipe; where a pipe's last end goes, so does the pipe: its slots
+//! are released, and its pages are charged no more.
 
 ghost use Rattle.std.specs.Prelude.{◌≡◌, ℕ, ◌<◌, ◌≤◌, None, IsSome, IfSome, OnErr, slice_set};
 ghost use Rattle.pf_base.specs.Numbered.{at, one_if};
@@ -8,7 +8,8 @@ ghost use Rattle.pf_fds.specs.Registry.{find};
 ghost use Rattle.pf_space.specs.Meaning.{meaning};
 ghost use Rattle.pf_space.specs.Owns.{Owns};
 ghost use Rattle.pf_space.specs.Rows.{key_at, with_key, without_key, with_fewer, left, gone, pipes_of, state_of, Tied};
-ghost use Rattle.pf_space.specs.Tables.{closed, descriptor, duped, emptied, flagged, without_place, HasDuped, Left, LetsGo};
+ghost use Rattle.pf_space.specs.Tables.{closed, descriptor, duped, emptied, flagged, without_place};
+ghost use Rattle.pf_space.specs.Tables.{HasDuped, Left, LetsGo};
 ghost use Rattle.pf_space.specs.Told.{Becomes, Leaves};
 
 use super::{Description, Process, Tables, caller, key_of};
@@ -145,7 +146,9 @@ impl<A: Allocator> Tables<A> {
             (flagged (meaning (F.live door.now) self.old.state) pid fd on) }
     {
         let _door = door;
-        let end = self.descriptions.value_mut(key_of(&self.processes, pid, fd)?);
+        let end = self
+            .descriptions
+            .value_mut(key_of(&self.processes, pid, fd)?);
         end.nonblocking = on;
         Ok(())
     }

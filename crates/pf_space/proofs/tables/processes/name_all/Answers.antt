@@ -1,7 +1,7 @@
 use Rattle.std.proofs.Common.{◌≡◌, IsSome, subst, sym, ap, ◌∙◌, arith}
 use Rattle.pf_fds.specs.Descriptions.{names_of}
 use Rattle.pf_fds.specs.Registry.{find}
-use Rattle.pf_space.specs.Rows.{DescriptionRows, first_renamed}
+use Rattle.pf_space.specs.Rows.{DescriptionRows, with_first_names}
 use Rattle.pf_space.proofs.Forking as lemmas
 use Rattle.pf_space.proofs.tables.processes.name_all.Goals as goal
 
@@ -18,4 +18,4 @@ name-requires-clause-below c =
 pub returns : goal.returns
 returns c =
     let all : c.loop-fd.fd ≡ 256 = omega (arith, c.loop-fd-test.false, c.loop-fd.auto.fd-end) in
-    c.loop-fd.invariant.named ∙ ap (λ n. first_renamed n c.args.descriptors.now c.args.descriptions.now.items) (all ∙ sym c.requires.wide)
+    c.loop-fd.invariant.named ∙ ap (λ n. with_first_names n c.args.descriptors.now c.args.descriptions.now.items) (all ∙ sym c.requires.wide)
