@@ -75,8 +75,8 @@ set_size c s p fd bytes = do
   refuse_if (not (is_privileged p.cred) && nat_lt c.max (PAGE_SIZE * pages_for bytes)) EPERM
   may_resize c s p.cred e.pipe (pages_for bytes)
   Ok (
-    done (with_queue s e.description.pipe (with_capacity (pages_for bytes) e.pipe.queue)) (PAGE_SIZE * pages_for bytes)
-  )
+      done (with_queue s e.description.pipe (with_capacity (pages_for bytes) e.pipe.queue)) (PAGE_SIZE * pages_for bytes)
+      )
 
 abbrev pub get_size : State Queue → Process → ℕ → Result Outcome Errno
 get_size s p fd = do

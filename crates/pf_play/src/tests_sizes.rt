@@ -1,10 +1,10 @@
 //! Worked examples of capacities and page limits as tables of steps, each with what its process is told and with the
 //! frames that its namespace holds then.
 
+use crate::Options;
 use crate::engine::frames_of;
 use crate::tests_rows::FILLS;
 use crate::tests_steps::{BLUE, RED, Row, SPAWN, play};
-use crate::Options;
 use pf_base::Config;
 use pf_hub::Hub;
 use std::alloc::Global;
@@ -329,12 +329,22 @@ fn each_limit_at_its_number(rt: HostRuntime) -> Result<(), Fail> {
             &rt,
             alloc,
             limits,
-            &[SPAWN[0], first, ("pipe 1", told, 0), ("getsize 1 3", size, 0)],
+            &[
+                SPAWN[0],
+                first,
+                ("pipe 1", told, 0),
+                ("getsize 1 3", size, 0),
+            ],
         )?;
     }
     for (limits, user, root) in HARD_LIMITS {
         play_once(&rt, alloc, limits, &[SPAWN[0], first, ("pipe 1", user, 0)])?;
-        play_once(&rt, alloc, limits, &[SPAWN_ROOT[0], first, ("pipe 1", root, 0)])?;
+        play_once(
+            &rt,
+            alloc,
+            limits,
+            &[SPAWN_ROOT[0], first, ("pipe 1", root, 0)],
+        )?;
     }
     for (limits, user, root) in GROWTH_LIMITS {
         for (spawn, told) in [(SPAWN[0], user), (SPAWN_ROOT[0], root)] {
