@@ -10,8 +10,8 @@ use pf_frame::{FrameNo, Frames};
 /// take back as many as it holds. Only a `take`, and a `release` at count 1, reach the lender.
 #[derive(Drop)]
 pub struct LoanDoor<'a, D: Lender> {
-    lender: &'a mut D,
-    loans: &'a mut Loans,
+    pub(crate) lender: &'a mut D,
+    pub(crate) loans: &'a mut Loans,
 }
 
 impl<'a, D: Lender> LoanDoor<'a, D> {
@@ -40,6 +40,7 @@ impl<D: Lender> Frames for LoanDoor<'_, D> {
     ghost rest = { λ d. record {
       lender_name = d.lender.ghost_name;
       loans_name = d.loans.ghost_name;
+      reserved = (loans_live d.loans.now).reserved;
       spare = D.ready d.lender.now + (loans_live d.loans.now).held;
       owed = D.out d.lender.now - (loans_live d.loans.now).held;
       lender = D.rest d.lender.now;

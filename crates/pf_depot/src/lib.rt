@@ -5,6 +5,8 @@ pub mod depot;
 pub mod door;
 pub mod lender;
 pub mod loans;
+#[cfg(test)]
+mod tests;
 
 pub use depot::Depot;
 pub use door::LoanDoor;
