@@ -9,11 +9,11 @@ use std::alloc::{AllocError, Global};
 
 /// The frames that no namespace has on loan, with a place for each that may come back.
 ///
-/// A frame is lent by moving it, so at any time it is here or at one place of one namespace's loans. It is never
-/// cleared.
+/// A frame is lent by moving it, so at any time it is either here or at one place of one namespace's loans.
 #[derive(Drop)]
 pub struct Depot {
     free: Vec<Frame>,
+    // How many frames there are, free and on loan.
     all: u32,
 
     /// No more frames are free than there are.
@@ -26,7 +26,7 @@ pub struct Depot {
     pub ghost few: { all ≤ 65536 },
 }
 
-/// The sum of the reservations.
+// The sum of the reservations.
 fn sum_of(reserves: &[u32]) -> u64
     requires { length reserves.now ≤ 64 }
     ensures { result ≡ sum reserves.now }
@@ -80,7 +80,7 @@ impl Depot {
         }
     }
 
-    /// How many frames are free: with what all namespaces hold, these are all frames.
+    /// How many frames are free. The others are on loan.
     pub fn free(&self) -> u32
         ensures { result ≡ free_of self.now }
     {
