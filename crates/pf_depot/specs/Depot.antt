@@ -1,6 +1,7 @@
 -- A depot, and the loans that are made with it.
 
 use Rattle.std.specs.Prelude.{◌≡◌, ℕ, List, length}
+use Rattle.pf_frame.specs.declared.frame.Frame.{Frame}
 use Rattle.pf_depot.specs.declared.depot.Depot.{Depot}
 use Rattle.pf_depot.specs.declared.loans.Loans.{Loans}
 use Rattle.pf_depot.specs.AllLoans.{AreIdle}
@@ -13,8 +14,8 @@ free_of d = length d.free.items
 abbrev pub frames_of : Depot → ℕ
 frames_of d = d.all
 
--- a depot of so many frames, all of them free, and loans for each of these reservations
-pub record IsFresh (d : Depot) (loans : List Loans) (frames : ℕ) (reserves : List ℕ) : Type 0 where
-  pub all : frames_of d ≡ frames
-  pub free : free_of d ≡ frames
+-- a depot of these frames, all of them free, and loans for each of these reservations
+pub record IsFresh (d : Depot) (loans : List Loans) (frames : List Frame) (reserves : List ℕ) : Type 0 where
+  pub free : d.free.items ≡ frames
+  pub all : frames_of d ≡ free_of d
   pub idle : AreIdle loans reserves

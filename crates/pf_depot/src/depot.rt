@@ -52,7 +52,7 @@ impl Depot {
     ghost use Rattle.pf_depot.specs.Depot.{free_of, IsFresh};
 
     /// A depot of these frames, all of them free, and loans for as many namespaces as there are reservations, by
-    /// their places.
+    /// their places. The frames keep the bytes that they have.
     pub fn new(
         alloc: Global,
         frames: Vec<Frame>,
@@ -60,7 +60,7 @@ impl Depot {
     ) -> Result<(Depot, Vec<Loans>), PoolFault>
         ensures { MatchResult result
             (λ made. (fault_of (length frames.items) reserves.items ≡ None)
-            × IsFresh made.0 made.1.items (length frames.items) reserves.items)
+            × IsFresh made.0 made.1.items frames.items reserves.items)
             (λ fault. IsFault (fault_of (length frames.items) reserves.items) fault) }
     {
         if reserves.len() > MAX_NAMESPACES {
