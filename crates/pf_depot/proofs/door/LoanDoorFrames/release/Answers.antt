@@ -1,0 +1,6 @@
+use Rattle.std.proofs.Common.{arith}
+use Rattle.pf_depot.specs.PlacesLaws.{some_held}
+use Rattle.pf_depot.proofs.door.LoanDoorFrames.release.Goals as goal
+
+pub give-requires-clause-out : goal.give-requires-clause-out
+give-requires-clause-out g c = omega (arith, some_held c.args.self.now.loans.now.counts.items c.args.no c.requires.is_live, c.requires.fact.1.held)

@@ -1,0 +1,18 @@
+use Rattle.std.proofs.Common.{◌≡◌, ◌<◌, arith, slice_index, length}
+use Rattle.std.proofs.lemmas.List.{get_or_read}
+use Rattle.pf_frame.specs.CountedLaws.{table_counts, counted_within}
+use Rattle.pf_depot.specs.PlacesLaws.{lent_counts, is_lowered}
+use Rattle.pf_depot.proofs.loans.Loans.lower.Goals as goal
+
+pub invariant_of-self : goal.invariant_of-self
+invariant_of-self c =
+    let s = c.args.self.now in
+    let less : c.args.no < length s.counts.items = counted_within s.counts.items c.args.no (omega arith) in
+    let read : c.index_mut.result.now ≡ slice_index s.counts.items c.args.no = get_or_read s.counts.items c.args.no c.index_mut.result.now less c.index_mut.ensures.value 0 in
+    record { kept = table_counts _ _ _ _ _ _ s.kept (omega arith) (omega (arith, read)); lent = lent_counts s.counts.items s.places.items c.args.no _ (omega arith) (omega (arith, read)) s.lent }
+
+pub returns : goal.returns
+returns c =
+    let s = c.args.self.now in
+    let less : c.args.no < length s.counts.items = counted_within s.counts.items c.args.no (omega arith) in
+    is_lowered s.counts.items _ c.args.no c.index_mut.result.now (omega arith) (get_or_read s.counts.items c.args.no c.index_mut.result.now less c.index_mut.ensures.value 0)

@@ -1,0 +1,18 @@
+-- Why there is no depot.
+
+use Rattle.std.specs.Prelude.{◌≡◌, ℕ, List, length, sum, nat_lt, if◌then◌else◌, Option, Some, None}
+use Rattle.pf_frame.specs.declared.fault.PoolFault.{PoolFault}
+use Rattle.pf_frame.specs.declared.fault.PoolFault.TheVariants.{TooManyNamespaces, TooManyFrames, ReservesExceed, NoMemory}
+
+-- the first test that these frames and reservations fail, if any
+abbrev pub fault_of : ℕ → List ℕ → Option PoolFault
+fault_of frames reserves =
+    if nat_lt 64 (length reserves) then Some TooManyNamespaces
+    else if nat_lt 65536 frames then Some TooManyFrames
+    else if nat_lt frames (sum reserves) then Some (ReservesExceed (sum reserves) frames)
+    else None
+
+-- the fault of the first test that fails, and else that memory ran out
+abbrev pub IsFault : Option PoolFault → PoolFault → Type 0
+IsFault (Some first) fault = fault ≡ first
+IsFault None fault = fault ≡ NoMemory

@@ -1,0 +1,15 @@
+//! Frames on loan: a depot of free frames, the loans of each namespace, and the door over both.
+#![tactic(auto)]
+
+pub mod depot;
+pub mod door;
+pub mod lender;
+pub mod loans;
+#[cfg(test)]
+mod tests;
+
+pub use depot::Depot;
+pub use door::LoanDoor;
+pub use lender::Lender;
+pub use loans::Loans;
+pub use pf_frame::PoolFault;
