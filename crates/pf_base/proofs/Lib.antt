@@ -8,6 +8,7 @@ pub mod MachineLaws
 pub mod RunLaws
 pub mod EventLaws
 pub mod FileLaws
+mod StayLaws
 mod WorkedQueues
 mod WorkedPages
 mod WorkedCapacities

@@ -4,6 +4,10 @@ use Rattle.std.specs.Prelude.{◌≡◌, ℕ, ◌+◌, ◌-◌, ◌*◌, ◌≤�
 use Rattle.pf_base.specs.Queue.{Queue, IsQueue, bytes_of, free_of, room_of, put, taken, after_take, tee_number, after_tee, after_splice}
 use Rattle.pf_base.specs.Progress.{Passed, Crossed, moved, read_now, write_now, cross_now}
 use Rattle.pf_base.specs.Events.{mine, kept, IsAmple}
+use Rattle.pf_base.specs.FileMap.{IsFileMap, root_alone}
+use Rattle.pf_base.specs.Limits.{Limits}
+use Rattle.pf_base.specs.Machine.{step_of}
+use Rattle.pf_base.specs.State.{State, opening}
 use Rattle.pf_base.specs.declared.TheConstants.{PAGE_SIZE}
 use Rattle.pf_base.specs.declared.progress.Crossing.{Crossing}
 use Rattle.pf_base.specs.declared.progress.Crossing.TheVariants.{Tee, Splice}
@@ -85,3 +89,12 @@ abbrev pub AmpleKeepsAll : Type 0
 AmpleKeepsAll =
     (events : List (ℕ × Step)) (answers : List Answer) (n : ℕ) → IsAmple events answers n
     → kept events answers n ≡ mine events n
+
+-- Files
+
+-- at the opening there is the root alone. Each step leaves a map of files where there was one: the paths rise, the root
+-- is a directory, and what stands at a path has a directory at the path without its last name
+pub record FilesStay : Type 0 where
+  pub alone : (opening {Q = Queue}).files ≡ root_alone
+  pub opens : IsFileMap root_alone
+  pub stays : (c : Limits) (s : State Queue) (step : Step) → IsFileMap s.files → IsFileMap (step_of c s step).state.files

@@ -1,6 +1,6 @@
 //! Laws of the definitions. These functions compute nothing: their contracts are the laws.
 
-ghost use Rattle.pf_base.specs.Laws.{PutAdds, TakeParts, TeeCopies, TransfersMove, AmpleKeepsAll};
+ghost use Rattle.pf_base.specs.Laws.{PutAdds, TakeParts, TeeCopies, TransfersMove, AmpleKeepsAll, FilesStay};
 
 /// A put that fits adds exactly its bytes at the end of a queue, and the room falls by their number.
 pub fn put_adds()
@@ -26,4 +26,10 @@ pub fn transfers_move()
 /// Where memory sufficed for all steps of a namespace, all of them are kept.
 pub fn ample_keeps_all()
     ensures { AmpleKeepsAll }
+{}
+
+/// The files are a map of files at all times: each has a directory at its path without the last name, and they stand in
+/// the order of their paths. At the opening there is the root alone.
+pub fn files_stay()
+    ensures { FilesStay }
 {}

@@ -24,6 +24,8 @@ pub use run::{ReplayFault, Replayed, replay};
 #[cfg(test)]
 mod tests;
 #[cfg(test)]
+mod tests_files;
+#[cfg(test)]
 mod tests_rows;
 #[cfg(test)]
 mod tests_sharing;
