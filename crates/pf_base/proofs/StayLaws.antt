@@ -11,8 +11,8 @@ use Rattle.pf_base.specs.Permissions.{allows, mode_of, is_privileged}
 use Rattle.pf_base.specs.Limits.{Limits}
 use Rattle.pf_base.specs.Queue.{Queue}
 use Rattle.pf_base.specs.State.{State, Process, Outcome, settle, living, reading_end, writing_end, done}
-use Rattle.pf_base.specs.Processes.{exit}
-use Rattle.pf_base.specs.Descriptors.{close}
+use Rattle.pf_base.specs.Processes.{exit, fork}
+use Rattle.pf_base.specs.Descriptors.{dup, close, set_nonblock}
 use Rattle.pf_base.specs.Pipes.{pipe, set_size, get_size}
 use Rattle.pf_base.specs.Transfers.{Tried, try_read, read_told, tried_read, read, try_write, write_told, tried_write, write, two_ends, try_cross, cross_told, tried_cross, cross}
 use Rattle.pf_base.specs.Files.{with_files, with_new, make, unlink, rmdir, chmod, stat, list}
@@ -23,7 +23,7 @@ use Rattle.pf_base.specs.declared.progress.Crossing.TheVariants as crossings
 use Rattle.pf_base.specs.declared.progress.Progress.{Progress}
 use Rattle.pf_base.specs.declared.progress.Progress.TheVariants.{Moved, EndOfFile, NoReader, WouldBlock}
 use Rattle.pf_base.specs.declared.step.Step.{Step}
-use Rattle.pf_base.specs.declared.step.Step.TheVariants.{Spawn, Exit, Pipe, Close, Read, Write, Tee, Splice, SetSize, GetSize, Mkdir, Mkfifo, Unlink, Rmdir, Chmod, Stat, List as Lists}
+use Rattle.pf_base.specs.declared.step.Step.TheVariants.{Spawn, Exit, Pipe, Close, Read, Write, Tee, Splice, SetSize, GetSize, Fork, Dup, SetNonblock, Mkdir, Mkfifo, Unlink, Rmdir, Chmod, Stat, List as Lists}
 use Rattle.pf_base.specs.declared.meta.Kind.TheVariants as kinds
 use Rattle.pf_base.specs.declared.cred.Cred.{Cred}
 use Rattle.pf_base.specs.declared.errno.Errno.{Errno}
@@ -240,6 +240,9 @@ module _ (s : State Queue) (m : IsFileMap s.files) where
   kept c (Splice pid source sink n nonblock) = by_caller pid (λ p. cross crossings.Splice s p source sink n) (λ p. cross-keeps crossings.Splice p source sink n)
   kept c (SetSize pid fd bytes) = by_caller pid (λ p. set_size c s p fd bytes) (λ p. search (hushed, quiet, m))
   kept c (GetSize pid fd) = by_caller pid (λ p. get_size s p fd) (λ p. search (quiet, m))
+  kept c (Fork pid) = by_caller pid (λ p. fork s p) (λ p. search (hushed, m))
+  kept c (Dup pid fd) = by_caller pid (λ p. dup s pid p fd) (λ p. search (hushed, quiet, m))
+  kept c (SetNonblock pid fd on) = by_caller pid (λ p. set_nonblock s p fd on) (λ p. search (quiet, m))
   kept c (Mkdir pid path mode) = by_caller pid (λ p. make kinds.Directory s p path mode) (λ p. made-keeps kinds.Directory p path mode)
   kept c (Mkfifo pid path mode) = by_caller pid (λ p. make kinds.Fifo s p path mode) (λ p. made-keeps kinds.Fifo p path mode)
   kept c (Unlink pid path) = by_caller pid (λ p. unlink s p path) (λ p. unlinked-keeps p path)
