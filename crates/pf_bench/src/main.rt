@@ -173,10 +173,13 @@ fn counts(hub: &mut Hub<Global>, asked: &Step, number: usize) -> bool {
 
 /// What a step reads, if it is this number of bytes.
 fn take(hub: &mut Hub<Global>, read: &Step, number: usize) -> Option<ByteString> {
-    match step(hub, 0, read) {
-        Answer::Done(Reply::Bytes(bytes)) if bytes.as_slice().len() == number => Some(bytes),
-        _ => None,
+    let Answer::Done(Reply::Bytes(bytes)) = step(hub, 0, read) else {
+        return None;
+    };
+    if bytes.as_slice().len() != number {
+        return None;
     }
+    Some(bytes)
 }
 
 /// What a pair reads, if both its answers count as many bytes as it wrote.
