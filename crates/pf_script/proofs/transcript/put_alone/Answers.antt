@@ -1,0 +1,6 @@
+use Rattle.pf_script.proofs.Putting.{put_more}
+use Rattle.pf_script.proofs.Texts.{section_named}
+use Rattle.pf_script.proofs.transcript.put_alone.Goals as goal
+
+pub returns : goal.returns
+returns g c = rw (section_named c.args.script.now c.args.answers.now c.args.ns c.name.result.now c.name.ensures) (put_more c.put_header.ensures c.put_lines.ensures)

@@ -1,0 +1,55 @@
+-- What an answer of the reader says of what the grammar gives.
+
+use Rattle.std.specs.Prelude.{ℕ, ◌≡◌, ◌⊎◌, List, Result, Ok, Err}
+use Rattle.pf_script.specs.declared.refusal.Cause.{Cause}
+use Rattle.pf_script.specs.declared.refusal.Refusal.{Refusal}
+use Rattle.pf_script.specs.Ports.{Input, IsWhole, BreaksOff, IsTooLong, IsGivenUp}
+use Rattle.pf_script.specs.Script.{Draft, read_script}
+use Rattle.pf_script.specs.declared.fault.LineFault.{LineFault}
+use Rattle.pf_script.specs.declared.fault.LineFault.TheVariants as faults
+use Rattle.pf_script.specs.declared.fault.ScriptFault.{ScriptFault}
+use Rattle.pf_script.specs.declared.fault.ScriptFault.TheVariants as script_faults
+use Rattle.pf_script.specs.declared.port.InputFault.{InputFault}
+use Rattle.pf_script.specs.declared.port.InputFault.TheVariants as input_faults
+
+-- the grammar gives this fault, unless memory ran out
+abbrev pub Fails : {Y : Type 0} → LineFault → Result Y Cause → Type 0
+Fails faults.NoMemory read = Unit {0}
+Fails (faults.Refused cause) read = read ≡ Err cause
+
+-- the grammar gives the same, unless memory ran out
+abbrev pub Gives : {X : Type 0} → Result X LineFault → Result X Cause → Type 0
+Gives (Ok x) read = read ≡ Ok x
+Gives (Err e) read = Fails e read
+
+-- the same where the answer is what a value became
+abbrev pub Moves : {R Y : Type 0} → Result R LineFault → Y → Result Y Cause → Type 0
+Moves (Ok _) new read = read ≡ Ok new
+Moves (Err e) new read = Fails e read
+
+-- a line's fault with the line's number
+abbrev pub at_line : ℕ → LineFault → ScriptFault
+at_line k faults.NoMemory = script_faults.NoMemory
+at_line k (faults.Refused cause) = script_faults.Refused (record { line = k; cause = cause })
+
+-- the same for a whole script
+abbrev pub Reads : Result Draft ScriptFault → Result Draft Refusal → Type 0
+Reads (Ok script) read = read ≡ Ok script
+Reads (Err script_faults.NoMemory) read = Unit {0}
+Reads (Err (script_faults.Refused refusal)) read = read ≡ Err refusal
+Reads (Err script_faults.ReadFault) read = ⊥
+
+-- the whole input was read before it was judged, and this is what it says
+abbrev pub IsRead : Input → Input → Draft → Type 0
+IsRead old new script = (bytes : List ℕ) × IsWhole old new bytes × (read_script bytes ≡ Ok script)
+
+-- each fault has its cause
+abbrev pub IsScriptFault : Input → Input → ScriptFault → Type 0
+IsScriptFault old new (script_faults.Refused refusal) = (bytes : List ℕ) × IsWhole old new bytes × (read_script bytes ≡ Err refusal)
+IsScriptFault old new script_faults.NoMemory = IsGivenUp old new
+IsScriptFault old new script_faults.ReadFault = BreaksOff old new ⊎ IsTooLong old new
+
+-- an input fault as a fault of the script
+abbrev pub of_input : InputFault → ScriptFault
+of_input input_faults.NoMemory = script_faults.NoMemory
+of_input input_faults.ReadFault = script_faults.ReadFault

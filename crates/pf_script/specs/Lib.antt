@@ -1,0 +1,12 @@
+pub mod Words
+pub mod Arguments
+pub mod Verbs
+pub mod Script
+pub mod Ports
+pub mod Inputs
+pub mod Faults
+pub mod Named
+pub mod Places
+pub mod Sound
+pub mod Text
+pub mod Puts

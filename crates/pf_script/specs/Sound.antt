@@ -1,0 +1,17 @@
+-- What each script that was built so far has: so a hub opens for it, and runs its steps, unless memory is wanted.
+
+use Rattle.std.specs.Prelude.{ℕ, ◌≡◌, ◌≤◌, List, length, nat_le, Option, None}
+use Rattle.std.specs.List.{position_from}
+use Rattle.pf_base.specs.declared.step.Step.{Step}
+use Rattle.pf_script.specs.Script.{Draft, reserved}
+
+-- the place of the first step whose namespace's number is not below this one
+abbrev pub first_stray : ℕ → List (ℕ × Step) → Option ℕ
+first_stray number steps = position_from (λ e. nat_le number e.0) 0 steps
+
+-- few namespaces, a pool of few frames, no more reserved than there is, and a namespace for each step
+pub record IsSound (script : Draft) : Type 0 where
+  pub few : length script.spaces ≤ 64
+  pub small : script.frames ≤ 65536
+  pub fits : reserved script.spaces ≤ script.frames
+  pub exist : ◌≡◌ {A = Option ℕ} (first_stray (length script.spaces) script.steps) None

@@ -1,0 +1,28 @@
+//! Scripts: the grammar of the calls and the text of their answers. A script is read from any reader, and the answers
+//! to its steps are printed to any writer.
+#![tactic(auto)]
+
+mod adapters;
+mod arguments;
+mod cut;
+mod fault;
+mod memory;
+mod port;
+mod printer;
+mod read;
+mod refusal;
+mod script;
+mod steps;
+mod text;
+mod transcript;
+mod verbs;
+mod words;
+
+pub use adapters::{Reading, Writing};
+pub use fault::ScriptFault;
+pub use memory::{Collected, MemoryBytes};
+pub use port::{Failed, INPUT_LIMIT, Sink, Source, WriteFault};
+pub use read::read_script;
+pub use refusal::{Cause, Refusal};
+pub use script::Script;
+pub use transcript::print;

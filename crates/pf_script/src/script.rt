@@ -1,0 +1,373 @@
+ghost use Rattle.std.specs.Prelude.{◌≡◌, ◌≤◌, ◌<◌, map, length, slice_get, IfOk, IfSome, Some, None, option_copied};
+ghost use Rattle.std.specs.List.{list_any};
+ghost use Rattle.pf_script.specs.Script as grammar;
+ghost use Rattle.pf_script.specs.Script.{blank, place_of, reserved, number_or};
+ghost use Rattle.pf_script.specs.Places.{places_of};
+ghost use Rattle.pf_script.specs.Sound.{first_stray};
+ghost use Rattle.pf_script.specs.Faults.{Gives, Moves};
+
+use crate::arguments::{number_32, small_number};
+use crate::cut::cut_into;
+use crate::fault::LineFault;
+use crate::refusal::Cause;
+use crate::steps::Steps;
+use crate::verbs::step_of;
+use crate::words::is_name_word;
+use indexmap::IndexMap;
+use pf_base::{Config, MAX_NAMESPACES, MAX_RESERVE, Step};
+use std::alloc::{AllocError, Global};
+use std::marker::Model;
+
+/// The longest line in bytes, its line feed not counted.
+const LINE_LIMIT: usize = 2_200_000;
+
+/// What a script says: its pool, its namespaces, and its steps, each with its namespace's number, from 0.
+#[derive(Debug, Drop)]
+pub struct Script {
+    frames: u32,
+    // Limits by name, in the order of their lines.
+    spaces: IndexMap<Vec<u8>, Config>,
+    steps: Steps,
+}
+
+impl Model for Script {
+    ghost use Rattle.pf_script.specs.Script.{Draft};
+    ghost use Rattle.pf_script.specs.Named.{named};
+    ghost use Rattle.pf_script.specs.Sound.{IsSound};
+
+    ghost Value = { Draft };
+
+    ghost view = { λ s. record { frames = s.frames; spaces = named s.spaces.entries; steps = s.steps } };
+
+    ghost invariant = { λ s.
+        IsSound (record { frames = s.frames; spaces = named s.spaces.entries; steps = s.steps }) };
+}
+
+/// Whether a line is empty or begins with `#`.
+fn is_skipped(text: &[u8]) -> bool
+    ensures { result ≡ grammar.is_skipped text.now }
+{
+    match text {
+        [] => true,
+        [first, ..] => *first == b'#',
+    }
+}
+
+fn has_empty(words: &[&[u8]]) -> bool
+    ensures { result ≡ list_any grammar.is_empty_word (map (λ w. w.now) words.now) }
+{
+    for word in words {
+        if word.is_empty() {
+            return true;
+        }
+    }
+    false
+}
+
+/// A number of 32 bits, or this one where the word is left out.
+fn number_or(n: u32, word: Option<&[u8]>) -> Result<u32, LineFault>
+    ensures { Gives result (number_or n (option_copied word.entry)) }
+{
+    match word {
+        None => Ok(n),
+        Some(word) => number_32(word),
+    }
+}
+
+#[tactic(auto, unfolding(crate::specs::Script::limits_with))]
+fn limits_with(
+    reserve: &[u8],
+    soft: Option<&[u8]>,
+    hard: Option<&[u8]>,
+    max: Option<&[u8]>,
+) -> Result<Config, LineFault>
+    ensures { Gives result (grammar.limits_with reserve.now
+        (option_copied soft.entry) (option_copied hard.entry) (option_copied max.entry)) }
+{
+    let reserve = small_number(MAX_RESERVE, reserve)?;
+    let soft = number_or(Config::DEFAULT_SOFT, soft)?;
+    let hard = number_or(Config::DEFAULT_HARD, hard)?;
+    let max = number_or(Config::DEFAULT_MAX, max)?;
+    match Config::new(reserve, soft, hard, max) {
+        Ok(config) => Ok(config),
+        Err(_) => Err(LineFault::Refused(Cause::BadNumber)),
+    }
+}
+
+impl Script {
+    /// A script that says nothing, with room for so many steps.
+    pub fn blank(alloc: Global, steps: usize) -> Result<Self, AllocError>
+        ensures { IfOk result (λ s. s ≡ blank) }
+    {
+        let steps = Steps::with_capacity(alloc, steps)?;
+        Ok(Script {
+            frames: 0,
+            spaces: IndexMap::new(alloc),
+            steps,
+        })
+    }
+
+    /// The pool's frames, 0 where there is no pool line.
+    pub fn frames(&self) -> u32
+        ensures { result ≡ self.now.frames }
+    {
+        self.frames
+    }
+
+    /// How many namespaces there are.
+    pub fn count_spaces(&self) -> usize
+        ensures count { result ≡ length self.now.spaces }
+        ensures most { result ≤ 64 }
+    {
+        self.spaces.len()
+    }
+
+    /// The name of the namespace with this number. The numbers are in the order of the namespaces' lines.
+    pub fn name(&self, place: usize) -> &[u8]
+        requires { place < length self.now.spaces }
+        ensures { slice_get (map (λ s. s.0) self.now.spaces) place ≡ Some result.now }
+    {
+        let (name, _) = self.spaces.get_index(place).unwrap();
+        name.as_slice()
+    }
+
+    /// The limits of each namespace, in the order of their numbers. They reserve no more frames than the pool has.
+    #[tactic(auto, using(crate::proofs::Naming::limits_of))]
+    pub fn configs(&self, alloc: Global) -> Result<Vec<Config>, AllocError>
+        ensures limits { IfOk result (λ configs. configs.items ≡ map (λ s. s.1) self.now.spaces) }
+        ensures most { IfOk result (λ configs. length configs.items ≤ 64) }
+        ensures small { self.now.frames ≤ 65536 }
+        ensures fits { reserved self.now.spaces ≤ self.now.frames }
+    {
+        self.spaces.values().copied().collect(alloc)
+    }
+
+    /// The steps, each with its namespace's number.
+    pub fn steps(&self) -> &[(u32, Step)]
+        ensures steps { result.now ≡ self.now.steps }
+        ensures exist { first_stray (length self.now.spaces) result.now ≡ None }
+    {
+        self.steps.as_slice()
+    }
+
+    /// The places of one namespace's steps among all steps.
+    pub fn places(&self, ns: usize) -> &[u32]
+        requires { ns < length self.now.spaces }
+        ensures { result.now ≡ places_of self.now.steps ns }
+    {
+        self.steps.places(ns)
+    }
+
+    /// The limits of the namespace with this number.
+    pub fn config(&self, ns: usize) -> Config
+        requires { ns < length self.now.spaces }
+        ensures { slice_get (map (λ s. s.1) self.now.spaces) ns ≡ Some result }
+    {
+        let (_, config) = self.spaces.get_index(ns).unwrap();
+        *config
+    }
+
+    /// The sum of the reservations.
+    #[tactic(auto, using(crate::proofs::Naming::reserved_is))]
+    fn reserved_frames(&self) -> u64
+        ensures sum { result ≡ reserved self.now.spaces }
+        ensures most { result ≤ 65536 }
+    {
+        self.spaces
+            .values()
+            .map(|config| u64::from(config.reserve()))
+            .sum()
+    }
+
+    /// The number of the namespace with this name.
+    #[tactic(auto, using(crate::proofs::Naming::place_is))]
+    pub fn place(&self, name: &[u8]) -> Option<u32>
+        ensures place { result ≡ place_of name.now self.now.spaces }
+        ensures within { IfSome result (λ place. place < length self.now.spaces) }
+    {
+        match self.spaces.get_index_of(name) {
+            Some(place) => Some(place as u32),
+            None => None,
+        }
+    }
+
+    #[tactic(auto, unfolding(crate::specs::Script::pool_with))]
+    fn pool_with(&mut self, frames: &[u8]) -> Result<(), LineFault>
+        requires { self.old.frames ≡ 0 }
+        ensures { Moves result self.new (grammar.pool_with self.old frames.now) }
+    {
+        let frames = small_number(65_536, frames)?;
+        if frames == 0 {
+            return Err(LineFault::Refused(Cause::BadNumber));
+        }
+        self.frames = frames;
+        Ok(())
+    }
+
+    #[tactic(auto, unfolding(crate::specs::Script::pool_line))]
+    fn pool_line(&mut self, words: &[&[u8]]) -> Result<(), LineFault>
+        requires { self.old.frames ≡ 0 }
+        ensures { Moves result self.new (grammar.pool_line self.old (map (λ w. w.now) words.now)) }
+    {
+        match words {
+            [frames] => self.pool_with(frames),
+            _ => Err(LineFault::Refused(Cause::WrongWords)),
+        }
+    }
+
+    #[tactic(auto, unfolding(crate::specs::Script::with_limits))]
+    fn with_limits(&mut self, alloc: Global, name: &[u8], config: Config) -> Result<(), LineFault>
+        requires few { length self.old.spaces < 64 }
+        requires fresh { place_of name.now self.old.spaces ≡ None }
+        ensures { Moves result self.new (grammar.with_limits self.old name.now config) }
+    {
+        let sum = self.reserved_frames() + u64::from(config.reserve());
+        if sum > u64::from(self.frames) {
+            return Err(LineFault::Refused(Cause::ReservationsExceed {
+                sum,
+                frames: self.frames,
+            }));
+        }
+        let name = Vec::from_slice(alloc, name)?;
+        self.spaces.insert(name, config)?;
+        Ok(())
+    }
+
+    #[tactic(auto, unfolding(crate::specs::Script::space_with))]
+    fn space_with(
+        &mut self,
+        alloc: Global,
+        name: &[u8],
+        reserve: &[u8],
+        soft: Option<&[u8]>,
+        hard: Option<&[u8]>,
+        max: Option<&[u8]>,
+    ) -> Result<(), LineFault>
+        ensures { Moves result self.new (grammar.space_with self.old name.now reserve.now
+            (option_copied soft.entry) (option_copied hard.entry) (option_copied max.entry)) }
+    {
+        if !is_name_word(name) {
+            return Err(LineFault::Refused(Cause::BadName));
+        }
+        if self.place(name).is_some() {
+            return Err(LineFault::Refused(Cause::NameTwice));
+        }
+        if self.spaces.len() >= MAX_NAMESPACES {
+            return Err(LineFault::Refused(Cause::TooManyNamespaces));
+        }
+        let config = limits_with(reserve, soft, hard, max)?;
+        self.with_limits(alloc, name, config)
+    }
+
+    #[tactic(auto, unfolding(crate::specs::Script::space_words))]
+    fn space_words(&mut self, alloc: Global, words: &[&[u8]]) -> Result<(), LineFault>
+        ensures { Moves result self.new (grammar.space_words self.old (map (λ w. w.now) words.now)) }
+    {
+        match words {
+            [name, reserve] => self.space_with(alloc, name, reserve, None, None, None),
+            [name, reserve, soft] => self.space_with(alloc, name, reserve, Some(soft), None, None),
+            [name, reserve, soft, hard] => {
+                self.space_with(alloc, name, reserve, Some(soft), Some(hard), None)
+            }
+            [name, reserve, soft, hard, max] => {
+                self.space_with(alloc, name, reserve, Some(soft), Some(hard), Some(max))
+            }
+            _ => Err(LineFault::Refused(Cause::WrongWords)),
+        }
+    }
+
+    #[tactic(auto, unfolding(crate::specs::Script::space_line))]
+    fn space_line(&mut self, alloc: Global, words: &[&[u8]]) -> Result<(), LineFault>
+        ensures { Moves result self.new (grammar.space_line self.old (map (λ w. w.now) words.now)) }
+    {
+        if self.steps.as_slice().is_empty() {
+            self.space_words(alloc, words)
+        } else {
+            Err(LineFault::Refused(Cause::LateSpace))
+        }
+    }
+
+    #[tactic(auto, unfolding(crate::specs::Script::step_line))]
+    fn step_line(&mut self, alloc: Global, name: &[u8], words: &[&[u8]]) -> Result<(), LineFault>
+        ensures { Moves result self.new (grammar.step_line self.old name.now (map (λ w. w.now) words.now)) }
+    {
+        let Some(place) = self.place(name) else {
+            return Err(LineFault::Refused(Cause::UnknownNamespace));
+        };
+        let step = step_of(alloc, words)?;
+        self.steps.push(place, step)?;
+        Ok(())
+    }
+
+    #[tactic(auto, unfolding(crate::specs::Script::first_word_line))]
+    fn first_word_line(
+        &mut self,
+        alloc: Global,
+        first: &[u8],
+        words: &[&[u8]],
+    ) -> Result<(), LineFault>
+        ensures { Moves result self.new
+            (grammar.first_word_line self.old first.now (map (λ w. w.now) words.now)) }
+    {
+        if first == b"pool".as_slice() {
+            if self.frames == 0 {
+                self.pool_line(words)
+            } else {
+                Err(LineFault::Refused(Cause::SecondPool))
+            }
+        } else if self.frames == 0 {
+            Err(LineFault::Refused(Cause::NoPool))
+        } else if first == b"space".as_slice() {
+            self.space_line(alloc, words)
+        } else {
+            self.step_line(alloc, first, words)
+        }
+    }
+
+    #[tactic(auto, unfolding(crate::specs::Script::words_line))]
+    fn words_line(&mut self, alloc: Global, words: &[&[u8]]) -> Result<(), LineFault>
+        ensures { Moves result self.new (grammar.words_line self.old (map (λ w. w.now) words.now)) }
+    {
+        match words {
+            [] => Ok(()),
+            [first, rest @ ..] => self.first_word_line(alloc, first, rest),
+        }
+    }
+
+    /// Takes a line that a line feed ended. `words` is where its words are put: what it had doesn't matter.
+    #[tactic(auto, unfolding(crate::specs::Script::line_of))]
+    pub fn line<'a>(
+        &mut self,
+        alloc: Global,
+        words: &mut Vec<&'a [u8]>,
+        text: &'a [u8],
+    ) -> Result<(), LineFault>
+        ensures { Moves result self.new (grammar.line_of self.old text.now) }
+    {
+        if text.len() > LINE_LIMIT {
+            return Err(LineFault::Refused(Cause::TooLong));
+        }
+        if is_skipped(text) {
+            return Ok(());
+        }
+        cut_into(words, b' ', text)?;
+        if has_empty(words.as_slice()) {
+            return Err(LineFault::Refused(Cause::BadSpacing));
+        }
+        self.words_line(alloc, words.as_slice())
+    }
+
+    /// Judges what stands behind the last line feed.
+    #[tactic(auto, unfolding(crate::specs::Script::rest_of))]
+    pub fn rest(&self, text: &[u8]) -> Result<(), LineFault>
+        ensures { Moves result self.now (grammar.rest_of self.now text.now) }
+    {
+        if text.is_empty() {
+            Ok(())
+        } else if text.len() > LINE_LIMIT {
+            Err(LineFault::Refused(Cause::TooLong))
+        } else {
+            Err(LineFault::Refused(Cause::CutShort))
+        }
+    }
+}

@@ -1,0 +1,182 @@
+ghost use Rattle.std.specs.Prelude.{◌≡◌, ◌≤◌, [], decimal, length};
+ghost use Rattle.pf_script.specs.Text.{hex_text, octal_text, kind_text, number_of_names, names_text, meta_text, reply_text, answer_text, line_text, header};
+ghost use Rattle.pf_script.specs.Puts.{Puts};
+ghost use Rattle.hex.specs.Hex.{encode_lower};
+
+use crate::cut::cut_at;
+use crate::port::Sink;
+use crate::printer::Printer;
+use itoa::Buffer;
+use memchr::memchr;
+use pf_base::{Answer, Kind, Meta, Mode, Reply};
+
+/// How many bytes are turned into digits at once.
+const PIECE: usize = 256;
+
+/// Puts the digits of at most 256 bytes.
+fn put_piece<W: Sink>(out: &mut Printer, writer: &mut W, bytes: &[u8])
+    requires { length bytes.now ≤ 256 }
+    ensures { Puts (W.output writer.old) out.old (W.output writer.new) out.new (encode_lower bytes.now) }
+{
+    let mut digits = [0u8; 2 * PIECE];
+    let (room, _) = digits.split_at_mut(2 * bytes.len());
+    match hex::encode_to_slice(bytes, room) {
+        Ok(()) => out.put(writer, room),
+        Err(_) => unreachable!(),
+    }
+}
+
+/// Puts the digits of these bytes, in lower case.
+fn put_digits<W: Sink>(out: &mut Printer, writer: &mut W, bytes: &[u8])
+    ensures { Puts (W.output writer.old) out.old (W.output writer.new) out.new (encode_lower bytes.now) }
+{
+    let mut rest = bytes;
+    while rest.len() > PIECE {
+        let (front, back) = rest.split_at(PIECE);
+        put_piece(out, writer, front);
+        rest = back;
+    }
+    put_piece(out, writer, rest)
+}
+
+/// Puts a number in decimal.
+fn put_number<W: Sink>(out: &mut Printer, writer: &mut W, n: u64)
+    ensures { Puts (W.output writer.old) out.old (W.output writer.new) out.new (decimal n) }
+{
+    let mut buffer = Buffer::new();
+    out.put(writer, buffer.format(n).as_bytes());
+}
+
+/// Puts bytes in digits, or `-` for none.
+fn put_bytes<W: Sink>(out: &mut Printer, writer: &mut W, bytes: &[u8])
+    ensures { Puts (W.output writer.old) out.old (W.output writer.new) out.new (hex_text bytes.now) }
+{
+    match bytes {
+        [] => out.put(writer, b"-"),
+        [_, ..] => put_digits(out, writer, bytes),
+    }
+}
+
+/// Puts each name after a space, where each has a slash behind it.
+fn put_names<W: Sink>(out: &mut Printer, writer: &mut W, bytes: &[u8])
+    ensures { Puts (W.output writer.old) out.old (W.output writer.new) out.new (names_text [] bytes.now) }
+{
+    let mut rest = bytes;
+    while let Some(k) = memchr(b'/', rest) {
+        let (name, after) = cut_at(rest, k);
+        out.put(writer, b" ");
+        out.put(writer, name);
+        rest = after;
+    }
+}
+
+/// How many names there are, where each has a slash behind it.
+fn count_names(bytes: &[u8]) -> usize
+    ensures { result ≡ number_of_names bytes.now }
+{
+    bytes.iter().filter(|byte| **byte == b'/').count()
+}
+
+/// Puts a mode in four octal digits.
+fn put_mode<W: Sink>(out: &mut Printer, writer: &mut W, mode: Mode)
+    ensures { Puts (W.output writer.old) out.old (W.output writer.new) out.new (octal_text mode) }
+{
+    let bits = mode.bits();
+    let digits = [
+        b'0' + (bits / 512 % 8) as u8,
+        b'0' + (bits / 64 % 8) as u8,
+        b'0' + (bits / 8 % 8) as u8,
+        b'0' + (bits % 8) as u8,
+    ];
+    out.put(writer, &digits);
+}
+
+/// Puts the word for a kind of file.
+fn put_kind<W: Sink>(out: &mut Printer, writer: &mut W, kind: Kind)
+    ensures { Puts (W.output writer.old) out.old (W.output writer.new) out.new (kind_text kind) }
+{
+    match kind {
+        Kind::Fifo => out.put(writer, b"fifo"),
+        Kind::Directory => out.put(writer, b"dir"),
+    }
+}
+
+/// Puts what is known of a file.
+fn put_meta<W: Sink>(out: &mut Printer, writer: &mut W, meta: &Meta)
+    ensures { Puts (W.output writer.old) out.old (W.output writer.new) out.new (meta_text meta.now) }
+{
+    out.put(writer, b"meta ");
+    put_kind(out, writer, meta.kind);
+    out.put(writer, b" ");
+    put_mode(out, writer, meta.mode);
+    out.put(writer, b" ");
+    put_number(out, writer, u64::from(meta.uid));
+    out.put(writer, b" ");
+    put_number(out, writer, u64::from(meta.gid));
+}
+
+fn put_reply<W: Sink>(out: &mut Printer, writer: &mut W, reply: &Reply)
+    ensures { Puts (W.output writer.old) out.old (W.output writer.new) out.new (reply_text reply.now) }
+{
+    match reply {
+        Reply::Num(n) => {
+            out.put(writer, b"num ");
+            put_number(out, writer, *n);
+        }
+        Reply::Pid(pid) => {
+            out.put(writer, b"pid ");
+            put_number(out, writer, u64::from(*pid));
+        }
+        Reply::Fds(read, write) => {
+            out.put(writer, b"fds ");
+            put_number(out, writer, u64::from(*read));
+            out.put(writer, b" ");
+            put_number(out, writer, u64::from(*write));
+        }
+        Reply::Bytes(bytes) => {
+            out.put(writer, b"bytes ");
+            put_number(out, writer, bytes.as_slice().len() as u64);
+            out.put(writer, b" ");
+            put_bytes(out, writer, bytes.as_slice());
+        }
+        Reply::Names(bytes) => {
+            out.put(writer, b"names ");
+            put_number(out, writer, count_names(bytes.as_slice()) as u64);
+            put_names(out, writer, bytes.as_slice());
+        }
+        Reply::Meta(meta) => put_meta(out, writer, meta),
+        Reply::Err(errno) => {
+            out.put(writer, b"err ");
+            out.put(writer, errno.name().as_bytes());
+        }
+    }
+}
+
+fn put_answer<W: Sink>(out: &mut Printer, writer: &mut W, answer: &Answer)
+    ensures { Puts (W.output writer.old) out.old (W.output writer.new) out.new (answer_text answer.now) }
+{
+    match answer {
+        Answer::Done(reply) => put_reply(out, writer, reply),
+        Answer::NoMemory => out.put(writer, b"nomem"),
+    }
+}
+
+/// Puts the line of the step with this number.
+pub fn put_line<W: Sink>(out: &mut Printer, writer: &mut W, number: u64, answer: &Answer)
+    ensures { Puts (W.output writer.old) out.old (W.output writer.new) out.new
+        (line_text number answer.now) }
+{
+    put_number(out, writer, number);
+    out.put(writer, b": ");
+    put_answer(out, writer, answer);
+    out.put(writer, b"\n");
+}
+
+/// Puts a namespace's header.
+pub fn put_header<W: Sink>(out: &mut Printer, writer: &mut W, name: &[u8])
+    ensures { Puts (W.output writer.old) out.old (W.output writer.new) out.new (header name.now) }
+{
+    out.put(writer, b"== ");
+    out.put(writer, name);
+    out.put(writer, b"\n");
+}
