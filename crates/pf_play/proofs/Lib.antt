@@ -1,9 +1,1 @@
-pub mod Cutting
-pub mod Digits
-pub mod Lines
-pub mod Naming
-pub mod Numbers
 pub mod Playing
-pub mod Soundness
-pub mod Streams
-pub mod Texts

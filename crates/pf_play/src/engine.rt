@@ -1,29 +1,31 @@
-ghost use Rattle.std.specs.Prelude.{◌≡◌, length, map, IfOk};
+ghost use Rattle.std.specs.Prelude.{◌≡◌, ◌<◌, ◌≤◌, length, map, slice_get, Some, [], ◌∷◌, IfOk};
 ghost use Rattle.pf_hub.specs.Opening.{new_hub};
 ghost use Rattle.pf_play.specs.Filled.{AreFilled};
-ghost use Rattle.pf_play.specs.Played.{IsPlayed};
+ghost use Rattle.pf_play.specs.Played.{IsPlayed, IsPlayedAlone, IsPlayedFor, IsChosen, nomem_of};
 
-use crate::script::Script;
 use pf_base::{Answer, Config};
 use pf_frame::{Frame, PoolFault};
 use pf_hub::{Hub, RunFault};
+use pf_script::Script;
 use std::alloc::{AllocError, Global};
 
 /// How a script is run.
 #[derive(Debug, Clone, Copy)]
-pub struct Options {
+pub struct Options<'a> {
+    /// The name of the one namespace whose steps are run and whose section is written; all of them where it is `None`.
+    pub only: Option<&'a str>,
     /// The byte that every frame holds at the start. No text depends on it.
     pub fill: u8,
 }
 
-/// So many frames that hold the options' byte throughout.
-pub fn frames_of(alloc: Global, count: u32, options: &Options) -> Result<Vec<Frame>, AllocError>
+/// So many frames that hold this byte throughout.
+pub fn frames_of(alloc: Global, count: u32, fill: u8) -> Result<Vec<Frame>, AllocError>
     ensures count { IfOk result (λ frames. length frames.items ≡ count) }
-    ensures filled { IfOk result (λ frames. AreFilled options.now.fill frames.items) }
+    ensures filled { IfOk result (λ frames. AreFilled fill frames.items) }
 {
     let mut frames = Vec::with_capacity(alloc, count as usize)?;
     for _ in 0..count {
-        frames.push_reserved(Frame::filled(alloc, options.fill)?);
+        frames.push_reserved(Frame::filled(alloc, fill)?);
     }
     Ok(frames)
 }
@@ -53,8 +55,22 @@ fn hub_of(alloc: Global, script: &Script, frames: Vec<Frame>) -> Result<Hub<Glob
     }
 }
 
-/// Runs a script's steps over these frames, whatever they hold.
-pub fn play(alloc: Global, script: &Script, frames: Vec<Frame>) -> Result<Vec<Answer>, AllocError>
+/// A hub of one namespace of these limits over these frames, which are enough for it.
+fn lone_hub(alloc: Global, config: Config, frames: Vec<Frame>) -> Result<Hub<Global>, AllocError>
+    requires small { length frames.items ≤ 65536 }
+    requires fits { config.reserve ≤ length frames.items }
+    ensures { IfOk result (λ hub. hub ≡ new_hub (config ∷ []) (length frames.items)) }
+{
+    let configs = vec![in alloc; (config, alloc)]?;
+    match Hub::new(alloc, frames, configs) {
+        Ok(hub) => Ok(hub),
+        Err(PoolFault::NoMemory) => Err(AllocError),
+        Err(_) => unreachable!(),
+    }
+}
+
+/// Runs all of a script's steps over these frames, whatever they hold.
+fn play_all(alloc: Global, script: &Script, frames: Vec<Frame>) -> Result<Vec<Answer>, AllocError>
     requires { length frames.items ≡ script.now.frames }
     ensures { IfOk result (λ answers. IsPlayed script.now answers.items) }
 {
@@ -64,4 +80,55 @@ pub fn play(alloc: Global, script: &Script, frames: Vec<Frame>) -> Result<Vec<An
         Err(RunFault::NoMemory { .. }) => Err(AllocError),
         Err(RunFault::NoSuchNamespace { .. }) => unreachable!(),
     }
+}
+
+/// Runs the steps of one namespace alone over all of the script's frames, whatever they hold.
+fn play_alone(
+    alloc: Global,
+    script: &Script,
+    ns: u32,
+    frames: Vec<Frame>,
+) -> Result<Vec<Answer>, AllocError>
+    requires frames { length frames.items ≡ script.now.frames }
+    requires exists { ns < length script.now.spaces }
+    ensures { IfOk result (λ answers. IsPlayedAlone script.now ns answers.items) }
+{
+    let mut hub = lone_hub(alloc, script.config(ns as usize), frames)?;
+    let mut answers = Vec::with_capacity(alloc, script.places(ns as usize).len())?;
+    for event in script.steps() {
+        if event.0 == ns {
+            answers.push(hub.step(0, &event.1))?;
+        }
+    }
+    Ok(answers)
+}
+
+/// Runs a script's steps over these frames, or those of one namespace alone.
+pub fn play(
+    alloc: Global,
+    script: &Script,
+    only: Option<u32>,
+    frames: Vec<Frame>,
+) -> Result<Vec<Answer>, AllocError>
+    requires frames { length frames.items ≡ script.now.frames }
+    requires chosen { IsChosen script.now only }
+    ensures { IfOk result (λ answers. IsPlayedFor script.now only answers.items) }
+{
+    match only {
+        None => play_all(alloc, script, frames),
+        Some(ns) => play_alone(alloc, script, ns, frames),
+    }
+}
+
+/// How many of these answers say that memory was wanted.
+pub fn count_nomem(answers: &[Answer]) -> u64
+    ensures { result ≡ nomem_of answers.now }
+{
+    let mut count: u64 = 0;
+    for answer in answers {
+        if matches!(answer, Answer::NoMemory) {
+            count += 1;
+        }
+    }
+    count
 }

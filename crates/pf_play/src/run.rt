@@ -1,12 +1,9 @@
-ghost use Rattle.std.specs.Prelude.{◌≡◌, IfOk, IfErr};
-ghost use Rattle.pf_play.specs.Replays.{IsReplayed, IsFault};
+ghost use Rattle.std.specs.Prelude.{◌≡◌, IfOk, IfErr, OnErr, option_copied};
+ghost use Rattle.pf_play.specs.Played.{IsChosen};
+ghost use Rattle.pf_play.specs.Replays.{IsReplayed, IsFault, Names, NamesNone};
 
-use crate::engine::{Options, frames_of, play};
-use crate::fault::ScriptFault;
-use crate::port::{InputFault, Sink, Source, WriteFault, read_all, write_out};
-use crate::script::read_text;
-use crate::text::{count_nomem, text_of};
-use pf_base::Refusal;
+use crate::engine::{Options, count_nomem, frames_of, play};
+use pf_script::{Refusal, Script, ScriptFault, Sink, Source, WriteFault, print, read_script};
 use std::alloc::{AllocError, Global};
 use thiserror::Error;
 
@@ -32,19 +29,9 @@ pub enum ReplayFault {
     /// The writer failed, or took none of some bytes. A front of the text was written.
     #[error("write fault")]
     WriteFault,
-}
-
-impl From<InputFault> for ReplayFault {
-    ghost use Rattle.pf_play.specs.Replays.{of_input};
-
-    ghost from_gives = { λ fault e. e ≡ of_input fault };
-
-    fn from(fault: InputFault) -> Self {
-        match fault {
-            InputFault::NoMemory => ReplayFault::NoMemory,
-            InputFault::ReadFault => ReplayFault::ReadFault,
-        }
-    }
+    /// The script is accepted, and no namespace of it has the name that was chosen. Nothing was written.
+    #[error("no such name")]
+    NoSuchName,
 }
 
 impl From<ScriptFault> for ReplayFault {
@@ -55,6 +42,7 @@ impl From<ScriptFault> for ReplayFault {
     fn from(fault: ScriptFault) -> Self {
         match fault {
             ScriptFault::NoMemory => ReplayFault::NoMemory,
+            ScriptFault::ReadFault => ReplayFault::ReadFault,
             ScriptFault::Refused(refusal) => ReplayFault::Script(refusal),
         }
     }
@@ -80,7 +68,27 @@ impl From<WriteFault> for ReplayFault {
     }
 }
 
-/// Reads a script to its end, runs its steps, and writes the text of the answers.
+/// No namespace has the name that was chosen.
+#[derive(Debug, Clone, Copy)]
+struct NoName;
+
+/// The number of the namespace with the name that is chosen, if one is.
+fn chosen(script: &Script, name: Option<&str>) -> Result<Option<u32>, NoName>
+    ensures names { IfOk result (Names script.now (option_copied name.entry)) }
+    ensures exists { IfOk result (IsChosen script.now) }
+    ensures none { OnErr result (NamesNone script.now (option_copied name.entry)) }
+{
+    let Some(name) = name else {
+        return Ok(None);
+    };
+    match script.place(name.as_bytes()) {
+        Some(ns) => Ok(Some(ns)),
+        None => Err(NoName),
+    }
+}
+
+/// Reads a script to its end, runs its steps, and writes the text of the answers. With one name chosen the steps of its
+/// namespace are run alone, over all of the script's frames, and its section alone is written.
 ///
 /// All faults but `WriteFault` come before the writer is asked for anything. A read or a write fault comes with the
 /// first call that fails, and nothing is asked after it.
@@ -88,20 +96,20 @@ pub fn replay<R: Source, W: Sink>(
     alloc: Global,
     reader: &mut R,
     writer: &mut W,
-    options: &Options,
+    options: &Options<'_>,
 ) -> Result<Replayed, ReplayFault>
     ensures played { IfOk result (λ r. IsReplayed (R.input reader.old) (R.input reader.new)
-        (W.output writer.old) (W.output writer.new) r.nomem) }
-    ensures fault { IfErr result
-        (IsFault (R.input reader.old) (R.input reader.new) (W.output writer.old) (W.output writer.new)) }
+        (W.output writer.old) (W.output writer.new) (option_copied options.now.only) r.nomem) }
+    ensures fault { IfErr result (IsFault (R.input reader.old) (R.input reader.new)
+        (W.output writer.old) (W.output writer.new) (option_copied options.now.only)) }
 {
-    let input = read_all(alloc, reader)?;
-    let script = read_text(alloc, input.as_slice())?;
-    drop(input);
-    let frames = frames_of(alloc, script.frames(), options)?;
-    let answers = play(alloc, &script, frames)?;
+    let script = read_script(alloc, reader)?;
+    let Ok(only) = chosen(&script, options.only) else {
+        return Err(ReplayFault::NoSuchName);
+    };
+    let frames = frames_of(alloc, script.frames(), options.fill)?;
+    let answers = play(alloc, &script, only, frames)?;
     let nomem = count_nomem(answers.as_slice());
-    let text = text_of(alloc, &script, answers.as_slice())?;
-    write_out(writer, text.as_slice())?;
+    print(writer, &script, answers.as_slice(), only)?;
     Ok(Replayed { nomem })
 }

@@ -8,7 +8,10 @@ use std::alloc::Global;
 use std::io::{self, ErrorKind, Read};
 use std::test::Fail;
 
-const OPTIONS: Options = Options { fill: 165 };
+const OPTIONS: Options<'static> = Options {
+    only: None,
+    fill: 165,
+};
 
 /// Gives line feeds, a byte at a time, and fails at one read. Whoever asks it once more finds the end.
 #[derive(Debug, Drop)]
@@ -131,62 +134,119 @@ impl<'a> Read for Stopping<'a> {
     }
 }
 
+/// Scripts that are refused for their lines before the steps, each with what is told.
+const REFUSED_OPENINGS: [(&str, &str); 26] = [
+    ("foo\n", "line 1: no pool"),
+    ("pool 4", "line 1: cut short"),
+    ("pool 4\n#", "line 2: cut short"),
+    ("\n# a\npool  4\n", "line 3: bad spacing"),
+    ("pool 4 \n", "line 1: bad spacing"),
+    (" pool 4\n", "line 1: bad spacing"),
+    ("space a 1\n", "line 1: no pool"),
+    ("pool 4\npool 4\n", "line 2: second pool"),
+    ("pool 4 4\n", "line 1: wrong words"),
+    ("pool 0\n", "line 1: bad number"),
+    ("pool 65537\n", "line 1: bad number"),
+    ("pool 04\n", "line 1: bad number"),
+    ("pool +4\n", "line 1: bad number"),
+    ("pool 4\nspace Red 1\n", "line 2: bad name"),
+    ("pool 4\nspace pool 1\n", "line 2: bad name"),
+    ("pool 4\nspace retire 1\n", "line 2: bad name"),
+    (
+        "pool 4\nspace abcdefghijabcdefghijabcdefghijabc 1\n",
+        "line 2: bad name",
+    ),
+    ("pool 4\nspace a 1\nspace a x\n", "line 3: name twice"),
+    ("pool 4\nspace a x\n", "line 2: bad number"),
+    ("pool 4\nspace a 1 2 3 65536 5\n", "line 2: wrong words"),
+    ("pool 4\nspace a 1 4294967296\n", "line 2: bad number"),
+    ("pool 4\nspace a 1 2 03\n", "line 2: bad number"),
+    ("pool 4\nspace a 5 2 3 65537\n", "line 2: bad number"),
+    (
+        "pool 4\nspace a 5 2 3 65536\n",
+        "line 2: reservations 5 exceed pool 4",
+    ),
+    (
+        "pool 32\nspace a 33\n",
+        "line 2: reservations 33 exceed pool 32",
+    ),
+    ("pool 4\na exit 1\n", "line 2: unknown namespace"),
+];
+
+/// Lines that are refused behind a pool line and the space line of `a`, each with what is told.
+const REFUSED_STEPS: [(&str, &str); 32] = [
+    ("b fork 1", "unknown namespace"),
+    ("admit b 1", "unknown namespace"),
+    ("a", "wrong words"),
+    ("a jump 1", "unknown verb"),
+    ("a jump", "unknown verb"),
+    ("a fork", "wrong words"),
+    ("a exit 1 1", "wrong words"),
+    ("a exit 4294967296", "bad number"),
+    ("a exit 01", "bad number"),
+    ("a spawn 5 5 08", "bad number"),
+    ("a spawn 5 5 000777", "bad number"),
+    ("a spawn 5 5 00777 5,", "bad number"),
+    ("a pipe 1 m", "bad flags"),
+    ("a pipe x m", "bad number"),
+    ("a nonblock 1 0 yes", "bad flags"),
+    ("a nonblock 1 x yes", "bad number"),
+    ("a tee 1 0 3 5 m", "bad flags"),
+    ("a splice 1 0 3 x m", "bad number"),
+    ("a read 1 0 18446744073709551616", "bad number"),
+    ("a setsize 1 0", "wrong words"),
+    ("a getsize 1 0 0", "wrong words"),
+    ("a mkdir 1 /d 0800", "bad number"),
+    ("a mkdir 1 /d 000755", "bad number"),
+    ("a mkfifo 1 /d 10000", "bad number"),
+    ("a list 1", "wrong words"),
+    ("a write 1 1 abc", "bad data"),
+    ("a write 1 1 0*61", "bad data"),
+    ("a write 1 1 2097153*61", "bad data"),
+    ("a write 1 1 04*61", "bad data"),
+    ("a write 1 1 4*6", "bad data"),
+    ("a write 1 1 4*61*61", "bad data"),
+    ("a write 1 x abc", "bad number"),
+];
+
+/// Whether a script is refused with this text, and nothing is written.
+fn is_refused(alloc: Global, script: &str, text: &str) -> Result<bool, Fail> {
+    let mut reader = MemoryBytes::new(script.as_bytes());
+    let mut writer = Collected::new(alloc);
+    let Err(ReplayFault::Script(refusal)) = replay(alloc, &mut reader, &mut writer, &OPTIONS) else {
+        return Ok(false);
+    };
+    Ok(writer.as_slice().is_empty() && refusal.to_string(alloc)?.as_str() == text)
+}
+
 #[test]
 fn each_cause(rt: HostRuntime) -> Result<(), Fail> {
     let alloc = rt.alloc();
-    for (script, text) in [
-        ("pool 4", "line 1: cut short"),
-        ("pool 4\n#", "line 2: cut short"),
-        ("\n# a\npool  4\n", "line 3: bad spacing"),
-        ("pool 4 \n", "line 1: bad spacing"),
-        ("space a 1\n", "line 1: no pool"),
-        ("pool 4\npool 4\n", "line 2: second pool"),
-        ("pool 4 4\n", "line 1: wrong words"),
-        ("pool 0\n", "line 1: bad number"),
-        ("pool 65537\n", "line 1: bad number"),
-        ("pool 04\n", "line 1: bad number"),
-        ("pool +4\n", "line 1: bad number"),
-        (
-            "pool 4\nspace a 1\na exit 1\nspace b 1\n",
-            "line 4: late space",
-        ),
-        ("pool 4\nspace a 1 2\n", "line 2: wrong words"),
-        ("pool 4\nspace A 1\n", "line 2: bad name"),
-        ("pool 4\nspace retire 1\n", "line 2: bad name"),
-        ("pool 4\nspace a 1\nspace a x\n", "line 3: name twice"),
-        ("pool 4\nspace a x\n", "line 2: bad number"),
-        (
-            "pool 32\nspace a 33\n",
-            "line 2: reservations 33 exceed pool 32",
-        ),
-        ("pool 4\na exit 1\n", "line 2: unknown namespace"),
-        ("pool 4\nspace a 1\na\n", "line 3: wrong words"),
-        ("pool 4\nspace a 1\na fork 1\n", "line 3: unknown verb"),
-        ("pool 4\nspace a 1\na exit\n", "line 3: wrong words"),
-        (
-            "pool 4\nspace a 1\na exit 4294967296\n",
-            "line 3: bad number",
-        ),
-        ("pool 4\nspace a 1\na spawn 5 5 08\n", "line 3: bad number"),
-        (
-            "pool 4\nspace a 1\na spawn 5 5 00777 5,\n",
-            "line 3: bad number",
-        ),
-        ("pool 4\nspace a 1\na pipe 1 m\n", "line 3: bad flags"),
-        ("pool 4\nspace a 1\na pipe x m\n", "line 3: bad number"),
-        ("pool 4\nspace a 1\na write 1 1 4*61\n", "line 3: bad data"),
-        ("pool 4\nspace a 1\na write 1 1 616\n", "line 3: bad data"),
-    ] {
-        let mut reader = MemoryBytes::new(script.as_bytes());
-        let mut writer = Collected::new(alloc);
-        match replay(alloc, &mut reader, &mut writer, &OPTIONS) {
-            Err(ReplayFault::Script(refusal)) => {
-                assert_eq!(rt; refusal.to_string(alloc)?.as_str(), text);
-            }
-            _ => assert!(rt; false, "accepted: {script}"),
-        }
-        assert!(rt; writer.as_slice().is_empty());
+    for (script, text) in REFUSED_OPENINGS {
+        assert!(rt; is_refused(alloc, script, text)?, "{script}");
     }
+    Ok(())
+}
+
+#[test]
+fn each_cause_of_a_step(rt: HostRuntime) -> Result<(), Fail> {
+    let alloc = rt.alloc();
+    for (line, text) in REFUSED_STEPS {
+        // the first faulty line decides
+        let script = format!(in alloc; "pool 4\nspace a 1\n{line}\nspace\n")?;
+        let text = format!(in alloc; "line 3: {text}")?;
+        assert!(rt;
+            is_refused(alloc, script.as_str(), text.as_str())?,
+            "{line}"
+        );
+    }
+    assert!(rt;
+        is_refused(
+            alloc,
+            "pool 4\nspace a 1\na fork 1\nspace b 1\n",
+            "line 4: late space"
+        )?
+    );
     Ok(())
 }
 
@@ -367,7 +427,7 @@ fn writers_of_std(rt: HostRuntime) -> Result<(), Fail> {
 fn frames_hold_the_fill(rt: HostRuntime) -> Result<(), Fail> {
     let alloc = rt.alloc();
     for fill in [0, 165, 255] {
-        let frames = frames_of(alloc, 3, &Options { fill })?;
+        let frames = frames_of(alloc, 3, fill)?;
         assert_eq!(rt; frames.len(), 3);
         for frame in &frames {
             assert!(rt; frame.view(0, 4096).iter().all(|byte| *byte == fill));

@@ -1,15 +1,8 @@
-//! Worked examples of paths as tables of steps on files, for which a script has no verb, each with what its process is
-//! told.
+//! Worked examples of paths as tables of steps on files, each with what its process is told.
 
-use crate::Options;
-use crate::cut::pieces;
-use crate::engine::{frames_of, with_allocators};
-use crate::script::read_text;
-use crate::text::push_answer;
-use crate::verbs::{small_number, step_of};
-use crate::words::octal_of;
+use crate::tests_steps::{RED, open, told, told_of};
+use crate::{Collected, MemoryBytes, Options, replay};
 use pf_base::{ByteString, Step};
-use pf_hub::Hub;
 use std::alloc::Global;
 use std::process::Abort;
 use std::test::Fail;
@@ -111,64 +104,11 @@ const NAMES: [Row; 11] = [
     ("list 1 /", "names 1 b"),
 ];
 
-/// A hub of the namespaces that these lines of a script name.
-fn open(alloc: Global, lines: &str) -> Result<Hub<Global>, Fail> {
-    let script = read_text(alloc, lines.as_bytes())?;
-    let frames = frames_of(alloc, script.frames(), &Options { fill: 165 })?;
-    let limits = script.configs(alloc)?;
-    let configs = with_allocators(alloc, limits.as_slice())?;
-    Ok(Hub::new(alloc, frames, configs)?)
-}
-
-/// The step on files of a verb.
-fn file_step(verb: &[u8], pid: u32, path: ByteString, mode: u32) -> Option<Step> {
-    match verb {
-        b"mkdir" => Some(Step::Mkdir { pid, path, mode }),
-        b"mkfifo" => Some(Step::Mkfifo { pid, path, mode }),
-        b"unlink" => Some(Step::Unlink { pid, path }),
-        b"rmdir" => Some(Step::Rmdir { pid, path }),
-        b"chmod" => Some(Step::Chmod { pid, path, mode }),
-        b"stat" => Some(Step::Stat { pid, path }),
-        b"list" => Some(Step::List { pid, path }),
-        _ => None,
-    }
-}
-
-/// The step that a line stands for: one on files, or one that a script has a verb for.
-fn read_step(alloc: Global, line: &str) -> Result<Step, Fail> {
-    let words = pieces(alloc, b' ', line.as_bytes())?;
-    let (verb, pid, path, mode) = match words.as_slice() {
-        [verb, pid, path] => (verb, pid, path, 0),
-        [verb, pid, path, mode] => (verb, pid, path, octal_of(mode).unwrap_or(0)),
-        _ => return Ok(step_of(alloc, words.as_slice())?),
-    };
-    let bytes = ByteString::new(Vec::from_slice(alloc, path)?);
-    match file_step(verb, small_number(u32::MAX, pid)?, bytes, mode as u32) {
-        Some(step) => Ok(step),
-        None => Ok(step_of(alloc, words.as_slice())?),
-    }
-}
-
-/// What `red` is told of a step.
-fn told(
-    rt: &impl Abort,
-    alloc: Global,
-    hub: &mut Hub<Global>,
-    step: &Step,
-) -> Result<Vec<u8>, Fail> {
-    assert!(rt; 0 < hub.namespaces());
-    let answer = hub.step(0, step);
-    let mut text = Vec::new(alloc);
-    push_answer(&mut text, &answer)?;
-    Ok(text)
-}
-
 /// Plays a table in `red`: each step has its answer.
 fn play(rt: &impl Abort, alloc: Global, rows: &[Row]) -> Result<(), Fail> {
-    let mut hub = open(alloc, HEADER)?;
+    let mut hub = open(alloc, HEADER, 165)?;
     for (line, answer) in rows {
-        let step = read_step(alloc, line)?;
-        let given = told(rt, alloc, &mut hub, &step)?;
+        let given = told(rt, alloc, &mut hub, RED, line)?;
         assert!(rt;
             given.as_slice() == answer.as_bytes(),
             "{line}: not {answer}"
@@ -209,8 +149,8 @@ fn filled(alloc: Global, count: usize, byte: u8) -> Result<ByteString, Fail> {
 #[test]
 fn paths_that_no_script_can_write(rt: HostRuntime) -> Result<(), Fail> {
     let alloc = rt.alloc();
-    let mut hub = open(alloc, HEADER)?;
-    told(&rt, alloc, &mut hub, &read_step(alloc, "spawn 5 5 022")?)?;
+    let mut hub = open(alloc, HEADER, 165)?;
+    told(&rt, alloc, &mut hub, RED, "spawn 5 5 022")?;
     for (count, byte, answer) in [
         (0, b'a', "err ENOENT"),
         (3, 0, "err EINVAL"),
@@ -220,7 +160,7 @@ fn paths_that_no_script_can_write(rt: HostRuntime) -> Result<(), Fail> {
         (1_024, b'/', "err ENAMETOOLONG"),
     ] {
         let path = filled(alloc, count, byte)?;
-        let given = told(&rt, alloc, &mut hub, &Step::Stat { pid: 1, path })?;
+        let given = told_of(&rt, alloc, &mut hub, RED, &Step::Stat { pid: 1, path })?;
         assert!(&rt;
             given.as_slice() == answer.as_bytes(),
             "{count} of {byte}: not {answer}"
@@ -232,31 +172,26 @@ fn paths_that_no_script_can_write(rt: HostRuntime) -> Result<(), Fail> {
 #[test]
 fn the_file_beyond_the_most(rt: HostRuntime) -> Result<(), Fail> {
     let alloc = rt.alloc();
-    let mut hub = open(alloc, HEADER)?;
-    told(&rt, alloc, &mut hub, &read_step(alloc, "spawn 5 5 022")?)?;
-    for number in 0..10_001u32 {
-        let line = format!(in alloc; "mkfifo 1 /{number} 0600")?;
-        let given = told(&rt, alloc, &mut hub, &read_step(alloc, line.as_str())?)?;
-        let answer = if number < 10_000 {
-            "num 0"
-        } else {
-            "err ENOSPC"
-        };
-        assert!(&rt;
-            given.as_slice() == answer.as_bytes(),
-            "{number}: not {answer}"
-        );
+    let mut script = String::from_str(alloc, "pool 1\nspace red 1\nred spawn 5 5 022\n")?;
+    let mut text = String::from_str(alloc, "== red\n1: pid 1\n")?;
+    for number in 2..10_002u32 {
+        script.push_str(format!(in alloc; "red mkfifo 1 /{number} 0600\n")?.as_str())?;
+        text.push_str(format!(in alloc; "{number}: num 0\n")?.as_str())?;
     }
-    for (line, answer) in [
-        ("unlink 1 /77", "num 0"),
-        ("mkdir 1 /d 0700", "num 0"),
-        ("mkfifo 1 /e 0600", "err ENOSPC"),
-    ] {
-        let given = told(&rt, alloc, &mut hub, &read_step(alloc, line)?)?;
-        assert!(&rt;
-            given.as_slice() == answer.as_bytes(),
-            "{line}: not {answer}"
-        );
-    }
+    script.push_str("red mkfifo 1 /e 0600\nred unlink 1 /77\n")?;
+    script.push_str("red mkdir 1 /d 0700\nred mkfifo 1 /e 0600\n")?;
+    text.push_str("10002: err ENOSPC\n10003: num 0\n10004: num 0\n10005: err ENOSPC\n")?;
+    let mut writer = Collected::new(alloc);
+    let result = replay(
+        alloc,
+        &mut MemoryBytes::new(script.as_bytes()),
+        &mut writer,
+        &Options {
+            only: None,
+            fill: 165,
+        },
+    );
+    assert!(rt; result.is_ok());
+    assert!(rt; writer.as_slice() == text.as_bytes());
     Ok(())
 }

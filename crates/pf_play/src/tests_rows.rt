@@ -67,7 +67,7 @@ const OTHERS_FRAMES: [Line; 11] = [
 ];
 
 /// A whole script: a namespace keeps its reservation, whatever another asks for.
-const RESERVATIONS: [Line; 11] = [
+const RESERVATIONS: [Line; 12] = [
     ("pool 17", ""),
     ("space red 16", ""),
     ("space blue 1", ""),
@@ -77,6 +77,7 @@ const RESERVATIONS: [Line; 11] = [
     ("red write 1 1 65536*61", "num 65536"),
     ("blue pipe 1", "fds 0 1"),
     ("red pipe 1", "err ENFILE"),
+    ("blue getsize 1 0", "num 4096"),
     ("blue write 1 1 4096*62", "num 4096"),
     ("blue read 1 0 2", "bytes 2 6262"),
 ];
@@ -107,7 +108,7 @@ pub(crate) fn push_words(text: &mut String, alloc: Global, words: &str) -> Resul
 fn script_of(alloc: Global, lines: &[Line]) -> Result<String, Fail> {
     let mut script = String::new(alloc);
     for (line, _) in lines {
-        push_words(&mut script, alloc, line)?;
+        script.push_str(line)?;
         script.push('\n')?;
     }
     Ok(script)
@@ -152,7 +153,7 @@ fn text_of(alloc: Global, lines: &[Line]) -> Result<String, Fail> {
 /// read from memory, and from a reader of std to a writer of std.
 fn has_text(alloc: Global, script: &str, text: &str) -> bool {
     for fill in FILLS {
-        let options = Options { fill };
+        let options = Options { only: None, fill };
         let mut reader = MemoryBytes::new(script.as_bytes());
         let mut writer = Collected::new(alloc);
         let result = replay(alloc, &mut reader, &mut writer, &options);
@@ -192,7 +193,7 @@ fn plays_in_red(alloc: Global, steps: &[Line]) -> Result<bool, Fail> {
     for (step, answer) in steps {
         number = number.saturating_add(1);
         script.push_str("red ")?;
-        push_words(&mut script, alloc, step)?;
+        script.push_str(step)?;
         script.push('\n')?;
         text.push_str(format!(in alloc; "{number}: ")?.as_str())?;
         push_words(&mut text, alloc, answer)?;
@@ -209,7 +210,10 @@ fn is_refused(alloc: Global, script: &str, text: &str) -> Result<bool, AllocErro
         alloc,
         &mut reader,
         &mut writer,
-        &Options { fill: 165 },
+        &Options {
+            only: None,
+            fill: 165,
+        },
     ) else {
         return Ok(false);
     };
@@ -237,6 +241,74 @@ fn a_frame_of_another_namespace_tells_nothing(rt: HostRuntime) -> Result<(), Fai
 #[test]
 fn a_namespace_keeps_its_reservation(rt: HostRuntime) -> Result<(), Fail> {
     assert!(rt; plays(rt.alloc(), RESERVATIONS.as_slice())?);
+    Ok(())
+}
+
+/// Whether a script's text with this name chosen is this one, whatever its frames hold at the start.
+fn has_section(alloc: Global, script: &str, name: &str, text: &str) -> bool {
+    for fill in FILLS {
+        let options = Options {
+            only: Some(name),
+            fill,
+        };
+        let mut reader = MemoryBytes::new(script.as_bytes());
+        let mut writer = Collected::new(alloc);
+        let result = replay(alloc, &mut reader, &mut writer, &options);
+        if !matches!(result, Ok(replayed) if replayed.nomem == 0) {
+            return false;
+        }
+        if writer.as_slice() != text.as_bytes() {
+            return false;
+        }
+    }
+    true
+}
+
+#[test]
+fn one_name_alone(rt: HostRuntime) -> Result<(), Fail> {
+    let alloc = rt.alloc();
+    for lines in [OTHERS_FRAMES.as_slice(), RESERVATIONS.as_slice()] {
+        let script = script_of(alloc, lines)?;
+        for name in ["red", "blue"] {
+            let mut text = String::new(alloc);
+            push_section(&mut text, alloc, lines, name)?;
+            assert!(rt;
+                has_section(alloc, script.as_str(), name, text.as_str()),
+                "{name}"
+            );
+        }
+    }
+    Ok(())
+}
+
+#[test]
+fn a_name_that_no_namespace_has(rt: HostRuntime) -> Result<(), Fail> {
+    let alloc = rt.alloc();
+    let script = script_of(alloc, OTHERS_FRAMES.as_slice())?;
+    for name in ["green", "Red", "", "pool", "red "] {
+        let options = Options {
+            only: Some(name),
+            fill: 165,
+        };
+        let mut reader = MemoryBytes::new(script.as_bytes());
+        let mut writer = Collected::new(alloc);
+        let result = replay(alloc, &mut reader, &mut writer, &options);
+        assert!(rt; matches!(result, Err(ReplayFault::NoSuchName)), "{name}");
+        assert!(rt; writer.as_slice().is_empty());
+    }
+    // a faulty script is refused for its line
+    let mut writer = Collected::new(alloc);
+    let options = Options {
+        only: Some("red"),
+        fill: 165,
+    };
+    let result = replay(
+        alloc,
+        &mut MemoryBytes::new(b"pool 0\n"),
+        &mut writer,
+        &options,
+    );
+    assert!(rt; matches!(result, Err(ReplayFault::Script(_))));
     Ok(())
 }
 
@@ -294,7 +366,15 @@ fn a_writer_that_takes_a_front(rt: HostRuntime) -> Result<(), Fail> {
         for fails in [true, false] {
             let mut reader = MemoryBytes::new(script.as_bytes());
             let mut writer = Full::new(room, fails);
-            let result = replay(alloc, &mut reader, &mut writer, &Options { fill: 165 });
+            let result = replay(
+                alloc,
+                &mut reader,
+                &mut writer,
+                &Options {
+                    only: None,
+                    fill: 165,
+                },
+            );
             assert_eq!(rt; matches!(result, Err(ReplayFault::WriteFault)), room < 101);
             assert_eq!(rt; result.is_ok(), room == 101);
             assert_eq!(rt; writer.asked, if room < 101 { room + 1 } else { 101 });

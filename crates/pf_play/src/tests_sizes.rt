@@ -1,7 +1,6 @@
 //! Worked examples of capacities and page limits as tables of steps, each with what its process is told and with the
 //! frames that its namespace holds then.
 
-use crate::Options;
 use crate::engine::frames_of;
 use crate::tests_rows::FILLS;
 use crate::tests_steps::{BLUE, RED, Row, SPAWN, play};
@@ -246,7 +245,7 @@ const NEIGHBOURS: [(u32, Row); 10] = [
 
 /// A hub of namespaces with these limits, over so many frames that hold this byte throughout.
 fn open(alloc: Global, frames: u32, limits: &[Limits], fill: u8) -> Result<Hub<Global>, Fail> {
-    let frames = frames_of(alloc, frames, &Options { fill })?;
+    let frames = frames_of(alloc, frames, fill)?;
     let mut configs = Vec::new(alloc);
     for (reserve, soft, hard) in limits {
         configs.push((

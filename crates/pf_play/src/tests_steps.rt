@@ -1,15 +1,12 @@
-//! Worked examples as tables of steps, also of the kinds that a script has no verb for, each with what its process is
-//! told and with the frames that its namespace holds then.
+//! Worked examples as tables of steps, each with what its process is told and with the frames that its namespace holds
+//! then.
 
-use crate::Options;
-use crate::cut::pieces;
 use crate::engine::{frames_of, with_allocators};
-use crate::script::read_text;
 use crate::tests_rows::{FILLS, push_words};
-use crate::text::push_answer;
-use crate::verbs::{number, small_number, step_of};
+use crate::{Collected, MemoryBytes};
 use pf_base::Step;
 use pf_hub::Hub;
+use pf_script::{Script, print, read_script};
 use std::alloc::Global;
 use std::process::Abort;
 use std::test::Fail;
@@ -246,113 +243,37 @@ const TURNS: [(u32, Row); 33] = [
     (BLUE, ("exit 1", "num 0", 0)),
 ];
 
+/// The script of this text.
+pub(crate) fn script_of(alloc: Global, text: &str) -> Result<Script, Fail> {
+    Ok(read_script(alloc, &mut MemoryBytes::new(text.as_bytes()))?)
+}
+
 /// A hub of the namespaces that these lines of a script name, over frames that hold this byte throughout.
 pub(crate) fn open(alloc: Global, lines: &str, fill: u8) -> Result<Hub<Global>, Fail> {
-    let script = read_text(alloc, lines.as_bytes())?;
-    let frames = frames_of(alloc, script.frames(), &Options { fill })?;
+    let script = script_of(alloc, lines)?;
+    let frames = frames_of(alloc, script.frames(), fill)?;
     let limits = script.configs(alloc)?;
     let configs = with_allocators(alloc, limits.as_slice())?;
     Ok(Hub::new(alloc, frames, configs)?)
 }
 
-/// The tee or the splice that these words stand for: `PID IN OUT LEN [n]`.
-fn crossing(alloc: Global, verb: &str, words: &str) -> Result<Step, Fail> {
-    let words = pieces(alloc, b' ', words.as_bytes())?;
-    let (pid, source, sink, n, nonblock) = match words.as_slice() {
-        [pid, source, sink, n] => (pid, source, sink, n, false),
-        [pid, source, sink, n, [b'n']] => (pid, source, sink, n, true),
-        _ => return Err(Fail::new("no words of a tee or a splice")),
-    };
-    let pid = small_number(u32::MAX, pid)?;
-    let source = small_number(u32::MAX, source)?;
-    let sink = small_number(u32::MAX, sink)?;
-    let n = number(u64::MAX, n)?;
-    if verb == "tee" {
-        Ok(Step::Tee {
-            pid,
-            source,
-            sink,
-            n,
-            nonblock,
-        })
-    } else {
-        Ok(Step::Splice {
-            pid,
-            source,
-            sink,
-            n,
-            nonblock,
-        })
-    }
-}
-
-/// The change of a capacity that these words stand for: `PID FD BYTES`.
-fn set_size(alloc: Global, words: &str) -> Result<Step, Fail> {
-    let words = pieces(alloc, b' ', words.as_bytes())?;
-    let [pid, fd, bytes] = words.as_slice() else {
-        return Err(Fail::new("no words of a setsize"));
-    };
-    Ok(Step::SetSize {
-        pid: small_number(u32::MAX, pid)?,
-        fd: small_number(u32::MAX, fd)?,
-        bytes: number(u64::MAX, bytes)?,
-    })
-}
-
-/// The question for a capacity that these words stand for: `PID FD`.
-fn get_size(alloc: Global, words: &str) -> Result<Step, Fail> {
-    let words = pieces(alloc, b' ', words.as_bytes())?;
-    let [pid, fd] = words.as_slice() else {
-        return Err(Fail::new("no words of a getsize"));
-    };
-    Ok(Step::GetSize {
-        pid: small_number(u32::MAX, pid)?,
-        fd: small_number(u32::MAX, fd)?,
-    })
-}
-
-/// The pid that this word is.
-fn pid_of(word: &str) -> Result<u32, Fail> {
-    Ok(small_number(u32::MAX, word.as_bytes())?)
-}
-
-/// The second name of a description that these words stand for: `PID FD`.
-fn dup(alloc: Global, words: &str) -> Result<Step, Fail> {
-    let words = pieces(alloc, b' ', words.as_bytes())?;
-    let [pid, fd] = words.as_slice() else {
-        return Err(Fail::new("no words of a dup"));
-    };
-    Ok(Step::Dup {
-        pid: small_number(u32::MAX, pid)?,
-        fd: small_number(u32::MAX, fd)?,
-    })
-}
-
-/// The change of a flag that these words stand for: `PID FD on` or `PID FD off`.
-fn set_nonblock(alloc: Global, words: &str) -> Result<Step, Fail> {
-    let words = pieces(alloc, b' ', words.as_bytes())?;
-    let [pid, fd, flag] = words.as_slice() else {
-        return Err(Fail::new("no words of a nonblock"));
-    };
-    Ok(Step::SetNonblock {
-        pid: small_number(u32::MAX, pid)?,
-        fd: small_number(u32::MAX, fd)?,
-        on: *flag == b"on".as_slice(),
-    })
-}
-
-/// The step that a line stands for.
-fn read_step(alloc: Global, line: &str) -> Result<Step, Fail> {
-    match line.split_once(' ') {
-        Some(("tee", words)) => crossing(alloc, "tee", words),
-        Some(("splice", words)) => crossing(alloc, "splice", words),
-        Some(("setsize", words)) => set_size(alloc, words),
-        Some(("getsize", words)) => get_size(alloc, words),
-        Some(("fork", word)) => Ok(Step::Fork { pid: pid_of(word)? }),
-        Some(("dup", words)) => dup(alloc, words),
-        Some(("nonblock", words)) => set_nonblock(alloc, words),
-        _ => Ok(step_of(alloc, pieces(alloc, b' ', line.as_bytes())?.as_slice())?),
-    }
+/// The text of what a namespace is told of a step.
+pub(crate) fn told_of(
+    rt: &impl Abort,
+    alloc: Global,
+    hub: &mut Hub<Global>,
+    ns: u32,
+    step: &Step,
+) -> Result<Vec<u8>, Fail> {
+    let script = script_of(alloc, "pool 1\nspace red 1\nred exit 1\n")?;
+    assert!(rt; script.steps().len() == 1);
+    assert!(rt; (ns as usize) < hub.namespaces());
+    let answers = vec![in alloc; hub.step(ns, step)]?;
+    let mut writer = Collected::new(alloc);
+    let printed = print(&mut writer, &script, answers.as_slice(), None);
+    assert!(rt; printed.is_ok());
+    let told = writer.as_slice().strip_prefix(b"== red\n1: ".as_slice());
+    Ok(Vec::from_slice(alloc, told.unwrap_or(b"").trim_ascii_end())?)
 }
 
 /// What a namespace is told of the step that a line stands for.
@@ -363,12 +284,10 @@ pub(crate) fn told(
     ns: u32,
     line: &str,
 ) -> Result<Vec<u8>, Fail> {
-    let step = read_step(alloc, line)?;
-    assert!(rt; (ns as usize) < hub.namespaces());
-    let answer = hub.step(ns, &step);
-    let mut text = Vec::new(alloc);
-    push_answer(&mut text, &answer)?;
-    Ok(text)
+    let text = format!(in alloc; "pool 1\nspace red 1\nred {line}\n")?;
+    let script = script_of(alloc, text.as_str())?;
+    assert!(rt; script.steps().len() == 1);
+    told_of(rt, alloc, hub, ns, &script.steps()[0].1)
 }
 
 /// The lines that a row's line stands for, each written out.

@@ -1,10 +1,13 @@
 -- Each line keeps what every script has.
 
-use Rattle.std.proofs.Common.{◌≡◌, ℕ, ◌+◌, ◌<◌, ◌≤◌, List, [], ◌∷◌, ◌++◌, length, length-append, Some, None, Bool, true, false, cond, refl, arith}
+use Rattle.std.proofs.Common.{◌≡◌, ℕ, ◌+◌, ◌<◌, ◌≤◌, List, [], ◌∷◌, ◌++◌, length, length-append, map, get_or, Some, None, Bool, true, false, cond, refl, sym, ◌∙◌, arith}
 use Rattle.std.specs.Prelude.{nat_le, nat_lt, Ok}
 use Rattle.std.specs.List.{position_from}
 use Rattle.std.proofs.lemmas.Bool.{leb-false, lt-leb}
-use Rattle.std.proofs.lemmas.List.Sums.{sum_by_push}
+use Rattle.std.proofs.lemmas.List.Sums.{sum_by_push, get_or-le-sum_by}
+use Rattle.std.proofs.lemmas.Option.{get_or_from_slice_get}
+use Rattle.std.proofs.Math.ListN.{get_or-map}
+use Rattle.std.specs.Prelude.{slice_get}
 use Rattle.std.proofs.lemmas.Bool.Decides.{nat_tests}
 use Rattle.pf_base.specs.Limits.{Limits}
 use Rattle.pf_script.specs.Script.{Draft, reserved, with_limits}
@@ -56,3 +59,12 @@ space_sound d name limits sound few left =
 -- a step more, of a namespace that exists
 pub step_sound : (d : Draft) (place : ℕ) (step : Step) → IsSound d → place < length d.spaces → IsSound (record d { steps = d.steps ++ (place, step) ∷ [] })
 step_sound d place step sound low = record { few = sound.few; small = sound.small; fits = sound.fits; exist = one_more (length d.spaces) 0 d.steps place step low sound.exist }
+
+-- one namespace reserves no more than the pool has
+pub one_fits : (d : Draft) (n : ℕ) (limits : Limits) → IsSound d → n < length d.spaces → slice_get (map (λ s. s.1) d.spaces) n ≡ Some limits → limits.reserve ≤ d.frames
+one_fits d n limits sound low is =
+    let other : List ℕ × Limits = ([], record { reserve = 0; soft = 0; hard = 0; max = 0 }) in
+    let most = get_or-le-sum_by (λ (s : List ℕ × Limits). s.1.reserve) d.spaces n other low in
+    let here : (get_or d.spaces n other).1 ≡ limits = sym (get_or-map (λ (s : List ℕ × Limits). s.1) d.spaces n other) ∙ get_or_from_slice_get (map (λ (s : List ℕ × Limits). s.1) d.spaces) n limits other.1 is in
+    let fits = sound.fits in
+    omega (arith, rw here at most, fits)

@@ -158,10 +158,12 @@ impl Script {
         self.steps.places(ns)
     }
 
-    /// The limits of the namespace with this number.
+    /// The limits of the namespace with this number. It reserves no more frames than the pool has.
     pub fn config(&self, ns: usize) -> Config
         requires { ns < length self.now.spaces }
-        ensures { slice_get (map (λ s. s.1) self.now.spaces) ns ≡ Some result }
+        ensures limits { slice_get (map (λ s. s.1) self.now.spaces) ns ≡ Some result }
+        ensures small { self.now.frames ≤ 65536 }
+        ensures fits { result.reserve ≤ self.now.frames }
     {
         let (_, config) = self.spaces.get_index(ns).unwrap();
         *config

@@ -7,5 +7,5 @@ abbrev pub invariant-loop : goal.invariant-loop
 invariant-loop l = record {
   made : length l.frames.items ≡ l.counter;
   room : vec_capacity l.frames ≡ l.count;
-  filled : AreFilled l.options.fill l.frames.items;
+  filled : AreFilled l.fill l.frames.items;
 }

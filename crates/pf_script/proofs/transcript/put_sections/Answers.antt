@@ -15,7 +15,7 @@ pub loop-ns-preserved : goal.loop-ns-preserved
 loop-ns-preserved g c =
     let high : c.loop-ns.ns < length c.args.script.now.spaces = omega arith in (
       c.loop-ns.invariant.0 ++ section_at c.args.script.now (answers_of c.args.script.now.steps c.args.answers.now c.loop-ns.ns) c.loop-ns.ns,
-      put_more c.loop-ns.invariant.1 c.put_section.ensures,
+      put_more {y = section_at c.args.script.now (answers_of c.args.script.now.steps c.args.answers.now c.loop-ns.ns) c.loop-ns.ns} c.loop-ns.invariant.1 c.put_section.ensures,
       section_on _ _ _ c.args.script.now c.args.answers.now high c.loop-ns.invariant.2,
     )
 

@@ -1,6 +1,6 @@
 use Rattle.std.proofs.Common.{◌≡◌, ◌+◌, ◌≤◌, drop}
 use Rattle.pf_play.specs.Played.{nomem_of}
-use Rattle.pf_play.proofs.text.count_nomem.Given as goal
+use Rattle.pf_play.proofs.engine.count_nomem.Given as goal
 
 abbrev pub invariant-loop-answer : goal.invariant-loop-answer
 invariant-loop-answer l =

@@ -1,0 +1,39 @@
+use Rattle.std.proofs.Common.{◌≡◌, ℕ, ◌+◌, List, [], ◌∷◌, ◌++◌, take, ap, sym, ◌∙◌, subst}
+use Rattle.std.proofs.lemmas.List.{take_more}
+use Rattle.pf_base.specs.declared.step.Step.{Step}
+use Rattle.pf_play.proofs.Playing.{Went, went_on, went_by, opens, alone, take_all}
+use Rattle.pf_play.proofs.engine.play_alone.Goals as goal
+use Rattle.pf_play.proofs.engine.play_alone.Goals.{then-event-ns+in_ok-push, else-event-ns}
+
+pub loop-event-init : goal.loop-event-init
+loop-event-init c = (c.config.result, c.config.ensures.limits, opens _ _ _ _ _ c.in_ok-hub.ensures c.in_ok-answers.ensures.items)
+
+pub step-requires : goal.step-requires
+step-requires c = record { exists = c.loop-event.invariant.2.exists }
+
+pub loop-event-preserved : goal.loop-event-preserved
+loop-event-preserved c =
+    let e = c.event-item.result in
+    let limits = c.loop-event.invariant.0 in
+    let went = c.loop-event.invariant.2 in
+    let taken : take (c.loop-event.event-index + 1) c.steps-event-items.result.now ≡ take c.loop-event.event-index c.steps-event-items.result.now ++ e ∷ [] =
+    take_more c.steps-event-items.result.now c.loop-event.event-index e c.loop-event-test.true ∙ ap (λ (x : ℕ × Step). take c.loop-event.event-index c.steps-event-items.result.now ++ x ∷ []) (sym c.event-item.is) in
+    elim c.if-event-ns.branch [
+      | then-event-ns+in_ok-push w ↦ (
+        limits,
+        c.loop-event.invariant.1,
+        rw (w.hub-is, w.answers-is, w.in_ok-push.ensures.items, taken)
+            (went_on limits c.args.ns _ e _ w.step.result _ w.step.new.self went w.if-event-ns.true w.step.ensures.number w.step.ensures.limits w.step.ensures.answers),
+      )
+      | else-event-ns w ↦ (
+        limits,
+        c.loop-event.invariant.1,
+        rw (w.hub-is, w.answers-is, taken) (went_by limits c.args.ns _ e _ _ went w.if-event-ns.false),
+      )
+    ]
+
+pub returns : goal.returns
+returns c =
+    let all = take_all c.steps-event-items.result.now c.loop-event-test.false in
+    let went = rw (all, c.steps-event-items.ensures.steps) at c.loop-event.invariant.2 in
+    alone c.args.script.now c.loop-event.invariant.0 c.args.ns c.loop-event.answers.items c.loop-event.hub went c.loop-event.invariant.1
