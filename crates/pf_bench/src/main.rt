@@ -1,10 +1,12 @@
-//! Pairs of a write and a read through a hub, and tees and splices between two of its pipes. With no word, it plays a
-//! short fixed load and looks at each byte; with a number, it plays so many of each size, and prints how long one takes.
+//! Pairs of a write and a read through a hub, whose frames are on loan from a depot, and tees and splices between two
+//! of its pipes; and the same through the plain form, whose frames are one array. With no word, it plays a short fixed
+//! load through both and looks at each byte; with a number, it plays so many of each size, and prints how long one takes.
 #![tactic(auto)]
 
 use pf_base::{Answer, ByteString, Config, Crossing, Groups, PAGE_SIZE, Reply, Step};
 use pf_frame::Frame;
 use pf_hub::Hub;
+use pf_plain::Plain;
 use std::alloc::{AllocError, Global};
 use std::process::ExitCode;
 use std::time::Instant;
@@ -111,42 +113,103 @@ impl Passage {
     }
 }
 
-/// One step, where there is such a namespace.
-fn step(hub: &mut Hub<Global>, ns: u32, step: &Step) -> Answer {
-    if ns as usize >= hub.namespaces() {
-        return Answer::NoMemory;
-    }
-    hub.step(ns, step)
+/// Namespaces by number, whatever lends them their frames. What is timed and looked at is namespace 0.
+trait Host {
+    /// Its answer to one step of namespace 0, where there is one.
+    fn step(&mut self, step: &Step) -> Answer;
+
+    /// How many frames namespace 0 holds.
+    fn held(&self) -> u32;
 }
 
-/// A hub of so many frames, which its namespaces share evenly, with a process and two pipes in namespace 0.
-fn open(
-    alloc: Global,
+impl Host for Hub<Global> {
+    fn step(&mut self, step: &Step) -> Answer {
+        if self.namespaces() == 0 {
+            return Answer::NoMemory;
+        }
+        Hub::step(self, 0, step)
+    }
+
+    fn held(&self) -> u32 {
+        Hub::held(self, 0)
+    }
+}
+
+impl Host for Plain<Global> {
+    fn step(&mut self, step: &Step) -> Answer {
+        if self.namespaces() == 0 {
+            return Answer::NoMemory;
+        }
+        Plain::step(self, 0, step)
+    }
+
+    fn held(&self) -> u32 {
+        Plain::held(self, 0)
+    }
+}
+
+/// How many namespaces there are, and how many frames they share evenly.
+#[derive(Clone, Copy)]
+struct Shape {
     namespaces: u32,
-    frames_len: u32,
-) -> Result<Option<Hub<Global>>, AllocError> {
-    let mut frames = Vec::new(alloc);
-    for _ in 0..frames_len {
-        frames.push(Frame::filled(alloc, 0)?)?;
+    frames: u32,
+}
+
+impl Shape {
+    /// So many frames, all zeros.
+    fn frames(self, alloc: Global) -> Result<Vec<Frame>, AllocError> {
+        let mut frames = Vec::new(alloc);
+        for _ in 0..self.frames {
+            frames.push(Frame::filled(alloc, 0)?)?;
+        }
+        Ok(frames)
     }
-    let Some(reserve) = frames_len.checked_div(namespaces) else {
-        return Ok(None);
-    };
-    let Ok(config) = Config::new(
-        reserve,
-        Config::DEFAULT_SOFT,
-        Config::DEFAULT_HARD,
-        Config::DEFAULT_MAX,
-    ) else {
-        return Ok(None);
-    };
-    let mut configs = Vec::new(alloc);
-    for _ in 0..namespaces {
-        configs.push((config, alloc))?;
+
+    /// So many limits, with the same reservation in each.
+    fn configs(self, alloc: Global) -> Result<Vec<(Config, Global)>, AllocError> {
+        let mut configs = Vec::new(alloc);
+        let Some(reserve) = self.frames.checked_div(self.namespaces) else {
+            return Ok(configs);
+        };
+        let Ok(config) = Config::new(
+            reserve,
+            Config::DEFAULT_SOFT,
+            Config::DEFAULT_HARD,
+            Config::DEFAULT_MAX,
+        ) else {
+            return Ok(configs);
+        };
+        for _ in 0..self.namespaces {
+            configs.push((config, alloc))?;
+        }
+        Ok(configs)
     }
-    let Ok(mut hub) = Hub::new(alloc, frames, configs) else {
-        return Ok(None);
-    };
+
+    /// A hub of this shape, with a process and two pipes in namespace 0.
+    fn hub(self, alloc: Global) -> Result<Option<Hub<Global>>, AllocError> {
+        let Ok(mut hub) = Hub::new(alloc, self.frames(alloc)?, self.configs(alloc)?) else {
+            return Ok(None);
+        };
+        if !starts(alloc, &mut hub) {
+            return Ok(None);
+        }
+        Ok(Some(hub))
+    }
+
+    /// The plain form of it.
+    fn plain(self, alloc: Global) -> Result<Option<Plain<Global>>, AllocError> {
+        let Ok(mut plain) = Plain::new(alloc, self.frames(alloc)?, self.configs(alloc)?) else {
+            return Ok(None);
+        };
+        if !starts(alloc, &mut plain) {
+            return Ok(None);
+        }
+        Ok(Some(plain))
+    }
+}
+
+/// Whether a process and two pipes of it are made.
+fn starts<H: Host>(alloc: Global, host: &mut H) -> bool {
     let spawn = Step::Spawn {
         uid: 5,
         gid: 5,
@@ -157,23 +220,19 @@ fn open(
         pid: 1,
         nonblock: true,
     };
-    if step(&mut hub, 0, &spawn) != Answer::Done(Reply::Pid(1))
-        || step(&mut hub, 0, &pipe) != Answer::Done(Reply::Fds(0, 1))
-        || step(&mut hub, 0, &pipe) != Answer::Done(Reply::Fds(2, 3))
-    {
-        return Ok(None);
-    }
-    Ok(Some(hub))
+    host.step(&spawn) == Answer::Done(Reply::Pid(1))
+        && host.step(&pipe) == Answer::Done(Reply::Fds(0, 1))
+        && host.step(&pipe) == Answer::Done(Reply::Fds(2, 3))
 }
 
 /// Whether a step is answered by this number of bytes.
-fn counts(hub: &mut Hub<Global>, asked: &Step, number: usize) -> bool {
-    step(hub, 0, asked) == Answer::Done(Reply::Num(number as u64))
+fn counts<H: Host>(host: &mut H, asked: &Step, number: usize) -> bool {
+    host.step(asked) == Answer::Done(Reply::Num(number as u64))
 }
 
 /// What a step reads, if it is this number of bytes.
-fn take(hub: &mut Hub<Global>, read: &Step, number: usize) -> Option<ByteString> {
-    let Answer::Done(Reply::Bytes(bytes)) = step(hub, 0, read) else {
+fn take<H: Host>(host: &mut H, read: &Step, number: usize) -> Option<ByteString> {
+    let Answer::Done(Reply::Bytes(bytes)) = host.step(read) else {
         return None;
     };
     if bytes.as_slice().len() != number {
@@ -183,43 +242,40 @@ fn take(hub: &mut Hub<Global>, read: &Step, number: usize) -> Option<ByteString>
 }
 
 /// What a pair reads, if both its answers count as many bytes as it wrote.
-fn play(hub: &mut Hub<Global>, pair: &Pair) -> Option<ByteString> {
+fn play<H: Host>(host: &mut H, pair: &Pair) -> Option<ByteString> {
     let size = pair.payload.len();
-    let Answer::Done(Reply::Num(written)) = step(hub, 0, &pair.write) else {
+    let Answer::Done(Reply::Num(written)) = host.step(&pair.write) else {
         return None;
     };
     if written != size as u64 {
         return None;
     }
-    take(hub, &pair.read, size)
+    take(host, &pair.read, size)
 }
 
 /// Whether a tee or a splice brings each byte to where it is to be, and the reads leave nothing.
-fn brings_all(hub: &mut Hub<Global>, passage: &Passage) -> bool {
+fn brings_all<H: Host>(host: &mut H, passage: &Passage) -> bool {
     let size = passage.payload.len();
-    if !counts(hub, &passage.write, size) || !counts(hub, &passage.cross, size) {
+    if !counts(host, &passage.write, size) || !counts(host, &passage.cross, size) {
         return false;
     }
     for read in &passage.reads {
-        let Some(bytes) = take(hub, read, size) else {
+        let Some(bytes) = take(host, read, size) else {
             return false;
         };
         if bytes.as_slice() != passage.payload.as_slice() {
             return false;
         }
     }
-    hub.held(0) == 0
+    host.held() == 0
 }
 
 /// Plays the fixed load, and says whether each answer was right.
-fn play_fixed(alloc: Global) -> Result<bool, AllocError> {
-    let Some(mut hub) = open(alloc, 4, 128)? else {
-        return Ok(false);
-    };
+fn play_fixed<H: Host>(alloc: Global, host: &mut H) -> Result<bool, AllocError> {
     for size in SIZES {
         let pair = Pair::new(alloc, size)?;
         for _ in 0..FIXED_PAIRS {
-            let Some(bytes) = play(&mut hub, &pair) else {
+            let Some(bytes) = play(host, &pair) else {
                 return Ok(false);
             };
             if bytes.as_slice() != pair.payload.as_slice() {
@@ -229,7 +285,7 @@ fn play_fixed(alloc: Global) -> Result<bool, AllocError> {
         for crossing in [Crossing::Tee, Crossing::Splice] {
             let passage = Passage::new(alloc, crossing, size)?;
             for _ in 0..FIXED_CROSSINGS {
-                if !brings_all(&mut hub, &passage) {
+                if !brings_all(host, &passage) {
                     return Ok(false);
                 }
             }
@@ -238,10 +294,25 @@ fn play_fixed(alloc: Global) -> Result<bool, AllocError> {
     Ok(true)
 }
 
+/// The same through a hub and through its plain form.
+fn play_both(alloc: Global) -> Result<bool, AllocError> {
+    let shape = Shape {
+        namespaces: 4,
+        frames: 128,
+    };
+    let Some(mut hub) = shape.hub(alloc)? else {
+        return Ok(false);
+    };
+    let Some(mut plain) = shape.plain(alloc)? else {
+        return Ok(false);
+    };
+    Ok(play_fixed(alloc, &mut hub)? && play_fixed(alloc, &mut plain)?)
+}
+
 /// How many nanoseconds a pair takes, if each answer was right.
-fn time_pair(
+fn time_pair<H: Host>(
     rt: &HostRuntime,
-    hub: &mut Hub<Global>,
+    host: &mut H,
     size: usize,
     pairs: u32,
 ) -> io::Result<Option<u128>> {
@@ -250,7 +321,7 @@ fn time_pair(
     for _ in 0..(pairs / BATCH).max(1) {
         let start = Instant::now(rt)?;
         for _ in 0..BATCH {
-            if play(hub, &pair).is_none() {
+            if play(host, &pair).is_none() {
                 return Ok(None);
             }
         }
@@ -267,19 +338,19 @@ struct Spent {
 }
 
 /// Times so many tees or splices alone, if each answer was right.
-fn time_batch(
+fn time_batch<H: Host>(
     rt: &HostRuntime,
-    hub: &mut Hub<Global>,
+    host: &mut H,
     passage: &Passage,
 ) -> io::Result<Option<Spent>> {
     let size = passage.payload.len();
     let mut spent = Spent { calls: 0, clock: 0 };
     for _ in 0..BATCH {
-        if !counts(hub, &passage.write, size) {
+        if !counts(host, &passage.write, size) {
             return Ok(None);
         }
         let start = Instant::now(rt)?;
-        let crossed = counts(hub, &passage.cross, size);
+        let crossed = counts(host, &passage.cross, size);
         spent.calls = spent.calls.saturating_add(start.elapsed(rt)?.as_nanos());
         let start = Instant::now(rt)?;
         spent.clock = spent.clock.saturating_add(start.elapsed(rt)?.as_nanos());
@@ -287,7 +358,7 @@ fn time_batch(
             return Ok(None);
         }
         for read in &passage.reads {
-            if take(hub, read, size).is_none() {
+            if take(host, read, size).is_none() {
                 return Ok(None);
             }
         }
@@ -296,9 +367,9 @@ fn time_batch(
 }
 
 /// How many nanoseconds a tee or a splice alone takes, the clock's own taken off, if each answer was right.
-fn time_crossing(
+fn time_crossing<H: Host>(
     rt: &HostRuntime,
-    hub: &mut Hub<Global>,
+    host: &mut H,
     crossing: Crossing,
     size: usize,
     rounds: u32,
@@ -309,7 +380,7 @@ fn time_crossing(
         clock: u128::MAX,
     };
     for _ in 0..(rounds / BATCH).max(1) {
-        let Some(spent) = time_batch(rt, hub, &passage)? else {
+        let Some(spent) = time_batch(rt, host, &passage)? else {
             return Ok(None);
         };
         least.calls = least.calls.min(spent.calls);
@@ -318,28 +389,59 @@ fn time_crossing(
     Ok(Some(least.calls.saturating_sub(least.clock) / u128::from(BATCH)))
 }
 
-/// Times so many pairs of each size, tees and splices, and says whether each answer was right.
-fn time(rt: &HostRuntime, namespaces: u32, frames: u32, pairs: u32) -> io::Result<bool> {
-    let Some(mut hub) = open(rt.alloc(), namespaces, frames)? else {
-        return Ok(false);
-    };
-    println!(rt; "{namespaces} namespaces, {frames} frames")?;
+/// Times so many pairs of each size through both forms, in turn.
+fn time_pairs(
+    rt: &HostRuntime,
+    hub: &mut Hub<Global>,
+    plain: &mut Plain<Global>,
+    pairs: u32,
+) -> io::Result<bool> {
     for size in SIZES {
-        let Some(each) = time_pair(rt, &mut hub, size, pairs)? else {
+        let Some(depot) = time_pair(rt, hub, size, pairs)? else {
             return Ok(false);
         };
-        println!(rt; "hub {size} bytes: {each} ns a pair")?;
-    }
-    for size in TIMED_CROSSINGS {
-        let Some(tee) = time_crossing(rt, &mut hub, Crossing::Tee, size, pairs)? else {
+        let Some(array) = time_pair(rt, plain, size, pairs)? else {
             return Ok(false);
         };
-        let Some(splice) = time_crossing(rt, &mut hub, Crossing::Splice, size, pairs)? else {
-            return Ok(false);
-        };
-        println!(rt; "hub {size} bytes: {tee} ns a tee, {splice} ns a splice")?;
+        println!(rt; "hub {size} bytes: {depot} ns a pair; over an array: {array}")?;
     }
     Ok(true)
+}
+
+/// Times so many tees and splices through one of them.
+fn time_crossings<H: Host>(
+    rt: &HostRuntime,
+    host: &mut H,
+    name: &str,
+    rounds: u32,
+) -> io::Result<bool> {
+    for size in TIMED_CROSSINGS {
+        let Some(tee) = time_crossing(rt, host, Crossing::Tee, size, rounds)? else {
+            return Ok(false);
+        };
+        let Some(splice) = time_crossing(rt, host, Crossing::Splice, size, rounds)? else {
+            return Ok(false);
+        };
+        println!(rt; "{name} {size} bytes: {tee} ns a tee, {splice} ns a splice")?;
+    }
+    Ok(true)
+}
+
+/// Times so many pairs, tees and splices through both forms, and says whether each answer was right.
+fn time(rt: &HostRuntime, shape: Shape, pairs: u32) -> io::Result<bool> {
+    let Some(mut hub) = shape.hub(rt.alloc())? else {
+        return Ok(false);
+    };
+    let Some(mut plain) = shape.plain(rt.alloc())? else {
+        return Ok(false);
+    };
+    let Shape { namespaces, frames } = shape;
+    println!(rt; "{namespaces} namespaces, {frames} frames")?;
+    Ok(
+        time_pairs(rt, &mut hub, &mut plain, pairs)?
+            && time_crossings(rt, &mut hub, "hub", pairs)?
+            && time_crossings(rt, &mut plain, "over an array", pairs)?,
+    )
 }
 
 /// Plays what the command line asks for, and says whether each answer was right.
@@ -347,17 +449,25 @@ fn run(rt: &HostRuntime) -> io::Result<bool> {
     let mut words = env::args(rt)?;
     let _program = words.next();
     let Some(word) = words.next() else {
-        if !play_fixed(rt.alloc())? {
+        if !play_both(rt.alloc())? {
             return Ok(false);
         }
-        println!(rt; "played 5000 pairs, 500 tees and 500 splices")?;
+        println!(rt; "played 5000 pairs, 500 tees and 500 splices through each form")?;
         return Ok(true);
     };
     let Ok(pairs) = word.parse::<u32>() else {
         println!(rt; "usage: pf_bench [PAIRS]")?;
         return Ok(true);
     };
-    Ok(time(rt, 2, 64, pairs)? && time(rt, 64, 65_536, pairs)?)
+    let few = Shape {
+        namespaces: 2,
+        frames: 64,
+    };
+    let many = Shape {
+        namespaces: 64,
+        frames: 65_536,
+    };
+    Ok(time(rt, few, pairs)? && time(rt, many, pairs)?)
 }
 
 fn main(rt: HostRuntime) -> io::Result<ExitCode> {

@@ -2,7 +2,7 @@
 
 use Rattle.std.specs.Prelude.{◌≡◌, ℕ, zero, suc, List, [], ◌∷◌, map, slice_index}
 use Rattle.std.specs.List.{sum_by}
-use Rattle.pf_frame.specs.Live.{Live, IsIdle}
+use Rattle.pf_frame.specs.Live.{Live, IsIdle, nobody}
 use Rattle.pf_depot.specs.declared.loans.Loans.{Loans}
 use Rattle.pf_depot.specs.Loans.{loans_live}
 
@@ -17,10 +17,6 @@ reserved_of l = (loans_live l).reserved
 -- how many slots name them
 abbrev pub shares_of : Loans → ℕ
 shares_of l = (loans_live l).shares
-
--- no frames at all
-abbrev pub nobody : Live
-nobody = record { reserved = 0; held = 0; shares = 0; count = λ q. 0; bytes = λ q. [] }
 
 -- the live frames of the namespace of a number
 abbrev pub live_at : List Loans → ℕ → Live

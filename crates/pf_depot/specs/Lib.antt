@@ -2,7 +2,6 @@ pub mod AllLoans
 pub mod AllLoansLaws
 pub mod Depot
 pub mod Door
-pub mod Faults
 pub mod Loans
 pub mod Places
 pub mod PlacesLaws

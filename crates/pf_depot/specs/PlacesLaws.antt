@@ -8,9 +8,9 @@ use Rattle.pf_base.specs.declared.TheConstants.{PAGE_SIZE}
 use Rattle.pf_frame.specs.declared.frame.Frame.{Frame}
 use Rattle.pf_frame.specs.Bytes.{filled}
 use Rattle.pf_frame.specs.Counted.{positives, live_by}
-use Rattle.pf_frame.specs.CountedLaws.{positives-le-length, positives-le-sum, counted-le-sum, positives_zero, positives_less, counted_within}
+use Rattle.pf_frame.specs.CountedLaws.{positives-le-length, positives_less, counted_within}
 use Rattle.pf_frame.specs.Live.{IsSound, Takes, Shares, Releases, Fills, IsIdle}
-use Rattle.pf_frame.specs.LiveLaws.{page_shown, is_taken, is_released, is_filled, shares_as, releases_as, none_at, is_idle}
+use Rattle.pf_frame.specs.LiveLaws.{page_shown, is_sound, is_taken, is_released, is_filled, shares_as, releases_as, none_at, is_idle}
 use Rattle.pf_frame.specs.Pages.{page_of}
 use Rattle.pf_depot.specs.Places.{page_at, AreLent}
 
@@ -19,15 +19,9 @@ page_whole None h = cc
 page_whole (Some f) h = f.whole
 
 pub lent_sound : (counts : List ℕ) (places : List (Option Frame)) → length places ≡ length counts → AreLent counts places → IsSound (live_by (length counts) counts (map page_at places))
-lent_sound counts places size lent = record {
-  credit = positives-le-length counts;
-  spread = positives-le-sum counts;
-  most = counted-le-sum counts;
-  none = λ e. positives_zero counts e;
-  whole = λ q some.
-      let less : q < length places = omega (arith, counted_within counts q some) in
-      rw (page_shown (slice_index counts q) (slice_index_or (map page_at places) q []) some, get_or-map page_at places q None [] less) (page_whole _ (lent.some q some));
-}
+lent_sound counts places size lent = is_sound _ counts _ (positives-le-length counts) (λ q some.
+    let less : q < length places = omega (arith, counted_within counts q some) in
+    rw (get_or-map page_at places q None [] less) (page_whole _ (lent.some q some)))
 
 -- equal numbers have equal counts
 same_count : (counts : List ℕ) (q nr : ℕ) → q ≡ nr → slice_index counts q ≡ slice_index counts nr
@@ -122,16 +116,8 @@ some_held counts nr some = omega (arith, positives_less counts nr some)
 pub is_received : (counts : List ℕ) (places : List (Option Frame)) (nr : ℕ) (p : Option Frame) → nr < length counts → slice_index counts nr ≡ 0
     → Takes (live_by (length counts) counts (map page_at places)) (live_by (length (slice_set counts nr 1)) (slice_set counts nr 1) (map page_at (slice_set places nr p))) nr
 is_received counts places nr p less none =
-    let t = is_taken (length counts) counts (map page_at (slice_set places nr p)) nr less none in
-    record {
-      reserved = length-set counts nr 1;
-      held = t.held;
-      shares = t.shares;
-      fresh = none;
-      taken = t.taken;
-      counts = t.counts;
-      bytes = λ q some. t.bytes q some ∙ ap (λ (xs : List ℕ). if slice_index counts q == 0 then [] else xs) (page_kept places nr q p (λ e. omega (arith, same_count counts q nr e)));
-    }
+    let kept : (q : ℕ) → 0 < slice_index counts q → slice_index_or (map page_at (slice_set places nr p)) q [] ≡ slice_index_or (map page_at places) q [] = λ q some. page_kept places nr q p (λ e. omega (arith, same_count counts q nr e)) in
+    rw (length-set counts nr 1) (is_taken (length counts) counts (map page_at places) (map page_at (slice_set places nr p)) nr kept less none)
 
 -- its bytes are those of the frame that came
 pub bytes_received : (counts : List ℕ) (places : List (Option Frame)) (nr : ℕ) (f : Frame) → length places ≡ length counts → nr < length counts
@@ -145,17 +131,9 @@ pub is_given : (counts : List ℕ) (places : List (Option Frame)) (nr : ℕ) (p 
     → Releases (live_by (length counts) counts (map page_at places)) (live_by (length (slice_set counts nr 0)) (slice_set counts nr 0) (map page_at (slice_set places nr p))) nr
 is_given counts places nr p one =
     let less : slice_index counts nr - 1 ≡ 0 = omega arith in
-    let t = subst (λ (k : ℕ). Releases (live_by (length counts) counts (map page_at places)) (live_by (length counts) (slice_set counts nr k) (map page_at places)) nr) less (is_released (length counts) counts (map page_at places) nr (omega arith)) in
-    let left : slice_index (slice_set counts nr 0) nr ≡ 0 = get_or-set_same counts nr 0 0 (counted_within counts nr (omega arith)) in
-    record {
-      reserved = length-set counts nr 0;
-      shares = t.shares;
-      last = t.last;
-      more = t.more;
-      released = t.released;
-      counts = t.counts;
-      bytes = λ q some. ap (λ (xs : List ℕ). if slice_index (slice_set counts nr 0) q == 0 then [] else xs) (page_kept places nr q p (λ e. omega (arith, same_count (slice_set counts nr 0) q nr e))) ∙ t.bytes q some;
-    }
+    let gone : slice_index (slice_set counts nr (slice_index counts nr - 1)) nr ≡ slice_index counts nr - 1 = get_or-set_same counts nr _ 0 (counted_within counts nr (omega arith)) in
+    let kept : (q : ℕ) → 0 < slice_index (slice_set counts nr (slice_index counts nr - 1)) q → slice_index_or (map page_at (slice_set places nr p)) q [] ≡ slice_index_or (map page_at places) q [] = λ q some. page_kept places nr q p (λ e. omega (arith, same_count (slice_set counts nr (slice_index counts nr - 1)) q nr e)) in
+    rw (length-set counts nr 0) (subst (λ (k : ℕ). Releases (live_by (length counts) counts (map page_at places)) (live_by (length counts) (slice_set counts nr k) (map page_at (slice_set places nr p))) nr) less (is_released (length counts) counts (map page_at places) (map page_at (slice_set places nr p)) nr kept (omega arith)))
 
 -- the bytes of the frame that goes were the place's
 pub bytes_given : (counts : List ℕ) (places : List (Option Frame)) (nr : ℕ) (f : Frame) → length places ≡ length counts → 0 < slice_index counts nr → slice_index_or places nr None ≡ Some f

@@ -3,8 +3,7 @@ ghost use Rattle.pf_depot.specs.AllLoans.{AreIdle};
 
 use crate::lender::Lender;
 use crate::loans::Loans;
-use pf_base::MAX_NAMESPACES;
-use pf_frame::{Frame, FrameNo, FrameTable, PoolFault};
+use pf_frame::{Frame, FrameNo, PoolFault};
 use std::alloc::{AllocError, Global};
 
 /// The frames that no namespace has on loan, with a place for each that may come back.
@@ -26,14 +25,6 @@ pub struct Depot {
     pub ghost few: { all ≤ 65536 },
 }
 
-// The sum of the reservations.
-fn sum_of(reserves: &[u32]) -> u64
-    requires { length reserves.now ≤ 64 }
-    ensures { result ≡ sum reserves.now }
-{
-    reserves.iter().map(|reserve| u64::from(*reserve)).sum()
-}
-
 // Loans for each of these reservations, all vacant.
 fn loans_of(alloc: Global, reserves: &[u32]) -> Result<Vec<Loans>, AllocError>
     requires { sum reserves.now ≤ 65536 }
@@ -48,7 +39,7 @@ fn loans_of(alloc: Global, reserves: &[u32]) -> Result<Vec<Loans>, AllocError>
 
 impl Depot {
     ghost use Rattle.std.specs.Prelude.{◌≡◌, length, MatchResult};
-    ghost use Rattle.pf_depot.specs.Faults.{fault_of, IsFault};
+    ghost use Rattle.pf_frame.specs.Faults.{fault_of, IsFault};
     ghost use Rattle.pf_depot.specs.Depot.{free_of, IsFresh};
 
     /// A depot of these frames, all of them free, and loans for as many namespaces as there are reservations, by
@@ -63,17 +54,10 @@ impl Depot {
             × IsFresh made.0 made.1.items frames.items reserves.items)
             (λ fault. IsFault (fault_of (length frames.items) reserves.items) fault) }
     {
-        if reserves.len() > MAX_NAMESPACES {
-            return Err(PoolFault::TooManyNamespaces);
+        if let Some(fault) = PoolFault::first(frames.len(), &reserves) {
+            return Err(fault);
         }
-        if frames.len() > FrameTable::MOST {
-            return Err(PoolFault::TooManyFrames);
-        }
-        let sum = sum_of(&reserves);
         let all = frames.len() as u32;
-        if sum > u64::from(all) {
-            return Err(PoolFault::ReservesExceed { sum, frames: all });
-        }
         match loans_of(alloc, &reserves) {
             Ok(loans) => Ok((Depot { free: frames, all }, loans)),
             Err(_) => Err(PoolFault::NoMemory),

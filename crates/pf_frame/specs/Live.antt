@@ -1,6 +1,6 @@
 -- The live frames of one namespace, as its door sees them, and how each call of the door changes them.
 
-use Rattle.std.specs.Prelude.{◌≡◌, ◌≢◌, ℕ, ◌+◌, ◌<◌, ◌≤◌, List, ◌++◌, length, take, drop, Contains, nat_eq}
+use Rattle.std.specs.Prelude.{◌≡◌, ◌≢◌, ℕ, ◌+◌, ◌<◌, ◌≤◌, List, [], ◌++◌, length, take, drop, Contains, nat_eq}
 use Rattle.std.specs.List.{IsDistinct}
 use Rattle.pf_base.specs.declared.TheConstants.{PAGE_SIZE}
 
@@ -81,3 +81,7 @@ pub record SameLive (old new : Live) : Type 0 where
   pub shares : new.shares ≡ old.shares
   pub counts : (q : ℕ) → new.count q ≡ old.count q
   pub bytes : (q : ℕ) → 0 < old.count q → new.bytes q ≡ old.bytes q
+
+-- the live frames of a namespace that isn't there
+abbrev pub nobody : Live
+nobody = record { reserved = 0; held = 0; shares = 0; count = λ q. 0; bytes = λ q. [] }

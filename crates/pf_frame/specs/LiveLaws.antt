@@ -14,13 +14,13 @@ use Rattle.pf_frame.specs.Live.{Census, IsSound, Takes, Shares, Releases, Fills,
 pub page_shown : (count : ℕ) (page : List ℕ) → 0 < count → (if count == 0 then [] else page) ≡ page
 page_shown count page some = grind (arith, nat_tests)
 
-pub is_sound : (reserved : ℕ) (counts : List ℕ) (pages : List (List ℕ)) → positives counts ≤ reserved → ((q : ℕ) → q < length counts → length (slice_index_or pages q []) ≡ PAGE_SIZE) → IsSound (live_by reserved counts pages)
+pub is_sound : (reserved : ℕ) (counts : List ℕ) (pages : List (List ℕ)) → positives counts ≤ reserved → ((q : ℕ) → 0 < slice_index counts q → length (slice_index_or pages q []) ≡ PAGE_SIZE) → IsSound (live_by reserved counts pages)
 is_sound reserved counts pages credit whole = record {
   credit = credit;
   spread = positives-le-sum counts;
   most = counted-le-sum counts;
   none = λ e. positives_zero counts e;
-  whole = λ q some. rw (page_shown (slice_index counts q) (slice_index_or pages q []) some) (whole q (counted_within counts q some));
+  whole = λ q some. rw (page_shown (slice_index counts q) (slice_index_or pages q []) some) (whole q some);
 }
 
 pub none_at : (n q : ℕ) → slice_index (replicate n 0) q ≡ 0
@@ -36,8 +36,10 @@ is_idle n counts pages e = record {
   counts = λ q. rw e (none_at n q);
 }
 
-pub is_taken : (reserved : ℕ) (counts : List ℕ) (pages : List (List ℕ)) (nr : ℕ) → nr < length counts → slice_index counts nr ≡ 0 → Takes (live_by reserved counts pages) (live_by reserved (slice_set counts nr 1) pages) nr
-is_taken reserved counts pages nr less none =
+-- the pages of the frames that were live stay
+pub is_taken : (reserved : ℕ) (counts : List ℕ) (pages after : List (List ℕ)) (nr : ℕ) → ((q : ℕ) → 0 < slice_index counts q → slice_index_or after q [] ≡ slice_index_or pages q []) → nr < length counts → slice_index counts nr ≡ 0
+    → Takes (live_by reserved counts pages) (live_by reserved (slice_set counts nr 1) after) nr
+is_taken reserved counts pages after nr kept less none =
     let other : (q : ℕ) → q ≢ nr → slice_index (slice_set counts nr 1) q ≡ slice_index counts q = λ q ne. get_or-set_other counts nr q 1 0 ne in
     record {
       reserved = refl;
@@ -46,7 +48,9 @@ is_taken reserved counts pages nr less none =
       fresh = none;
       taken = get_or-set_same counts nr 1 0 less;
       counts = other;
-      bytes = λ q some. ap (λ (n : ℕ). if n == 0 then [] else slice_index_or pages q []) (other q (λ e. let same : slice_index counts q ≡ slice_index counts nr = ap (λ (k : ℕ). slice_index counts k) e in omega arith));
+      bytes = λ q some.
+          let ne : q ≢ nr = λ e. let same : slice_index counts q ≡ slice_index counts nr = ap (λ (k : ℕ). slice_index counts k) e in omega arith in
+          page_shown _ (slice_index_or after q []) (omega (arith, other q ne)) ∙ kept q some ∙ sym (page_shown _ (slice_index_or pages q []) some);
     }
 
 pub is_shared : (reserved : ℕ) (counts : List ℕ) (pages : List (List ℕ)) (nr : ℕ) → 0 < slice_index counts nr → Shares (live_by reserved counts pages) (live_by reserved (slice_set counts nr (slice_index counts nr + 1)) pages) nr
@@ -68,8 +72,10 @@ is_shared reserved counts pages nr some =
       ];
     }
 
-pub is_released : (reserved : ℕ) (counts : List ℕ) (pages : List (List ℕ)) (nr : ℕ) → 0 < slice_index counts nr → Releases (live_by reserved counts pages) (live_by reserved (slice_set counts nr (slice_index counts nr - 1)) pages) nr
-is_released reserved counts pages nr some =
+-- the pages of the frames that are live afterwards stay
+pub is_released : (reserved : ℕ) (counts : List ℕ) (pages after : List (List ℕ)) (nr : ℕ) → ((q : ℕ) → 0 < slice_index (slice_set counts nr (slice_index counts nr - 1)) q → slice_index_or after q [] ≡ slice_index_or pages q []) → 0 < slice_index counts nr
+    → Releases (live_by reserved counts pages) (live_by reserved (slice_set counts nr (slice_index counts nr - 1)) after) nr
+is_released reserved counts pages after nr kept some =
     let less : nr < length counts = counted_within counts nr some in
     let here : slice_index (slice_set counts nr (slice_index counts nr - 1)) nr ≡ slice_index counts nr - 1 = get_or-set_same counts nr (slice_index counts nr - 1) 0 less in
     let other : (q : ℕ) → q ≢ nr → slice_index (slice_set counts nr (slice_index counts nr - 1)) q ≡ slice_index counts q = λ q ne. get_or-set_other counts nr q (slice_index counts nr - 1) 0 ne in
@@ -80,10 +86,12 @@ is_released reserved counts pages nr some =
       more = λ two. positives_same counts nr (slice_index counts nr - 1) some (omega arith);
       released = omega arith;
       counts = other;
-      bytes = λ q left. elim (cases_eq q nr) [
-        | inl e ↦ let same : slice_index counts q ≡ slice_index counts nr = ap (λ (k : ℕ). slice_index counts k) e in page_shown _ (slice_index_or pages q []) left ∙ sym (page_shown _ (slice_index_or pages q []) (omega arith))
-        | inr ne ↦ ap (λ (n : ℕ). if n == 0 then [] else slice_index_or pages q []) (other q ne)
-      ];
+      bytes = λ q left.
+          let before : 0 < slice_index counts q = elim (cases_eq q nr) [
+            | inl e ↦ let same : slice_index counts q ≡ slice_index counts nr = ap (λ (k : ℕ). slice_index counts k) e in omega arith
+            | inr ne ↦ omega (arith, other q ne)
+          ] in
+          page_shown _ (slice_index_or after q []) left ∙ kept q left ∙ sym (page_shown _ (slice_index_or pages q []) before);
     }
 
 pub is_filled : (reserved : ℕ) (counts : List ℕ) (pages : List (List ℕ)) (nr at : ℕ) (xs : List ℕ) → 0 < slice_index counts nr → nr < length pages → Fills (live_by reserved counts pages) (live_by reserved counts (slice_set pages nr (filled at xs (slice_index_or pages nr [])))) nr at xs
@@ -177,10 +185,10 @@ is_census reserved counts pages = record {
 
 -- the same, where the code names the counts after the call
 pub takes_as : (reserved later : ℕ) (counts after : List ℕ) (pages shown : List (List ℕ)) (nr : ℕ) → later ≡ reserved → after ≡ slice_set counts nr 1 → shown ≡ pages → nr < length counts → slice_index counts nr ≡ 0 → Takes (live_by reserved counts pages) (live_by later after shown) nr
-takes_as reserved later counts after pages shown nr r e p less none = rw (r, e, p) (is_taken reserved counts pages nr less none)
+takes_as reserved later counts after pages shown nr r e p less none = rw (r, e, p) (is_taken reserved counts pages pages nr (λ q some. refl) less none)
 
 pub shares_as : (reserved later : ℕ) (counts after : List ℕ) (pages shown : List (List ℕ)) (nr : ℕ) → later ≡ reserved → after ≡ slice_set counts nr (slice_index counts nr + 1) → shown ≡ pages → 0 < slice_index counts nr → Shares (live_by reserved counts pages) (live_by later after shown) nr
 shares_as reserved later counts after pages shown nr r e p some = rw (r, e, p) (is_shared reserved counts pages nr some)
 
 pub releases_as : (reserved later : ℕ) (counts after : List ℕ) (pages shown : List (List ℕ)) (nr : ℕ) → later ≡ reserved → after ≡ slice_set counts nr (slice_index counts nr - 1) → shown ≡ pages → 0 < slice_index counts nr → Releases (live_by reserved counts pages) (live_by later after shown) nr
-releases_as reserved later counts after pages shown nr r e p some = rw (r, e, p) (is_released reserved counts pages nr some)
+releases_as reserved later counts after pages shown nr r e p some = rw (r, e, p) (is_released reserved counts pages pages nr (λ q some. refl) some)

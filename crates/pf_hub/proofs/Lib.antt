@@ -1,6 +1,6 @@
 pub mod TenantLaws
-pub mod PoolLemmas
 pub mod StepLemmas
+pub mod DepotLemmas
 pub mod OpeningLemmas
 pub mod RunLemmas
 pub mod WorkedWorlds

@@ -1,9 +1,12 @@
--- How the namespaces of a hub share its pool.
+-- How the namespaces of a hub share its depot.
 
-use Rattle.std.specs.Prelude.{◌≡◌, ℕ, ◌-◌, List, length, slice_index_or}
+use Rattle.std.specs.Prelude.{◌≡◌, ℕ, ◌+◌, ◌≤◌, List, length, slice_index_or}
+use Rattle.std.specs.List.{sum_by}
 use Rattle.pf_base.specs.State.{opening}
-use Rattle.pf_pool.specs.declared.pool.FramePool.{FramePool}
-use Rattle.pf_pool.specs.Pool.{pool_live, namespaces_of, frames_of, all_held}
+use Rattle.pf_depot.specs.declared.depot.Depot.{Depot}
+use Rattle.pf_depot.specs.declared.loans.Loans.{Loans}
+use Rattle.pf_depot.specs.AllLoans.{held_of, reserved_of, live_at}
+use Rattle.pf_depot.specs.Depot.{free_of, frames_of}
 use Rattle.pf_space.specs.Meaning.{Namespace}
 use Rattle.pf_space.specs.Owns.{Owns}
 use Rattle.pf_hub.specs.Tenants.{Tenants, tenants_of}
@@ -15,12 +18,15 @@ no_space = record { limits = record { reserve = 0; soft = 0; hard = 0; max = 0 }
 abbrev pub space_at : List Namespace → ℕ → Namespace
 space_at spaces n = slice_index_or spaces n no_space
 
--- what a contract sees of a pool and the namespaces over it
-abbrev pub hub_of : FramePool → List Namespace → Tenants
-hub_of pool spaces = record { tenants = tenants_of (pool_live pool) spaces; free = frames_of pool - all_held pool }
+-- what a contract sees of a depot, and of the loans and the namespaces over it
+abbrev pub hub_of : Depot → List Loans → List Namespace → Tenants
+hub_of depot loans spaces = record { tenants = tenants_of (live_at loans) spaces; free = free_of depot }
 
--- the pool has a door for each namespace, and the live frames of each number are those that its own rings name: none
--- where there is no namespace
-pub record IsShared (pool : FramePool) (spaces : List Namespace) : Type 0 where
-  pub doors : namespaces_of pool ≡ length spaces
-  pub owned : (n : ℕ) → Owns (pool_live pool n) (space_at spaces n)
+-- each namespace has its loans, and the live frames of each number are those that its own rings name: none where there
+-- is no namespace; the free frames and those on loan are all frames; and no more than all are reserved, so the credits
+-- of all namespaces together are at most the free frames
+pub record IsShared (depot : Depot) (loans : List Loans) (spaces : List Namespace) : Type 0 where
+  pub doors : length loans ≡ length spaces
+  pub owned : (n : ℕ) → Owns (live_at loans n) (space_at spaces n)
+  pub all : free_of depot + sum_by held_of loans ≡ frames_of depot
+  pub reserved : sum_by reserved_of loans ≤ frames_of depot

@@ -1,6 +1,6 @@
 -- What a step of one namespace does to it, and to a hub.
 
-use Rattle.std.specs.Prelude.{◌≡◌, ◌≢◌, ℕ, List, length, false, slice_set}
+use Rattle.std.specs.Prelude.{◌≡◌, ◌≢◌, ℕ, length, false}
 use Rattle.pf_base.specs.Machine.{Answers, may_want_memory}
 use Rattle.pf_base.specs.Events.{IsDone}
 use Rattle.pf_base.specs.declared.step.Step.{Step}
@@ -9,21 +9,17 @@ use Rattle.pf_frame.specs.Live.{Live}
 use Rattle.pf_space.specs.Meaning.{Namespace, meaning}
 use Rattle.pf_space.specs.Owns.{Owns}
 use Rattle.pf_hub.specs.Covered.{IsCovered}
-use Rattle.pf_hub.specs.Shared.{space_at}
 use Rattle.pf_hub.specs.Tenants.{Tenants, tenant_at, limits_at, state_at, frames_in}
 
--- namespace n alone is another: its answer and its state are the lone machine's, and the live frames of its door are
--- its own again
-pub record Moved (f g : Live) (old new : List Namespace) (n : ℕ) (step : Step) (answer : Answer) : Type 0 where
-  pub space : Namespace
-  pub only : new ≡ slice_set old n space
-  pub owns : Owns g space
-  pub limits : space.limits ≡ (space_at old n).limits
-  pub answers : Answers (space_at old n).limits answer (meaning f (space_at old n).state) step
-      (meaning g space.state)
-  pub succeeds : may_want_memory (space_at old n).state step ≡ false → IsDone answer
+-- a namespace is another: its answer and its state are the lone machine's, and the live frames of its door are its own
+-- again
+pub record Moved (f g : Live) (old new : Namespace) (step : Step) (answer : Answer) : Type 0 where
+  pub owns : Owns g new
+  pub limits : new.limits ≡ old.limits
+  pub answers : Answers old.limits answer (meaning f old.state) step (meaning g new.state)
+  pub succeeds : may_want_memory old.state step ≡ false → IsDone answer
 
--- the same of a hub: no namespace and no frame comes or goes, and every other namespace is as it was
+-- namespace n of a hub alone is another: no namespace and no frame comes or goes, and every other namespace is as it was
 pub record Stepped (old new : Tenants) (n : ℕ) (step : Step) (answer : Answer) : Type 0 where
   pub number : length new.tenants ≡ length old.tenants
   pub frames : frames_in new ≡ frames_in old

@@ -1,24 +1,27 @@
-ghost use Rattle.std.specs.Prelude.{◌≡◌, ◌<◌, ◌≤◌, length, map, sum, IfOk};
+ghost use Rattle.std.specs.Prelude.{◌≡◌, ◌+◌, ◌-◌, ◌≤◌, length, map, sum, IfOk};
 ghost use Rattle.pf_hub.specs.Opening.{new_space, limits_of, first_fault};
-ghost use Rattle.pf_hub.specs.Shared.{space_at};
+ghost use Rattle.pf_depot.specs.Door.{IsCovered as IsCoveredBy};
+ghost use Rattle.pf_depot.specs.Loans.{loans_live};
 ghost use Rattle.pf_hub.specs.Stepped.{Moved};
 ghost use Rattle.pf_space.specs.Owns.{Owns};
 
 use pf_base::{Answer, Config, MAX_NAMESPACES, Step};
-use pf_frame::{Frame, FrameTable, Frames, PoolFault};
-use pf_pool::FramePool;
+use pf_depot::{Depot, Lender, LoanDoor, Loans};
+use pf_frame::{Frame, FrameTable, PoolFault};
 use pf_space::Space;
 use std::alloc::{AllocError, Allocator, Global};
 use std::marker::Model;
 
-/// Many namespaces over one pool of frames.
+/// Many namespaces over one pool of frames: a depot has the free ones, and each namespace the others on loan, as a
+/// value of its own.
 ///
 /// A contract sees each namespace's limits, the state of the lone machine that it is in, and how many frames it
 /// holds; and how many frames nobody holds.
 #[derive(Drop)]
 pub struct Hub<A: Allocator> {
     alloc: Global,
-    pool: FramePool,
+    depot: Depot,
+    loans: Vec<Loans>,
     spaces: Vec<Space<A>>,
 }
 
@@ -29,9 +32,9 @@ impl<A: Allocator> Model for Hub<A> {
 
     ghost use Rattle.pf_hub.specs.Shared.{hub_of, IsShared};
 
-    ghost view = { λ h. hub_of h.pool h.spaces.items };
+    ghost view = { λ h. hub_of h.depot h.loans.items h.spaces.items };
 
-    ghost invariant = { λ h. IsShared h.pool h.spaces.items };
+    ghost invariant = { λ h. IsShared h.depot h.loans.items h.spaces.items };
 }
 
 /// Why a run of events ended early.
@@ -97,28 +100,38 @@ fn spaces_of<A: Allocator + Clone>(
     Ok(spaces)
 }
 
-// A step of one of some namespaces, through the door of its own frames.
-fn step_over<A: Allocator + Clone, F: Frames>(
-    spaces: &mut [Space<A>],
-    ns: usize,
-    door: &mut F,
+// A step of a namespace, through the door of its loans and of whoever lends them.
+fn step_over<A: Allocator + Clone, D: Lender>(
+    space: &mut Space<A>,
+    lender: &mut D,
+    loans: &mut Loans,
     step: &Step,
 ) -> Answer
-    requires exists { ns < length spaces.old }
-    requires fact { F.fact door.old }
-    requires owns { Owns (F.live door.old) (space_at spaces.old ns) }
-    ensures rest { F.rest door.new ≡ F.rest door.old }
-    ensures moved { Moved (F.live door.old) (F.live door.new) spaces.old spaces.new ns step.now result }
-    ensures unchanged { result ≡ Answer.NoMemory → (spaces.new ≡ spaces.old) × (door.new ≡ door.old) }
+    requires fact { D.fact lender.old }
+    requires covered { IsCoveredBy (loans_live loans.old) (D.ready lender.old) (D.out lender.old) }
+    requires owns { Owns (loans_live loans.old) space.old }
+    ensures fact { D.fact lender.new }
+    ensures covered { IsCoveredBy (loans_live loans.new) (D.ready lender.new) (D.out lender.new) }
+    ensures rest { D.rest lender.new ≡ D.rest lender.old }
+    ensures reserved { (loans_live loans.new).reserved ≡ (loans_live loans.old).reserved }
+    // what is held came from the lender, or went back
+    ensures spare { D.ready lender.new + (loans_live loans.new).held
+        ≡ D.ready lender.old + (loans_live loans.old).held }
+    ensures owed { D.out lender.new - (loans_live loans.new).held
+        ≡ D.out lender.old - (loans_live loans.old).held }
+    ensures moved { Moved (loans_live loans.old) (loans_live loans.new) space.old space.new step.now result }
+    ensures unchanged { result ≡ Answer.NoMemory
+        → (space.new ≡ space.old) × (lender.new ≡ lender.old) × (loans.new ≡ loans.old) }
 {
-    spaces[ns].step(door, step)
+    let mut door = LoanDoor::new(lender, loans);
+    space.step(&mut door, step)
 }
 
 impl<A: Allocator + Clone> Hub<A> {
     ghost use Rattle.std.specs.Prelude.{◌≡◌, ◌≢◌, ℕ, ◌<◌, length, IfOk, IfErr, IsOk, None, false};
     ghost use Rattle.pf_base.specs.Machine.{Answers, may_want_memory};
     ghost use Rattle.pf_base.specs.Events.{IsDone};
-    ghost use Rattle.pf_pool.specs.Faults.{IsFault};
+    ghost use Rattle.pf_frame.specs.Faults.{IsFault};
     ghost use Rattle.pf_hub.specs.Tenants.{tenant_at, limits_at, state_at, held_at, frames_in};
     ghost use Rattle.pf_hub.specs.Covered.{IsCovered};
     ghost use Rattle.pf_hub.specs.Opening.{new_hub, limits_of, first_fault};
@@ -161,13 +174,14 @@ impl<A: Allocator + Clone> Hub<A> {
         ensures covered { IfOk result IsCovered }
     {
         let reserves = reserves_of(alloc, &configs)?;
-        let Ok(pool) = FramePool::new(alloc, frames, reserves) else {
+        let Ok((depot, loans)) = Depot::new(alloc, frames, reserves) else {
             return Err(AllocError);
         };
         let spaces = spaces_of(alloc, configs)?;
         Ok(Hub {
             alloc,
-            pool,
+            depot,
+            loans,
             spaces,
         })
     }
@@ -176,14 +190,17 @@ impl<A: Allocator + Clone> Hub<A> {
     pub fn held(&self, ns: u32) -> u32
         ensures { result ≡ held_at self.now ns }
     {
-        self.pool.held(ns)
+        match self.loans.get(ns as usize) {
+            Some(loans) => loans.held(),
+            None => 0,
+        }
     }
 
     /// How many frames nobody holds.
     pub fn free(&self) -> u32
         ensures { result ≡ self.now.free }
     {
-        self.pool.free()
+        self.depot.free()
     }
 
     /// One step of one namespace. No other namespace is told, or has, anything else for it.
@@ -210,8 +227,12 @@ impl<A: Allocator + Clone> Hub<A> {
         ensures stepped { Stepped self.old self.new ns step.now result }
         ensures unchanged { result ≡ Answer.NoMemory → self.new ≡ self.old }
     {
-        let mut door = self.pool.door(ns);
-        step_over(&mut self.spaces, ns as usize, &mut door, step)
+        step_over(
+            &mut self.spaces[ns as usize],
+            &mut self.depot,
+            &mut self.loans[ns as usize],
+            step,
+        )
     }
 
     /// How many namespaces there are.

@@ -239,3 +239,68 @@ fn frames_pass_to_a_neighbour_and_back(rt: HostRuntime) -> Result<(), Fail> {
     }
     Ok(())
 }
+
+// Both fill a pipe, so no frame is free, and then both read what they wrote.
+fn fill_both(
+    rt: &impl Abort,
+    alloc: Global,
+    hub: &mut Hub<Global>,
+    red: u8,
+    blue: u8,
+) -> Result<(), Fail> {
+    for (ns, byte) in [(RED, red), (BLUE, blue)] {
+        let payload = write(alloc, byte, 65_536)?;
+        assert_eq!(rt; play(hub, ns, &payload), number(65_536));
+    }
+    assert_eq!(rt; (hub.held(RED), hub.held(BLUE), hub.free()), (16, 16, 0));
+    for (ns, byte) in [(RED, red), (BLUE, blue)] {
+        assert_eq!(rt; play(hub, ns, &read(65_536)), bytes(alloc, byte, 65_536)?);
+    }
+    assert_eq!(rt; (hub.held(RED), hub.held(BLUE), hub.free()), (0, 0, 32));
+    Ok(())
+}
+
+#[test]
+fn every_frame_passes_through_every_tenant(rt: HostRuntime) -> Result<(), Fail> {
+    let alloc = rt.alloc();
+    let mut hub = open(alloc, frames(alloc, 32, None)?, &[16, 16])?;
+    for ns in [RED, BLUE] {
+        assert_eq!(rt; play(&mut hub, ns, &spawn(alloc)), PID);
+        assert_eq!(rt; play(&mut hub, ns, &pipe()), FDS);
+    }
+    // What came back last goes out first, so each gets what the other had.
+    for round in 0..4u8 {
+        fill_both(&rt, alloc, &mut hub, round, 255 - round)?;
+    }
+    Ok(())
+}
+
+#[test]
+fn a_copy_keeps_its_frame(rt: HostRuntime) -> Result<(), Fail> {
+    let alloc = rt.alloc();
+    let mut hub = open(alloc, frames(alloc, 33, None)?, &[33])?;
+    assert_eq!(rt; play(&mut hub, RED, &spawn(alloc)), PID);
+    for fds in [Reply::Fds(0, 1), Reply::Fds(2, 3)] {
+        assert_eq!(rt; play(&mut hub, RED, &pipe()), Answer::Done(fds));
+    }
+    assert_eq!(rt; play(&mut hub, RED, &write(alloc, 0x61, 5)?), number(5));
+    let tee = Step::Tee {
+        pid: 1,
+        source: 0,
+        sink: 3,
+        n: 5,
+        nonblock: true,
+    };
+    assert_eq!(rt; play(&mut hub, RED, &tee), number(5));
+    assert_eq!(rt; (hub.held(RED), hub.free()), (1, 32));
+    assert_eq!(rt; play(&mut hub, RED, &read(5)), bytes(alloc, 0x61, 5)?);
+    assert_eq!(rt; (hub.held(RED), hub.free()), (1, 32));
+    let copy = Step::Read {
+        pid: 1,
+        fd: 2,
+        n: 5,
+    };
+    assert_eq!(rt; play(&mut hub, RED, &copy), bytes(alloc, 0x61, 5)?);
+    assert_eq!(rt; (hub.held(RED), hub.free()), (0, 33));
+    Ok(())
+}

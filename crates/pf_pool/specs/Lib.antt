@@ -1,4 +1,3 @@
-pub mod Faults
 pub mod Owned
 pub mod OwnedLaws
 pub mod Pool

@@ -2,7 +2,7 @@
 
 use Rattle.std.specs.Prelude.{◌≡◌, ℕ, ◌≤◌, List, [], ◌∷◌, length, sum, slice_index, ◌==◌, if◌then◌else◌}
 use Rattle.pf_frame.specs.Counted.{positives, live_by}
-use Rattle.pf_frame.specs.Live.{Live}
+use Rattle.pf_frame.specs.Live.{Live, nobody}
 
 -- the counts of the frames that ns owns, 0 at the others
 abbrev pub mine : ℕ → List ℕ → List ℕ → List ℕ
@@ -23,10 +23,6 @@ pub record IsPool (owners counts reserves held : List ℕ) : Type 0 where
 -- what the door of ns sees of these lists
 abbrev pub live_of : ℕ → List ℕ → List ℕ → List ℕ → List (List ℕ) → Live
 live_of ns owners counts reserves pages = live_by (slice_index reserves ns) (mine ns owners counts) pages
-
--- no frames at all
-abbrev pub nobody : Live
-nobody = record { reserved = 0; held = 0; shares = 0; count = λ q. 0; bytes = λ q. [] }
 
 -- what each namespace but ns sees
 abbrev pub others_of : ℕ → List ℕ → List ℕ → List ℕ → List (List ℕ) → ℕ → Live

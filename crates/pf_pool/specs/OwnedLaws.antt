@@ -8,9 +8,9 @@ use Rattle.std.proofs.lemmas.List.Sums.{sum_by-cons}
 use Rattle.pf_frame.specs.Bytes.{filled}
 use Rattle.pf_frame.specs.Counted.{positives, live_by}
 use Rattle.pf_frame.specs.CountedLaws.{positives_more, positives_less, positives_same, positives_none, positives_zero, sum_none, sum_set, counted_within}
-use Rattle.pf_frame.specs.Live.{Live, Takes, Shares, Releases, Fills, IsIdle}
+use Rattle.pf_frame.specs.Live.{Live, Takes, Shares, Releases, Fills, IsIdle, nobody}
 use Rattle.pf_frame.specs.LiveLaws.{is_filled, takes_as, shares_as, releases_as, none_at}
-use Rattle.pf_pool.specs.Owned.{mine, IsPool, live_of, nobody, others_of, rest_of}
+use Rattle.pf_pool.specs.Owned.{mine, IsPool, live_of, others_of, rest_of}
 
 pub mine_at : (ns : ℕ) (owners counts : List ℕ) (q : ℕ) → length owners ≡ length counts → slice_index (mine ns owners counts) q ≡ (if slice_index owners q == ns then slice_index counts q else 0)
 mine_at ns [] [] q e = grind (arith, nat_tests)

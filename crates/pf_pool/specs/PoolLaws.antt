@@ -1,6 +1,7 @@
 -- Laws of a pool.
 
 use Rattle.std.proofs.Common.{◌≡◌, ◌≢◌, ℕ, slice_index, arith, ap}
+use Rattle.pf_frame.specs.CountedLaws.{counted_within}
 use Rattle.pf_frame.specs.Live.{IsSound, Census}
 use Rattle.pf_frame.specs.LiveLaws.{is_sound, is_census}
 use Rattle.pf_frame.specs.PagesLaws.{pages_whole}
@@ -10,7 +11,7 @@ use Rattle.pf_pool.specs.OwnedLaws.{length-mine, sees_same}
 use Rattle.pf_pool.specs.Pool.{pool_live, pool_rest, frames_of}
 
 pub pool_sound : (p : FramePool) (ns : ℕ) → IsSound (pool_live p ns)
-pool_sound p ns = is_sound _ (mine ns p.owners.items p.table.counts.items) _ (omega (arith, p.kept.each ns, p.kept.within ns)) (λ q less. pages_whole p.table.frames.items q (omega (arith, p.table.kept.paged, length-mine ns p.owners.items p.table.counts.items p.kept.owned)))
+pool_sound p ns = is_sound _ (mine ns p.owners.items p.table.counts.items) _ (omega (arith, p.kept.each ns, p.kept.within ns)) (λ q some. pages_whole p.table.frames.items q (omega (arith, p.table.kept.paged, length-mine ns p.owners.items p.table.counts.items p.kept.owned, counted_within (mine ns p.owners.items p.table.counts.items) q some)))
 
 pub pool_census : (p : FramePool) (ns : ℕ) → Census (pool_live p ns)
 pool_census p ns = is_census _ (mine ns p.owners.items p.table.counts.items) _

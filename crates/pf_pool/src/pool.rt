@@ -2,7 +2,6 @@ ghost use Rattle.std.specs.Prelude.{◌≡◌, ℕ, ◌+◌, ◌-◌, ◌<◌, �
 ghost use Rattle.pf_pool.specs.Owned.{IsPool};
 
 use crate::door::Door;
-use pf_base::MAX_NAMESPACES;
 use pf_frame::{Frame, FrameNo, FrameTable, PoolFault};
 use std::alloc::{AllocError, Global};
 
@@ -24,19 +23,11 @@ pub struct FramePool {
     pub ghost kept: { IsPool owners.items table.counts.items reserves.items held.items },
 }
 
-/// The sum of the reservations.
-fn sum_of(reserves: &[u32]) -> u64
-    requires { length reserves.now ≤ 64 }
-    ensures { result ≡ sum reserves.now }
-{
-    reserves.iter().map(|reserve| u64::from(*reserve)).sum()
-}
-
 impl FramePool {
     ghost use Rattle.std.specs.Prelude.{MatchResult, take, drop, IfOk};
     ghost use Rattle.pf_base.specs.declared.TheConstants.{PAGE_SIZE};
     ghost use Rattle.pf_frame.specs.Live.{Takes, Shares, Releases, Fills};
-    ghost use Rattle.pf_pool.specs.Faults.{fault_of, IsFault};
+    ghost use Rattle.pf_frame.specs.Faults.{fault_of, IsFault};
     ghost use Rattle.pf_pool.specs.Pool.{pool_live, pool_rest, IsFresh, frames_of, namespaces_of, all_held};
 
     /// A pool of these frames for as many namespaces as there are reservations, by their places. No frame is live.
@@ -50,19 +41,8 @@ impl FramePool {
             × IsFresh pool (length frames.items) reserves.items)
             (λ fault. IsFault (fault_of (length frames.items) reserves.items) fault) }
     {
-        if reserves.len() > MAX_NAMESPACES {
-            return Err(PoolFault::TooManyNamespaces);
-        }
-        if frames.len() > FrameTable::MOST {
-            return Err(PoolFault::TooManyFrames);
-        }
-        let sum = sum_of(&reserves);
-        let frames_len = frames.len() as u32;
-        if sum > u64::from(frames_len) {
-            return Err(PoolFault::ReservesExceed {
-                sum,
-                frames: frames_len,
-            });
+        if let Some(fault) = PoolFault::first(frames.len(), &reserves) {
+            return Err(fault);
         }
         match FramePool::within(alloc, frames, reserves) {
             Ok(pool) => Ok(pool),

@@ -1,11 +1,10 @@
-use Rattle.std.proofs.Common.{slice_set, ap, ◌∙◌}
-use Rattle.std.proofs.lemmas.List.{set-get_or}
-use Rattle.pf_space.specs.Meaning.{Namespace}
+use Rattle.std.proofs.Common.{rules}
+use Rattle.pf_depot.specs.Loans.{loans_live}
+use Rattle.pf_hub.specs.Stepped.{Moved}
 use Rattle.pf_hub.proofs.hub.step_over.Goals as goal
 
-pub returns-clause-unchanged : goal.returns-clause-unchanged
-returns-clause-unchanged g c = λ e. (
-  ap (λ (n : Namespace). slice_set c.args.spaces.now c.args.ns n) (c.step.ensures.unchanged e).0
-      ∙ set-get_or c.args.spaces.now c.args.ns c.index-spaces-ns.result,
-  (c.step.ensures.unchanged e).1,
-)
+pub returns-clause-moved : goal.returns-clause-moved
+returns-clause-moved g c =
+    let moved : Moved (loans_live c.new-door.result.loans.now) (loans_live c.step.new.f.loans.now) c.args.space.now c.step.new.self c.args.step.now c.step.result = record { owns = c.step.ensures.owns; limits = c.step.ensures.limits; answers = c.step.ensures.answers; succeeds = c.step.ensures.succeeds } in
+    let here = rw c.new-door.ensures.loans at moved in
+    search (here, rules)

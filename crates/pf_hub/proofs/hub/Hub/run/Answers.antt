@@ -5,7 +5,7 @@ use Rattle.pf_base.specs.declared.step.Step.{Step}
 use Rattle.pf_base.specs.declared.step.Answer.{Answer}
 use Rattle.std.proofs.lemmas.List.{take_more}
 use Rattle.pf_hub.specs.Isolation.{Ran, first_missing}
-use Rattle.pf_hub.proofs.PoolLemmas.{is_covered}
+use Rattle.pf_hub.proofs.DepotLemmas.{is_covered}
 use Rattle.pf_hub.proofs.RunLemmas.{at_next, exists_at}
 use Rattle.pf_hub.proofs.hub.Hub.run.Goals as goal
 

@@ -1,41 +1,32 @@
--- The door of a namespace leaves all others; and the namespace does as it says.
-use Rattle.std.proofs.Common.{◌≡◌, ◌<◌, length, ◌∙◌, sym, subst, rules}
-use Rattle.std.proofs.lemmas.List.{with_items_is}
-use Rattle.pf_hub.specs.Shared.{hub_of}
-use Rattle.pf_hub.proofs.PoolLemmas.{here}
-use Rattle.pf_hub.proofs.StepLemmas.{through, shared_after, hub_stepped}
+-- The depot and the loans do as the door says; and the namespace does as it says.
+use Rattle.std.proofs.Common.{rules}
+use Rattle.pf_hub.proofs.DepotLemmas.{here, there, covered_before, owned_before, shared_after, hub_stepped, hub_same}
 use Rattle.pf_hub.proofs.hub.Hub.step_in.Goals as goal
 
-pub door-door-requires : goal.door-door-requires
-door-door-requires g c = subst (λ k. c.args.ns < k) (sym c.self.invariant.doors) (here c.self.invariant c.self.view_is c.requires.exists)
+pub index_mut-requires : goal.index_mut-requires
+index_mut-requires g c = let h = here c.self.invariant c.self.view_is c.requires.exists in search rules
 
-pub step_over-requires-clause-exists : goal.step_over-requires-clause-exists
-step_over-requires-clause-exists g c = rw c.deref_mut.ensures.value (here c.self.invariant c.self.view_is c.requires.exists)
+pub index_mut-requires-2 : goal.index_mut-requires-2
+index_mut-requires-2 g c = let h = there c.self.invariant c.self.view_is c.requires.exists in search rules
 
-pub step_over-requires-clause-fact : goal.step_over-requires-clause-fact
-step_over-requires-clause-fact g c = rw (c.door-door.ensures.ns, c.door-door.ensures.pool, c.self.invariant.doors) (here c.self.invariant c.self.view_is c.requires.exists)
+pub step_over-requires-clause-covered : goal.step_over-requires-clause-covered
+step_over-requires-clause-covered g c = covered_before (here c.self.invariant c.self.view_is c.requires.exists) c.self.invariant c.index_mut-2.ensures.value c.index_mut.ensures.value
+
+pub step_over-requires-clause-owns : goal.step_over-requires-clause-owns
+step_over-requires-clause-owns g c = owned_before (here c.self.invariant c.self.view_is c.requires.exists) c.self.invariant c.index_mut-2.ensures.value c.index_mut.ensures.value
 
 pub invariant_of-self : goal.invariant_of-self
 invariant_of-self g c =
-    let sized : length c.step_over.new.spaces ≡ c.self.inside.spaces.len = search rules in
-    let spaces = with_items_is c.self.inside.spaces c.step_over.new.spaces sized in
-    rw spaces
-    (shared_after (here c.self.invariant c.self.view_is c.requires.exists) c.self.invariant (through c.step_over.new.door.pool.now c.door-door.ensures.ns c.door-door.ensures.pool c.step_over.ensures.rest)
-    (rw c.deref_mut.ensures.value at c.step_over.ensures.moved))
+    shared_after (here c.self.invariant c.self.view_is c.requires.exists) c.self.invariant c.index_mut-2.ensures.value c.index_mut.ensures.value
+    c.step_over.new.lender c.step_over.new.loans c.step_over.ensures.rest c.step_over.ensures.spare c.step_over.ensures.reserved c.step_over.ensures.moved
 
 pub returns-clause-stepped : goal.returns-clause-stepped
 returns-clause-stepped g c =
-    let sized : length c.step_over.new.spaces ≡ c.self.inside.spaces.len = search rules in
-    let spaces = with_items_is c.self.inside.spaces c.step_over.new.spaces sized in
-    rw spaces
-    (hub_stepped (here c.self.invariant c.self.view_is c.requires.exists) c.self.invariant (through c.step_over.new.door.pool.now c.door-door.ensures.ns c.door-door.ensures.pool c.step_over.ensures.rest)
-    (rw c.deref_mut.ensures.value at c.step_over.ensures.moved) c.self.view_is)
+    hub_stepped (here c.self.invariant c.self.view_is c.requires.exists) c.self.invariant c.index_mut-2.ensures.value c.index_mut.ensures.value
+    c.step_over.new.lender c.step_over.new.loans c.step_over.ensures.rest c.step_over.ensures.spare c.step_over.ensures.reserved c.step_over.ensures.moved c.self.view_is
 
 pub returns-clause-unchanged : goal.returns-clause-unchanged
 returns-clause-unchanged g c =
     λ e.
-    let sized : length c.step_over.new.spaces ≡ c.self.inside.spaces.len = search rules in
-    let spaces = with_items_is c.self.inside.spaces c.step_over.new.spaces sized in
     let same = c.step_over.ensures.unchanged e in
-    rw spaces
-    ((λ i. hub_of (same.1 i).pool.now c.step_over.new.spaces) ∙ (λ i. hub_of (c.door-door.ensures.pool i) ((same.0 ∙ c.deref_mut.ensures.value) i)) ∙ c.self.view_is)
+    hub_same (here c.self.invariant c.self.view_is c.requires.exists) c.self.invariant c.index_mut-2.ensures.value c.index_mut.ensures.value c.step_over.new.lender c.step_over.new.loans c.step_over.new.space same.0 same.1 same.2 c.self.view_is

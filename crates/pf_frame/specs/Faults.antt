@@ -1,10 +1,10 @@
--- Why there is no pool.
+-- Why frames can't be shared out under these reservations.
 
 use Rattle.std.specs.Prelude.{◌≡◌, ℕ, List, length, sum, nat_lt, if◌then◌else◌, Option, Some, None}
 use Rattle.pf_frame.specs.declared.fault.PoolFault.{PoolFault}
 use Rattle.pf_frame.specs.declared.fault.PoolFault.TheVariants.{TooManyNamespaces, TooManyFrames, ReservesExceed, NoMemory}
 
--- the first test that these frames and reservations fail, if any
+-- the first test that so many frames and these reservations fail, if any
 abbrev pub fault_of : ℕ → List ℕ → Option PoolFault
 fault_of frames reserves =
     if nat_lt 64 (length reserves) then Some TooManyNamespaces
