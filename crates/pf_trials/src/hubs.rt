@@ -1,7 +1,7 @@
 //! Worked examples of two namespaces over one pool: none sees the other's bytes, or lacks a frame for them.
 
 use crate::calls::{Call, Told, answer_of, step_of};
-use pf_base::{Answer, Config, Errno, Step};
+use pf_base::{Config, Errno, Step};
 use pf_frame::{Frame, PoolFault};
 use pf_hub::{Hub, RunFault};
 use std::alloc::{AllocError, Global};
@@ -128,15 +128,6 @@ fn events_of(alloc: Global, calls: &[(u32, Call)]) -> Result<Vec<(u32, Step)>, A
     Ok(events)
 }
 
-// The answers that these are.
-fn answers_of(alloc: Global, told: &[Told]) -> Result<Vec<Answer>, Fail> {
-    let mut answers = Vec::new(alloc);
-    for each in told {
-        answers.push(answer_of(alloc, *each)?)?;
-    }
-    Ok(answers)
-}
-
 #[test]
 fn faults_come_in_order(rt: HostRuntime) -> Result<(), Fail> {
     let alloc = rt.alloc();
@@ -166,10 +157,10 @@ fn runs_answer_in_order(rt: HostRuntime) -> Result<(), Fail> {
     let Ok(answers) = hub.run(&events_of(alloc, &RUN)?) else {
         panic!(rt; "the run ended early");
     };
-    assert_eq!(rt;
-        answers.as_slice(),
-        answers_of(alloc, &RUN_TOLD)?.as_slice()
-    );
+    assert_eq!(rt; answers.len(), RUN_TOLD.len());
+    for (answer, told) in answers.iter().zip(RUN_TOLD) {
+        assert_eq!(rt; *answer, answer_of(alloc, told)?, "{told:?}");
+    }
     assert_eq!(rt; (hub.held(RED), hub.held(BLUE), hub.free()), (1, 0, 31));
     Ok(())
 }
