@@ -1,5 +1,5 @@
-//! Files whose tree stands in memory of its own, in an arena that is as good as full: each of the tree's growths is refused
-//! in turn. Where an allocation is refused, nothing has changed, and the step that wanted it is asked for again.
+//! Files whose tree stands in memory of its own, in an arena that is as good as full: each of the tree's growths
+//! is refused in turn. Where an allocation is refused, nothing has changed, and the step is asked for again.
 
 ghost use Rattle.pf_frame.specs.Own.{own_live};
 ghost use Rattle.pf_space.specs.Owns.{Owns};
@@ -57,21 +57,18 @@ fn seen<A: Allocator + Clone>(
     Ok(answers)
 }
 
-// Leaves an arena so many bytes, and none behind them.
-fn leave(bump: &Bump, spare: usize) -> Result<(), AllocError> {
-    bump.set_allocation_limit(None);
-    for _ in 0..1_000_000 {
-        if bump.chunk_capacity() == spare {
-            break;
-        }
-        bump.try_alloc_slice_copy(b".")?;
+// Leaves so many bytes of an arena's chunk, and none behind it.
+fn leave(bump: &Bump, filler: &[u8], spare: usize) -> Result<(), AllocError> {
+    let left = bump.chunk_capacity().saturating_sub(spare);
+    if let Some(bytes) = filler.get(..left) {
+        bump.try_alloc_slice_copy(bytes)?;
     }
     bump.set_allocation_limit(Some(0));
     Ok(())
 }
 
-// A step's answer, and whether memory was refused. Then nothing has changed, and the step is asked for again, with all
-// the memory of the arena, if that is where the files stand.
+// A step's answer, and whether memory was refused. Then nothing has changed, and the step is asked for again;
+// an arena, if the files stand in one, has all its memory then.
 fn answered<A: Allocator + Clone>(
     rt: &impl Abort,
     alloc: Global,
@@ -95,14 +92,12 @@ fn answered<A: Allocator + Clone>(
     Ok((space.step(frames, step), true))
 }
 
-// Plays the rows over a tree in memory of this allocator. Where it is an arena, each step finds so many bytes there. Tells
-// how often memory was refused.
+// Plays the rows over a tree in memory of this allocator, and tells how often memory was refused.
 fn play<A: Allocator + Clone>(
     rt: &impl Abort,
     alloc: Global,
     tree: A,
     arena: Option<&Bump>,
-    spare: usize,
 ) -> Result<u32, Fail> {
     let config = Config::new(
         0,
@@ -114,12 +109,9 @@ fn play<A: Allocator + Clone>(
     let mut space = Space::new(alloc, tree, config)?;
     let mut refusals: u32 = 0;
     for (call, told) in ROWS {
-        if let Some(bump) = arena {
-            leave(bump, spare)?;
-        }
         let step = step_of(alloc, call)?;
         let (answer, is_refused) = answered(rt, alloc, arena, &mut space, &mut frames, &step)?;
-        assert_eq!(rt; answer, answer_of(alloc, told)?, "{call:?} with {spare}");
+        assert_eq!(rt; answer, answer_of(alloc, told)?, "{call:?}");
         refusals = refusals.saturating_add(u32::from(is_refused));
     }
     Ok(refusals)
@@ -127,18 +119,20 @@ fn play<A: Allocator + Clone>(
 
 #[test]
 fn files_under_global(rt: HostRuntime) -> Result<(), Fail> {
-    play(&rt, rt.alloc(), rt.alloc(), None, 0)?;
+    play(&rt, rt.alloc(), rt.alloc(), None)?;
     Ok(())
 }
 
-// With no byte left each of the five files wants memory; with enough of them none does.
+// With ever more bytes a later growth is the first that is refused; with enough of them none is.
 #[test]
 fn files_in_a_full_arena(rt: HostRuntime) -> Result<(), Fail> {
+    let filler = Vec::from_elem(rt.alloc(), 0, 4096)?;
     let mut refusals = Vec::new(rt.alloc());
-    for spare in 0..32 {
-        let bump = Bump::new(rt.alloc());
-        refusals.push(play(&rt, rt.alloc(), &bump, Some(&bump), 16 * spare)?)?;
+    for spare in 0..200 {
+        let bump = Bump::try_with_capacity(rt.alloc(), 2000)?;
+        leave(&bump, &filler, 8 * spare)?;
+        refusals.push(play(&rt, rt.alloc(), &bump, Some(&bump))?)?;
     }
-    assert_eq!(rt; (refusals.first(), refusals.last()), (Some(&5), Some(&0)));
+    assert_eq!(rt; (refusals.first(), refusals.last()), (Some(&1), Some(&0)));
     Ok(())
 }

@@ -1,5 +1,5 @@
-//! Worked examples of a namespace alone, and of several over one pool, played through their public calls. Nothing stands here
-//! but tests, so that the crates below are proved once and not a second time with them.
+//! Worked examples of a namespace alone, and of several over one pool, played through their public calls.
+//! Nothing stands here but tests, so that the crates below are proved once and not a second time with them.
 #![tactic(auto)]
 
 #[cfg(test)]

@@ -1,5 +1,5 @@
-//! Worked examples as tables of steps, each with what its process is told and how many frames the namespace holds then.
-//! Where an allocation is made to fail, the step that wanted it is asked for again.
+//! Worked examples as tables of steps, each with what its process is told and how many frames the namespace
+//! holds then. Where an allocation is made to fail, the step that wanted it is asked for again.
 
 ghost use Rattle.std.specs.Prelude.{◌≡◌, length, IfOk};
 ghost use Rattle.pf_frame.specs.Own.{own_live};
@@ -32,8 +32,8 @@ const HELLO: [Row; 8] = [
     (Call::Exit(1), Told::Num(0), 0),
 ];
 
-// A pipe's capacity goes up and down by whole powers of two of pages, down to what is in use, and up to what its owner
-// and the reservation have.
+// A pipe's capacity goes up and down by whole powers of two of pages, down to what is in use, and up to what
+// its owner and the reservation have.
 const CAPACITIES: [Row; 20] = [
     SPAWN,
     PIPE,
@@ -154,8 +154,8 @@ fn filled(alloc: Global, count: u32, fill: u8) -> Result<Vec<Frame>, AllocError>
     Ok(frames)
 }
 
-// Which of the first descriptors of the first two processes may write, and how many frames could still be taken. It
-// takes no memory, and changes nothing.
+// Which of the first descriptors of the first two processes may write, and how many frames could still be
+// taken. It takes no memory, and changes nothing.
 fn probed(alloc: Global, space: &mut Space<Global>, frames: &mut OwnFrames) -> ([bool; 12], u32)
     requires owns { Owns (own_live frames.old) space.old }
     ensures owns { Owns (own_live frames.new) space.new }
@@ -192,7 +192,7 @@ fn answered(
     space.step(frames, step)
 }
 
-// Plays rows in a namespace that is alone, over so many frames: each has its answer, and leaves so many frames held.
+// Plays rows in a namespace that is alone, over so many frames: each has its answer, and leaves so many held.
 fn play(rt: &impl Abort, alloc: Global, reserve: u32, fill: u8, rows: &[Row]) -> Result<(), Fail> {
     let config = Config::new(
         reserve,
@@ -272,8 +272,8 @@ fn family(alloc: Global) -> Result<Vec<Row>, AllocError> {
     Ok(rows)
 }
 
-// Behind 255 processes that went: the last one still reads what was written before the others came, and then the pipe's
-// pages are free again.
+// Behind 255 processes that went: the last one still reads what was written before the others came, and then
+// the pipe's pages are free again.
 const LAST_OF_THE_FAMILY: [Row; 5] = [
     (Call::Read(156, 254, 9), Told::Bytes(b"a"), 0),
     (Call::Exit(156), Told::Num(0), 0),
