@@ -3,7 +3,5 @@
 
 pub mod hub;
 pub mod laws;
-#[cfg(test)]
-mod tests;
 
 pub use hub::{Hub, RunFault};

@@ -229,6 +229,72 @@ const GROWTH_LIMITS: [(Limits, &str, &str); 10] = [
     ((17, 17, 17), "err EPERM", "err ENFILE"),
 ];
 
+/// Of the privileged user, over 512 frames: a pipe that has them all.
+const FULL: [Row; 6] = [
+    ("spawn 0 0 022", "pid 1", 0),
+    ("pipe 1 n", "fds 0 1", 0),
+    ("setsize 1 1 2097152", "num 2097152", 0),
+    ("write 1 1 1048576*61", "num 1048576", 256),
+    ("write 1 1 1048576*62", "num 1048576", 512),
+    ("write 1 1 63", "err EAGAIN", 512),
+];
+
+/// Behind it: a full pipe refuses to be half as large until half of it is read.
+const HALVES: [[Row; 3]; 9] = [
+    [
+        ("setsize 1 0 1048576", "err EBUSY", 512),
+        ("read 1 0 1048576", "bytes 1048576 1048576*61", 256),
+        ("setsize 1 0 1048576", "num 1048576", 256),
+    ],
+    [
+        ("setsize 1 0 524288", "err EBUSY", 256),
+        ("read 1 0 524288", "bytes 524288 524288*62", 128),
+        ("setsize 1 0 524288", "num 524288", 128),
+    ],
+    [
+        ("setsize 1 0 262144", "err EBUSY", 128),
+        ("read 1 0 262144", "bytes 262144 262144*62", 64),
+        ("setsize 1 0 262144", "num 262144", 64),
+    ],
+    [
+        ("setsize 1 0 131072", "err EBUSY", 64),
+        ("read 1 0 131072", "bytes 131072 131072*62", 32),
+        ("setsize 1 0 131072", "num 131072", 32),
+    ],
+    [
+        ("setsize 1 0 65536", "err EBUSY", 32),
+        ("read 1 0 65536", "bytes 65536 65536*62", 16),
+        ("setsize 1 0 65536", "num 65536", 16),
+    ],
+    [
+        ("setsize 1 0 32768", "err EBUSY", 16),
+        ("read 1 0 32768", "bytes 32768 32768*62", 8),
+        ("setsize 1 0 32768", "num 32768", 8),
+    ],
+    [
+        ("setsize 1 0 16384", "err EBUSY", 8),
+        ("read 1 0 16384", "bytes 16384 16384*62", 4),
+        ("setsize 1 0 16384", "num 16384", 4),
+    ],
+    [
+        ("setsize 1 0 8192", "err EBUSY", 4),
+        ("read 1 0 8192", "bytes 8192 8192*62", 2),
+        ("setsize 1 0 8192", "num 8192", 2),
+    ],
+    [
+        ("setsize 1 0 4096", "err EBUSY", 2),
+        ("read 1 0 4096", "bytes 4096 4096*62", 1),
+        ("setsize 1 0 4096", "num 4096", 1),
+    ],
+];
+
+/// And behind these: it has one page, which is full.
+const AT_ONE_PAGE: [Row; 3] = [
+    ("write 1 1 63", "err EAGAIN", 1),
+    ("read 1 0 9999", "bytes 4096 4096*62", 0),
+    ("exit 1", "num 0", 0),
+];
+
 /// Two namespaces over 17 frames: what one has, the other neither sees nor lacks.
 const NEIGHBOURS: [(u32, Row); 10] = [
     (RED, ("spawn 5 5 022", "pid 1", 0)),
@@ -412,69 +478,9 @@ fn one_user_in_64_namespaces(rt: HostRuntime) -> Result<(), Fail> {
 fn a_full_pipe_shrinks_as_it_is_read(rt: HostRuntime) -> Result<(), Fail> {
     let alloc = rt.alloc();
     let mut hub = open(alloc, 512, &[(512, 16_384, 0)], 165)?;
-    let full: [Row; 6] = [
-        ("spawn 0 0 022", "pid 1", 0),
-        ("pipe 1 n", "fds 0 1", 0),
-        ("setsize 1 1 2097152", "num 2097152", 0),
-        ("write 1 1 1048576*61", "num 1048576", 256),
-        ("write 1 1 1048576*62", "num 1048576", 512),
-        ("write 1 1 63", "err EAGAIN", 512),
-    ];
-    play(&rt, alloc, &mut hub, RED, full.as_slice())?;
-    let halves: [[Row; 3]; 9] = [
-        [
-            ("setsize 1 0 1048576", "err EBUSY", 512),
-            ("read 1 0 1048576", "bytes 1048576 1048576*61", 256),
-            ("setsize 1 0 1048576", "num 1048576", 256),
-        ],
-        [
-            ("setsize 1 0 524288", "err EBUSY", 256),
-            ("read 1 0 524288", "bytes 524288 524288*62", 128),
-            ("setsize 1 0 524288", "num 524288", 128),
-        ],
-        [
-            ("setsize 1 0 262144", "err EBUSY", 128),
-            ("read 1 0 262144", "bytes 262144 262144*62", 64),
-            ("setsize 1 0 262144", "num 262144", 64),
-        ],
-        [
-            ("setsize 1 0 131072", "err EBUSY", 64),
-            ("read 1 0 131072", "bytes 131072 131072*62", 32),
-            ("setsize 1 0 131072", "num 131072", 32),
-        ],
-        [
-            ("setsize 1 0 65536", "err EBUSY", 32),
-            ("read 1 0 65536", "bytes 65536 65536*62", 16),
-            ("setsize 1 0 65536", "num 65536", 16),
-        ],
-        [
-            ("setsize 1 0 32768", "err EBUSY", 16),
-            ("read 1 0 32768", "bytes 32768 32768*62", 8),
-            ("setsize 1 0 32768", "num 32768", 8),
-        ],
-        [
-            ("setsize 1 0 16384", "err EBUSY", 8),
-            ("read 1 0 16384", "bytes 16384 16384*62", 4),
-            ("setsize 1 0 16384", "num 16384", 4),
-        ],
-        [
-            ("setsize 1 0 8192", "err EBUSY", 4),
-            ("read 1 0 8192", "bytes 8192 8192*62", 2),
-            ("setsize 1 0 8192", "num 8192", 2),
-        ],
-        [
-            ("setsize 1 0 4096", "err EBUSY", 2),
-            ("read 1 0 4096", "bytes 4096 4096*62", 1),
-            ("setsize 1 0 4096", "num 4096", 1),
-        ],
-    ];
-    for rows in halves {
+    play(&rt, alloc, &mut hub, RED, FULL.as_slice())?;
+    for rows in HALVES {
         play(&rt, alloc, &mut hub, RED, rows.as_slice())?;
     }
-    let end: [Row; 3] = [
-        ("write 1 1 63", "err EAGAIN", 1),
-        ("read 1 0 9999", "bytes 4096 4096*62", 0),
-        ("exit 1", "num 0", 0),
-    ];
-    play(&rt, alloc, &mut hub, RED, end.as_slice())
+    play(&rt, alloc, &mut hub, RED, AT_ONE_PAGE.as_slice())
 }

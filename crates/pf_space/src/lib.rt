@@ -5,6 +5,3 @@ pub mod space;
 mod tables;
 
 pub use space::Space;
-
-#[cfg(test)]
-mod tests;

@@ -1,5 +1,5 @@
 //! Files: mkdir(), mkfifo(), unlink(), rmdir(), chmod() and stat() of POSIX.1-2017, and a list of names, which is this
-//! profile's own.
+//! profile's own. None of them needs a frame, so the door is only looked at.
 
 ghost use Rattle.std.specs.Prelude.{◌≡◌, Err, IsSome};
 ghost use Rattle.pf_base.specs.Machine.{call};
@@ -17,19 +17,16 @@ impl<A: Allocator + Clone> Space<A> {
     /// Makes a directory (mkdir()).
     pub(super) fn mkdir<F: Frames>(
         &mut self,
-        door: &mut F,
+        door: &F,
         pid: u32,
         path: &[u8],
         mode: u32,
     ) -> Result<Reply, Fault>
-        requires fact { F.fact door.old }
-        requires owns { Owns (F.live door.old) self.old }
-        ensures fact { F.fact door.new }
-        ensures rest { F.rest door.new ≡ F.rest door.old }
-        ensures told { Told (F.live door.old) (F.live door.new) self.old self.new result
-            (call self.old.limits (meaning (F.live door.old) self.old.state) (Step.Mkdir pid path.now mode)) }
+        requires owns { Owns (F.live door.now) self.old }
+        ensures told { Told (F.live door.now) (F.live door.now) self.old self.new result
+            (call self.old.limits (meaning (F.live door.now) self.old.state) (Step.Mkdir pid path.now mode)) }
         // Memory is wanted for a process that lives, and then nothing has changed.
-        ensures unchanged { result ≡ Err Fault.NoMemory → (self.new ≡ self.old) × (door.new ≡ door.old) }
+        ensures unchanged { result ≡ Err Fault.NoMemory → self.new ≡ self.old }
         ensures lives { result ≡ Err Fault.NoMemory → IsSome (process self.old.state pid) }
     {
         self.tables
@@ -40,19 +37,16 @@ impl<A: Allocator + Clone> Space<A> {
     /// Makes a FIFO (mkfifo()).
     pub(super) fn mkfifo<F: Frames>(
         &mut self,
-        door: &mut F,
+        door: &F,
         pid: u32,
         path: &[u8],
         mode: u32,
     ) -> Result<Reply, Fault>
-        requires fact { F.fact door.old }
-        requires owns { Owns (F.live door.old) self.old }
-        ensures fact { F.fact door.new }
-        ensures rest { F.rest door.new ≡ F.rest door.old }
-        ensures told { Told (F.live door.old) (F.live door.new) self.old self.new result
-            (call self.old.limits (meaning (F.live door.old) self.old.state) (Step.Mkfifo pid path.now mode)) }
+        requires owns { Owns (F.live door.now) self.old }
+        ensures told { Told (F.live door.now) (F.live door.now) self.old self.new result
+            (call self.old.limits (meaning (F.live door.now) self.old.state) (Step.Mkfifo pid path.now mode)) }
         // Memory is wanted for a process that lives, and then nothing has changed.
-        ensures unchanged { result ≡ Err Fault.NoMemory → (self.new ≡ self.old) × (door.new ≡ door.old) }
+        ensures unchanged { result ≡ Err Fault.NoMemory → self.new ≡ self.old }
         ensures lives { result ≡ Err Fault.NoMemory → IsSome (process self.old.state pid) }
     {
         self.tables
@@ -63,18 +57,15 @@ impl<A: Allocator + Clone> Space<A> {
     /// Takes a FIFO's name away (unlink()).
     pub(super) fn unlink<F: Frames>(
         &mut self,
-        door: &mut F,
+        door: &F,
         pid: u32,
         path: &[u8],
     ) -> Result<Reply, Fault>
-        requires fact { F.fact door.old }
-        requires owns { Owns (F.live door.old) self.old }
-        ensures fact { F.fact door.new }
-        ensures rest { F.rest door.new ≡ F.rest door.old }
-        ensures told { Told (F.live door.old) (F.live door.new) self.old self.new result
-            (call self.old.limits (meaning (F.live door.old) self.old.state) (Step.Unlink pid path.now)) }
+        requires owns { Owns (F.live door.now) self.old }
+        ensures told { Told (F.live door.now) (F.live door.now) self.old self.new result
+            (call self.old.limits (meaning (F.live door.now) self.old.state) (Step.Unlink pid path.now)) }
         // Memory is wanted for a process that lives, and then nothing has changed.
-        ensures unchanged { result ≡ Err Fault.NoMemory → (self.new ≡ self.old) × (door.new ≡ door.old) }
+        ensures unchanged { result ≡ Err Fault.NoMemory → self.new ≡ self.old }
         ensures lives { result ≡ Err Fault.NoMemory → IsSome (process self.old.state pid) }
     {
         self.tables.unlink(door, self.alloc, pid, path)?;
@@ -84,18 +75,15 @@ impl<A: Allocator + Clone> Space<A> {
     /// Takes a directory away that has no entries (rmdir()).
     pub(super) fn rmdir<F: Frames>(
         &mut self,
-        door: &mut F,
+        door: &F,
         pid: u32,
         path: &[u8],
     ) -> Result<Reply, Fault>
-        requires fact { F.fact door.old }
-        requires owns { Owns (F.live door.old) self.old }
-        ensures fact { F.fact door.new }
-        ensures rest { F.rest door.new ≡ F.rest door.old }
-        ensures told { Told (F.live door.old) (F.live door.new) self.old self.new result
-            (call self.old.limits (meaning (F.live door.old) self.old.state) (Step.Rmdir pid path.now)) }
+        requires owns { Owns (F.live door.now) self.old }
+        ensures told { Told (F.live door.now) (F.live door.now) self.old self.new result
+            (call self.old.limits (meaning (F.live door.now) self.old.state) (Step.Rmdir pid path.now)) }
         // Memory is wanted for a process that lives, and then nothing has changed.
-        ensures unchanged { result ≡ Err Fault.NoMemory → (self.new ≡ self.old) × (door.new ≡ door.old) }
+        ensures unchanged { result ≡ Err Fault.NoMemory → self.new ≡ self.old }
         ensures lives { result ≡ Err Fault.NoMemory → IsSome (process self.old.state pid) }
     {
         self.tables.rmdir(door, self.alloc, pid, path)?;
@@ -105,19 +93,16 @@ impl<A: Allocator + Clone> Space<A> {
     /// Gives a file another mode (chmod()).
     pub(super) fn chmod<F: Frames>(
         &mut self,
-        door: &mut F,
+        door: &F,
         pid: u32,
         path: &[u8],
         mode: u32,
     ) -> Result<Reply, Fault>
-        requires fact { F.fact door.old }
-        requires owns { Owns (F.live door.old) self.old }
-        ensures fact { F.fact door.new }
-        ensures rest { F.rest door.new ≡ F.rest door.old }
-        ensures told { Told (F.live door.old) (F.live door.new) self.old self.new result
-            (call self.old.limits (meaning (F.live door.old) self.old.state) (Step.Chmod pid path.now mode)) }
+        requires owns { Owns (F.live door.now) self.old }
+        ensures told { Told (F.live door.now) (F.live door.now) self.old self.new result
+            (call self.old.limits (meaning (F.live door.now) self.old.state) (Step.Chmod pid path.now mode)) }
         // Memory is wanted for a process that lives, and then nothing has changed.
-        ensures unchanged { result ≡ Err Fault.NoMemory → (self.new ≡ self.old) × (door.new ≡ door.old) }
+        ensures unchanged { result ≡ Err Fault.NoMemory → self.new ≡ self.old }
         ensures lives { result ≡ Err Fault.NoMemory → IsSome (process self.old.state pid) }
     {
         self.tables.chmod(door, self.alloc, pid, path, mode)?;
@@ -127,18 +112,15 @@ impl<A: Allocator + Clone> Space<A> {
     /// Tells what is known of a file (stat()).
     pub(super) fn stat<F: Frames>(
         &mut self,
-        door: &mut F,
+        door: &F,
         pid: u32,
         path: &[u8],
     ) -> Result<Reply, Fault>
-        requires fact { F.fact door.old }
-        requires owns { Owns (F.live door.old) self.old }
-        ensures fact { F.fact door.new }
-        ensures rest { F.rest door.new ≡ F.rest door.old }
-        ensures told { Told (F.live door.old) (F.live door.new) self.old self.new result
-            (call self.old.limits (meaning (F.live door.old) self.old.state) (Step.Stat pid path.now)) }
+        requires owns { Owns (F.live door.now) self.old }
+        ensures told { Told (F.live door.now) (F.live door.now) self.old self.new result
+            (call self.old.limits (meaning (F.live door.now) self.old.state) (Step.Stat pid path.now)) }
         // Memory is wanted for a process that lives, and then nothing has changed.
-        ensures unchanged { result ≡ Err Fault.NoMemory → (self.new ≡ self.old) × (door.new ≡ door.old) }
+        ensures unchanged { result ≡ Err Fault.NoMemory → self.new ≡ self.old }
         ensures lives { result ≡ Err Fault.NoMemory → IsSome (process self.old.state pid) }
     {
         self.tables.settled();
@@ -149,18 +131,15 @@ impl<A: Allocator + Clone> Space<A> {
     /// Tells the names in a directory.
     pub(super) fn list<F: Frames>(
         &mut self,
-        door: &mut F,
+        door: &F,
         pid: u32,
         path: &[u8],
     ) -> Result<Reply, Fault>
-        requires fact { F.fact door.old }
-        requires owns { Owns (F.live door.old) self.old }
-        ensures fact { F.fact door.new }
-        ensures rest { F.rest door.new ≡ F.rest door.old }
-        ensures told { Told (F.live door.old) (F.live door.new) self.old self.new result
-            (call self.old.limits (meaning (F.live door.old) self.old.state) (Step.List pid path.now)) }
+        requires owns { Owns (F.live door.now) self.old }
+        ensures told { Told (F.live door.now) (F.live door.now) self.old self.new result
+            (call self.old.limits (meaning (F.live door.now) self.old.state) (Step.List pid path.now)) }
         // Memory is wanted for a process that lives, and then nothing has changed.
-        ensures unchanged { result ≡ Err Fault.NoMemory → (self.new ≡ self.old) × (door.new ≡ door.old) }
+        ensures unchanged { result ≡ Err Fault.NoMemory → self.new ≡ self.old }
         ensures lives { result ≡ Err Fault.NoMemory → IsSome (process self.old.state pid) }
     {
         self.tables.settled();
