@@ -18,6 +18,3 @@ mod WorkedFiles
 mod WorkedPaths
 mod WorkedSharing
 mod WorkedScript
-pub mod ScriptLemmas
-mod ScriptExamples
-mod TextExamples

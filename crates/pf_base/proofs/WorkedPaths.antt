@@ -1,10 +1,9 @@
--- Examples by computation: steps on files, and the texts of their replies.
+-- Examples by computation: steps on files.
 
 use Rattle.std.specs.Prelude.{◌≡◌, [], ◌∷◌, codes, refl}
 use Rattle.pf_base.specs.Limits.{Limits}
 use Rattle.pf_base.specs.Runs.{lone}
 use Rattle.pf_base.specs.State.{vacant}
-use Rattle.pf_base.specs.Text.{octal_text, number_of_names, names_text}
 use Rattle.pf_base.specs.declared.errno.Errno.TheVariants.{EPERM, ENOENT, EACCES, EBUSY, ENOTDIR, EINVAL, ENOTEMPTY, ESRCH}
 use Rattle.pf_base.specs.declared.meta.Kind.TheVariants.{Fifo}
 use Rattle.pf_base.specs.declared.step.Step.TheVariants.{Spawn, Mkdir, Mkfifo, Unlink, Rmdir, Chmod, Stat, List as Lists}
@@ -36,18 +35,3 @@ modes-replies :
     ≡ Pid 1 ∷ Err EINVAL ∷ Err EINVAL ∷ Err ESRCH ∷ Err ENOENT ∷ Num 0 ∷ Meta (record { kind = Fifo; mode = 448; uid = 5; gid = 5 }) ∷ Num 0 ∷ Meta (record { kind = Fifo; mode = 63; uid = 5; gid = 5 }) ∷ Err EPERM ∷ []
 unfolding vacant
 modes-replies = refl
-
--- texts
-octal : octal_text 420 ≡ codes "0644"
-octal = refl
-
-no_names : names_text [] [] ≡ []
-unfolding names_text
-no_names = refl
-
-two_names : names_text [] (codes "ab/c/") ≡ codes " ab c"
-unfolding names_text
-two_names = refl
-
-two : number_of_names (codes "ab/c/") ≡ 2
-two = refl

@@ -22,7 +22,3 @@ pub mod Machine
 pub mod Runs
 pub mod Events
 pub mod Laws
-pub mod ScriptWords
-pub mod ScriptVerbs
-pub mod Script
-pub mod Text

@@ -11,7 +11,6 @@ pub mod laws;
 pub mod meta;
 pub mod permissions;
 pub mod progress;
-pub mod script;
 pub mod step;
 
 pub use bytes::ByteString;
@@ -23,7 +22,6 @@ pub use fault::Fault;
 pub use meta::{File, Kind, Meta, Mode};
 pub use permissions::{Class, Want, may};
 pub use progress::{Crossing, Progress, Side};
-pub use script::{Cause, Refusal};
 pub use step::{Answer, Reply, Step};
 
 /// The size of a page in bytes (pipe(7), "Pipe capacity"): what one slot of a pipe holds.
