@@ -20,6 +20,8 @@ pub(crate) enum Call {
     Write(u32, u32, &'static [u8]),
     // This byte, so many times.
     Fill(u32, u32, u8, usize),
+    // From the second number's pipe to the third's, at most so many bytes.
+    Tee(u32, u32, u32, u64),
     Mkdir(&'static [u8], u32),
     Mkfifo(&'static [u8], u32),
     Stat(&'static [u8]),
@@ -69,6 +71,16 @@ fn pipe(pid: u32) -> Step {
     }
 }
 
+fn tee(pid: u32, source: u32, sink: u32, n: u64) -> Step {
+    Step::Tee {
+        pid,
+        source,
+        sink,
+        n,
+        nonblock: true,
+    }
+}
+
 fn make(kind: Kind, path: ByteString, mode: u32) -> Step {
     match kind {
         Kind::Directory => Step::Mkdir { pid: 1, path, mode },
@@ -90,6 +102,7 @@ pub(crate) fn step_of(alloc: Global, call: Call) -> Result<Step, AllocError> {
         Call::Read(pid, fd, n) => Step::Read { pid, fd, n },
         Call::Write(pid, fd, text) => write(pid, fd, bytes(alloc, text)?),
         Call::Fill(pid, fd, byte, count) => write(pid, fd, filled(alloc, byte, count)?),
+        Call::Tee(pid, source, sink, n) => tee(pid, source, sink, n),
         Call::Mkdir(path, mode) => make(Kind::Directory, bytes(alloc, path)?, mode),
         Call::Mkfifo(path, mode) => make(Kind::Fifo, bytes(alloc, path)?, mode),
         Call::Stat(path) => {

@@ -75,6 +75,18 @@ const FULL_NEIGHBOUR: [Row; 9] = [
     (BLUE, Call::Read(1, 0, 2), Told::Filled(0x62, 2), (16, 1, 0)),
 ];
 
+// Over 33 frames, all reserved for red: two pipes, and a tee from one to the other. While one of the two has the
+// bytes still, their frame is held.
+const COPY: [Row; 7] = [
+    (RED, SPAWN, Told::Pid(1), (0, 0, 33)),
+    (RED, Call::Pipe(1), Told::Fds(0, 1), (0, 0, 33)),
+    (RED, Call::Pipe(1), Told::Fds(2, 3), (0, 0, 33)),
+    (RED, Call::Fill(1, 1, 0x61, 5), Told::Num(5), (1, 0, 32)),
+    (RED, Call::Tee(1, 0, 3, 5), Told::Num(5), (1, 0, 32)),
+    (RED, Call::Read(1, 0, 5), Told::Filled(0x61, 5), (1, 0, 32)),
+    (RED, Call::Read(1, 2, 5), Told::Filled(0x61, 5), (0, 0, 33)),
+];
+
 // Frames that each hold this byte throughout, or, with none, each another.
 fn frames(alloc: Global, count: usize, fill: Option<u8>) -> Result<Vec<Frame>, AllocError> {
     let mut frames = Vec::new(alloc);
@@ -215,4 +227,54 @@ fn frames_pass_to_a_neighbour_and_back(rt: HostRuntime) -> Result<(), Fail> {
         }
     }
     Ok(())
+}
+
+// Both fill a pipe, so no frame is free, and then both read what they wrote.
+fn fill_both(red: u8, blue: u8) -> [Row; 4] {
+    let all = 65_536;
+    [
+        (
+            RED,
+            Call::Fill(1, 1, red, all),
+            Told::Num(65_536),
+            (16, 0, 16),
+        ),
+        (
+            BLUE,
+            Call::Fill(1, 1, blue, all),
+            Told::Num(65_536),
+            (16, 16, 0),
+        ),
+        (
+            RED,
+            Call::Read(1, 0, 65_536),
+            Told::Filled(red, all),
+            (0, 16, 16),
+        ),
+        (
+            BLUE,
+            Call::Read(1, 0, 65_536),
+            Told::Filled(blue, all),
+            (0, 0, 32),
+        ),
+    ]
+}
+
+#[test]
+fn every_frame_passes_through_every_tenant(rt: HostRuntime) -> Result<(), Fail> {
+    let alloc = rt.alloc();
+    let mut hub = open(alloc, frames(alloc, 32, None)?, &[16, 16])?;
+    play(&rt, alloc, &mut hub, &PIPES)?;
+    // What came back last goes out first, so each gets what the other had.
+    for round in 0..4u8 {
+        play(&rt, alloc, &mut hub, &fill_both(round, 255 - round))?;
+    }
+    Ok(())
+}
+
+#[test]
+fn a_copy_keeps_its_frame(rt: HostRuntime) -> Result<(), Fail> {
+    let alloc = rt.alloc();
+    let mut hub = open(alloc, frames(alloc, 33, None)?, &[33])?;
+    play(&rt, alloc, &mut hub, &COPY)
 }
