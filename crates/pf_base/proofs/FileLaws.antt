@@ -84,7 +84,7 @@ find-remove_other q p ((r, g) ∷ rest) differ =
     ] refl
 
 -- the file at q where the mode of the one at p is changed
-abbrev moded : Path → Path → ℕ → Option File → Option File
+abbrev pub moded : Path → Path → ℕ → Option File → Option File
 moded q p mode None = None
 moded q p mode (Some f) = Some (cond (same_path p q) (with_mode mode f) f)
 

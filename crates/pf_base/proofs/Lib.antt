@@ -8,6 +8,19 @@ pub mod MachineLaws
 pub mod RunLaws
 pub mod EventLaws
 pub mod FileLaws
+pub mod HoldsLaws
+pub mod KeepLaws
+mod PipeLaws
+mod QueueTransfers
+mod TriedLaws
+pub mod StreamLaws
+pub mod OtherLaws
+pub mod PieceLaws
+pub mod FifoLaws
+pub mod NumberLaws
+mod EndLaws
+mod ApartLaws
+pub mod ApartSteps
 mod StayLaws
 mod WorkedQueues
 mod WorkedPages
@@ -17,4 +30,6 @@ mod WorkedCrossings
 mod WorkedFiles
 mod WorkedPaths
 mod WorkedSharing
+mod WorkedWaiting
+mod WorkedStreams
 mod WorkedScript

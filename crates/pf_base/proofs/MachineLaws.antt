@@ -1,13 +1,10 @@
--- Laws of the machine's changes, and of want of memory.
+-- Laws of the machine's changes.
 
 use Rattle.std.proofs.Common.{◌≡◌, ℕ, List, set, Option, Some, None, refl, ap, sym, ◌∙◌}
 use Rattle.std.proofs.lemmas.List.{set-get_or}
-use Rattle.std.specs.Prelude.{◌&&◌, is_some}
 use Rattle.std.specs.Option.{option_map}
 use Rattle.pf_base.specs.Numbered.{at, change_at}
-use Rattle.pf_base.specs.State.{State, Pipe, process, holding, with_queue}
-use Rattle.pf_base.specs.Machine.{takes_memory, pid_of, lives, may_want_memory}
-use Rattle.pf_base.specs.declared.step.Step.{Step}
+use Rattle.pf_base.specs.State.{State, Pipe, holding, with_queue}
 
 -- a change that leaves what stands there as it is changes nothing
 pub change_at-same : {X : Type 0} (f : X → X) (xs : List (Option X)) (n : ℕ) (x : X) → at xs n ≡ Some x → f x ≡ x → change_at f xs n ≡ xs
@@ -17,11 +14,3 @@ change_at-same {X = X} f xs n x stands same =
 -- to put back into a pipe what it holds changes nothing
 pub with_queue-same : {Q : Type 0} (s : State Q) (n : ℕ) (p : Pipe Q) → at s.pipes n ≡ Some p → with_queue s n p.queue ≡ s
 with_queue-same s n p stands = ap (λ pipes. record s { pipes = pipes }) (change_at-same (holding p.queue) s.pipes n p stands refl)
-
--- only the processes matter to whether a step may want memory
-pub may_want-same : {Q R : Type 0} (s : State Q) (t : State R) (step : Step) → ((pid : ℕ) → is_some (process s pid) ≡ is_some (process t pid)) → may_want_memory s step ≡ may_want_memory t step
-may_want-same s t step same = ap (λ b. takes_memory step && b) (by_pid (pid_of step))
-  where
-    by_pid : (pid : Option ℕ) → lives s pid ≡ lives t pid
-    by_pid None = refl
-    by_pid (Some pid) = same pid

@@ -1,8 +1,8 @@
 -- Each step leaves a map of files where there was one.
 
-use Rattle.std.specs.Prelude.{◌≡◌, ℕ, List, [], ◌∷◌, ◌++◌, Bool, true, false, not, ◌&&◌, Option, Some, None, is_some, IsTrue, Result, Ok, Err, ⊤, nat_eq, nat_lt, length}
+use Rattle.std.specs.Prelude.{◌≡◌, ℕ, List, [], ◌∷◌, ◌++◌, Bool, true, false, not, ◌&&◌, Option, Some, None, is_some, IsTrue, Result, Ok, Err, ⊤, nat_eq}
 use Rattle.std.proofs.Common.{refl, sym, ap, subst, ◌∙◌}
-use Rattle.pf_base.specs.Refusals.{◌>>=◌, ◌>>◌, refuse_if, or_refuse}
+use Rattle.pf_base.specs.Refusals.{◌>>=◌, ◌>>◌, refuse_if}
 use Rattle.pf_base.specs.FileMap.{Files, Path, Name, find, front, insert, names_below, is_directory, IsDirectory, IsFileMap}
 use Rattle.pf_base.specs.FileCalls as calls
 use Rattle.pf_base.specs.FileCalls.{Place, place_of, place, permitted_change, is_fifo, is_full, made_by}
@@ -10,20 +10,19 @@ use Rattle.pf_base.specs.Paths.{Words, Resolved, Last, Nothing, Dot, DotDot, Nam
 use Rattle.pf_base.specs.Permissions.{allows, mode_of, is_privileged}
 use Rattle.pf_base.specs.Limits.{Limits}
 use Rattle.pf_base.specs.Queue.{Queue}
-use Rattle.pf_base.specs.State.{State, Process, Outcome, settle, living, reading_end, writing_end, done}
+use Rattle.pf_base.specs.Numbered.{at}
+use Rattle.pf_base.specs.Calls.{Reading, Writing, Bringing}
+use Rattle.pf_base.specs.State.{State, Process, Outcome, settle, living, ready, done}
 use Rattle.pf_base.specs.Processes.{exit, fork}
 use Rattle.pf_base.specs.Descriptors.{dup, close, set_nonblock}
 use Rattle.pf_base.specs.Pipes.{pipe, set_size, get_size}
-use Rattle.pf_base.specs.Transfers.{Tried, try_read, read_told, tried_read, read, try_write, write_told, tried_write, write, two_ends, try_cross, cross_told, tried_cross, cross}
+use Rattle.pf_base.specs.Attempts.{transfer, resume}
+use Rattle.pf_base.specs.Opens.{access_of, open_path}
 use Rattle.pf_base.specs.Files.{with_files, with_new, make, unlink, rmdir, chmod, stat, list}
 use Rattle.pf_base.specs.Machine.{call, step_of}
-use Rattle.pf_base.specs.declared.TheConstants.{MAX_WRITE}
-use Rattle.pf_base.specs.declared.progress.Crossing.{Crossing}
 use Rattle.pf_base.specs.declared.progress.Crossing.TheVariants as crossings
-use Rattle.pf_base.specs.declared.progress.Progress.{Progress}
-use Rattle.pf_base.specs.declared.progress.Progress.TheVariants.{Moved, EndOfFile, NoReader, WouldBlock}
 use Rattle.pf_base.specs.declared.step.Step.{Step}
-use Rattle.pf_base.specs.declared.step.Step.TheVariants.{Spawn, Exit, Pipe, Close, Read, Write, Tee, Splice, SetSize, GetSize, Fork, Dup, SetNonblock, Mkdir, Mkfifo, Unlink, Rmdir, Chmod, Stat, List as Lists}
+use Rattle.pf_base.specs.declared.step.Step.TheVariants.{Spawn, Exit, Pipe, Close, Read, Write, Tee, Splice, SetSize, GetSize, Fork, Dup, SetNonblock, Mkdir, Mkfifo, Open, Unlink, Rmdir, Chmod, Stat, List as Lists, Resume}
 use Rattle.pf_base.specs.declared.meta.Kind.TheVariants as kinds
 use Rattle.pf_base.specs.declared.cred.Cred.{Cred}
 use Rattle.pf_base.specs.declared.errno.Errno.{Errno}
@@ -31,35 +30,9 @@ use Rattle.pf_base.specs.declared.errno.Errno.TheVariants.{EPERM, ENOENT, EACCES
 use Rattle.pf_base.specs.declared.meta.File.{File}
 use Rattle.pf_base.specs.declared.meta.Kind.{Kind}
 use Rattle.pf_base.specs.declared.permissions.Want.TheVariants.{Search}
+use Rattle.pf_base.proofs.HoldsLaws.{Holds, goes, carries, passes, any, unless, found}
+use Rattle.pf_base.proofs.KeepLaws.{Kept, transfer-keeps, resume-keeps, open-keeps}
 use Rattle.pf_base.proofs.FileLaws.{insert-map, remove-map, set_mode-map}
-
--- what is given has a property
-abbrev pub Holds : {A : Type 0} → (A → Type 0) → Result A Errno → Type 0
-Holds P (Ok x) = P x
-Holds P (Err e) = ⊤
-
--- what holds of the first part carries over to the second
-pub goes : {A B : Type 0} (P : A → Type 0) (Q : B → Type 0) (r : Result A Errno) (f : A → Result B Errno) → Holds P r → ((x : A) → P x → Holds Q (f x)) → Holds Q (r >>= f)
-goes P Q (Ok x) f p h = h x p
-goes P Q (Err e) f p h = tt
-
-pub passes : {B : Type 0} (Q : B → Type 0) (r : Result (Unit {0}) Errno) (q : Result B Errno) → Holds Q q → Holds Q (r >> q)
-passes Q (Ok x) q h = h
-passes Q (Err e) q h = tt
-
--- whatever it is
-pub any : {A : Type 0} (r : Result A Errno) → Holds (λ x. ⊤) r
-any (Ok x) = tt
-any (Err e) = tt
-
--- where a test must fail, its failing is known
-pub unless : {B : Type 0} (Q : B → Type 0) (b : Bool) (e : Errno) (q : Result B Errno) → (b ≡ false → Holds Q q) → Holds Q (refuse_if b e >> q)
-unless Q true e q h = tt
-unless Q false e q h = h refl
-
-pub found : {A B : Type 0} (Q : B → Type 0) (e : Errno) (o : Option A) (f : A → Result B Errno) → ((x : A) → o ≡ Some x → Holds Q (f x)) → Holds Q (or_refuse e o >>= f)
-found Q e None f h = tt
-found Q e (Some x) f h = h x refl
 
 -- Places of entries
 
@@ -154,64 +127,24 @@ chmod-map files c path mode m =
 abbrev Keeps : Outcome → Type 0
 Keeps o = IsFileMap o.state.files
 
-quiet : {A : Type 0} (r : Result A Errno) (f : A → Result Outcome Errno) → ((x : A) → Holds Keeps (f x)) → Holds Keeps (r >>= f)
-quiet (Ok x) f h = h x
-quiet (Err e) f h = tt
+-- the files of a state
+abbrev IsMapped : State Queue → Type 0
+IsMapped s = IsFileMap s.files
 
-hushed : (r : Result (Unit {0}) Errno) (q : Result Outcome Errno) → Holds Keeps q → Holds Keeps (r >> q)
-hushed (Ok x) q h = h
-hushed (Err e) q h = tt
+-- no other part of it matters to them
+others : Kept IsMapped
+others = record {
+  people = λ s ps h. h;
+  drawn = λ s ds h. h;
+  held = λ s n q h. h;
+  opens = λ s a n h. h;
+  fifo = λ s q owner f there e h. h;
+}
 
--- what a transfer leaves has the same files
 module _ (s : State Queue) (m : IsFileMap s.files) where
-  abbrev Same : Tried → Type 0
-  Same t = IsFileMap t.state.files
-
-  try-quiet : {A : Type 0} (r : Result A Errno) (f : A → Result Tried Errno) → ((x : A) → Holds Same (f x)) → Holds Same (r >>= f)
-  try-quiet (Ok x) f h = h x
-  try-quiet (Err e) f h = tt
-
-  try-hushed : (r : Result (Unit {0}) Errno) (q : Result Tried Errno) → Holds Same q → Holds Same (r >> q)
-  try-hushed (Ok x) q h = h
-  try-hushed (Err e) q h = tt
-
-  read_told-keeps : (t : Tried) (p : Progress) → Same t → Holds Keeps (read_told t p)
-  read_told-keeps t (Moved n) h = h
-  read_told-keeps t EndOfFile h = h
-  read_told-keeps t NoReader h = h
-  read_told-keeps t WouldBlock h = tt
-
-  write_told-keeps : (t : Tried) (p : Progress) → Same t → Holds Keeps (write_told t p)
-  write_told-keeps t (Moved n) h = h
-  write_told-keeps t EndOfFile h = tt
-  write_told-keeps t NoReader h = tt
-  write_told-keeps t WouldBlock h = tt
-
-  cross_told-keeps : (t : Tried) (p : Progress) → Same t → Holds Keeps (cross_told t p)
-  cross_told-keeps t (Moved n) h = h
-  cross_told-keeps t EndOfFile h = h
-  cross_told-keeps t NoReader h = tt
-  cross_told-keeps t WouldBlock h = tt
-
-  read-keeps : (p : Process) (fd n : ℕ) → Holds Keeps (read s p fd n)
-  read-keeps p fd n =
-      goes Same Keeps (tried_read s p fd n) (λ t. read_told t t.progress) (try-quiet (reading_end s p fd) (λ e. Ok (try_read s e n)) (λ e. m))
-      (λ t h. read_told-keeps t t.progress h)
-
-  write-keeps : (p : Process) (fd : ℕ) (x : List ℕ) → Holds Keeps (write s p fd x)
-  write-keeps p fd x =
-      goes Same Keeps (tried_write s p fd x) (λ t. write_told t t.progress)
-      (try-quiet (writing_end s p fd) (λ e. refuse_if (nat_lt MAX_WRITE (length x)) EINVAL >> Ok (try_write s e x)) (λ e. try-hushed (refuse_if (nat_lt MAX_WRITE (length x)) EINVAL) (Ok (try_write s e x)) m))
-      (λ t h. write_told-keeps t t.progress h)
-
-  cross-keeps : (c : Crossing) (p : Process) (source sink n : ℕ) → Holds Keeps (cross c s p source sink n)
-  cross-keeps c p source sink n =
-      goes Same Keeps (tried_cross c s p source sink n) (λ t. cross_told t t.progress) (try-quiet (two_ends s p source sink) (λ e. Ok (try_cross c s e n)) (λ e. m))
-      (λ t h. cross_told-keeps t t.progress h)
-
   made-keeps : (kind : Kind) (p : Process) (path : List ℕ) (bits : ℕ) → Holds Keeps (make kind s p path bits)
   made-keeps kind p path bits =
-      quiet (mode_of bits) (λ mode. calls.make kind s.files s.files_made p.cred path mode >>= (λ files. Ok (done (with_new s files) 0)))
+      carries Keeps (mode_of bits) (λ mode. calls.make kind s.files s.files_made p.cred path mode >>= (λ files. Ok (done (with_new s files) 0)))
       (λ mode. goes IsFileMap Keeps (calls.make kind s.files s.files_made p.cred path mode) (λ files. Ok (done (with_new s files) 0)) (make-map kind s.files s.files_made p.cred path mode m) (λ files h. h))
 
   unlinked-keeps : (p : Process) (path : List ℕ) → Holds Keeps (unlink s p path)
@@ -222,34 +155,41 @@ module _ (s : State Queue) (m : IsFileMap s.files) where
 
   remoded-keeps : (p : Process) (path : List ℕ) (bits : ℕ) → Holds Keeps (chmod s p path bits)
   remoded-keeps p path bits =
-      quiet (mode_of bits) (λ mode. calls.chmod s.files p.cred path mode >>= (λ files. Ok (done (with_files s files) 0)))
+      carries Keeps (mode_of bits) (λ mode. calls.chmod s.files p.cred path mode >>= (λ files. Ok (done (with_files s files) 0)))
       (λ mode. goes IsFileMap Keeps (calls.chmod s.files p.cred path mode) (λ files. Ok (done (with_files s files) 0)) (chmod-map s.files p.cred path mode m) (λ files h. h))
 
-  -- a call of a process that lives
+  -- a call of a process that lives, and of one that waits in no call
   by_caller : (pid : ℕ) (f : Process → Result Outcome Errno) → ((p : Process) → Holds Keeps (f p)) → Holds Keeps (living s pid >>= f)
-  by_caller pid f h = quiet (living s pid) f h
+  by_caller pid f h = carries Keeps (living s pid) f h
+
+  by_ready : (pid : ℕ) (f : Process → Result Outcome Errno) → ((p : Process) → Holds Keeps (f p)) → Holds Keeps (ready s pid >>= f)
+  by_ready pid f h = carries Keeps (ready s pid) f h
 
   kept : (c : Limits) (step : Step) → Holds Keeps (call c s step)
-  kept c (Spawn uid gid groups umask) = search (hushed, m)
+  kept c (Spawn uid gid groups umask) = search (passes, m) depth 16
   kept c (Exit pid) = by_caller pid (λ p. exit s pid) (λ p. m)
-  kept c (Pipe pid nonblock) = by_caller pid (λ p. pipe c s pid p nonblock) (λ p. search (hushed, quiet, m))
-  kept c (Close pid fd) = by_caller pid (λ p. close s pid p fd) (λ p. search (quiet, m))
-  kept c (Read pid fd n) = by_caller pid (λ p. read s p fd n) (λ p. read-keeps p fd n)
-  kept c (Write pid fd payload) = by_caller pid (λ p. write s p fd payload) (λ p. write-keeps p fd payload)
-  kept c (Tee pid source sink n nonblock) = by_caller pid (λ p. cross crossings.Tee s p source sink n) (λ p. cross-keeps crossings.Tee p source sink n)
-  kept c (Splice pid source sink n nonblock) = by_caller pid (λ p. cross crossings.Splice s p source sink n) (λ p. cross-keeps crossings.Splice p source sink n)
-  kept c (SetSize pid fd bytes) = by_caller pid (λ p. set_size c s p fd bytes) (λ p. search (hushed, quiet, m))
-  kept c (GetSize pid fd) = by_caller pid (λ p. get_size s p fd) (λ p. search (quiet, m))
-  kept c (Fork pid) = by_caller pid (λ p. fork s p) (λ p. search (hushed, m))
-  kept c (Dup pid fd) = by_caller pid (λ p. dup s pid p fd) (λ p. search (hushed, quiet, m))
-  kept c (SetNonblock pid fd on) = by_caller pid (λ p. set_nonblock s p fd on) (λ p. search (quiet, m))
-  kept c (Mkdir pid path mode) = by_caller pid (λ p. make kinds.Directory s p path mode) (λ p. made-keeps kinds.Directory p path mode)
-  kept c (Mkfifo pid path mode) = by_caller pid (λ p. make kinds.Fifo s p path mode) (λ p. made-keeps kinds.Fifo p path mode)
-  kept c (Unlink pid path) = by_caller pid (λ p. unlink s p path) (λ p. unlinked-keeps p path)
-  kept c (Rmdir pid path) = by_caller pid (λ p. rmdir s p path) (λ p. removed-keeps p path)
-  kept c (Chmod pid path mode) = by_caller pid (λ p. chmod s p path mode) (λ p. remoded-keeps p path mode)
-  kept c (Stat pid path) = by_caller pid (λ p. stat s p path) (λ p. search (quiet, m))
-  kept c (Lists pid path) = by_caller pid (λ p. list s p path) (λ p. search (quiet, m))
+  kept c (Resume pid) = by_caller pid (λ p. resume s pid p) (λ p. resume-keeps IsMapped others s m pid p)
+  kept c (Fork pid) = by_ready pid (λ p. fork s p) (λ p. search (passes, m) depth 16)
+  kept c (Mkdir pid path mode) = by_ready pid (λ p. make kinds.Directory s p path mode) (λ p. made-keeps kinds.Directory p path mode)
+  kept c (Mkfifo pid path mode) = by_ready pid (λ p. make kinds.Fifo s p path mode) (λ p. made-keeps kinds.Fifo p path mode)
+  kept c (Unlink pid path) = by_ready pid (λ p. unlink s p path) (λ p. unlinked-keeps p path)
+  kept c (Rmdir pid path) = by_ready pid (λ p. rmdir s p path) (λ p. removed-keeps p path)
+  kept c (Chmod pid path mode) = by_ready pid (λ p. chmod s p path mode) (λ p. remoded-keeps p path mode)
+  kept c (Stat pid path) = by_ready pid (λ p. stat s p path) (λ p. search (carries, m) depth 16)
+  kept c (Lists pid path) = by_ready pid (λ p. list s p path) (λ p. search (carries, m) depth 16)
+  kept c (Open pid path flags) = by_ready pid (λ p. open_path c s pid p path (access_of flags.0)) (λ p. open-keeps IsMapped others s m c pid p path (access_of flags.0))
+  kept c (Pipe pid nonblock) = by_ready pid (λ p. pipe c s pid p nonblock) (λ p. search (passes, carries, m) depth 16)
+  kept c (Dup pid fd) = by_ready pid (λ p. dup s pid p fd) (λ p. search (passes, carries, m) depth 16)
+  kept c (Close pid fd) = by_ready pid (λ p. close s pid p fd) (λ p. search (carries, m) depth 16)
+  kept c (Read pid fd n) = by_ready pid (λ p. transfer s pid p false (Reading fd n)) (λ p. transfer-keeps IsMapped others s m pid p false (Reading fd n))
+  kept c (Write pid fd payload) = by_ready pid (λ p. transfer s pid p false (Writing fd payload 0)) (λ p. transfer-keeps IsMapped others s m pid p false (Writing fd payload 0))
+  kept c (Tee pid source sink n nonblock) =
+      by_ready pid (λ p. transfer s pid p nonblock (Bringing crossings.Tee source sink n)) (λ p. transfer-keeps IsMapped others s m pid p nonblock (Bringing crossings.Tee source sink n))
+  kept c (Splice pid source sink n nonblock) =
+      by_ready pid (λ p. transfer s pid p nonblock (Bringing crossings.Splice source sink n)) (λ p. transfer-keeps IsMapped others s m pid p nonblock (Bringing crossings.Splice source sink n))
+  kept c (SetSize pid fd bytes) = by_ready pid (λ p. set_size c s p fd bytes) (λ p. search (passes, carries, m) depth 16)
+  kept c (GetSize pid fd) = by_ready pid (λ p. get_size s p fd) (λ p. search (carries, m) depth 16)
+  kept c (SetNonblock pid fd on) = by_ready pid (λ p. set_nonblock s p fd on) (λ p. search (carries, m) depth 16)
 
   pub stays : (c : Limits) (step : Step) → IsFileMap (step_of c s step).state.files
   stays c step = settled (call c s step) (kept c step)

@@ -153,7 +153,7 @@ splice-replies = refl
 -- nothing comes from an empty pipe that somebody writes; a tee leaves the bytes, and a splice takes one of them
 again-replies :
     lone two
-    (Spawn 5 5 [] 18 ∷ Pipe 1 false ∷ Pipe 1 false ∷ Tee 1 0 3 9 true ∷ Splice 1 0 3 9 false ∷ Write 1 1 (97 ∷ 98 ∷ []) ∷ Tee 1 0 3 9 false ∷ Splice 1 0 3 1 false ∷ Read 1 2 9 ∷ Read 1 0 9 ∷ [])
+    (Spawn 5 5 [] 18 ∷ Pipe 1 false ∷ Pipe 1 true ∷ Tee 1 0 3 9 true ∷ Splice 1 0 3 9 false ∷ Write 1 1 (97 ∷ 98 ∷ []) ∷ Tee 1 0 3 9 false ∷ Splice 1 0 3 1 false ∷ Read 1 2 9 ∷ Read 1 0 9 ∷ [])
     ≡ Pid 1 ∷ Fds 0 1 ∷ Fds 2 3 ∷ Err EAGAIN ∷ Err EAGAIN ∷ Num 2 ∷ Num 2 ∷ Num 1 ∷ Bytes (97 ∷ 98 ∷ 97 ∷ []) ∷ Bytes (98 ∷ []) ∷ []
 unfolding vacant
 again-replies = refl
@@ -169,7 +169,7 @@ refused-replies = refl
 -- after the writer's close a wait becomes the end of file
 ended-replies :
     lone two
-    (Spawn 5 5 [] 18 ∷ Pipe 1 false ∷ Pipe 1 false ∷ Tee 1 0 3 7 false ∷ Close 1 1 ∷ Tee 1 0 3 7 false ∷ Splice 1 0 3 7 false ∷ Read 1 2 9 ∷ [])
+    (Spawn 5 5 [] 18 ∷ Pipe 1 false ∷ Pipe 1 true ∷ Tee 1 0 3 7 false ∷ Close 1 1 ∷ Tee 1 0 3 7 false ∷ Splice 1 0 3 7 false ∷ Read 1 2 9 ∷ [])
     ≡ Pid 1 ∷ Fds 0 1 ∷ Fds 2 3 ∷ Err EAGAIN ∷ Num 0 ∷ Num 0 ∷ Num 0 ∷ Err EAGAIN ∷ []
 unfolding vacant
 ended-replies = refl

@@ -1,6 +1,6 @@
 -- Examples by computation: what the lone machine replies.
 
-use Rattle.std.specs.Prelude.{ℕ, ◌≡◌, Bool, false, true, List, [], ◌∷◌, Some, None, refl, replicate, take, nat_lt, nat_le, nat_eq, is_some, slice_set, if◌then◌else◌, Result, Ok, Err as Refused}
+use Rattle.std.specs.Prelude.{ℕ, ◌≡◌, Bool, false, true, not, ◌&&◌, List, [], ◌∷◌, Some, None, refl, replicate, take, nat_lt, nat_le, nat_eq, is_some, slice_set, if◌then◌else◌, Result, Ok, Err as Refused}
 use Rattle.std.proofs.Common.{◌<◌, ◌≤◌, length, ap, ◌∙◌, arith}
 use Rattle.std.proofs.lemmas.Bool.{lt-ltb, le-ltb, ne_eqb, eq-eqb}
 use Rattle.pf_base.specs.Limits.{Limits}
@@ -9,9 +9,11 @@ use Rattle.pf_base.specs.Queue.{Queue, empty, room_of}
 use Rattle.pf_base.specs.Progress.{Passed, moved, portion, put_some, write_now}
 use Rattle.pf_base.specs.State.{State, Process, End, Outcome, vacant, opening, settle, process, writing_end, with_queue}
 use Rattle.pf_base.specs.Counts.{readers}
-use Rattle.pf_base.specs.Pipes.{writing}
-use Rattle.pf_base.specs.Transfers.{Tried, try_write, write_told, write}
-use Rattle.pf_base.specs.Machine.{step_of, swept, may_want_memory}
+use Rattle.pf_base.specs.Pipes.{writing, new_pipe}
+use Rattle.pf_base.specs.Calls.{Writing}
+use Rattle.pf_base.specs.Transfers.{Tried, try_write}
+use Rattle.pf_base.specs.Attempts.{write_told, first, nonblocking, transfer}
+use Rattle.pf_base.specs.Machine.{act, step_of, swept, call_of, is_parked, may_want_memory}
 use Rattle.pf_base.specs.declared.TheConstants.{PIPE_BUF, MAX_WRITE}
 use Rattle.pf_base.specs.Runs.{run_of, lone}
 use Rattle.pf_base.specs.declared.progress.Progress.TheVariants.{Moved, NoReader}
@@ -59,7 +61,7 @@ reserved-replies = refl
 -- a descriptor of the wrong side, an empty pipe with a writer, a closed descriptor
 refused-replies :
     lone small
-    (Spawn 5 5 [] 18 ∷ Pipe 1 false ∷ Read 1 1 9 ∷ Write 1 0 (97 ∷ []) ∷ Read 1 0 9 ∷ Read 1 0 0 ∷ Close 1 0 ∷ Read 1 0 9 ∷ Close 1 256 ∷ Read 2 0 9 ∷ [])
+    (Spawn 5 5 [] 18 ∷ Pipe 1 true ∷ Read 1 1 9 ∷ Write 1 0 (97 ∷ []) ∷ Read 1 0 9 ∷ Read 1 0 0 ∷ Close 1 0 ∷ Read 1 0 9 ∷ Close 1 256 ∷ Read 2 0 9 ∷ [])
     ≡ Pid 1 ∷ Fds 0 1 ∷ Err EBADF ∷ Err EBADF ∷ Err EAGAIN ∷ Bytes [] ∷ Num 0 ∷ Err EBADF ∷ Err EBADF ∷ Err ESRCH ∷ []
 unfolding vacant
 refused-replies = refl
@@ -86,21 +88,30 @@ partly-replies = refl
 abbrev through : State Queue → End Queue → List ℕ → Bool → Result Tried Errno
 through s e x long = do
   refuse_if long EINVAL
-  Ok (try_write s e x)
+  Ok (try_write s e x 0)
 
-abbrev finish : Result Tried Errno → Result Outcome Errno
-finish tried = tried >>= (λ t. write_told t t.progress)
+-- what its process is told, or that it waits
+abbrev finish : ℕ → ℕ → Bool → List ℕ → Result Tried Errno → Result Outcome Errno
+finish pid fd nonblock x tried = (tried >>= (λ t. write_told fd x 0 t t.progress)) >>= first pid nonblock
 
-too-long : (s : State Queue) (p : Process) (fd : ℕ) (x : List ℕ) (e : End Queue) → writing_end s p fd ≡ Ok e → MAX_WRITE < length x → write s p fd x ≡ Refused EINVAL
-too-long s p fd x e is long =
-    ap (λ (r : Result (End Queue) Errno). finish (r >>= (λ e. through s e x (nat_lt MAX_WRITE (length x))))) is
-    ∙ ap (λ b. finish (through s e x b)) (lt-ltb MAX_WRITE (length x) long)
+abbrev write : State Queue → ℕ → Process → ℕ → List ℕ → Result Outcome Errno
+write s pid p fd x = transfer s pid p false (Writing fd x 0)
 
-no-reader : (s : State Queue) (p : Process) (fd : ℕ) (x : List ℕ) (e : End Queue) → writing_end s p fd ≡ Ok e → 0 < length x → length x ≤ MAX_WRITE → readers s e.description.pipe ≡ 0 → write s p fd x ≡ Refused EPIPE
-no-reader s p fd x e is some most none =
-    ap (λ (r : Result (End Queue) Errno). finish (r >>= (λ e. through s e x (nat_lt MAX_WRITE (length x))))) is
-    ∙ ap (λ b. finish (through s e x b)) (le-ltb MAX_WRITE (length x) most)
-    ∙ ap (λ (w : Passed). write_told (record { state = with_queue s e.description.pipe w.queue; progress = w.progress; bytes = take (moved w.progress) x }) w.progress) (unread_now e.pipe.queue _ (nat_le (length x) PIPE_BUF) x some none)
+too-long : (s : State Queue) (pid : ℕ) (p : Process) (fd : ℕ) (x : List ℕ) (e : End Queue) → writing_end s p fd ≡ Ok e → MAX_WRITE < length x → write s pid p fd x ≡ Refused EINVAL
+too-long s pid p fd x e is long =
+    let flag = nonblocking s p (Writing fd x 0) in
+    ap (λ (r : Result (End Queue) Errno). finish pid fd flag x (r >>= (λ e. through s e x (nat_lt MAX_WRITE (length x))))) is
+    ∙ ap (λ b. finish pid fd flag x (through s e x b)) (lt-ltb MAX_WRITE (length x) long)
+
+no-reader : (s : State Queue) (pid : ℕ) (p : Process) (fd : ℕ) (x : List ℕ) (e : End Queue) → writing_end s p fd ≡ Ok e → 0 < length x → length x ≤ MAX_WRITE → readers s e.description.pipe ≡ 0
+    → write s pid p fd x ≡ Refused EPIPE
+no-reader s pid p fd x e is some most none =
+    let flag = nonblocking s p (Writing fd x 0) in
+    ap (λ (r : Result (End Queue) Errno). finish pid fd flag x (r >>= (λ e. through s e x (nat_lt MAX_WRITE (length x))))) is
+    ∙ ap (λ b. finish pid fd flag x (through s e x b)) (le-ltb MAX_WRITE (length x) most)
+    ∙ ap
+    (λ (w : Passed). finish pid fd flag x (Ok (record { state = with_queue s e.description.pipe w.queue; progress = w.progress; bytes = take (moved w.progress) x; from = None; into = Some e.description.pipe })))
+    (unread_now e.pipe.queue _ (nat_le (length x) PIPE_BUF) x some none)
   where
     unread_now : (q : Queue) (readers : ℕ) (whole : Bool) (x : List ℕ) → 0 < length x → readers ≡ 0 → write_now q readers whole x ≡ record { progress = NoReader; queue = q }
     unread_now q readers whole x some none =
@@ -109,43 +120,45 @@ no-reader s p fd x e is some most none =
 
 -- the process, and its end that writes to the pipe
 abbrev writer : Process
-writer = record { cred = record { uid = 5; gid = 5; groups = []; umask = 18 }; descriptors = slice_set (slice_set (slice_set vacant 0 (Some 0)) 1 (Some 1)) 0 None }
+writer = record { cred = record { uid = 5; gid = 5; groups = []; umask = 18 }; descriptors = slice_set (slice_set (slice_set vacant 0 (Some 0)) 1 (Some 1)) 0 None; parked = None }
 
 abbrev unread-end : End Queue
-unread-end = record { description = writing 0 false; pipe = record { queue = empty 16; owner = 5 } }
+unread-end = record { description = writing 0 false; pipe = new_pipe (empty 16) 5 None }
 
 -- up to 1,048,576 bytes are told that nobody reads, more are refused before
 unread-write : (x : List ℕ) → 0 < length x → length x ≤ 1048576 → (step_of small unread (Write 1 1 x)).reply ≡ Err EPIPE
 unfolding vacant
-unread-write x some most = ap (λ (r : Result Outcome Errno). (swept (settle unread r)).reply) (no-reader unread writer 1 x unread-end refl some most refl)
+unread-write x some most = ap (λ (r : Result Outcome Errno). (swept (settle unread r)).reply) (no-reader unread 1 writer 1 x unread-end refl some most refl)
 
 unread-write-long : (x : List ℕ) → 1048576 < length x → (step_of small unread (Write 1 1 x)).reply ≡ Err EINVAL
 unfolding vacant
-unread-write-long x long = ap (λ (r : Result Outcome Errno). (swept (settle unread r)).reply) (too-long unread writer 1 x unread-end refl long)
+unread-write-long x long = ap (λ (r : Result Outcome Errno). (swept (settle unread r)).reply) (too-long unread 1 writer 1 x unread-end refl long)
 
 -- Want of memory
 
--- Spawn may always want it, Pipe and Read where the process lives, the others never
-wanted-spawn : (s : State Queue) (uid gid umask : ℕ) (groups : List ℕ) → may_want_memory s (Spawn uid gid groups umask) ≡ true
-wanted-spawn s uid gid umask groups = refl
+-- Spawn may always want it, Pipe and Read where the process lives and waits in no call, Write where it parks, the others
+-- never
+wanted-spawn : (c : Limits) (s : State Queue) (uid gid umask : ℕ) (groups : List ℕ) → may_want_memory c s (Spawn uid gid groups umask) ≡ true
+wanted-spawn c s uid gid umask groups = refl
 
-wanted-pipe : (s : State Queue) (pid : ℕ) (nonblock : Bool) → may_want_memory s (Pipe pid nonblock) ≡ is_some (process s pid)
-wanted-pipe s pid nonblock = refl
+wanted-pipe : (c : Limits) (s : State Queue) (pid : ℕ) (nonblock : Bool) → may_want_memory c s (Pipe pid nonblock) ≡ (is_some (process s pid) && not (is_some (call_of s pid)))
+wanted-pipe c s pid nonblock = refl
 
-wanted-read : (s : State Queue) (pid fd n : ℕ) → may_want_memory s (Read pid fd n) ≡ is_some (process s pid)
-wanted-read s pid fd n = refl
+wanted-read : (c : Limits) (s : State Queue) (pid fd n : ℕ) → may_want_memory c s (Read pid fd n) ≡ (is_some (process s pid) && not (is_some (call_of s pid)))
+wanted-read c s pid fd n = refl
 
-unwanted-exit : (s : State Queue) (pid : ℕ) → may_want_memory s (Exit pid) ≡ false
-unwanted-exit s pid = refl
+wanted-write : (c : Limits) (s : State Queue) (pid fd : ℕ) (x : List ℕ)
+    → may_want_memory c s (Write pid fd x) ≡ (is_parked (act c s (Write pid fd x)).reply && (is_some (process s pid) && not (is_some (call_of s pid))))
+wanted-write c s pid fd x = refl
 
-unwanted-close : (s : State Queue) (pid fd : ℕ) → may_want_memory s (Close pid fd) ≡ false
-unwanted-close s pid fd = refl
+unwanted-exit : (c : Limits) (s : State Queue) (pid : ℕ) → may_want_memory c s (Exit pid) ≡ false
+unwanted-exit c s pid = refl
 
-unwanted-write : (s : State Queue) (pid fd : ℕ) (x : List ℕ) → may_want_memory s (Write pid fd x) ≡ false
-unwanted-write s pid fd x = refl
+unwanted-close : (c : Limits) (s : State Queue) (pid fd : ℕ) → may_want_memory c s (Close pid fd) ≡ false
+unwanted-close c s pid fd = refl
 
-unwanted-tee : (s : State Queue) (pid source sink n : ℕ) (nonblock : Bool) → may_want_memory s (Tee pid source sink n nonblock) ≡ false
-unwanted-tee s pid source sink n nonblock = refl
+unwanted-tee : (c : Limits) (s : State Queue) (pid source sink n : ℕ) (nonblock : Bool) → may_want_memory c s (Tee pid source sink n nonblock) ≡ false
+unwanted-tee c s pid source sink n nonblock = refl
 
-unwanted-splice : (s : State Queue) (pid source sink n : ℕ) (nonblock : Bool) → may_want_memory s (Splice pid source sink n nonblock) ≡ false
-unwanted-splice s pid source sink n nonblock = refl
+unwanted-splice : (c : Limits) (s : State Queue) (pid source sink n : ℕ) (nonblock : Bool) → may_want_memory c s (Splice pid source sink n nonblock) ≡ false
+unwanted-splice c s pid source sink n nonblock = refl

@@ -1,17 +1,23 @@
--- Counted afresh over a state.
+-- Counted afresh over a state. An open that waits names its description as a descriptor would: so the description
+-- lives, counts as an end, and keeps its pipe.
 
-use Rattle.std.specs.Prelude.{ℕ, List, Option, ◌&&◌, nat_eq, if◌then◌else◌}
+use Rattle.std.specs.Prelude.{ℕ, List, Option, ◌∷◌, ◌&&◌, nat_eq, if◌then◌else◌}
 use Rattle.pf_base.specs.Queue.{Queue}
 use Rattle.pf_base.specs.Numbered.{sum_of, one_if}
+use Rattle.pf_base.specs.Calls.{made_by}
 use Rattle.pf_base.specs.State.{State, Process, Description}
 
--- how many descriptors of a table name a description
+-- how many names in a list are those of a description
 abbrev pub named_in : ℕ → List (Option ℕ) → ℕ
-named_in n fds = sum_of (λ m. one_if (nat_eq m n)) fds
+named_in n names = sum_of (λ m. one_if (nat_eq m n)) names
 
--- how many descriptors of all processes name it
+-- all names that a process has: that of its parked open, and those of its descriptors
+abbrev pub names_of : Process → List (Option ℕ)
+names_of p = made_by p.parked ∷ p.descriptors
+
+-- how many names of all processes are those of a description
 abbrev pub names : List (Option Process) → ℕ → ℕ
-names ps n = sum_of (λ p. named_in n p.descriptors) ps
+names ps n = sum_of (λ p. named_in n (names_of p)) ps
 
 -- how many descriptions are an end of a pipe
 abbrev pub ends : List (Option Description) → ℕ → ℕ

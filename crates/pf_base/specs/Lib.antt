@@ -9,6 +9,7 @@ pub mod Limits
 pub mod Queue
 pub mod Progress
 pub mod Numbered
+pub mod Calls
 pub mod State
 pub mod Counts
 pub mod Sweep
@@ -17,8 +18,12 @@ pub mod Descriptors
 pub mod Capacities
 pub mod Pipes
 pub mod Transfers
+pub mod Attempts
+pub mod Opens
 pub mod Files
 pub mod Machine
 pub mod Runs
+pub mod Streams
+pub mod Standing
 pub mod Events
 pub mod Laws

@@ -1,6 +1,6 @@
 -- Pipes: Pipe (pipe(2)), SetSize and GetSize (fcntl(2), F_SETPIPE_SZ and F_GETPIPE_SZ).
 
-use Rattle.std.specs.Prelude.{ℕ, ◌+◌, ◌-◌, ◌*◌, ◌^◌, Bool, true, false, not, ◌&&◌, ◌||◌, [], ◌∷◌, ◌++◌, length, Some, nat_lt, nat_le, if◌then◌else◌, Result, Ok}
+use Rattle.std.specs.Prelude.{ℕ, ◌+◌, ◌-◌, ◌*◌, ◌^◌, Bool, true, false, not, ◌&&◌, ◌||◌, [], ◌∷◌, ◌++◌, length, Option, Some, None, List, nat_lt, nat_le, if◌then◌else◌, Result, Ok}
 use Rattle.pf_base.specs.Refusals.{◌>>=◌, ◌>>◌, refuse_if}
 use Rattle.pf_base.specs.Limits.{Limits}
 use Rattle.pf_base.specs.Queue.{Queue, empty, pages_for, with_capacity}
@@ -23,9 +23,13 @@ first_descriptor p = first_free p.descriptors
 abbrev pub second_descriptor : Process → ℕ
 second_descriptor p = first_free (put_at p.descriptors (first_descriptor p) 0)
 
--- one more pipe or two more descriptions would pass 2 ^ 64 - 1, the last number to draw
-abbrev pub is_spent : {Q : Type 0} → State Q → Bool
-is_spent s = nat_lt (2 ^ 64 - 1) (length s.descriptions + 2) || nat_lt (2 ^ 64 - 1) (length s.pipes + 1)
+-- so many more numbers would pass 2 ^ 64 - 1, the last one to draw
+abbrev pub is_spent : {X : Type 0} → List (Option X) → ℕ → Bool
+is_spent xs more = nat_lt (2 ^ 64 - 1) (length xs + more)
+
+-- a pipe that nobody has opened yet
+abbrev pub new_pipe : {Q : Type 0} → Q → ℕ → Option ℕ → Pipe Q
+new_pipe queue owner file = record { queue = queue; owner = owner; file = file; read_opens = 0; write_opens = 0 }
 
 -- how many slots a new pipe of these credentials gets, or why it gets none
 abbrev pub capacity_for : Limits → State Queue → Cred → Result ℕ LimitFault
@@ -48,13 +52,13 @@ opened s pid nonblock queue p = record s {
   processes = put_at s.processes (pid - 1) (with_two (length s.descriptions) p);
   descriptions =
       s.descriptions ++ Some (reading (length s.pipes) nonblock) ∷ Some (writing (length s.pipes) nonblock) ∷ [];
-  pipes = s.pipes ++ Some (record { queue = queue; owner = p.cred.uid }) ∷ [];
+  pipes = s.pipes ++ Some (new_pipe queue p.cred.uid None) ∷ [];
 }
 
 abbrev pub pipe : Limits → State Queue → ℕ → Process → Bool → Result Outcome Errno
 pipe c s pid p nonblock = do
   refuse_if (nat_le MAX_DESCRIPTORS (second_descriptor p)) EMFILE
-  refuse_if (is_spent s) ENFILE
+  refuse_if (is_spent s.descriptions 2 || is_spent s.pipes 1) ENFILE
   slots ← told_as ENFILE (capacity_for c s p.cred)
   Ok (told (opened s pid nonblock (empty slots) p) (Fds (first_descriptor p) (second_descriptor p)))
 

@@ -1,6 +1,6 @@
 -- Processes: Spawn and Exit (the profile's own), Fork (fork(2)).
 
-use Rattle.std.specs.Prelude.{ℕ, ◌+◌, nat_le, not, Result, Ok}
+use Rattle.std.specs.Prelude.{ℕ, ◌+◌, nat_le, not, None, Result, Ok}
 use Rattle.pf_base.specs.Refusals.{◌>>◌, refuse_if}
 use Rattle.pf_base.specs.Queue.{Queue}
 use Rattle.pf_base.specs.Credentials.{is_valid}
@@ -22,12 +22,12 @@ born s p = do
 abbrev pub spawn : State Queue → Cred → Result Outcome Errno
 spawn s cred = do
   refuse_if (not (is_valid cred)) EINVAL
-  born s (record { cred = cred; descriptors = vacant })
+  born s (record { cred = cred; descriptors = vacant; parked = None })
 
--- with the same credentials, and descriptors that name the same descriptions
+-- with the same credentials, and descriptors that name the same descriptions. Who forks waits in no call
 abbrev pub fork : State Queue → Process → Result Outcome Errno
 fork s p = born s p
 
--- the process goes, and its descriptors with it
+-- the process goes, and with it its parked call and its descriptors
 abbrev pub exit : State Queue → ℕ → Result Outcome Errno
 exit s pid = Ok (done (without_process s pid) 0)

@@ -1,24 +1,26 @@
 -- The lone machine's state. What a pipe holds is a parameter: the queue of its bytes for the machine itself,
 -- and whatever stands for that queue where code says what its own state means.
 
-use Rattle.std.specs.Prelude.{ℕ, zero, suc, ◌-◌, Bool, not, List, [], Option, None, replicate, Result, Ok, Err}
+use Rattle.std.specs.Prelude.{ℕ, zero, suc, ◌-◌, Bool, not, List, [], Option, None, is_some, replicate, Result, Ok, Err}
 use Rattle.std.specs.Option.{option_map, option_and_then}
 use Rattle.pf_base.specs.Refusals.{◌>>=◌, ◌>>◌, refuse_if, or_refuse}
 use Rattle.pf_base.specs.Queue.{Queue}
 use Rattle.pf_base.specs.FileMap.{Files, root_alone}
+use Rattle.pf_base.specs.Calls.{Call}
 use Rattle.pf_base.specs.Numbered.{at, put_at, clear_at, change_at}
 use Rattle.pf_base.specs.declared.TheConstants.{MAX_PROCESSES}
 use Rattle.pf_base.specs.declared.cred.Cred.{Cred}
 use Rattle.pf_base.specs.declared.errno.Errno.{Errno}
-use Rattle.pf_base.specs.declared.errno.Errno.TheVariants.{ESRCH, EBADF}
+use Rattle.pf_base.specs.declared.errno.Errno.TheVariants.{ESRCH, EBUSY, EBADF}
 use Rattle.pf_base.specs.declared.step.Reply.{Reply}
 use Rattle.pf_base.specs.declared.step.Reply.TheVariants as replies
 
--- a process: its credentials, and at each of its MAX_DESCRIPTORS descriptors the number of an open file
--- description
+-- a process: its credentials, at each of its MAX_DESCRIPTORS descriptors the number of an open file description, and
+-- the call in which it waits
 pub record Process : Type 0 where
   pub cred : Cred
   pub descriptors : List (Option ℕ)
+  pub parked : Option Call
 
 -- an open file description (POSIX.1-2017, 3.258): the number of its pipe, whether it reads, writes, and has
 -- O_NONBLOCK
@@ -28,10 +30,14 @@ pub record Description : Type 0 where
   pub writes : Bool
   pub nonblocking : Bool
 
--- a pipe: what it holds, and the user that its pages are charged to
+-- a pipe: what it holds, the user that its pages are charged to, the number of its FIFO, and how often that was opened
+-- for reading and for writing. A pipe of pipe(2) has no FIFO, and is never opened
 pub record Pipe (Q : Type 0) : Type 0 where
   pub queue : Q
   pub owner : ℕ
+  pub file : Option ℕ
+  pub read_opens : ℕ
+  pub write_opens : ℕ
 
 -- processes: MAX_PROCESSES places, the pid 1 first. descriptions and pipes: a place for each number ever drawn. files: the
 -- map of the files that are there, and how many were ever made besides the root
@@ -85,6 +91,13 @@ module _ {Q : Type 0} where
   abbrev pub living : State Q → ℕ → Result Process Errno
   living s pid = or_refuse ESRCH (process s pid)
 
+  -- and that waits in no call
+  abbrev pub ready : State Q → ℕ → Result Process Errno
+  ready s pid = do
+    p ← living s pid
+    refuse_if (is_some p.parked) EBUSY
+    Ok p
+
   -- the end that the description of a number is
   abbrev pub end_at : State Q → ℕ → Option (End Q)
   end_at s n =
@@ -137,3 +150,7 @@ module _ {Q : Type 0} where
 -- a process with the description of this number at a descriptor
 abbrev pub with_descriptor : ℕ → ℕ → Process → Process
 with_descriptor fd n p = record p { descriptors = put_at p.descriptors fd n }
+
+-- a process that waits in a call, or in none
+abbrev pub waiting : Option Call → Process → Process
+waiting call p = record p { parked = call }

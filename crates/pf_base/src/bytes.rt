@@ -1,7 +1,8 @@
-ghost use Rattle.std.specs.Prelude.{◌≡◌, nat_eq};
+ghost use Rattle.std.specs.Prelude.{◌≡◌, nat_eq, IfOk};
 ghost use Rattle.std.specs.Cmp.Lexicographic.{pointwise, nat_list_eq_equiv};
 ghost use Rattle.std.specs.Cmp.{partial_equiv_from_equiv};
 
+use std::alloc::{AllocError, Global};
 use std::marker::Model;
 
 /// Bytes that a step carries or a reply gives. A contract sees the list of them.
@@ -31,6 +32,14 @@ impl ByteString {
         ensures { result.now ≡ self.now }
     {
         self.bytes.as_slice()
+    }
+
+    /// The same bytes again.
+    pub fn copy(&self, alloc: Global) -> Result<ByteString, AllocError>
+        ensures { IfOk result (λ bytes. bytes ≡ self.now) }
+    {
+        let bytes = Vec::from_slice(alloc, self.as_slice())?;
+        Ok(ByteString { bytes })
     }
 
     /// Gives the bytes back, with no allocation.

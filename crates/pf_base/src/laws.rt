@@ -1,6 +1,11 @@
 //! Laws of the definitions. These functions compute nothing: their contracts are the laws.
 
 ghost use Rattle.pf_base.specs.Laws.{PutAdds, TakeParts, TeeCopies, TransfersMove, AmpleKeepsAll, FilesStay};
+ghost use Rattle.pf_base.specs.Standing.{EndsApart, NumbersApart, OneFifoEach, reached};
+ghost use Rattle.pf_base.specs.Streams.{StreamLaw};
+
+use crate::config::Config;
+use crate::step::Step;
 
 /// A put that fits adds exactly its bytes at the end of a queue, and the room falls by their number.
 pub fn put_adds()
@@ -33,3 +38,40 @@ pub fn ample_keeps_all()
 pub fn files_stay()
     ensures { FilesStay }
 {}
+
+/// Whatever a list of steps does from the opening state: what was taken from a pipe, followed by what it holds,
+/// is what was given to it; what a write gives stands in its order, and what a write of at most `PIPE_BUF` bytes
+/// gives is one piece or none.
+pub fn stream(config: &Config, steps: &[Step])
+    ensures { StreamLaw config.now steps.now }
+{
+    let _config = config;
+    let _steps = steps;
+}
+
+/// Wherever a list of steps leads from the opening state, a FIFO has one pipe at most, and an open of the FIFO finds
+/// it.
+pub fn one_fifo_each(config: &Config, steps: &[Step])
+    ensures { OneFifoEach (reached config.now steps.now) }
+{
+    let _config = config;
+    let _steps = steps;
+}
+
+/// Wherever a list of steps leads from the opening state, no two paths have files of one number, and the number that
+/// the next file gets is no file's and no pipe's: so a FIFO that is made again has a pipe of its own.
+pub fn numbers_apart(config: &Config, steps: &[Step])
+    ensures { NumbersApart (reached config.now steps.now) }
+{
+    let _config = config;
+    let _steps = steps;
+}
+
+/// Wherever a list of steps leads from the opening state, who reads and who writes a pipe are the live descriptions
+/// for that side that some descriptor names, and the opens for it that are parked.
+pub fn ends_apart(config: &Config, steps: &[Step])
+    ensures { EndsApart (reached config.now steps.now) }
+{
+    let _config = config;
+    let _steps = steps;
+}

@@ -1,7 +1,11 @@
+ghost use Rattle.std.specs.Prelude.{◌≡◌, IfOk};
+
 use crate::bytes::ByteString;
 use crate::cred::Groups;
 use crate::errno::Errno;
 use crate::meta::Meta;
+use crate::open_flags::OpenFlags;
+use std::alloc::{AllocError, Global};
 
 /// A call of one process of a namespace. `pid`s count from 1, descriptors (`fd`) from 0.
 #[derive(Debug, PartialEq, Eq, Drop)]
@@ -98,6 +102,12 @@ pub enum Step {
         path: ByteString,
         mode: u32,
     },
+    /// A FIFO is opened, and gets a descriptor (open(2), fifo(7)).
+    Open {
+        pid: u32,
+        path: ByteString,
+        flags: OpenFlags,
+    },
     /// A FIFO's name goes (unlink()).
     Unlink {
         pid: u32,
@@ -124,6 +134,126 @@ pub enum Step {
         pid: u32,
         path: ByteString,
     },
+
+    /// The call in which a process waits is tried again (this profile's own).
+    Resume {
+        pid: u32,
+    },
+}
+
+impl Step {
+    ghost use Rattle.std.specs.Prelude.{◌≡◌, IfOk};
+
+    /// The same step again.
+    pub fn copy(&self, alloc: Global) -> Result<Step, AllocError>
+        ensures { IfOk result (λ step. step ≡ self.now) }
+    {
+        match self {
+            Step::Spawn {
+                uid,
+                gid,
+                groups,
+                umask,
+            } => Ok(Step::Spawn {
+                uid: *uid,
+                gid: *gid,
+                groups: groups.copy(alloc)?,
+                umask: *umask,
+            }),
+            Step::Exit { pid } => Ok(Step::Exit { pid: *pid }),
+            Step::Pipe { pid, nonblock } => Ok(Step::Pipe {
+                pid: *pid,
+                nonblock: *nonblock,
+            }),
+            Step::Close { pid, fd } => Ok(Step::Close { pid: *pid, fd: *fd }),
+            Step::Read { pid, fd, n } => Ok(Step::Read {
+                pid: *pid,
+                fd: *fd,
+                n: *n,
+            }),
+            Step::Write { pid, fd, payload } => Ok(Step::Write {
+                pid: *pid,
+                fd: *fd,
+                payload: payload.copy(alloc)?,
+            }),
+            Step::Tee {
+                pid,
+                source,
+                sink,
+                n,
+                nonblock,
+            } => Ok(Step::Tee {
+                pid: *pid,
+                source: *source,
+                sink: *sink,
+                n: *n,
+                nonblock: *nonblock,
+            }),
+            Step::SetSize { pid, fd, bytes } => Ok(Step::SetSize {
+                pid: *pid,
+                fd: *fd,
+                bytes: *bytes,
+            }),
+            Step::GetSize { pid, fd } => Ok(Step::GetSize { pid: *pid, fd: *fd }),
+            Step::Fork { pid } => Ok(Step::Fork { pid: *pid }),
+            Step::Dup { pid, fd } => Ok(Step::Dup { pid: *pid, fd: *fd }),
+            Step::SetNonblock { pid, fd, on } => Ok(Step::SetNonblock {
+                pid: *pid,
+                fd: *fd,
+                on: *on,
+            }),
+            Step::Splice {
+                pid,
+                source,
+                sink,
+                n,
+                nonblock,
+            } => Ok(Step::Splice {
+                pid: *pid,
+                source: *source,
+                sink: *sink,
+                n: *n,
+                nonblock: *nonblock,
+            }),
+            Step::Mkdir { pid, path, mode } => Ok(Step::Mkdir {
+                pid: *pid,
+                path: path.copy(alloc)?,
+                mode: *mode,
+            }),
+            Step::Mkfifo { pid, path, mode } => Ok(Step::Mkfifo {
+                pid: *pid,
+                path: path.copy(alloc)?,
+                mode: *mode,
+            }),
+            Step::Open { pid, path, flags } => Ok(Step::Open {
+                pid: *pid,
+                path: path.copy(alloc)?,
+                flags: *flags,
+            }),
+            Step::Unlink { pid, path } => Ok(Step::Unlink {
+                pid: *pid,
+                path: path.copy(alloc)?,
+            }),
+            Step::Rmdir { pid, path } => Ok(Step::Rmdir {
+                pid: *pid,
+                path: path.copy(alloc)?,
+            }),
+            Step::Chmod { pid, path, mode } => Ok(Step::Chmod {
+                pid: *pid,
+                path: path.copy(alloc)?,
+                mode: *mode,
+            }),
+            Step::Stat { pid, path } => Ok(Step::Stat {
+                pid: *pid,
+                path: path.copy(alloc)?,
+            }),
+            Step::List { pid, path } => Ok(Step::List {
+                pid: *pid,
+                path: path.copy(alloc)?,
+            }),
+            Step::Resume { pid } => Ok(Step::Resume { pid: *pid }),
+        }
+    }
 }
 
 /// What a process is told.
@@ -141,8 +271,30 @@ pub enum Reply {
     Names(ByteString),
     /// What is known of a file.
     Meta(Meta),
+    /// The call waits: its process may be resumed, or exit.
+    Parked,
     /// The call was refused.
     Err(Errno),
+}
+
+impl Reply {
+    ghost use Rattle.std.specs.Prelude.{◌≡◌, IfOk};
+
+    /// The same reply again.
+    pub fn copy(&self, alloc: Global) -> Result<Reply, AllocError>
+        ensures { IfOk result (λ reply. reply ≡ self.now) }
+    {
+        match self {
+            Reply::Num(number) => Ok(Reply::Num(*number)),
+            Reply::Pid(pid) => Ok(Reply::Pid(*pid)),
+            Reply::Fds(reading, writing) => Ok(Reply::Fds(*reading, *writing)),
+            Reply::Bytes(bytes) => Ok(Reply::Bytes(bytes.copy(alloc)?)),
+            Reply::Names(names) => Ok(Reply::Names(names.copy(alloc)?)),
+            Reply::Meta(meta) => Ok(Reply::Meta(*meta)),
+            Reply::Parked => Ok(Reply::Parked),
+            Reply::Err(errno) => Ok(Reply::Err(*errno)),
+        }
+    }
 }
 
 /// What a step is answered.

@@ -1,4 +1,5 @@
 use super::*;
+use bitflags::Flags;
 use std::alloc::AllocError;
 use std::test::Fail;
 
@@ -142,5 +143,60 @@ fn limits_are_told_by_their_call(rt: HostRuntime) -> Result<(), Fail> {
         format!(in rt.alloc(); "{fault}")?.as_str(),
         "the pages of all pipes would pass the reservation"
     );
+    Ok(())
+}
+
+#[test]
+fn open_flags_are_three_bits(rt: HostRuntime) {
+    for (bits, reads, writes, nonblock) in [
+        (0, false, false, false),
+        (1, true, false, false),
+        (2, false, true, false),
+        (5, true, false, true),
+        (7, true, true, true),
+        (4_294_967_288, false, false, false),
+    ] {
+        let flags = OpenFlags::from_bits_retain(bits);
+        assert_eq!(rt; flags.bits(), bits);
+        assert_eq!(rt; flags.contains(OpenFlags::READ), reads, "{bits}");
+        assert_eq!(rt; flags.contains(OpenFlags::WRITE), writes, "{bits}");
+        assert_eq!(rt; flags.contains(OpenFlags::NONBLOCK), nonblock, "{bits}");
+    }
+}
+
+#[test]
+fn copied_steps_are_the_same(rt: HostRuntime) -> Result<(), Fail> {
+    let payload = ByteString::new(vec![in rt.alloc(); 104, 101]?);
+    let path = ByteString::new(vec![in rt.alloc(); 47, 102]?);
+    for step in [
+        Step::Fork { pid: 3 },
+        Step::Resume { pid: 1 },
+        Step::Write {
+            pid: 2,
+            fd: 1,
+            payload,
+        },
+        Step::Open {
+            pid: 1,
+            path,
+            flags: OpenFlags::from_bits_retain(6),
+        },
+    ] {
+        assert_eq!(rt; step.copy(rt.alloc())?, step);
+    }
+    Ok(())
+}
+
+#[test]
+fn copied_replies_are_the_same(rt: HostRuntime) -> Result<(), Fail> {
+    let bytes = ByteString::new(vec![in rt.alloc(); 104, 101]?);
+    for reply in [
+        Reply::Fds(3, 4),
+        Reply::Bytes(bytes),
+        Reply::Parked,
+        Reply::Err(Errno::ENXIO),
+    ] {
+        assert_eq!(rt; reply.copy(rt.alloc())?, reply);
+    }
     Ok(())
 }
