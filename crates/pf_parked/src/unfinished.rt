@@ -49,6 +49,13 @@ impl UnfinishedWrite {
         self.written as u64
     }
 
+    /// All its bytes.
+    pub fn bytes(&self) -> &[u8]
+        ensures { result.now ≡ self.now.bytes }
+    {
+        self.bytes.as_slice()
+    }
+
     /// The bytes that are left.
     pub fn rest(&self) -> &[u8]
         ensures { result.now ≡ drop self.now.written self.now.bytes }

@@ -60,8 +60,8 @@ stopped_crosses f c source sink n progress sound s stops =
     let here : Stands f source.ring.windows = stands_first f source.ring.windows sink.ring.windows s in
     record {
       told = stops f c sound here;
-      source_is = record { owner = refl; readers = refl; writers = refl; capacity = refl; fits = λ h. h };
-      sink_is = record { owner = refl; readers = refl; writers = refl; capacity = refl; fits = λ h. h };
+      source_is = record { owner = refl; readers = refl; writers = refl; opens = refl; capacity = refl; fits = λ h. h };
+      sink_is = record { owner = refl; readers = refl; writers = refl; opens = refl; capacity = refl; fits = λ h. h };
       moves = record { between = f; copied = keeps_same f source.ring.windows sink.ring.windows (stands_second f source.ring.windows sink.ring.windows s); dropped = keeps_same f [] source.ring.windows here };
     }
 

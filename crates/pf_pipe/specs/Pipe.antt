@@ -1,6 +1,6 @@
 -- What a pipe means, and what a transfer through it leaves.
 
-use Rattle.std.specs.Prelude.{◌≡◌, ℕ, ◌<◌, ◌≤◌, [], length, Result, Ok, Err}
+use Rattle.std.specs.Prelude.{◌≡◌, ℕ, ◌+◌, ◌<◌, ◌≤◌, [], length, Option, Result, Ok, Err}
 use Rattle.pf_base.specs.Progress.{Passed, Crossed, source_after, cross_now}
 use Rattle.pf_base.specs.Queue.{tee_number, after_tee}
 use Rattle.pf_base.specs.declared.errno.Errno.TheVariants.{EBUSY}
@@ -15,12 +15,23 @@ use Rattle.pf_frame.specs.Live.{Live, IsSound}
 use Rattle.pf_ring.specs.Ring.{Ring, queue_of}
 use Rattle.pf_ring.specs.Windows.{Stands, Keeps, Moves}
 
--- a ring with the user that its pages are charged to, and how many ends read and write it
+-- the number of a pipe's FIFO, and how often it was opened for reading and for writing; a pipe of pipe(2) has no FIFO
+pub record Opens : Type 0 where
+  pub file : Option ℕ
+  pub read : ℕ
+  pub write : ℕ
+
+-- nothing opened it yet
+abbrev pub unopened : Option ℕ → Opens
+unopened file = record { file = file; read = 0; write = 0 }
+
+-- a ring with the user that its pages are charged to, how many ends read and write it, and its opens
 pub record CountedPipe : Type 0 where
   pub ring : Ring
   pub owner : ℕ
   pub readers : ℕ
   pub writers : ℕ
+  pub opens : Opens
 
 -- how many ends of a side there are
 abbrev pub ends : Side → CountedPipe → ℕ
@@ -32,6 +43,16 @@ abbrev pub with_ends : Side → ℕ → CountedPipe → CountedPipe
 with_ends Read n p = record p { readers = n }
 with_ends Write n p = record p { writers = n }
 
+-- how often it was opened for a side
+abbrev pub opens_for : Side → CountedPipe → ℕ
+opens_for Read p = p.opens.read
+opens_for Write p = p.opens.write
+
+-- opened once more for a side
+abbrev pub opened_for : Side → CountedPipe → CountedPipe
+opened_for Read p = record p { opens = record p.opens { read = p.opens.read + 1 } }
+opened_for Write p = record p { opens = record p.opens { write = p.opens.write + 1 } }
+
 -- a transfer came as far as the machine says, and left the queue that it says. No more than the ring has changed, and
 -- all other rings in the frames show what they showed
 pub record Passes (old new : CountedPipe) (f g : Live) (progress : Progress) (machine : Passed) : Type 0 where
@@ -39,6 +60,7 @@ pub record Passes (old new : CountedPipe) (f g : Live) (progress : Progress) (ma
   pub owner : new.owner ≡ old.owner
   pub readers : new.readers ≡ old.readers
   pub writers : new.writers ≡ old.writers
+  pub opens : new.opens ≡ old.opens
   pub capacity : new.ring.capacity ≡ old.ring.capacity
   pub fits : length old.ring.windows ≤ old.ring.capacity → length new.ring.windows ≤ new.ring.capacity
   pub keeps : Keeps [] old.ring.windows new.ring.windows f g
@@ -48,6 +70,7 @@ pub record SameButWindows (old new : CountedPipe) : Type 0 where
   pub owner : new.owner ≡ old.owner
   pub readers : new.readers ≡ old.readers
   pub writers : new.writers ≡ old.writers
+  pub opens : new.opens ≡ old.opens
   pub capacity : new.ring.capacity ≡ old.ring.capacity
   pub fits : length old.ring.windows ≤ old.ring.capacity → length new.ring.windows ≤ new.ring.capacity
 

@@ -6,7 +6,7 @@ ghost use Rattle.pf_base.specs.Queue.{room_of, bytes_of, taken};
 ghost use Rattle.pf_frame.specs.Live.{Live, IsSound};
 ghost use Rattle.pf_ring.specs.Ring.{queue_of};
 ghost use Rattle.pf_ring.specs.Windows.{Stands, Keeps, SameBytes, PutsBehind, bytes_in};
-ghost use Rattle.pf_pipe.specs.Pipe.{ends, with_ends, Passes, Crosses, Stops, Goes, Resizes};
+ghost use Rattle.pf_pipe.specs.Pipe.{ends, with_ends, opens_for, opened_for, unopened, Passes, Crosses, Stops, Goes, Resizes};
 
 use pf_base::{Crossing, Errno, Fault, Progress, Side};
 use pf_frame::Frames;
@@ -14,7 +14,8 @@ use pf_ring::SlotRing;
 use std::alloc::{AllocError, Global};
 use std::marker::Model;
 
-/// A pipe (pipe(7)): a ring of slots, the user that its pages are charged to, and how many ends read and write it.
+/// A pipe (pipe(7)): a ring of slots, the user that its pages are charged to, and how many ends read and write it. That of
+/// a FIFO has the FIFO's number too, and how often it was opened for each side (fifo(7)).
 ///
 /// It holds no bytes: they stand in the frames of the door that each call is handed, which is always the same. It is
 /// cleared before it ends, or its frames stay live.
@@ -24,6 +25,9 @@ pub struct Pipe {
     owner: u32,
     readers: u64,
     writers: u64,
+    file: Option<u64>,
+    read_opens: u64,
+    write_opens: u64,
 }
 
 impl Model for Pipe {
@@ -31,18 +35,31 @@ impl Model for Pipe {
 
     ghost Value = { CountedPipe };
 
-    ghost view = { λ p. record { ring = p.ring; owner = p.owner; readers = p.readers; writers = p.writers } };
+    ghost view = { λ p. record {
+      ring = p.ring;
+      owner = p.owner;
+      readers = p.readers;
+      writers = p.writers;
+      opens = record { file = p.file; read = p.read_opens; write = p.write_opens };
+    } };
 }
 
 impl Pipe {
-    /// An empty pipe of so many slots that nothing reads or writes yet. No later call takes memory.
-    pub fn new(alloc: Global, slots: usize, owner: u32) -> Result<Pipe, AllocError>
+    /// An empty pipe of so many slots that nothing reads or writes yet, of the FIFO with this number or of none. No later
+    /// call takes memory but `set_size`.
+    pub fn new(
+        alloc: Global,
+        slots: usize,
+        owner: u32,
+        file: Option<u64>,
+    ) -> Result<Pipe, AllocError>
         requires { slots < 2 ^ 32 }
         ensures { IfOk result (λ p. p ≡ record {
           ring = record { capacity = slots; windows = [] };
           owner = owner;
           readers = 0;
           writers = 0;
+          opens = unopened file;
         }) }
     {
         let ring = SlotRing::new(alloc, slots)?;
@@ -51,6 +68,9 @@ impl Pipe {
             owner,
             readers: 0,
             writers: 0,
+            file,
+            read_opens: 0,
+            write_opens: 0,
         })
     }
 
@@ -107,6 +127,23 @@ impl Pipe {
         self.writers
     }
 
+    /// The number of its FIFO, if it has one.
+    pub fn file(&self) -> Option<u64>
+        ensures { result ≡ self.now.opens.file }
+    {
+        self.file
+    }
+
+    /// How often its FIFO was opened for a side.
+    pub fn opens(&self, side: Side) -> u64
+        ensures { result ≡ opens_for side self.now }
+    {
+        match side {
+            Side::Read => self.read_opens,
+            Side::Write => self.write_opens,
+        }
+    }
+
     /// Whether any end is left: a pipe with none is gone (POSIX.1-2017, close()).
     pub fn is_open(&self) -> bool
         ensures { result ≡ nat_lt 0 (self.now.readers + self.now.writers) }
@@ -122,6 +159,19 @@ impl Pipe {
         match side {
             Side::Read => self.readers += 1,
             Side::Write => self.writers += 1,
+        }
+    }
+
+    /// Counts an end more of this side, which opened the FIFO.
+    pub fn open_end(&mut self, side: Side)
+        requires count { ends side self.old < 2 ^ 64 - 1 }
+        requires opens { opens_for side self.old < 2 ^ 64 - 1 }
+        ensures { self.new ≡ opened_for side (with_ends side (ends side self.old + 1) self.old) }
+    {
+        self.add_end(side);
+        match side {
+            Side::Read => self.read_opens += 1,
+            Side::Write => self.write_opens += 1,
         }
     }
 

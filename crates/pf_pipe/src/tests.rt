@@ -28,7 +28,7 @@ impl Lone {
             pages.push_reserved(Frame::filled(alloc, old)?);
         }
         let frames = OwnFrames::new(alloc, pages)?;
-        let pipe = Pipe::new(alloc, slots, 1000)?;
+        let pipe = Pipe::new(alloc, slots, 1000, None)?;
         Ok(Lone { pipe, frames })
     }
 
@@ -88,8 +88,8 @@ impl Two {
             pages.push_reserved(Frame::filled(alloc, 165)?);
         }
         let frames = OwnFrames::new(alloc, pages)?;
-        let mut source = Pipe::new(alloc, slots, 1000)?;
-        let sink = Pipe::new(alloc, sink_slots, 1001)?;
+        let mut source = Pipe::new(alloc, slots, 1000, None)?;
+        let sink = Pipe::new(alloc, sink_slots, 1001, None)?;
         source.add_end(Side::Read);
         source.add_end(Side::Write);
         Ok(Two {

@@ -210,7 +210,8 @@ impl SlotRing {
         ensures source { queue_of (F.live f.new) self.now ≡ queue_of (F.live f.old) self.now }
         // No frame is taken. Other rings show what they showed, and nothing is written.
         ensures takes { (F.live f.new).held ≡ (F.live f.old).held }
-        ensures keeps { Keeps self.now.windows sink.old.windows sink.new.windows (F.live f.old) (F.live f.new) }
+        ensures keeps { Keeps self.now.windows sink.old.windows sink.new.windows
+            (F.live f.old) (F.live f.new) }
         ensures bytes_stay { SameBytes (F.live f.old) (F.live f.new) }
     {
         let number = windows::share(&self.windows, &mut sink.windows, sink.slots, f, n);
@@ -259,7 +260,8 @@ impl SlotRing {
         requires fits { length self.old.windows ≤ slots }
         requires few { slots < 2 ^ 32 }
         ensures ring { OnOk result (self.new ≡ record { capacity = slots; windows = self.old.windows }) }
-        ensures queue { OnOk result ((f : Live) → queue_of f self.new ≡ with_capacity slots (queue_of f self.old)) }
+        ensures queue { OnOk result
+            ((f : Live) → queue_of f self.new ≡ with_capacity slots (queue_of f self.old)) }
         // Memory is wanted where the number changes, and where it is refused nothing has changed.
         ensures refused { OnErr result (self.new ≡ self.old) }
         ensures succeeds { slots ≡ self.old.capacity → IsOk result }

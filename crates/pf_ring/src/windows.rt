@@ -263,7 +263,8 @@ pub fn share<F: Frames>(
     ensures segments { let free = slots - deque_len sink.old in
         shown (F.live f.new) sink.new.items
         ≡ shown (F.live f.old) sink.old.items ++ copied free n (shown (F.live f.old) source.now.items) }
-    ensures copies { Copies source.now.items sink.old.items sink.new.items result (F.live f.old) (F.live f.new) }
+    ensures copies { Copies source.now.items sink.old.items sink.new.items result
+        (F.live f.old) (F.live f.new) }
 {
     let mut done = 0;
     let most = source.len().min(slots - sink.len());

@@ -1,8 +1,9 @@
 //! The calls on files. Each walks the path, with the refusals of `resolve`, then refuses in the order of its definition,
 //! then makes its one change. A refusal, and want of memory, leaves the files as they were.
 
-ghost use Rattle.std.specs.Prelude.{◌≡◌, ◌<◌, ◌+◌, ◌^◌, length, IfOk};
+ghost use Rattle.std.specs.Prelude.{◌≡◌, ◌<◌, ◌+◌, ◌^◌, false, length, IfOk};
 ghost use Rattle.pf_base.specs.FileMap.{find, front, IsDirectory};
+ghost use Rattle.pf_base.specs.Opens.{openable};
 ghost use Rattle.pf_base.specs.FileCalls.{place, permitted_change, is_fifo, make, unlink, rmdir, chmod, stat, list};
 ghost use Rattle.pf_tree.specs.Subtrees.{path_of};
 ghost use Rattle.pf_walk.specs.Told.{Told, Changed};
@@ -257,4 +258,32 @@ pub fn list<A: Allocator>(
     }
     let names = tree.names(alloc, target.path.as_slice())?;
     Ok(names)
+}
+
+/// The FIFO that open() opens, for reading, for writing or for both. EINVAL for neither; then what `resolve` refuses;
+/// then EISDIR for a directory (this profile's own, for every access) and EACCES where its mode doesn't allow it.
+/// `NoMemory` comes where the walk finds none.
+pub fn openable<A: Allocator>(
+    alloc: Global,
+    tree: &Tree<A>,
+    cred: &Cred,
+    path: &[u8],
+    reads: bool,
+    writes: bool,
+) -> Result<File, Fault>
+    ensures { Told (λ file. file) result (openable tree.now cred.now path.now
+        (record { reads = reads; writes = writes; nonblock = false })) }
+{
+    if !reads && !writes {
+        return Err(Fault::Errno(Errno::EINVAL));
+    }
+    let target = resolve(alloc, tree, cred, path, Purpose::Target)?;
+    if is_directory(&target.file) {
+        return Err(Fault::Errno(Errno::EISDIR));
+    }
+    let meta = &target.file.meta;
+    if reads && !may(cred, meta, Want::Read) || writes && !may(cred, meta, Want::Write) {
+        return Err(Fault::Errno(Errno::EACCES));
+    }
+    Ok(target.file)
 }

@@ -11,6 +11,6 @@ mod tests;
 mod walk;
 pub mod words;
 
-pub use calls::{chmod, list, make, rmdir, stat, unlink};
+pub use calls::{chmod, list, make, openable, rmdir, stat, unlink};
 pub use resolution::{Last, Purpose, Resolved, resolve};
 pub use words::{Words, split};
