@@ -13,9 +13,10 @@ use Rattle.pf_base.specs.Sweep.{sweep}
 use Rattle.pf_base.proofs.SweepLaws.{with_processes}
 use Rattle.pf_fds.specs.Registry.{find}
 use Rattle.pf_fds.specs.Descriptions.{names_of, one_less}
-use Rattle.pf_space.specs.Rows.{ProcessRows, DescriptionRows, PipeRows, Key, Named, Process, Description, Pipe, key_at, without_key, with_fewer, is_used, left, gone, process_of, description_of, pipe_of, processes_of, descriptions_of, pipes_of, state_of, TiedWith, Tied}
-use Rattle.pf_space.specs.Tables.{descriptor, Left, LetsGo}
+use Rattle.pf_space.specs.Rows.{ProcessRows, DescriptionRows, PipeRows, Key, Named, Process, Description, Pipe, call_of, key_at, without_key, with_fewer, is_used, left, gone, process_of, description_of, pipe_of, processes_of, descriptions_of, pipes_of, state_of, TiedWith, Tied, opens_at, opens_of}
+use Rattle.pf_space.specs.Tables.{descriptor, Left, LetsGo, LetsGoOpens}
 use Rattle.pf_space.proofs.Held.{finds, once}
+use Rattle.pf_space.proofs.Fifos.{opens_stay}
 use Rattle.pf_space.proofs.Shown.{shown, find_at, set_same}
 use Rattle.pf_space.proofs.Small.{taken, names_row, unnamed, unnamed_last, end_gone, enough}
 use Rattle.pf_space.proofs.Swept.{Within, within_row, within_same, changed-swept}
@@ -34,7 +35,7 @@ emptied_shown ps i fd = map-set (option_map process_of) ps i (without_key fd (at
   where
     by_place : (o : Option Process) → option_map process_of (without_key fd o) ≡ option_map (without_descriptor fd) (option_map process_of o)
     by_place None = refl
-    by_place (Some p) = ap (λ xs. Some (record { cred = p.cred; descriptors = xs })) (map-set (option_map (λ (k : Key). k.serial)) p.descriptors fd None)
+    by_place (Some p) = ap (λ xs. Some (record { cred = p.cred; descriptors = xs; parked = option_map call_of p.parked })) (map-set (option_map (λ (k : Key). k.serial)) p.descriptors fd None)
 
 module _ (ps : ProcessRows) (ds : DescriptionRows) (pipes : PipeRows) (t : Tied ps ds pipes) (i fd : ℕ) (ps' : ProcessRows) (is : ps' ≡ set ps i (without_key fd (at ps i))) where
   leaves : (ds' : DescriptionRows) (pipes' : PipeRows) → Tied ps' ds' pipes' → Within (descriptions_of ds') (descriptions_of ds) → Within (pipes_of pipes') (pipes_of pipes) → Left ps ds pipes ps' ds' pipes' i fd
@@ -123,4 +124,20 @@ module _ (ps : ProcessRows) (ds : DescriptionRows) (pipes : PipeRows) (t : Tied 
               d.pipe.serial,
               shown pipe_of pipes d.pipe.serial (d.pipe.place, pipe.0) pipe.1,
               ap pipes_of (items_are ∙ ap (λ b. set pipes d.pipe.serial (if b then Some (d.pipe.place, with_fewer d pipe.0) else None)) u) ∙ map-set (option_map pipe_of) pipes d.pipe.serial None,
+            )
+
+        -- and its opens with it
+        pub went_opens : (r : Option Pipe) → IfSome (find pipes d.pipe.place d.pipe.serial) (λ p. r ≡ gone d p) → LetsGoOpens (opens_of pipes) (opens_of pipes') r
+        went_opens r is_gone =
+            subst (LetsGoOpens (opens_of pipes) (opens_of pipes')) (sym (subst (λ o. IfSome o (λ (p : Pipe). r ≡ gone d p)) pipe_found is_gone)) (by_use (is_used (with_fewer d pipe.0)) refl)
+          where
+            by_use : (b : Bool) → is_used (with_fewer d pipe.0) ≡ b → LetsGoOpens (opens_of pipes) (opens_of pipes') (if b then None else Some (with_fewer d pipe.0))
+            by_use true u =
+                ap opens_of (items_are ∙ ap (λ b. set pipes d.pipe.serial (if b then Some (d.pipe.place, with_fewer d pipe.0) else None)) u)
+                ∙ opens_stay pipes d.pipe.serial d.pipe.place pipe.0 (with_fewer d pipe.0) pipe.1 refl
+            by_use false u = (
+              d.pipe.serial,
+              d.pipe.place,
+              shown opens_at pipes d.pipe.serial (d.pipe.place, pipe.0) pipe.1,
+              ap opens_of (items_are ∙ ap (λ b. set pipes d.pipe.serial (if b then Some (d.pipe.place, with_fewer d pipe.0) else None)) u) ∙ map-set (option_map opens_at) pipes d.pipe.serial None,
             )

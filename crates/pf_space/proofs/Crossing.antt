@@ -10,9 +10,10 @@ use Rattle.pf_base.specs.Limits.{Limits}
 use Rattle.pf_base.specs.Refusals.{◌>>=◌, ◌>>◌, refuse_if}
 use Rattle.pf_base.specs.Queue.{Queue}
 use Rattle.pf_base.specs.Numbered.{at, put_at, clear_at, sum_of}
+use Rattle.pf_base.specs.Calls.{Bringing}
 use Rattle.pf_base.specs.Progress.{Crossed, cross_now}
 use Rattle.pf_base.specs.State as machine
-use Rattle.pf_base.specs.State.{State, End, living, reading_end, writing_end, with_queue, holding}
+use Rattle.pf_base.specs.State.{State, End, ready, reading_end, writing_end, with_queue, holding}
 use Rattle.pf_base.specs.Counts.{readers, writers}
 use Rattle.pf_base.specs.Transfers.{Tried, Ends, two_ends, try_cross}
 use Rattle.pf_base.specs.Sweep.{sweep}
@@ -33,8 +34,8 @@ use Rattle.pf_space.specs.Meaning.{Namespace, meaning, rings_of, pages, occupied
 use Rattle.pf_space.specs.MeaningLaws.{meaning-with_queue, settled-meaning}
 use Rattle.pf_space.specs.Owns.{Owns}
 use Rattle.pf_space.specs.OwnsLaws.{ring_at-pipe, others_written, joined_written, charged-with_queue, pages-without, pages_within, occupied_pages, used-rings}
-use Rattle.pf_space.specs.Rows.{ProcessRows, DescriptionRows, PipeRows, Description, Pipe, pipe_of, processes_of, descriptions_of, pipes_of, state_of, end_in, Tied, Kept}
-use Rattle.pf_space.specs.Told.{attempted_cross, Arrived}
+use Rattle.pf_space.specs.Rows.{ProcessRows, DescriptionRows, PipeRows, Description, Pipe, pipe_of, processes_of, descriptions_of, pipes_of, pipe_with, state_of, end_in, Tied, Kept}
+use Rattle.pf_space.specs.Told.{attempted, Arrived}
 use Rattle.pf_space.proofs.Ends.{end_of_rows, Found, refused, found, counted}
 use Rattle.pf_space.proofs.Shown.{shown, find_at, find_was, set_same}
 use Rattle.pf_space.proofs.Small.{requeued}
@@ -56,7 +57,7 @@ module _ {A B C : Type 0} (h k : A → Result B Errno) (go : B → B → Result 
   second_err (Err y) x z e f = absurd (cc)
 
 -- a value taken out, another changed, and the first put back
-set_around : {X : Type 0} (xs : List X) (i k : ℕ) (a b c : X) → i ≢ k → set (set (set xs k c) i a) k b ≡ set (set xs k b) i a
+pub set_around : {X : Type 0} (xs : List X) (i k : ℕ) (a b c : X) → i ≢ k → set (set (set xs k c) i a) k b ≡ set (set xs k b) i a
 set_around [] i k a b c ne = refl
 set_around (x ∷ xs) zero zero a b c ne = absurd (ne refl)
 set_around (x ∷ xs) zero (suc k) a b c ne = ap (λ ys. a ∷ ys) (set-set xs k c b)
@@ -130,7 +131,7 @@ module _ {files : Files} {files_made : ℕ} (f : Live) (limits : Limits) (charge
           rewritten rows d p p' is same =
               ap (λ xs. record { processes = processes_of ps; descriptions = descriptions_of ds; pipes = xs; files = files; files_made = files_made })
               (map-set (option_map pipe_of) rows d.pipe.serial (Some (d.pipe.place, p'))
-              ∙ ap (λ (owner : ℕ). set (pipes_of rows) d.pipe.serial (Some (record { queue = p'.ring; owner = owner }))) same.owner
+              ∙ (λ i. set (pipes_of rows) d.pipe.serial (Some (pipe_with p'.ring (same.owner i) (same.opens i))))
               ∙ ap (λ x. set (pipes_of rows) d.pipe.serial (option_map (holding p'.ring) x)) (sym is))
 
           source_still : at mid i.pipe.serial ≡ Some (i.pipe.place, r)
@@ -246,24 +247,24 @@ module _ {files : Files} {files_made : ℕ} (f : Live) (limits : Limits) (charge
     test i o = refuse_if (nat_eq i.description.pipe o.description.pipe) EINVAL >> Ok (record { source = i; sink = o })
 
     abbrev tries : Result Tried Errno → Type 0
-    tries r = attempted_cross c s pid source sink m ≡ r
+    tries r = attempted s pid (Bringing c source sink m) ≡ r
 
-    goes_on : (r : Result Ends Errno) → (living s pid >>= (λ p. two_ends s p source sink)) ≡ r → attempted_cross c s pid source sink m ≡ (r >>= (λ e. Ok (try_cross c s e m)))
-    goes_on r h = bind-bind (living s pid) (λ p. two_ends s p source sink) (λ e. Ok (try_cross c s e m)) ∙ ap (λ x. x >>= (λ e. Ok (try_cross c s e m))) h
+    goes_on : (r : Result Ends Errno) → (ready s pid >>= (λ p. two_ends s p source sink)) ≡ r → attempted s pid (Bringing c source sink m) ≡ (r >>= (λ e. Ok (try_cross c s e m)))
+    goes_on r h = bind-bind (ready s pid) (λ p. two_ends s p source sink) (λ e. Ok (try_cross c s e m)) ∙ ap (λ x. x >>= (λ e. Ok (try_cross c s e m))) h
 
-    in_view : (r : Result Tried Errno) → tries r → attempted_cross c (meaning f n.state) pid source sink m ≡ r
-    in_view r h = subst (λ (v : Namespace). attempted_cross c (meaning f v.state) pid source sink m ≡ r) view h
+    in_view : (r : Result Tried Errno) → tries r → attempted (meaning f n.state) pid (Bringing c source sink m) ≡ r
+    in_view r h = subst (λ (v : Namespace). attempted (meaning f v.state) pid (Bringing c source sink m) ≡ r) view h
 
-    pub no_source_end : (e : Errno) → end_in (Some sides.Read) ps ds pid source ≡ Err e → attempted_cross c (meaning f n.state) pid source sink m ≡ Err e
-    no_source_end e h = in_view (Err e) (goes_on (Err e) (first_err (λ p. reading_end s p source) (λ p. writing_end s p sink) test (living s pid) e (refused f (Some sides.Read) ps ds pipes files files_made k.tied pid source e h)))
+    pub no_source_end : (e : Errno) → end_in (Some sides.Read) ps ds pid source ≡ Err e → attempted (meaning f n.state) pid (Bringing c source sink m) ≡ Err e
+    no_source_end e h = in_view (Err e) (goes_on (Err e) (first_err (λ p. reading_end s p source) (λ p. writing_end s p sink) test (ready s pid) e (refused f (Some sides.Read) ps ds pipes files files_made k.tied pid source e h)))
 
     module _ (i : Description) (reads : end_in (Some sides.Read) ps ds pid source ≡ Ok i) where
       at_source : Found f (Some sides.Read) ps ds pipes files files_made pid source i
       at_source = found f (Some sides.Read) ps ds pipes files files_made k.tied pid source i reads
 
-      pub no_sink_end : (e : Errno) → end_in (Some sides.Write) ps ds pid sink ≡ Err e → attempted_cross c (meaning f n.state) pid source sink m ≡ Err e
+      pub no_sink_end : (e : Errno) → end_in (Some sides.Write) ps ds pid sink ≡ Err e → attempted (meaning f n.state) pid (Bringing c source sink m) ≡ Err e
       no_sink_end e h =
-          in_view (Err e) (goes_on (Err e) (second_err (λ p. reading_end s p source) (λ p. writing_end s p sink) test (living s pid) (end_of_rows f i at_source.pipe) e at_source.is (refused f (Some sides.Write) ps ds pipes files files_made k.tied pid sink e h)))
+          in_view (Err e) (goes_on (Err e) (second_err (λ p. reading_end s p source) (λ p. writing_end s p sink) test (ready s pid) (end_of_rows f i at_source.pipe) e at_source.is (refused f (Some sides.Write) ps ds pipes files files_made k.tied pid sink e h)))
 
       pub source_stands : IsSome (find pipes i.pipe.place i.pipe.serial)
       source_stands = ap is_some (find_at pipes i.pipe.place i.pipe.serial at_source.pipe at_source.stands)
@@ -275,12 +276,12 @@ module _ {files : Files} {files_made : ℕ} (f : Live) (limits : Limits) (charge
         pub sink_stands : IsSome (find pipes o.pipe.place o.pipe.serial)
         sink_stands = ap is_some (find_at pipes o.pipe.place o.pipe.serial at_sink.pipe at_sink.stands)
 
-        two_found : (b : Bool) → nat_eq i.pipe.serial o.pipe.serial ≡ b → (living s pid >>= (λ p. two_ends s p source sink)) ≡ (refuse_if b EINVAL >> Ok (record { source = end_of_rows f i at_source.pipe; sink = end_of_rows f o at_sink.pipe }))
+        two_found : (b : Bool) → nat_eq i.pipe.serial o.pipe.serial ≡ b → (ready s pid >>= (λ p. two_ends s p source sink)) ≡ (refuse_if b EINVAL >> Ok (record { source = end_of_rows f i at_source.pipe; sink = end_of_rows f o at_sink.pipe }))
         two_found b h =
-            both_ok (λ p. reading_end s p source) (λ p. writing_end s p sink) test (living s pid) (end_of_rows f i at_source.pipe) (end_of_rows f o at_sink.pipe) at_source.is at_sink.is
+            both_ok (λ p. reading_end s p source) (λ p. writing_end s p sink) test (ready s pid) (end_of_rows f i at_source.pipe) (end_of_rows f o at_sink.pipe) at_source.is at_sink.is
             ∙ ap (λ x. refuse_if x EINVAL >> Ok (record { source = end_of_rows f i at_source.pipe; sink = end_of_rows f o at_sink.pipe })) h
 
-        pub one_pipe : i.pipe.serial ≡ o.pipe.serial → attempted_cross c (meaning f n.state) pid source sink m ≡ Err EINVAL
+        pub one_pipe : i.pipe.serial ≡ o.pipe.serial → attempted (meaning f n.state) pid (Bringing c source sink m) ≡ Err EINVAL
         one_pipe e = in_view (Err EINVAL) (goes_on _ (two_found true (eq-eqb i.pipe.serial o.pipe.serial e)))
 
         module _ (differ : i.pipe.serial ≢ o.pipe.serial) (r t : Pipe) (from : find pipes i.pipe.place i.pipe.serial ≡ Some r) (to : find pipes o.pipe.place o.pipe.serial ≡ Some t)
@@ -294,7 +295,7 @@ module _ {files : Files} {files_made : ℕ} (f : Live) (limits : Limits) (charge
               let pair : ◌≡◌ {A = ℕ × Pipe} (d.pipe.place, x) (d.pipe.place, y) = cc in
               ap (λ (z : ℕ × Pipe). z.1) pair
 
-          is_tried : attempted_cross c (meaning f n.state) pid source sink m ≡ Ok (try_cross c s ends m)
+          is_tried : attempted (meaning f n.state) pid (Bringing c source sink m) ≡ Ok (try_cross c s ends m)
           is_tried =
               in_view _ (goes_on _ (two_found false (ne_eqb i.pipe.serial o.pipe.serial differ))
               ∙ (λ j. Ok (try_cross c s (record { source = end_of_rows f i (same_row i at_source.pipe r at_source.stands from j); sink = end_of_rows f o (same_row o at_sink.pipe t at_sink.stands to j) }) m)))
@@ -312,7 +313,7 @@ module _ {files : Files} {files_made : ℕ} (f : Live) (limits : Limits) (charge
           same_result = λ j. cross_now c (queue_of f r.ring) (queue_of f t.ring) (sym source_counts.1 j) (sym sink_counts.0 j) m
 
           -- in whatever form the rows are given
-          pub arrived : (rows : PipeRows) → rows ≡ back i o differ r t from to r' t' → Arrived g (record { limits = limits; state = state_of ps ds rows files files_made }) (attempted_cross c (meaning f n.state) pid source sink m) progress
+          pub arrived : (rows : PipeRows) → rows ≡ back i o differ r t from to r' t' → Arrived g (record { limits = limits; state = state_of ps ds rows files files_made }) (attempted (meaning f n.state) pid (Bringing c source sink m)) progress
           arrived rows e = record {
             tried = try_cross c s ends m;
             is = is_tried;

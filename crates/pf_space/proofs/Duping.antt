@@ -21,7 +21,7 @@ use Rattle.pf_frame.specs.Live.{Live}
 use Rattle.pf_limits.specs.UserPages.{UserPages}
 use Rattle.pf_space.specs.Meaning.{Namespace, meaning}
 use Rattle.pf_space.specs.Owns.{Owns}
-use Rattle.pf_space.specs.Rows.{ProcessRows, DescriptionRows, PipeRows, Key, Named, Process, Description, process_in, key_in, with_key, process_of, pipes_of, state_of, Tied, Kept}
+use Rattle.pf_space.specs.Rows.{ProcessRows, DescriptionRows, PipeRows, Key, Named, Process, Description, call_of, ready_in, key_in, with_key, process_of, pipes_of, state_of, Tied, Kept}
 use Rattle.pf_space.specs.Tables.{Tells, duped}
 use Rattle.pf_space.specs.Told.{Becomes}
 use Rattle.pf_space.proofs.Callers.{place_is}
@@ -32,7 +32,7 @@ use Rattle.pf_space.proofs.Small.{named_again, put}
 use Rattle.pf_space.proofs.Swept.{settled}
 
 module _ (f : Live) {charges : UserPages} {limits : Limits} {ps : ProcessRows} {ds : DescriptionRows} {pipes : PipeRows} {files : Files} {files_made : ℕ} (kept : Kept charges ps ds pipes)
-    {n : Namespace} (view : record { limits = limits; state = state_of ps ds pipes files files_made } ≡ n) (pid fd : ℕ) {k : Key} {p : Process} (caller : process_in ps pid ≡ Ok p) (key : key_in ps pid fd ≡ Ok k)
+    {n : Namespace} (view : record { limits = limits; state = state_of ps ds pipes files files_made } ≡ n) (pid fd : ℕ) {k : Key} {p : Process} (caller : ready_in ps pid ≡ Ok p) (key : key_in ps pid fd ≡ Ok k)
     (to : ℕ) (lowest : to ≡ first_free p.descriptors) where
   abbrev w : Has ps pid fd k
   w = has_by ps pid fd caller key
@@ -67,16 +67,16 @@ module _ (f : Live) {charges : UserPages} {limits : Limits} {ps : ProcessRows} {
     ds' = put_at ds k.serial (k.place, record row.0 { names = row.0.names + 1 })
 
     now_tied : Tied (put_at ps (pid - 1) p') ds' pipes
-    now_tied = put [] [] ps ds' pipes (pid - 1) to p (place_is f ps ds pipes files files_made pid p caller) to_in k (ap (at p.descriptors) lowest ∙ at-first_free p.descriptors) (named_again [] [] ps ds pipes k row.0 row.1 kept.tied)
+    now_tied = put [] [] ps ds' pipes (pid - 1) to p (place_is ps pid p caller) to_in k (ap (at p.descriptors) lowest ∙ at-first_free p.descriptors) (named_again [] [] ps ds pipes k row.0 row.1 kept.tied)
 
     now_shown : state_of (put_at ps (pid - 1) p') ds' pipes files files_made ≡ with_process (state_of ps ds pipes files files_made) pid (with_descriptor to k.serial (process_of p))
     now_shown =
         (λ i. record { processes = map-set (option_map process_of) ps (pid - 1) (Some p') i; descriptions = recounted_shown ds k row.0 row.1 (row.0.names + 1) i; pipes = pipes_of pipes; files = files; files_made = files_made })
-        ∙ ap (λ xs. with_process (state_of ps ds pipes files files_made) pid (record { cred = p.cred; descriptors = xs })) (map-set (option_map (λ (x : Key). x.serial)) p.descriptors to (Some k))
+        ∙ ap (λ xs. with_process (state_of ps ds pipes files files_made) pid (record { cred = p.cred; descriptors = xs; parked = option_map call_of p.parked })) (map-set (option_map (λ (x : Key). x.serial)) p.descriptors to (Some k))
 
     module _ {qs : ProcessRows} {es : DescriptionRows} (given : qs ≡ set ps (pid - 1) (with_key to k (at ps (pid - 1)))) (counted : es ≡ change_at one_more ds k.serial) where
       given_is : qs ≡ put_at ps (pid - 1) p'
-      given_is = given ∙ ap (λ o. set ps (pid - 1) (with_key to k o)) (place_is f ps ds pipes files files_made pid p caller)
+      given_is = given ∙ ap (λ o. set ps (pid - 1) (with_key to k o)) (place_is ps pid p caller)
 
       counted_is : es ≡ ds'
       counted_is = counted ∙ named_row ds k row.0 row.1

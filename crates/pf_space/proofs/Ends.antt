@@ -1,6 +1,6 @@
 -- The end of a pipe that a descriptor names, as the tables find it and as the machine does.
 
-use Rattle.std.proofs.Common.{◌≡◌, ℕ, zero, suc, ◌+◌, Bool, true, false, not, Option, Some, None, IsSome, Result, Ok, Err, refl, sym, ap, subst, ◌∙◌, arith}
+use Rattle.std.proofs.Common.{◌≡◌, ℕ, suc, ◌+◌, ◌-◌, Bool, true, false, not, Option, Some, None, IsOk, is_ok, Result, Ok, Err, refl, sym, ap, subst, ◌∙◌, arith}
 use Rattle.std.specs.Option.{option_map, option_and_then}
 use Rattle.pf_base.specs.FileMap.{Files}
 use Rattle.pf_base.specs.Refusals.{◌>>=◌, ◌>>◌, refuse_if, or_refuse}
@@ -8,16 +8,16 @@ use Rattle.pf_base.specs.Queue.{Queue}
 use Rattle.pf_base.specs.Numbered.{at}
 use Rattle.pf_base.proofs.NumberedLaws.{at-map}
 use Rattle.pf_base.specs.State as machine
-use Rattle.pf_base.specs.State.{State, End, living, end_at, end_of, reading_end, writing_end}
+use Rattle.pf_base.specs.State.{State, End, ready, end_at, end_of, reading_end, writing_end}
 use Rattle.pf_base.specs.Counts.{readers, writers}
 use Rattle.pf_base.specs.declared.errno.Errno.{Errno}
-use Rattle.pf_base.specs.declared.errno.Errno.TheVariants.{ESRCH, EBADF}
+use Rattle.pf_base.specs.declared.errno.Errno.TheVariants.{EBADF}
 use Rattle.pf_base.specs.declared.progress.Side.{Side}
 use Rattle.pf_base.specs.declared.progress.Side.TheVariants as sides
 use Rattle.pf_frame.specs.Live.{Live}
 use Rattle.pf_space.specs.Meaning.{meaning, pipe_meaning}
-use Rattle.pf_space.specs.Rows.{ProcessRows, DescriptionRows, PipeRows, Key, Named, Process, Description, Pipe, process_of, description_of, pipe_of, pipes_of, state_of, process_at, process_in, has, description_in, end_in, read_by, written_by, UsedRow, Tied}
-use Rattle.pf_space.proofs.Callers.{living_shown}
+use Rattle.pf_space.specs.Rows.{ProcessRows, DescriptionRows, PipeRows, Key, Named, Process, Description, Pipe, process_of, description_of, pipe_of, pipes_of, state_of, ready_in, has, description_in, end_in, read_by, written_by, UsedRow, Tied}
+use Rattle.pf_space.proofs.Callers.{shown_in, ready_shown, place_is}
 use Rattle.pf_space.proofs.Held.{finds}
 use Rattle.pf_space.proofs.Shown.{shown, find_at}
 use Rattle.pf_space.proofs.Swept.{readers_shown, writers_shown}
@@ -39,8 +39,8 @@ end_of_rows f d r = record {
 pub record Found (f : Live) (side : Option Side) (ps : ProcessRows) (ds : DescriptionRows) (pipes : PipeRows) (files : Files) (files_made : ℕ) (pid fd : ℕ) (d : Description) : Type 0 where
   pub pipe : Pipe
   pub stands : at pipes d.pipe.serial ≡ Some (d.pipe.place, pipe)
-  pub is : (living (meaning f (state_of ps ds pipes files files_made)) pid >>= (λ p. side_end side (meaning f (state_of ps ds pipes files files_made)) p fd)) ≡ Ok (end_of_rows f d pipe)
-  pub lives : IsSome (process_at ps pid)
+  pub is : (ready (meaning f (state_of ps ds pipes files files_made)) pid >>= (λ p. side_end side (meaning f (state_of ps ds pipes files files_made)) p fd)) ≡ Ok (end_of_rows f d pipe)
+  pub caller : IsOk (ready_in ps pid)
 
 module _ (f : Live) (side : Option Side) (ps : ProcessRows) (ds : DescriptionRows) (pipes : PipeRows) (files : Files) (files_made : ℕ) (t : Tied ps ds pipes) (pid fd : ℕ) where
   abbrev s : State Queue
@@ -71,7 +71,7 @@ module _ (f : Live) (side : Option Side) (ps : ProcessRows) (ds : DescriptionRow
   shown_key p o g = at-map (λ (k : Key). k.serial) p.descriptors fd ∙ ap (option_map (λ (k : Key). k.serial)) g
 
   -- a description's end of its pipe
-  end_shown : (k : Key) (e : Named Description) (r : Pipe) → at ds k.serial ≡ Some (k.place, e) → at pipes e.value.pipe.serial ≡ Some (e.value.pipe.place, r) → end_at s k.serial ≡ Some (end_of_rows f e.value r)
+  pub end_shown : (k : Key) (e : Named Description) (r : Pipe) → at ds k.serial ≡ Some (k.place, e) → at pipes e.value.pipe.serial ≡ Some (e.value.pipe.place, r) → end_at s k.serial ≡ Some (end_of_rows f e.value r)
   end_shown k e r h g =
       ap (option_and_then (λ (d : machine.Description). option_map (λ (pipe : machine.Pipe Queue). record { description = d; pipe = pipe }) (at s.pipes d.pipe))) (shown description_of ds k.serial (k.place, e) h)
       ∙ ap (option_map (λ (pipe : machine.Pipe Queue). record { description = description_of (k.place, e); pipe = pipe }))
@@ -101,28 +101,26 @@ module _ (f : Live) (side : Option Side) (ps : ProcessRows) (ds : DescriptionRow
       let machine = by_side (process_of p) e.0.value r.0 (ap (option_and_then (end_at s)) (shown_key p (Some k) g) ∙ end_shown k e.0 r.0 e.1 r.1) in
       subst (λ o. Agrees (or_refuse EBADF o >>= if_sided) (side_end side s (process_of p) fd)) (sym row) (subst (Agrees (if_sided e.0.value)) (sym machine) (by_sides (has side e.0.value) e.0.value r.0 r.1))
 
-  by_place : (i : ℕ) (o : Option Process) → at ps i ≡ o → Agrees (or_refuse ESRCH o >>= (λ p. of_key (at p.descriptors fd))) (or_refuse ESRCH (option_map process_of o) >>= (λ p. side_end side s p fd))
-  by_place i None h = refl
-  by_place i (Some p) h = by_key i p h (at p.descriptors fd) refl
+  by_caller : (r : Result Process Errno) → ready_in ps pid ≡ r → Agrees (r >>= (λ p. of_key (at p.descriptors fd))) (shown_in r >>= (λ p. side_end side s p fd))
+  by_caller (Err e) h = refl
+  by_caller (Ok p) h = by_key (pid - 1) p (place_is ps pid p h) (at p.descriptors fd) refl
 
-  agree : (n : ℕ) → Agrees (process_in ps n >>= (λ p. of_key (at p.descriptors fd))) (or_refuse ESRCH (option_map process_of (process_at ps n)) >>= (λ p. side_end side s p fd))
-  agree zero = refl
-  agree (suc i) = by_place i (at ps i) refl
-
-  both_find : (r : Result Description Errno) → end_in side ps ds pid fd ≡ r → Agrees r (living s pid >>= (λ p. side_end side s p fd))
-  both_find r h = subst (λ x. Agrees x (living s pid >>= (λ p. side_end side s p fd))) h (subst (λ x. Agrees (end_in side ps ds pid fd) (x >>= (λ p. side_end side s p fd))) (sym (living_shown f ps ds pipes files files_made pid)) (agree pid))
+  both_find : (r : Result Description Errno) → end_in side ps ds pid fd ≡ r → Agrees r (ready s pid >>= (λ p. side_end side s p fd))
+  both_find r h =
+      subst (λ x. Agrees x (ready s pid >>= (λ p. side_end side s p fd))) h
+      (subst (λ x. Agrees (end_in side ps ds pid fd) (x >>= (λ p. side_end side s p fd))) (sym (ready_shown f ps ds pipes files files_made pid)) (by_caller (ready_in ps pid) refl))
 
   -- The machine refuses what the tables refuse
-  pub refused : (err : Errno) → end_in side ps ds pid fd ≡ Err err → (living s pid >>= (λ p. side_end side s p fd)) ≡ Err err
+  pub refused : (err : Errno) → end_in side ps ds pid fd ≡ Err err → (ready s pid >>= (λ p. side_end side s p fd)) ≡ Err err
   refused err h = both_find (Err err) h
 
   -- and finds what they find
   pub found : (d : Description) → end_in side ps ds pid fd ≡ Ok d → Found f side ps ds pipes files files_made pid fd d
-  found d h = let w = both_find (Ok d) h in record { pipe = w.0; stands = w.1; is = w.2; lives = by_row (process_at ps pid) h }
+  found d h = let w = both_find (Ok d) h in record { pipe = w.0; stands = w.1; is = w.2; caller = by_row (ready_in ps pid) refl h }
     where
-      by_row : (o : Option Process) → (or_refuse ESRCH o >>= (λ p. of_key (at p.descriptors fd))) ≡ Ok d → IsSome o
-      by_row None g = absurd (cc)
-      by_row (Some p) g = refl
+      by_row : (r : Result Process Errno) → ready_in ps pid ≡ r → (r >>= (λ p. of_key (at p.descriptors fd))) ≡ Ok d → IsOk (ready_in ps pid)
+      by_row (Err e) c g = absurd (cc)
+      by_row (Ok p) c g = ap is_ok c
 
   -- the counts of a pipe are the machine's
   pub counted : (n place : ℕ) (r : Pipe) → at pipes n ≡ Some (place, r) → (readers s n ≡ r.readers) × (writers s n ≡ r.writers)

@@ -1,7 +1,7 @@
 -- A process again under another pid: each of its keys names its description once more, and comes into the hand, until the
 -- process that has them all is put down.
 
-use Rattle.std.proofs.Common.{◌≡◌, ℕ, zero, suc, ◌+◌, ◌-◌, ◌^◌, ◌<◌, ◌≤◌, Bool, true, false, nat_le, List, [], ◌∷◌, length, map, Option, Some, None, IsSome, is_some, Result, Ok, Err, refl, sym, ap, subst, ◌∙◌, arith}
+use Rattle.std.proofs.Common.{◌≡◌, ℕ, zero, suc, ◌+◌, ◌-◌, ◌^◌, ◌<◌, ◌≤◌, Bool, true, false, nat_le, List, [], ◌∷◌, length, map, Option, Some, None, IsSome, is_some, Result, Ok, Err, refl, sym, ap, subst, ◌∙◌, arith, length-set}
 use Rattle.std.specs.Option.{option_map}
 use Rattle.std.proofs.lemmas.Bool.Decides.{nat_tests}
 use Rattle.std.proofs.lemmas.List.{map-set}
@@ -23,10 +23,10 @@ use Rattle.pf_frame.specs.Live.{Live}
 use Rattle.pf_limits.specs.UserPages.{UserPages}
 use Rattle.pf_space.specs.Meaning.{Namespace, meaning}
 use Rattle.pf_space.specs.Owns.{Owns}
-use Rattle.pf_space.specs.Rows.{ProcessRows, DescriptionRows, PipeRows, Key, Named, Process, Description, process_in, keys_of, keys_to, names_it, held, holding, process_of, description_of, processes_of, descriptions_of, pipes_of, state_of, Finds, AllFind, AreFew, with_name, with_first_names, named_once_more, TiedWith, Tied, Kept}
+use Rattle.pf_space.specs.Rows.{ProcessRows, DescriptionRows, PipeRows, Key, Named, Process, Description, ready_in, made_by, keys_of, keys_to, names_it, held, holding, process_of, description_of, processes_of, descriptions_of, pipes_of, state_of, Finds, AllFind, AreFew, with_name, with_first_names, named_once_more, TiedWith, Tied, Kept}
 use Rattle.pf_space.specs.Tables.{Tells, forked}
 use Rattle.pf_space.specs.Told.{Becomes}
-use Rattle.pf_space.proofs.Callers.{lives, lives_not, place_is}
+use Rattle.pf_space.proofs.Callers.{readies, readies_not, place_is, is_awake}
 use Rattle.pf_space.proofs.Held.{finds, by_set, held-holding, reseated}
 use Rattle.pf_space.proofs.Making.{becomes}
 use Rattle.pf_space.proofs.Sharing.{few_names, named_row}
@@ -68,7 +68,7 @@ module _ (n : ℕ) (ks : List (Option Key)) (ds : DescriptionRows) where
 -- before each of its keys is named, its description stands and has few names
 module _ (ks : List (Option Key)) (ds : DescriptionRows) (all : AllFind ks ds) (few : AreFew ds) where
   abbrev FewAfter : ℕ → DescriptionRows → Type 0
-  FewAfter n rows = (m : ℕ) (e : Row) → at rows m ≡ Some e → e.1.names ≤ 65536 + n
+  FewAfter n rows = (m : ℕ) (e : Row) → at rows m ≡ Some e → e.1.names ≤ 65792 + n
 
   few_first : (n : ℕ) → FewAfter n (with_first_names n ks ds)
   few_first zero = λ m e h. omega (arith, few m e h)
@@ -78,7 +78,7 @@ module _ (ks : List (Option Key)) (ds : DescriptionRows) (all : AllFind ks ds) (
       by_key None g so_far = λ m e h. omega (arith, so_far m e h)
       by_key (Some k) g so_far =
           let r = finds (with_first_names n ks ds) k (still_finds n ks ds k (all n k g)) in
-          λ m e h. by_set (λ _ x. x ≡ Some e → e.1.names ≤ 65536 + suc n) (with_first_names n ks ds) k.serial (Some (k.place, record r.0 { names = r.0.names + 1 })) (at_within (with_first_names n ks ds) k.serial (k.place, r.0) r.1)
+          λ m e h. by_set (λ _ x. x ≡ Some e → e.1.names ≤ 65792 + suc n) (with_first_names n ks ds) k.serial (Some (k.place, record r.0 { names = r.0.names + 1 })) (at_within (with_first_names n ks ds) k.serial (k.place, r.0) r.1)
           (λ i. let it : ◌≡◌ {A = Row} (k.place, record r.0 { names = r.0.names + 1 }) e = cc in
           omega (arith, ap (λ (x : Row). x.1.names) it, so_far k.serial (k.place, r.0) r.1))
           (λ j _ i. omega (arith, so_far j e i)) m (sym (ap (λ xs. at xs m) (named_row (with_first_names n ks ds) k r.0 r.1)) ∙ h)
@@ -111,7 +111,7 @@ held_all : (h : Key → ℕ) (ks : List (Option Key)) → held h (hand (length k
 held_all h [] = refl
 held_all h (x ∷ ks) = omega (arith, held_first h (length ks) x ks, held_all h ks)
 
-module _ (ps : ProcessRows) (ds : DescriptionRows) (pipes : PipeRows) (t : Tied ps ds pipes) (i : ℕ) (p : Process) (there : at ps i ≡ Some p) where
+module _ (ps : ProcessRows) (ds : DescriptionRows) (pipes : PipeRows) (t : Tied ps ds pipes) (i : ℕ) (p : Process) (there : at ps i ≡ Some p) (asleep : p.parked ≡ None) where
   tied_first : (n : ℕ) → TiedWith (hand n p.descriptors) [] ps (with_first_names n p.descriptors ds) pipes
   tied_first zero = t
   tied_first (suc n) = by_key (at p.descriptors n) refl (tied_first n)
@@ -131,22 +131,31 @@ module _ (ps : ProcessRows) (ds : DescriptionRows) (pipes : PipeRows) (t : Tied 
         reseated (hand (length p.descriptors) p.descriptors) [] ps (named_once_more p.descriptors ds) pipes u j (omega (arith, t.places, j_in)) (Some p) []
         (λ q e. let it : p ≡ q = cc in ap (λ (x : Process). length x.descriptors) (sym it) ∙ t.wide i p there)
         (λ m q k e g. let it : p ≡ q = cc in u.finds i m p k there (ap (λ (x : Process). at (keys_of x) m) it ∙ g)) tt
-        (λ n. omega (arith, ap (weight (keys_to n)) free, held_all (names_it n) p.descriptors))
+        (λ n. omega (arith, ap (weight (keys_to n)) free, ap (λ o. weight (names_it n) (made_by o)) asleep, held_all (names_it n) p.descriptors))
 
 -- What the machine says, and what is left
+
+-- no description is drawn
+named_length : (o : Option Key) (ds : DescriptionRows) → length (with_name o ds) ≡ length ds
+named_length None ds = refl
+named_length (Some k) ds = length-set ds k.serial (option_map one_more (at ds k.serial))
+
+pub as_many : (n : ℕ) (ks : List (Option Key)) (ds : DescriptionRows) → length (with_first_names n ks ds) ≡ length ds
+as_many zero ks ds = refl
+as_many (suc n) ks ds = named_length (at ks n) (with_first_names n ks ds) ∙ as_many n ks ds
 
 module _ (f : Live) {charges : UserPages} {limits : Limits} {ps : ProcessRows} {ds : DescriptionRows} {pipes : PipeRows} {files : Files} {files_made : ℕ} (kept : Kept charges ps ds pipes)
     {n : Namespace} (view : record { limits = limits; state = state_of ps ds pipes files files_made } ≡ n) (pid : ℕ) where
   abbrev s : State Queue
   s = meaning f n.state
 
-  pub has_no_parent : (e : Errno) → process_in ps pid ≡ Err e → forked s pid ≡ Err e
+  pub has_no_parent : (e : Errno) → ready_in ps pid ≡ Err e → forked s pid ≡ Err e
   has_no_parent e h =
-      subst (λ (m : Namespace). forked (meaning f m.state) pid ≡ Err e) view (ap (λ r. r >>= (λ q. fork (meaning f (state_of ps ds pipes files files_made)) q)) (lives_not f ps ds pipes files files_made pid e h))
+      subst (λ (m : Namespace). forked (meaning f m.state) pid ≡ Err e) view (ap (λ r. r >>= (λ q. fork (meaning f (state_of ps ds pipes files files_made)) q)) (readies_not f ps ds pipes files files_made pid e h))
 
-  module _ {p : Process} (caller : process_in ps pid ≡ Ok p) where
+  module _ {p : Process} (caller : ready_in ps pid ≡ Ok p) where
     there : at ps (pid - 1) ≡ Some p
-    there = place_is f ps ds pipes files files_made pid p caller
+    there = place_is ps pid p caller
 
     pub wide : length p.descriptors ≡ MAX_DESCRIPTORS
     wide = kept.tied.wide (pid - 1) p there
@@ -165,7 +174,7 @@ module _ (f : Live) {charges : UserPages} {limits : Limits} {ps : ProcessRows} {
       forked_is : forked s pid ≡ tested s (nat_le MAX_PROCESSES i)
       forked_is =
           subst (λ (m : Namespace). forked (meaning f m.state) pid ≡ tested (meaning f m.state) (nat_le MAX_PROCESSES i)) view
-          (ap (λ r. r >>= (λ q. fork (meaning f (state_of ps ds pipes files files_made)) q)) (lives f ps ds pipes files files_made pid p caller)
+          (ap (λ r. r >>= (λ q. fork (meaning f (state_of ps ds pipes files files_made)) q)) (readies f ps ds pipes files files_made pid p caller)
           ∙ ap (λ m. refuse_if (nat_le MAX_PROCESSES m) EAGAIN >> Ok (told (with_process (meaning f (state_of ps ds pipes files files_made)) (m + 1) (process_of p)) (Pid (m + 1)))) (first_free-map process_of ps ∙ sym lowest))
 
       pub has_no_room : MAX_PROCESSES ≤ i → forked s pid ≡ Err EAGAIN
@@ -180,7 +189,7 @@ module _ (f : Live) {charges : UserPages} {limits : Limits} {ps : ProcessRows} {
 
         now_tied : Tied qs es pipes
         now_tied =
-            subst (λ x. Tied x es pipes) (sym put_is) (subst (λ y. Tied (put_at ps i p) y pipes) (sym named_is) (forked-tied ps ds pipes kept.tied (pid - 1) p there i (ap (at ps) lowest ∙ at-first_free ps) i_in))
+            subst (λ x. Tied x es pipes) (sym put_is) (subst (λ y. Tied (put_at ps i p) y pipes) (sym named_is) (forked-tied ps ds pipes kept.tied (pid - 1) p there (is_awake ps pid p caller) i (ap (at ps) lowest ∙ at-first_free ps) i_in))
 
         pub forked-kept : Kept charges qs es pipes
         forked-kept = record { tied = now_tied; charged = kept.charged }

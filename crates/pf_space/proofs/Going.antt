@@ -1,17 +1,19 @@
 -- What goes, in the meaning of the state that it leaves: a descriptor with whatever nobody can reach any more, and a
 -- process.
 
-use Rattle.std.proofs.Common.{◌≡◌, ℕ, zero, suc, ◌-◌, ◌<◌, ◌≤◌, List, [], map, set, Option, Some, None, Ok, refl, ap, sym, ◌∙◌, subst, arith}
-use Rattle.std.specs.Option.{option_map}
+use Rattle.std.proofs.Common.{◌≡◌, ℕ, zero, suc, ◌+◌, ◌-◌, ◌<◌, ◌≤◌, List, [], map, set, Option, Some, None, Ok, Err, refl, ap, sym, ◌∙◌, subst, arith}
+use Rattle.std.specs.Option.{option_map, option_and_then}
 use Rattle.std.proofs.lemmas.List.{map-set}
 use Rattle.pf_base.specs.Refusals.{◌>>=◌, or_refuse}
 use Rattle.pf_base.specs.FileMap.{Files}
 use Rattle.pf_base.specs.Limits.{Limits}
 use Rattle.pf_base.specs.Numbered.{at, clear_at}
 use Rattle.pf_base.proofs.NumberedLaws.{at-map}
+use Rattle.pf_base.specs.Machine.{call_of}
 use Rattle.pf_base.specs.State as machine
 use Rattle.pf_base.specs.State.{Pipe, with_process, without_process}
 use Rattle.pf_base.specs.Descriptors.{named, without_descriptor}
+use Rattle.pf_base.specs.declared.errno.Errno.{Errno}
 use Rattle.pf_base.specs.declared.errno.Errno.TheVariants.{EBADF}
 use Rattle.pf_base.specs.Sweep.{sweep}
 use Rattle.pf_base.proofs.SweepLaws.{with_processes}
@@ -28,10 +30,10 @@ use Rattle.pf_space.specs.MeaningLaws.{sweep-meaning, pipes-without}
 use Rattle.pf_space.specs.Owns.{Owns}
 use Rattle.pf_space.specs.OwnsLaws.{stands_at, joined_gone, others_written}
 use Rattle.pf_space.specs.Rows as rows
-use Rattle.pf_space.specs.Rows.{pipe_of, ProcessRows, DescriptionRows, PipeRows, Key, Process, process_in, key_at, keys_of, process_of, processes_of, descriptions_of, pipes_of, state_of, Tied, Kept}
+use Rattle.pf_space.specs.Rows.{pipe_of, ProcessRows, DescriptionRows, PipeRows, Key, Process, process_in, ready_in, Lives, key_at, keys_of, process_of, processes_of, descriptions_of, pipes_of, state_of, Tied, Kept}
 use Rattle.pf_space.specs.Tables.{closed, exited, descriptor, emptied, without_place, Left}
 use Rattle.pf_space.specs.Told.{Becomes}
-use Rattle.pf_space.proofs.Callers.{lives, place_is}
+use Rattle.pf_space.proofs.Callers.{lives, lives_not, readies, place_is}
 use Rattle.pf_space.proofs.Closing.{descriptor_shown}
 use Rattle.pf_space.proofs.Shown.{shown, none_was, set_same}
 use Rattle.pf_space.proofs.Swept.{changed-swept, within_same}
@@ -99,7 +101,7 @@ module _ {files : Files} {files_made : ℕ} (f : Live) (limits : Limits) (charge
 
 module _ {files : Files} {files_made : ℕ} (f : Live) (limits : Limits) (charges : UserPages) (ps : ProcessRows) (ds : DescriptionRows) (pipes : PipeRows) (k : Kept charges ps ds pipes)
     (n : Namespace) (view : record { limits = limits; state = state_of ps ds pipes files files_made } ≡ n)
-    (i : ℕ) (i_in : i < MAX_PROCESSES) (bare : (fd : ℕ) → descriptor n.state i fd ≡ None) (ps' : ProcessRows) (is : ps' ≡ clear_at ps i) where
+    (i : ℕ) (i_in : i < MAX_PROCESSES) (bare : (fd : ℕ) → descriptor n.state i fd ≡ None) (awake : call_of n.state (i + 1) ≡ None) (ps' : ProcessRows) (is : ps' ≡ clear_at ps i) where
   bare_key : (fd : ℕ) → key_at fd (at ps i) ≡ None
   bare_key fd = none_was (λ (k : Key). k.serial) (key_at fd (at ps i)) (sym (descriptor_shown ps ds pipes files files_made i fd) ∙ ap (λ (m : Namespace). descriptor m.state i fd) view ∙ bare fd)
 
@@ -107,7 +109,11 @@ module _ {files : Files} {files_made : ℕ} (f : Live) (limits : Limits) (charge
   vacated = subst (λ x. Tied x ds pipes) (sym is) (by_place (at ps i) refl)
     where
       bare_all : (p : Process) → at ps i ≡ Some p → (m : ℕ) → at (keys_of p) m ≡ None
-      bare_all p e zero = refl
+      bare_all p e zero = let same : suc i ≡ i + 1 = omega arith in no_key p.parked (none_was rows.call_of p.parked (sym (ap (λ (o : Option machine.Process). option_and_then (λ (q : machine.Process). q.parked) o) (shown process_of ps i p e)) ∙ ap (λ (m : Namespace). option_and_then (λ (q : machine.Process). q.parked) (at m.state.processes i)) view ∙ ap (call_of n.state) same ∙ awake))
+        where
+          no_key : (o : Option (rows.Call Key)) → o ≡ None → rows.made_by o ≡ None
+          no_key None h = refl
+          no_key (Some call) h = absurd (cc)
       bare_all p e (suc m) = sym (ap (key_at m) e) ∙ bare_key m
 
       by_place : (o : Option Process) → at ps i ≡ o → Tied (clear_at ps i) ds pipes
@@ -132,13 +138,22 @@ module _ {files : Files} {files_made : ℕ} (f : Live) (limits : Limits) (charge
 -- What the machine does, from what the tables find
 
 module _ {files : Files} {files_made : ℕ} (f : Live) (ps : ProcessRows) (ds : DescriptionRows) (pipes : PipeRows) (limits : Limits) (n : Namespace) (view : record { limits = limits; state = state_of ps ds pipes files files_made } ≡ n)
-    (pid : ℕ) (p : Process) (caller : process_in ps pid ≡ Ok p) where
+    (pid : ℕ) (p : Process) (caller : ready_in ps pid ≡ Ok p) where
   pub closed_is : (fd : ℕ) (k : Key) → at p.descriptors fd ≡ Some k → closed (meaning f n.state) pid fd ≡ Ok (emptied (meaning f n.state) (pid - 1) fd)
   closed_is fd k h =
       subst (λ (m : Namespace). closed (meaning f m.state) pid fd ≡ Ok (emptied (meaning f m.state) (pid - 1) fd)) view
-      (ap (λ r. r >>= (λ q. named q fd >>= (λ _. Ok (with_process (meaning f (state_of ps ds pipes files files_made)) pid (without_descriptor fd q))))) (lives f ps ds pipes files files_made pid p caller)
+      (ap (λ r. r >>= (λ q. named q fd >>= (λ _. Ok (with_process (meaning f (state_of ps ds pipes files files_made)) pid (without_descriptor fd q))))) (readies f ps ds pipes files files_made pid p caller)
       ∙ ap (λ o. or_refuse EBADF o >>= (λ _. Ok (with_process (meaning f (state_of ps ds pipes files files_made)) pid (without_descriptor fd (process_of p))))) (at-map (λ (k : Key). k.serial) p.descriptors fd ∙ ap (option_map (λ (k : Key). k.serial)) h)
-      ∙ ap (λ o. Ok (record (meaning f (state_of ps ds pipes files files_made)) { processes = set (processes_of ps) (pid - 1) (option_map (without_descriptor fd) o) })) (sym (shown process_of ps (pid - 1) p (place_is f ps ds pipes files files_made pid p caller))))
+      ∙ ap (λ o. Ok (record (meaning f (state_of ps ds pipes files files_made)) { processes = set (processes_of ps) (pid - 1) (option_map (without_descriptor fd) o) })) (sym (shown process_of ps (pid - 1) p (place_is ps pid p caller))))
 
-  pub exited_is : exited (meaning f n.state) pid ≡ Ok (without_place (meaning f n.state) (pid - 1))
-  exited_is = subst (λ (m : Namespace). exited (meaning f m.state) pid ≡ Ok (without_place (meaning f m.state) (pid - 1))) view (ap (λ r. r >>= (λ _. Ok (without_process (meaning f (state_of ps ds pipes files files_made)) pid))) (lives f ps ds pipes files files_made pid p caller))
+module _ {files : Files} {files_made : ℕ} (f : Live) (ps : ProcessRows) (ds : DescriptionRows) (pipes : PipeRows) (limits : Limits) (n : Namespace) (view : record { limits = limits; state = state_of ps ds pipes files files_made } ≡ n)
+    (pid : ℕ) where
+  pub exited_is : Lives ps pid → exited (meaning f n.state) pid ≡ Ok (without_place (meaning f n.state) (pid - 1))
+  exited_is who =
+      subst (λ (m : Namespace). exited (meaning f m.state) pid ≡ Ok (without_place (meaning f m.state) (pid - 1))) view
+      (ap (λ r. r >>= (λ _. Ok (without_process (meaning f (state_of ps ds pipes files files_made)) pid))) (lives f ps ds pipes files files_made pid who.p who.is))
+
+  pub exited_not : (e : Errno) → process_in ps pid ≡ Err e → exited (meaning f n.state) pid ≡ Err e
+  exited_not e h =
+      subst (λ (m : Namespace). exited (meaning f m.state) pid ≡ Err e) view
+      (ap (λ r. r >>= (λ _. Ok (without_process (meaning f (state_of ps ds pipes files files_made)) pid))) (lives_not f ps ds pipes files files_made pid e h))

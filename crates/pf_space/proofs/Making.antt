@@ -16,7 +16,7 @@ use Rattle.pf_limits.specs.UserPages.{UserPages}
 use Rattle.pf_space.specs.Meaning.{Namespace, meaning}
 use Rattle.pf_space.specs.MeaningLaws.{settled-meaning}
 use Rattle.pf_space.specs.Owns.{Owns}
-use Rattle.pf_space.specs.Rows.{ProcessRows, DescriptionRows, PipeRows, Key, Process, keys_of, process_of, processes_of, descriptions_of, pipes_of, state_of, Kept}
+use Rattle.pf_space.specs.Rows.{ProcessRows, DescriptionRows, PipeRows, Key, Process, call_of, made_by, keys_of, process_of, processes_of, descriptions_of, pipes_of, state_of, Kept}
 use Rattle.pf_space.specs.Told.{Becomes}
 use Rattle.pf_space.proofs.Swept.{settled}
 use Rattle.pf_space.proofs.Vacating.{vacant_at, length-vacant, map-vacant, made}
@@ -25,10 +25,14 @@ use Rattle.pf_space.proofs.Vacating.{vacant_at, length-vacant, map-vacant, made}
 pub becomes : (f g : Live) (old new : Namespace) (s : State Queue) → Owns g new → new.limits ≡ old.limits → meaning g new.state ≡ s → new.state ≡ sweep new.state → Becomes f g old new s
 becomes f g old new s owns limits is still = record { owns = owns; limits = limits; state = settled-meaning g new.state still ∙ ap sweep is }
 
+-- no process is in the place of the lowest free pid
+pub spawned-free : (ps : ProcessRows) (pid : ℕ) → pid ≡ first_free (processes_of ps) + 1 → at ps (pid - 1) ≡ None
+spawned-free ps pid lowest = let place : pid - 1 ≡ first_free ps = omega (arith, lowest, first_free-map process_of ps) in ap (at ps) place ∙ at-first_free ps
+
 -- A process under the lowest free pid
 
 module _ (charges : UserPages) (ps : ProcessRows) (ds : DescriptionRows) (pipes : PipeRows) (files : Files) (files_made : ℕ) (k : Kept charges ps ds pipes)
-    (pid : ℕ) (lowest : pid ≡ first_free (processes_of ps) + 1) (within : pid ≤ MAX_PROCESSES) (p : Process) (empty : p.descriptors ≡ vacant) where
+    (pid : ℕ) (lowest : pid ≡ first_free (processes_of ps) + 1) (within : pid ≤ MAX_PROCESSES) (p : Process) (empty : p.descriptors ≡ vacant) (asleep : p.parked ≡ None) where
   place : pid - 1 ≡ first_free ps
   place = omega (arith, first_free-map process_of ps)
 
@@ -36,7 +40,7 @@ module _ (charges : UserPages) (ps : ProcessRows) (ds : DescriptionRows) (pipes 
   after = put_at ps (pid - 1) p
 
   bare : (m : ℕ) → at (keys_of p) m ≡ None
-  bare zero = refl
+  bare zero = ap made_by asleep
   bare (suc m) = ap (λ xs. at xs m) empty ∙ vacant_at m
 
   pub spawned-kept : (ps' : ProcessRows) → ps' ≡ after → Kept charges ps' ds pipes
@@ -46,15 +50,15 @@ module _ (charges : UserPages) (ps : ProcessRows) (ds : DescriptionRows) (pipes 
         charged = k.charged;
       })
 
-  spawned-shown : state_of after ds pipes files files_made ≡ with_process (state_of ps ds pipes files files_made) pid (record { cred = p.cred; descriptors = vacant })
+  spawned-shown : state_of after ds pipes files files_made ≡ with_process (state_of ps ds pipes files files_made) pid (record { cred = p.cred; descriptors = vacant; parked = None })
   spawned-shown =
       ap (λ qs. record { processes = qs; descriptions = descriptions_of ds; pipes = pipes_of pipes; files = files; files_made = files_made })
       (map-set (option_map process_of) ps (pid - 1) (Some p)
-      ∙ ap (λ xs. put_at (processes_of ps) (pid - 1) (record { cred = p.cred; descriptors = xs })) (ap (map (option_map (λ (k : Key). k.serial))) empty ∙ map-vacant (λ (k : Key). k.serial)))
+      ∙ (λ i. put_at (processes_of ps) (pid - 1) (record { cred = p.cred; descriptors = (ap (map (option_map (λ (k : Key). k.serial))) empty ∙ map-vacant (λ (k : Key). k.serial)) i; parked = option_map call_of (asleep i) })))
 
   pub spawned-becomes : (f : Live) (limits : Limits) (n : Namespace) → record { limits = limits; state = state_of ps ds pipes files files_made } ≡ n → Owns f n → (ps' : ProcessRows) → ps' ≡ after
-      → Becomes f f n (record { limits = limits; state = state_of ps' ds pipes files files_made }) (with_process (meaning f n.state) pid (record { cred = p.cred; descriptors = vacant }))
+      → Becomes f f n (record { limits = limits; state = state_of ps' ds pipes files files_made }) (with_process (meaning f n.state) pid (record { cred = p.cred; descriptors = vacant; parked = None }))
   spawned-becomes f limits n view owns ps' is =
-      subst (λ (m : Namespace). Owns f m → Becomes f f m (record { limits = limits; state = state_of ps' ds pipes files files_made }) (with_process (meaning f m.state) pid (record { cred = p.cred; descriptors = vacant }))) view
+      subst (λ (m : Namespace). Owns f m → Becomes f f m (record { limits = limits; state = state_of ps' ds pipes files files_made }) (with_process (meaning f m.state) pid (record { cred = p.cred; descriptors = vacant; parked = None }))) view
       (λ o. becomes f f (record { limits = limits; state = state_of ps ds pipes files files_made }) (record { limits = limits; state = state_of ps' ds pipes files files_made }) _ (record { joined = o.joined; reserve = o.reserve }) refl
       (ap (λ x. meaning f (state_of x ds pipes files files_made)) is ∙ ap (meaning f) spawned-shown) (settled ps' ds pipes files files_made (spawned-kept ps' is).tied)) owns

@@ -17,7 +17,7 @@ use Rattle.pf_base.specs.declared.capacity.LimitFault.TheVariants.{Hard, Reserve
 use Rattle.pf_base.specs.Permissions.{is_privileged}
 use Rattle.pf_base.specs.Queue.{Queue}
 use Rattle.pf_base.specs.State as machine
-use Rattle.pf_base.specs.State.{State, living}
+use Rattle.pf_base.specs.State.{State, ready}
 use Rattle.pf_base.specs.Pipes.{first_descriptor, second_descriptor, capacity_for, reading as machine_reading, writing as machine_writing, with_two, opened}
 use Rattle.pf_base.specs.declared.TheConstants.{MAX_DESCRIPTORS}
 use Rattle.pf_base.specs.declared.errno.Errno.{Errno}
@@ -25,6 +25,7 @@ use Rattle.pf_base.specs.declared.errno.Errno.TheVariants.{EMFILE, ENFILE}
 use Rattle.pf_fds.specs.Descriptions.{one_more}
 use Rattle.pf_frame.specs.Live.{Live}
 use Rattle.pf_ring.specs.Table.{Joined}
+use Rattle.pf_pipe.specs.Pipe.{unopened}
 use Rattle.pf_limits.specs.Sums.{AreSumsOf}
 use Rattle.pf_limits.specs.UserPages.{UserPages, charged_to, Charges}
 use Rattle.pf_limits.proofs.SumLaws.{made}
@@ -32,9 +33,9 @@ use Rattle.pf_space.specs.Meaning.{Namespace, meaning, pipe_meaning, rings_of}
 use Rattle.pf_space.specs.MeaningLaws.{total-meaning}
 use Rattle.pf_space.specs.Owns.{Owns}
 use Rattle.pf_space.specs.OwnsLaws.{joined_opened, meaning-opened}
-use Rattle.pf_space.specs.Rows.{ProcessRows, DescriptionRows, PipeRows, Key, Process, Description, Pipe, Ring, process_in, with_keys, process_of, description_of, pipe_of, processes_of, descriptions_of, pipes_of, state_of, Tied, Kept, Named}
+use Rattle.pf_space.specs.Rows.{ProcessRows, DescriptionRows, PipeRows, Key, Process, Description, Pipe, Ring, ready_in, with_keys, process_of, description_of, pipe_of, processes_of, descriptions_of, pipes_of, state_of, Tied, Kept, Named}
 use Rattle.pf_space.specs.Tables.{HasTwo, FindsTwo, Opens, capacity_of_caller}
-use Rattle.pf_space.proofs.Callers.{lives, lives_not, place_is}
+use Rattle.pf_space.proofs.Callers.{readies, readies_not, place_is}
 use Rattle.pf_space.proofs.Held.{finds-new, miss, once, sides, described, piped, swapped}
 use Rattle.pf_space.proofs.Making.{becomes}
 use Rattle.pf_space.proofs.Small.{put}
@@ -74,7 +75,7 @@ abbrev pub writing : Key → Bool → Description
 writing r nonblocking = record { pipe = r; reads = false; writes = true; nonblocking = nonblocking }
 
 abbrev pub two_ended : ℕ → ℕ → Pipe
-two_ended slots owner = record { ring = record { capacity = slots; windows = [] }; owner = owner; readers = 1; writers = 1 }
+two_ended slots owner = record { ring = record { capacity = slots; windows = [] }; owner = owner; readers = 1; writers = 1; opens = unopened None }
 
 -- a list with one more at its end
 pub pushed : {X : Type 0} {xs ys zs : List X} {x y : X} → zs ≡ ys ++ x ∷ [] → ys ≡ xs → x ≡ y → zs ≡ xs ++ y ∷ []
@@ -117,22 +118,22 @@ module _ {files : Files} {files_made : ℕ} (f : Live) {charges : UserPages} {li
       (kept.charged.users uid ∙ sym (sum_of-map (pipe_meaning f) (λ (q : machine.Pipe Queue). if nat_eq q.owner uid then q.queue.capacity else 0) (pipes_of pipes)))
 
   -- how many slots a new pipe gets
-  pub capacity_is : (pid : ℕ) (p : Process) → process_in ps pid ≡ Ok p → limits ≡ charges.limits
+  pub capacity_is : (pid : ℕ) (p : Process) → ready_in ps pid ≡ Ok p → limits ≡ charges.limits
       → capacity_of_caller n.limits (meaning f n.state) pid ≡ told_as ENFILE (new_capacity charges.limits (is_privileged p.cred) (charged_to charges p.cred.uid) charges.total)
   capacity_is pid p is same =
-      ap (λ r. r >>= (λ q. told_as ENFILE (capacity_for n.limits (meaning f n.state) q.cred))) (subst (λ (m : Namespace). living (meaning f m.state) pid ≡ Ok (process_of p)) view (lives f ps ds pipes files files_made pid p is))
+      ap (λ r. r >>= (λ q. told_as ENFILE (capacity_for n.limits (meaning f n.state) q.cred))) (subst (λ (m : Namespace). ready (meaning f m.state) pid ≡ Ok (process_of p)) view (readies f ps ds pipes files files_made pid p is))
       ∙ (λ j. told_as ENFILE (new_capacity ((sym (ap (λ (m : Namespace). m.limits) view) ∙ same) j) (is_privileged p.cred) (sym (charged_is p.cred.uid) j) (sym total_is j)))
 
-  pub no_capacity : (pid : ℕ) (e : Errno) → process_in ps pid ≡ Err e → capacity_of_caller n.limits (meaning f n.state) pid ≡ Err e
+  pub no_capacity : (pid : ℕ) (e : Errno) → ready_in ps pid ≡ Err e → capacity_of_caller n.limits (meaning f n.state) pid ≡ Err e
   no_capacity pid e is =
-      ap (λ r. r >>= (λ q. told_as ENFILE (capacity_for n.limits (meaning f n.state) q.cred))) (subst (λ (m : Namespace). living (meaning f m.state) pid ≡ Err e) view (lives_not f ps ds pipes files files_made pid e is))
+      ap (λ r. r >>= (λ q. told_as ENFILE (capacity_for n.limits (meaning f n.state) q.cred))) (subst (λ (m : Namespace). ready (meaning f m.state) pid ≡ Err e) view (readies_not f ps ds pipes files files_made pid e is))
 
-  module _ (pid : ℕ) {p : Process} (is : process_in ps pid ≡ Ok p) where
-    opener : living (meaning f n.state) pid ≡ Ok (process_of p)
-    opener = subst (λ (m : Namespace). living (meaning f m.state) pid ≡ Ok (process_of p)) view (lives f ps ds pipes files files_made pid p is)
+  module _ (pid : ℕ) {p : Process} (is : ready_in ps pid ≡ Ok p) where
+    opener : ready (meaning f n.state) pid ≡ Ok (process_of p)
+    opener = subst (λ (m : Namespace). ready (meaning f m.state) pid ≡ Ok (process_of p)) view (readies f ps ds pipes files files_made pid p is)
 
     stands : at ps (pid - 1) ≡ Some p
-    stands = place_is f ps ds pipes files files_made pid p is
+    stands = place_is ps pid p is
 
     no_second : (k : Key) (a : ℕ) → a ≡ first_free p.descriptors → MAX_DESCRIPTORS ≤ a → first_free (put_at p.descriptors a k) ≡ a
     no_second k a lowest past = ap first_free (set_past p.descriptors a (Some k) (omega (arith, kept.tied.wide (pid - 1) p stands))) ∙ sym lowest

@@ -17,7 +17,7 @@ use Rattle.pf_base.proofs.NumberedLaws.{at_within}
 use Rattle.pf_base.specs.Sweep.{sweep}
 use Rattle.pf_base.specs.Pipes.{may_resize, get_size}
 use Rattle.pf_base.specs.State as machine
-use Rattle.pf_base.specs.State.{State, End, Outcome, living, end_of, with_queue, holding, done}
+use Rattle.pf_base.specs.State.{State, End, Outcome, ready, end_of, with_queue, holding, done}
 use Rattle.pf_base.specs.declared.TheConstants.{PAGE_SIZE, MAX_SIZE}
 use Rattle.pf_base.specs.declared.errno.Errno.{Errno}
 use Rattle.pf_base.specs.declared.errno.Errno.TheVariants.{EINVAL, EPERM, EBUSY}
@@ -38,9 +38,9 @@ use Rattle.pf_space.specs.Told.{Becomes, Told, settled as told_by}
 use Rattle.pf_space.proofs.Opening.{charged_is, total_is}
 use Rattle.pf_space.proofs.Small.{requeued}
 use Rattle.pf_space.proofs.Swept.{settled}
-use Rattle.pf_space.specs.Rows.{ProcessRows, DescriptionRows, PipeRows, Process, Description, Pipe, process_of, pipe_of, processes_of, descriptions_of, pipes_of, state_of, process_in, end_in, Tied, Kept}
+use Rattle.pf_space.specs.Rows.{ProcessRows, DescriptionRows, PipeRows, Process, Description, Pipe, process_of, pipe_of, processes_of, descriptions_of, pipes_of, state_of, ready_in, end_in, Tied, Kept}
 use Rattle.pf_space.specs.Tables.{Tells, HasResized, sized, size_of_end, verdict, Resizes, Refuses, Resizing}
-use Rattle.pf_space.proofs.Callers.{lives}
+use Rattle.pf_space.proofs.Callers.{readies}
 use Rattle.pf_space.proofs.Ends.{end_of_rows, Found, refused, found}
 use Rattle.pf_space.proofs.Shown.{shown, find_at, find_was, set_same}
 
@@ -75,14 +75,14 @@ module _ {files : Files} {files_made : ℕ} (f : Live) (limits : Limits) (charge
     pub no_size : (e : Errno) → end_in None ps ds pid fd ≡ Err e → size_of_end (meaning f n.state) pid fd ≡ Err e
     no_size e h =
         subst (λ (v : Namespace). size_of_end (meaning f v.state) pid fd ≡ Err e) view
-        (stops (λ p. end_of s p fd) (λ p x. Ok (PAGE_SIZE * x.pipe.queue.capacity)) (living s pid) e (refused f None ps ds pipes files files_made k.tied pid fd e h))
+        (stops (λ p. end_of s p fd) (λ p x. Ok (PAGE_SIZE * x.pipe.queue.capacity)) (ready s pid) e (refused f None ps ds pipes files files_made k.tied pid fd e h))
 
     pub not_sized : (bytes : ℕ) (e : Errno) → end_in None ps ds pid fd ≡ Err e → sized n.limits (meaning f n.state) pid fd bytes ≡ Err e
     not_sized bytes e h =
         subst (λ (v : Namespace). sized v.limits (meaning f v.state) pid fd bytes ≡ Err e) view
         (stops (λ p. end_of s p fd) (λ p x. refuse_if (nat_lt MAX_SIZE bytes) EINVAL >> (refuse_if (not (is_privileged p.cred) && nat_lt limits.max (PAGE_SIZE * pages_for bytes)) EPERM
         >> (may_resize limits s p.cred x.pipe (pages_for bytes) >> Ok (done (with_queue s x.description.pipe (with_capacity (pages_for bytes) x.pipe.queue)) (PAGE_SIZE * pages_for bytes)))))
-        (living s pid) e (refused f None ps ds pipes files files_made k.tied pid fd e h))
+        (ready s pid) e (refused f None ps ds pipes files files_made k.tied pid fd e h))
 
     module _ (d : Description) (h : end_in None ps ds pid fd ≡ Ok d) where
       at_end : Found f None ps ds pipes files files_made pid fd d
@@ -115,17 +115,17 @@ module _ {files : Files} {files_made : ℕ} (f : Live) (limits : Limits) (charge
             let pair : ◌≡◌ {A = ℕ × Pipe} (d.pipe.place, at_end.pipe) (d.pipe.place, r) = cc in
             ap (λ (x : ℕ × Pipe). x.1) pair
 
-        end_is : (living s pid >>= (λ q. end_of s q fd)) ≡ Ok (end_of_rows f d r)
+        end_is : (ready s pid >>= (λ q. end_of s q fd)) ≡ Ok (end_of_rows f d r)
         end_is = at_end.is ∙ ap (λ x. Ok (end_of_rows f d x)) same_row
 
         pub size_is : size_of_end (meaning f n.state) pid fd ≡ Ok (PAGE_SIZE * r.ring.capacity)
         size_is =
             subst (λ (v : Namespace). size_of_end (meaning f v.state) pid fd ≡ Ok (PAGE_SIZE * r.ring.capacity)) view
-            (after (λ q. end_of s q fd) (λ x. Ok (PAGE_SIZE * x.pipe.queue.capacity)) (living s pid) (end_of_rows f d r) end_is)
+            (after (λ q. end_of s q fd) (λ x. Ok (PAGE_SIZE * x.pipe.queue.capacity)) (ready s pid) (end_of_rows f d r) end_is)
 
-      module _ (p : Process) (is : process_in ps pid ≡ Ok p) (r : Pipe) (handed : find pipes d.pipe.place d.pipe.serial ≡ Some r) where
-        caller_is : living s pid ≡ Ok (process_of p)
-        caller_is = lives f ps ds pipes files files_made pid p is
+      module _ (p : Process) (is : ready_in ps pid ≡ Ok p) (r : Pipe) (handed : find pipes d.pipe.place d.pipe.serial ≡ Some r) where
+        caller_is : ready s pid ≡ Ok (process_of p)
+        caller_is = readies f ps ds pipes files files_made pid p is
 
         -- what the machine says, test by test
         abbrev tests : Bool → Bool → Result (Unit {0}) Errno → ℕ → Result Outcome Errno
@@ -139,7 +139,7 @@ module _ {files : Files} {files_made : ℕ} (f : Live) (limits : Limits) (charge
             ≡ tests (nat_lt MAX_SIZE bytes) (not (is_privileged p.cred) && nat_lt limits.max (PAGE_SIZE * pages_for bytes)) (may_resize limits s p.cred (end_of_rows f d r).pipe (pages_for bytes)) bytes) view
             (goes (λ q. end_of s q fd) (λ q x. refuse_if (nat_lt MAX_SIZE bytes) EINVAL >> (refuse_if (not (is_privileged q.cred) && nat_lt limits.max (PAGE_SIZE * pages_for bytes)) EPERM
             >> (may_resize limits s q.cred x.pipe (pages_for bytes) >> Ok (done (with_queue s x.description.pipe (with_capacity (pages_for bytes) x.pipe.queue)) (PAGE_SIZE * pages_for bytes)))))
-            (living s pid) (process_of p) (end_of_rows f d r) caller_is (end_is r handed))
+            (ready s pid) (process_of p) (end_of_rows f d r) caller_is (end_is r handed))
 
         -- what the machine says where the bytes are not too many, and not above pipe-max-size
         pub sized_as : (bytes : ℕ) (o : Result (Unit {0}) Errno) → bytes ≤ MAX_SIZE → (not (is_privileged p.cred) && nat_lt limits.max (PAGE_SIZE * pages_for bytes)) ≡ false
@@ -252,7 +252,7 @@ module _ {files : Files} {files_made : ℕ} (f : Live) (limits : Limits) (charge
           }
 
       -- a capacity that nobody may ask for, and one that an unprivileged caller may not
-      module _ (p : Process) (is : process_in ps pid ≡ Ok p) (bytes : ℕ) where
+      module _ (p : Process) (is : ready_in ps pid ≡ Ok p) (bytes : ℕ) where
         abbrev over : Bool
         over = not (is_privileged p.cred) && nat_lt limits.max (PAGE_SIZE * pages_for bytes)
 
@@ -277,13 +277,13 @@ module _ {A B : Type 0} (now : State Queue) (h : A → Result B Errno) (k : B �
   asked (Err e) is = absurd (cc)
 
 pub tells_size : (f : Live) (n : Namespace) (pid fd size : ℕ) → Owns f n → n.state ≡ sweep n.state → size_of_end (meaning f n.state) pid fd ≡ Ok size
-    → Told f f n n (Ok (replies.Num size)) (living (meaning f n.state) pid >>= (λ p. get_size (meaning f n.state) p fd))
+    → Told f f n n (Ok (replies.Num size)) (ready (meaning f n.state) pid >>= (λ p. get_size (meaning f n.state) p fd))
 tells_size f n pid fd size owned still is =
     let now = meaning f n.state in
     record {
       owns = owned;
       limits = refl;
       says =
-          ap told_by (asked now (λ p. end_of now p fd) (λ e. PAGE_SIZE * e.pipe.queue.capacity) size (living now pid) is)
+          ap told_by (asked now (λ p. end_of now p fd) (λ e. PAGE_SIZE * e.pipe.queue.capacity) size (ready now pid) is)
           ∙ (λ j. Ok (record { state = (sym (settled-meaning f n.state still)) j; reply = replies.Num size }));
     }

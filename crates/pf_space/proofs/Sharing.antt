@@ -6,7 +6,7 @@ use Rattle.std.proofs.lemmas.List.{map-set}
 use Rattle.pf_base.specs.Numbered.{at, put_at, change_at, sum_of, one_if}
 use Rattle.pf_fds.specs.Descriptions.{names_of, one_more}
 use Rattle.pf_fds.specs.Registry.{find}
-use Rattle.pf_space.specs.Rows.{ProcessRows, DescriptionRows, PipeRows, Key, Named, Process, Description, description_of, descriptions_of, names_it, named, held, NamedRow, TiedWith}
+use Rattle.pf_space.specs.Rows.{ProcessRows, DescriptionRows, PipeRows, Key, Named, Process, Description, description_of, descriptions_of, keys_of, names_it, named, held, NamedRow, TiedWith}
 use Rattle.pf_space.proofs.Shown.{shown, find_at, set_same}
 
 -- All names of a description are descriptors, of which 256 processes have 256 each, and keys in the hand
@@ -20,17 +20,17 @@ few_of_list n [] = omega arith
 few_of_list n (None ∷ ks) = omega (arith, few_of_list n ks)
 few_of_list n (Some k ∷ ks) = omega (arith, one_at_most (nat_eq k.serial n), few_of_list n ks)
 
-few_of_all : (n : ℕ) (ps : ProcessRows) → ((i : ℕ) (p : Process) → at ps i ≡ Some p → length p.descriptors ≡ 256) → named ps n ≤ 256 * length ps
+few_of_all : (n : ℕ) (ps : ProcessRows) → ((i : ℕ) (p : Process) → at ps i ≡ Some p → length p.descriptors ≡ 256) → named ps n ≤ 257 * length ps
 few_of_all n [] wide = omega arith
 few_of_all n (None ∷ ps) wide = omega (arith, few_of_all n ps (λ i. wide (suc i)))
-few_of_all n (Some p ∷ ps) wide = omega (arith, few_of_list n p.descriptors, wide 0 p refl, few_of_all n ps (λ i. wide (suc i)))
+few_of_all n (Some p ∷ ps) wide = omega (arith, few_of_list n (keys_of p), wide 0 p refl, few_of_all n ps (λ i. wide (suc i)))
 
 few_held : (n : ℕ) (ks : List Key) → held (names_it n) ks ≤ length ks
 few_held n [] = omega arith
 few_held n (k ∷ ks) = omega (arith, one_at_most (nat_eq k.serial n), few_held n ks)
 
 module _ (K : List Key) (ps : ProcessRows) (ds : DescriptionRows) (pipes : PipeRows) (t : TiedWith K [] ps ds pipes) where
-  pub few_names : (n : ℕ) (e : ℕ × Named Description) → at ds n ≡ Some e → e.1.names ≤ 65536 + length K
+  pub few_names : (n : ℕ) (e : ℕ × Named Description) → at ds n ≡ Some e → e.1.names ≤ 65792 + length K
   few_names n e stands =
       let row = subst (NamedRow (named ps n + held (names_it n) K)) stands (t.names n) in
       omega (arith, row.0, few_of_all n ps t.wide, t.places, few_held n K)

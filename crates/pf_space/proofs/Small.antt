@@ -40,7 +40,7 @@ module _ (K : List Key) (E : List Description) (ps : ProcessRows) (ds : Descript
         (let r = names_row t in let one = names_one k in omega (arith, r.0, one, last)) (t.is_end k.serial (k.place, d) stands, t.ends_in_hand) (λ n. omega arith) (λ n. omega arith)
 
   module _ (r : Key) (p : Pipe) (stands : at pipes r.serial ≡ Some (r.place, p)) where
-    pipe_row : {E' : List Description} → TiedWith K E' ps ds pipes → (p.readers ≡ read_by ds r.serial + held (reads_it r.serial) E') × (p.writers ≡ written_by ds r.serial + held (writes_it r.serial) E') × (0 < (read_by ds r.serial + held (reads_it r.serial) E') + (written_by ds r.serial + held (writes_it r.serial) E'))
+    pub pipe_row : {E' : List Description} → TiedWith K E' ps ds pipes → (p.readers ≡ read_by ds r.serial + held (reads_it r.serial) E') × (p.writers ≡ written_by ds r.serial + held (writes_it r.serial) E') × (0 < (read_by ds r.serial + held (reads_it r.serial) E') + (written_by ds r.serial + held (writes_it r.serial) E'))
     pipe_row {E'} t = subst (UsedRow (read_by ds r.serial + held (reads_it r.serial) E') (written_by ds r.serial + held (writes_it r.serial) E')) stands (t.uses r.serial)
 
     same_place : (q : Pipe) (e : ℕ × Pipe) → ◌≡◌ {A = Option (ℕ × Pipe)} (Some (r.place, q)) (Some e) → e.0 ≡ r.place

@@ -4,22 +4,32 @@
 use Rattle.std.proofs.Common.{◌≡◌, ℕ, ◌+◌, ◌<◌, ◌&&◌, List, [], ◌∷◌, length, map, set, length-set, Option, Some, None, refl, sym, ap, subst, ◌∙◌, arith, nat_eq}
 use Rattle.std.proofs.lemmas.List.{length-map}
 use Rattle.std.specs.Option.{option_map}
+use Rattle.pf_base.specs.Calls as calls
 use Rattle.pf_base.specs.FileMap.{Files}
-use Rattle.pf_base.specs.Numbered.{at, one_if}
+use Rattle.pf_parked.specs.declared.call.Call.TheVariants.{Open, Read, Write, Cross}
+use Rattle.pf_base.specs.Numbered.{at, weight, one_if}
 use Rattle.pf_base.proofs.NumberedLaws.{at_within, sum_of-map}
 use Rattle.pf_base.specs.State as machine
 use Rattle.pf_base.specs.State.{State}
 use Rattle.pf_base.specs.Counts.{names, readers, writers, ends}
 use Rattle.pf_base.specs.Sweep.{sweep}
 use Rattle.pf_base.proofs.SweepLaws.{with_processes, swept, ends-le-sides, readers-le-ends, writers-le-ends}
-use Rattle.pf_space.specs.Rows.{ProcessRows, DescriptionRows, PipeRows, Key, Named, Description, Pipe, Ring, keys_of, named, read_by, written_by, NamedRow, UsedRow, Tied, description_of, pipe_of, processes_of, descriptions_of, pipes_of, state_of}
+use Rattle.pf_space.specs.Rows.{ProcessRows, DescriptionRows, PipeRows, Key, Named, Description, Pipe, Ring, Call, call_of, made_by, keys_of, named, read_by, written_by, NamedRow, UsedRow, Tied, description_of, pipe_of, processes_of, descriptions_of, pipes_of, state_of}
 use Rattle.pf_space.proofs.Shown.{was, shown}
 use Rattle.pf_space.proofs.Held.{by_set}
+
+-- what a call has made, as the machine sees it
+made_shown : (o : Option (Call Key)) → calls.made_by (option_map call_of o) ≡ option_map (λ (k : Key). k.serial) (made_by o)
+made_shown None = refl
+made_shown (Some (Open description kept)) = refl
+made_shown (Some (Read fd n)) = refl
+made_shown (Some (Write fd write)) = refl
+made_shown (Some (Cross crossing source sink n)) = refl
 
 pub names_shown : (ps : ProcessRows) (n : ℕ) → names (processes_of ps) n ≡ named ps n
 names_shown [] n = refl
 names_shown (None ∷ ps) n = omega (arith, names_shown ps n)
-names_shown (Some p ∷ ps) n = omega (arith, names_shown ps n, sum_of-map (λ (k : Key). k.serial) (λ m. one_if (nat_eq m n)) (keys_of p))
+names_shown (Some p ∷ ps) n = omega (arith, names_shown ps n, ap (weight (λ m. one_if (nat_eq m n))) (made_shown p.parked), sum_of-map (λ (k : Key). k.serial) (λ m. one_if (nat_eq m n)) (keys_of p))
 
 module _ (ps : ProcessRows) (ds : DescriptionRows) (pipes : PipeRows) (files : Files) (files_made : ℕ) where
   pub readers_shown : (n : ℕ) → readers (state_of ps ds pipes files files_made) n ≡ read_by ds n

@@ -1,17 +1,17 @@
 -- A transfer through one pipe, in the meaning of the state that it leaves.
 
-use Rattle.std.proofs.Common.{◌≡◌, ℕ, zero, suc, ◌+◌, ◌-◌, ◌<◌, ◌≤◌, Bool, List, [], length, take, set, Option, Some, None, IsSome, is_some, Result, Ok, Err, nat_le, nat_lt, refl, sym, ap, subst, ◌∙◌}
+use Rattle.std.proofs.Common.{◌≡◌, ℕ, ◌+◌, ◌-◌, ◌<◌, ◌≤◌, Bool, List, [], length, take, drop, set, Option, Some, IsSome, IsOk, is_some, Result, Ok, Err, nat_le, nat_lt, refl, sym, ap, subst, ◌∙◌, arith}
 use Rattle.std.specs.Option.{option_map}
 use Rattle.std.proofs.lemmas.Bool.{lt-ltb, le-ltb}
-use Rattle.std.proofs.lemmas.List.{map-set}
+use Rattle.std.proofs.lemmas.List.{map-set, take_all, length-drop}
 use Rattle.pf_base.specs.FileMap.{Files}
 use Rattle.pf_base.specs.Limits.{Limits}
 use Rattle.pf_base.specs.Refusals.{◌>>=◌, ◌>>◌, refuse_if}
 use Rattle.pf_base.specs.Queue.{Queue, taken}
 use Rattle.pf_base.specs.Numbered.{at, put_at}
-use Rattle.pf_base.proofs.NumberedLaws.{at-map}
+use Rattle.pf_base.specs.Calls.{Reading, Writing}
 use Rattle.pf_base.specs.Progress.{Passed, moved, read_now, write_now}
-use Rattle.pf_base.specs.State.{State, End, process, living, reading_end, writing_end, with_queue, holding}
+use Rattle.pf_base.specs.State.{State, End, ready, reading_end, writing_end, with_queue, holding}
 use Rattle.pf_base.specs.Counts.{readers, writers}
 use Rattle.pf_base.specs.Transfers.{Tried, try_read, try_write}
 use Rattle.pf_base.specs.Sweep.{sweep}
@@ -32,8 +32,9 @@ use Rattle.pf_space.specs.Meaning.{Namespace, meaning, rings_of, Charged}
 use Rattle.pf_space.specs.MeaningLaws.{meaning-with_queue, settled-meaning}
 use Rattle.pf_space.specs.Owns.{Owns}
 use Rattle.pf_space.specs.OwnsLaws.{ring_at-pipe, stands_at, credits_at, others_written, joined_written, charged-with_queue}
-use Rattle.pf_space.specs.Rows.{ProcessRows, DescriptionRows, PipeRows, Process, Description, Pipe, process_of, pipe_of, processes_of, descriptions_of, pipes_of, state_of, process_at, end_in, Kept}
-use Rattle.pf_space.specs.Told.{attempted_read, attempted_write, Came}
+use Rattle.pf_space.specs.Rows.{ProcessRows, DescriptionRows, PipeRows, Process, Description, Pipe, pipe_of, processes_of, descriptions_of, pipes_of, state_of, pipe_with, ready_in, end_in, Kept}
+use Rattle.pf_space.specs.Told.{attempted, Came}
+use Rattle.pf_space.proofs.Callers.{shown_in, ready_shown}
 use Rattle.pf_space.proofs.Ends.{side_end, end_of_rows, refused, found, counted}
 use Rattle.pf_space.proofs.Shown.{shown, find_at, find_was, set_same}
 use Rattle.pf_space.proofs.Small.{requeued}
@@ -43,6 +44,10 @@ use Rattle.pf_space.proofs.Swept.{settled}
 pub bind-bind : {A B C : Type 0} (m : Result A Errno) (h : A → Result B Errno) (go : B → Result C Errno) → (m >>= (λ a. h a >>= go)) ≡ ((m >>= h) >>= go)
 bind-bind (Ok a) h go = refl
 bind-bind (Err e) h go = refl
+
+-- the rest of a list, cut at its end
+pub rest_is : (n : ℕ) (x : List ℕ) → take (length x - n) (drop n x) ≡ drop n x
+rest_is n x = take_all (length x - n) (drop n x) (omega (arith, length-drop n x))
 
 -- what is known before
 module _ {files : Files} {files_made : ℕ} (f : Live) (limits : Limits) (charges : UserPages) (ps : ProcessRows) (ds : DescriptionRows) (pipes : PipeRows) (k : Kept charges ps ds pipes)
@@ -85,7 +90,7 @@ module _ {files : Files} {files_made : ℕ} (f : Live) (limits : Limits) (charge
       shows =
           ap (λ xs. record { processes = processes_of ps; descriptions = descriptions_of ds; pipes = xs; files = files; files_made = files_made })
           (map-set (option_map pipe_of) pipes d.pipe.serial (Some (d.pipe.place, r'))
-          ∙ ap (λ (o : ℕ). set (pipes_of pipes) d.pipe.serial (Some (record { queue = r'.ring; owner = o }))) passes.owner
+          ∙ (λ i. set (pipes_of pipes) d.pipe.serial (Some (pipe_with r'.ring (passes.owner i) (passes.opens i))))
           ∙ ap (λ o. set (pipes_of pipes) d.pipe.serial (option_map (holding r'.ring) o)) (sym there))
 
       pub passed-kept : Kept charges ps ds pipes'
@@ -114,47 +119,45 @@ module _ {files : Files} {files_made : ℕ} (f : Live) (limits : Limits) (charge
     abbrev s : State Queue
     s = meaning f (state_of ps ds pipes files files_made)
 
-    pub no_write : (x : List ℕ) (e : Errno) → end_in (Some sides.Write) ps ds pid fd ≡ Err e → attempted_write (meaning f n.state) pid fd x ≡ Err e
-    no_write x e h =
-        subst (λ (v : Namespace). attempted_write (meaning f v.state) pid fd x ≡ Err e) view
-        (bind-bind (living s pid) (λ p. writing_end s p fd) _ ∙ ap (λ r. r >>= (λ e. refuse_if (nat_lt MAX_WRITE (length x)) EINVAL >> Ok (try_write s e x))) (refused f (Some sides.Write) ps ds pipes files files_made k.tied pid fd e h))
+    pub no_write : (x : List ℕ) (written : ℕ) (e : Errno) → end_in (Some sides.Write) ps ds pid fd ≡ Err e → attempted (meaning f n.state) pid (Writing fd x written) ≡ Err e
+    no_write x written e h =
+        subst (λ (v : Namespace). attempted (meaning f v.state) pid (Writing fd x written) ≡ Err e) view
+        (bind-bind (ready s pid) (λ p. writing_end s p fd) _ ∙ ap (λ r. r >>= (λ e. refuse_if (nat_lt MAX_WRITE (length x)) EINVAL >> Ok (try_write s e x written))) (refused f (Some sides.Write) ps ds pipes files files_made k.tied pid fd e h))
 
-    pub no_read : (m : ℕ) (e : Errno) → end_in (Some sides.Read) ps ds pid fd ≡ Err e → attempted_read (meaning f n.state) pid fd m ≡ Err e
+    pub no_read : (m : ℕ) (e : Errno) → end_in (Some sides.Read) ps ds pid fd ≡ Err e → attempted (meaning f n.state) pid (Reading fd m) ≡ Err e
     no_read m e h =
-        subst (λ (v : Namespace). attempted_read (meaning f v.state) pid fd m ≡ Err e) view
-        (bind-bind (living s pid) (λ p. reading_end s p fd) _ ∙ ap (λ r. r >>= (λ e. Ok (try_read s e m))) (refused f (Some sides.Read) ps ds pipes files files_made k.tied pid fd e h))
+        subst (λ (v : Namespace). attempted (meaning f v.state) pid (Reading fd m) ≡ Err e) view
+        (bind-bind (ready s pid) (λ p. reading_end s p fd) _ ∙ ap (λ r. r >>= (λ e. Ok (try_read s e m))) (refused f (Some sides.Read) ps ds pipes files files_made k.tied pid fd e h))
 
     module _ (d : Description) where
       pub pipe_there : (side : Option Side) → end_in side ps ds pid fd ≡ Ok d → IsSome (find pipes d.pipe.place d.pipe.serial)
       pipe_there side h = let w = found f side ps ds pipes files files_made k.tied pid fd d h in ap is_some (find_at pipes d.pipe.place d.pipe.serial w.pipe w.stands)
 
-      pub lives : (side : Option Side) → end_in side ps ds pid fd ≡ Ok d → IsSome (process n.state pid)
-      lives side h = subst (λ (v : Namespace). IsSome (process v.state pid)) view (by_pid pid (found f side ps ds pipes files files_made k.tied pid fd d h).lives)
+      pub caller : (side : Option Side) → end_in side ps ds pid fd ≡ Ok d → IsOk (ready (meaning f n.state) pid)
+      caller side h =
+          subst (λ (v : Namespace). IsOk (ready (meaning f v.state) pid)) view
+          (rw (ready_shown f ps ds pipes files files_made pid) (shown_ok (ready_in ps pid) (found f side ps ds pipes files files_made k.tied pid fd d h).caller))
         where
-          by_pid : (i : ℕ) → IsSome (process_at ps i) → IsSome (process (state_of ps ds pipes files files_made) i)
-          by_pid zero h = h
-          by_pid (suc i) h = rw (at-map process_of ps i) (some (at ps i) h)
-            where
-              some : (o : Option Process) → IsSome o → IsSome (option_map process_of o)
-              some None h = h
-              some (Some p) h = refl
+          shown_ok : (r : Result Process Errno) → IsOk r → IsOk (shown_in r)
+          shown_ok (Ok p) g = refl
+          shown_ok (Err e) g = g
 
       -- how a transfer through the pipe that was found goes on
       through : (side : Option Side) {B : Type 0} (go : End Queue → Result B Errno) (r : Pipe) → end_in side ps ds pid fd ≡ Ok d → find pipes d.pipe.place d.pipe.serial ≡ Some r
-          → (living s pid >>= (λ p. side_end side s p fd >>= go)) ≡ go (end_of_rows f d r)
+          → (ready s pid >>= (λ p. side_end side s p fd >>= go)) ≡ go (end_of_rows f d r)
       through side go r h handed =
           let w = found f side ps ds pipes files files_made k.tied pid fd d h in
           let one : ◌≡◌ {A = Option (ℕ × Pipe)} (Some (d.pipe.place, w.pipe)) (Some (d.pipe.place, r)) = sym w.stands ∙ find_was pipes d.pipe.place d.pipe.serial r handed in
           let pair : ◌≡◌ {A = ℕ × Pipe} (d.pipe.place, w.pipe) (d.pipe.place, r) = cc in
           let same : w.pipe ≡ r = ap (λ (x : ℕ × Pipe). x.1) pair in
-          bind-bind (living s pid) (λ p. side_end side s p fd) go ∙ ap (λ x. x >>= go) w.is ∙ ap (λ x. go (end_of_rows f d x)) same
+          bind-bind (ready s pid) (λ p. side_end side s p fd) go ∙ ap (λ x. x >>= go) w.is ∙ ap (λ x. go (end_of_rows f d x)) same
 
-      pub too_long : (x : List ℕ) → end_in (Some sides.Write) ps ds pid fd ≡ Ok d → MAX_WRITE < length x → attempted_write (meaning f n.state) pid fd x ≡ Err EINVAL
-      too_long x h long =
+      pub too_long : (x : List ℕ) (written : ℕ) → end_in (Some sides.Write) ps ds pid fd ≡ Ok d → MAX_WRITE < length x → attempted (meaning f n.state) pid (Writing fd x written) ≡ Err EINVAL
+      too_long x written h long =
           let w = found f (Some sides.Write) ps ds pipes files files_made k.tied pid fd d h in
-          let go : Bool → Result Tried Errno = λ b. refuse_if b EINVAL >> Ok (try_write s (end_of_rows f d w.pipe) x) in
-          subst (λ (v : Namespace). attempted_write (meaning f v.state) pid fd x ≡ Err EINVAL) view
-          (through (Some sides.Write) (λ e. refuse_if (nat_lt MAX_WRITE (length x)) EINVAL >> Ok (try_write s e x)) w.pipe h (find_at pipes d.pipe.place d.pipe.serial w.pipe w.stands)
+          let go : Bool → Result Tried Errno = λ b. refuse_if b EINVAL >> Ok (try_write s (end_of_rows f d w.pipe) x written) in
+          subst (λ (v : Namespace). attempted (meaning f v.state) pid (Writing fd x written) ≡ Err EINVAL) view
+          (through (Some sides.Write) (λ e. refuse_if (nat_lt MAX_WRITE (length x)) EINVAL >> Ok (try_write s e x written)) w.pipe h (find_at pipes d.pipe.place d.pipe.serial w.pipe w.stands)
           ∙ ap go (lt-ltb MAX_WRITE (length x) long))
 
       -- what a transfer through the pipe that was found left
@@ -165,29 +168,29 @@ module _ {files : Files} {files_made : ℕ} (f : Live) (limits : Limits) (charge
         abbrev after : Namespace
         after = record { limits = limits; state = state_of ps ds (put_at pipes d.pipe.serial (d.pipe.place, r')) files files_made }
 
-        pub wrote : (x : List ℕ) (whole : Bool) → end_in (Some sides.Write) ps ds pid fd ≡ Ok d → length x ≤ MAX_WRITE → whole ≡ nat_le (length x) PIPE_BUF
-            → Passes r r' f g progress (write_now (queue_of f r.ring) r.readers whole x) → Came g after (attempted_write (meaning f n.state) pid fd x) progress (take (moved progress) x)
-        wrote x whole h short is_whole passes =
-            let machine : Passed = write_now (queue_of f r.ring) (readers s d.pipe.serial) (nat_le (length x) PIPE_BUF) x in
-            let same : write_now (queue_of f r.ring) r.readers whole x ≡ machine = (λ i. write_now (queue_of f r.ring) (sym counts.0 i) (is_whole i) x) in
+        pub wrote : (x : List ℕ) (written : ℕ) (whole : Bool) → end_in (Some sides.Write) ps ds pid fd ≡ Ok d → length x ≤ MAX_WRITE → whole ≡ nat_le (length x) PIPE_BUF
+            → Passes r r' f g progress (write_now (queue_of f r.ring) r.readers whole (drop written x)) → Came g after (attempted (meaning f n.state) pid (Writing fd x written)) progress (take (moved progress) (drop written x))
+        wrote x written whole h short is_whole passes =
+            let machine : Passed = write_now (queue_of f r.ring) (readers s d.pipe.serial) (nat_le (length x) PIPE_BUF) (drop written x) in
+            let same : write_now (queue_of f r.ring) r.readers whole (drop written x) ≡ machine = (λ i. write_now (queue_of f r.ring) (sym counts.0 i) (is_whole i) (drop written x)) in
             let told : machine.progress ≡ progress = ap (λ (m : Passed). m.progress) (sym same ∙ passes.told) in
-            let go : Bool → Result Tried Errno = λ b. refuse_if b EINVAL >> Ok (try_write s (end_of_rows f d r) x) in
-            subst (λ (v : Namespace). Came g after (attempted_write (meaning f v.state) pid fd x) progress (take (moved progress) x)) view
+            let go : Bool → Result Tried Errno = λ b. refuse_if b EINVAL >> Ok (try_write s (end_of_rows f d r) x written) in
+            subst (λ (v : Namespace). Came g after (attempted (meaning f v.state) pid (Writing fd x written)) progress (take (moved progress) (drop written x))) view
             (record {
-              tried = try_write s (end_of_rows f d r) x;
-              is = through (Some sides.Write) (λ e. refuse_if (nat_lt MAX_WRITE (length x)) EINVAL >> Ok (try_write s e x)) r h handed ∙ ap go (le-ltb MAX_WRITE (length x) short);
+              tried = try_write s (end_of_rows f d r) x written;
+              is = through (Some sides.Write) (λ e. refuse_if (nat_lt MAX_WRITE (length x)) EINVAL >> Ok (try_write s e x written)) r h handed ∙ ap go (le-ltb MAX_WRITE (length x) short);
               progress_is = told;
-              bytes_are = ap (λ p. take (moved p) x) told;
+              bytes_are = ap (λ p. take (moved p) (drop written x)) told;
               state = passed-state d r handed g r' progress machine (subst (Passes r r' f g progress) same passes);
             })
 
         pub was_read : (m : ℕ) (bytes : List ℕ) → end_in (Some sides.Read) ps ds pid fd ≡ Ok d → bytes ≡ taken (queue_of f r.ring) (moved progress)
-            → Passes r r' f g progress (read_now (queue_of f r.ring) r.writers m) → Came g after (attempted_read (meaning f n.state) pid fd m) progress bytes
+            → Passes r r' f g progress (read_now (queue_of f r.ring) r.writers m) → Came g after (attempted (meaning f n.state) pid (Reading fd m)) progress bytes
         was_read m bytes h are passes =
             let machine : Passed = read_now (queue_of f r.ring) (writers s d.pipe.serial) m in
             let same : read_now (queue_of f r.ring) r.writers m ≡ machine = ap (λ w. read_now (queue_of f r.ring) w m) (sym counts.1) in
             let told : machine.progress ≡ progress = ap (λ (p : Passed). p.progress) (sym same ∙ passes.told) in
-            subst (λ (v : Namespace). Came g after (attempted_read (meaning f v.state) pid fd m) progress bytes) view
+            subst (λ (v : Namespace). Came g after (attempted (meaning f v.state) pid (Reading fd m)) progress bytes) view
             (record {
               tried = try_read s (end_of_rows f d r) m;
               is = through (Some sides.Read) (λ e. Ok (try_read s e m)) r h handed;

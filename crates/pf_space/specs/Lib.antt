@@ -1,5 +1,8 @@
+pub mod Bounds
+pub mod FileLimits
 pub mod Meaning
 pub mod MeaningLaws
+pub mod Opened
 pub mod Owns
 pub mod OwnsLaws
 pub mod Recharging

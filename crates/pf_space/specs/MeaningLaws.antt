@@ -1,19 +1,16 @@
 -- How the meaning of a state goes through looking up, changing and sweeping.
 
 use Rattle.std.proofs.Common.{◌≡◌, ◌≢◌, ℕ, zero, suc, Bool, true, false, List, [], ◌∷◌, length, map, refl, ap, sym, ◌∙◌, arith, cond}
-use Rattle.std.specs.Prelude.{Option, Some, None, nat_lt, slice_index_or, slice_set, is_some, unwrap_or}
+use Rattle.std.specs.Prelude.{Option, Some, None, nat_lt, slice_index_or, slice_set, unwrap_or}
 use Rattle.std.proofs.lemmas.List.{length-map}
 use Rattle.std.proofs.Common.{subst}
 use Rattle.std.specs.Option.{option_map}
-use Rattle.pf_base.specs.Machine.{may_want_memory}
-use Rattle.pf_base.proofs.MachineLaws.{may_want-same}
 use Rattle.pf_base.specs.Queue.{Queue, bytes_of}
 use Rattle.pf_base.specs.Numbered.{at, change_at, keep_from, sum_of}
 use Rattle.pf_base.proofs.NumberedLaws.{at-map, sum_of-map}
 use Rattle.pf_base.specs.Counts.{total, ends}
 use Rattle.pf_base.specs.State.{State, Pipe, process, with_queue, holding}
 use Rattle.pf_base.specs.Sweep.{sweep, live_descriptions}
-use Rattle.pf_base.specs.declared.step.Step.{Step}
 use Rattle.pf_frame.specs.Live.{Live}
 use Rattle.pf_ring.specs.Ring.{Ring, queue_of, no_ring, segment_of}
 use Rattle.pf_space.specs.Meaning.{meaning, pipe_meaning, ring_or, occupied, AreEmpty}
@@ -31,10 +28,6 @@ module _ (f : Live) where
   pub process-meaning : (s : State Ring) (pid : ℕ) → process (meaning f s) pid ≡ process s pid
   process-meaning s zero = refl
   process-meaning s (suc i) = refl
-
-  -- a step may want memory of a namespace where it may of the lone machine's state that it means: only the processes matter
-  pub may_want-meaning : (s : State Ring) (step : Step) → may_want_memory (meaning f s) step ≡ may_want_memory s step
-  may_want-meaning s step = may_want-same (meaning f s) s step (λ pid. ap is_some (process-meaning s pid))
 
   -- the segments of all queues are the slots in use of all rings
   pub occupied-meaning : (s : State Ring) → sum_of (λ p. length p.queue.segments) (meaning f s).pipes ≡ occupied s
@@ -88,7 +81,7 @@ module _ (f g : Live) where
     where
       stays : (o : Option (Pipe Ring)) → queue_of g (ring_or o) ≡ queue_of f (ring_or o) → option_map (pipe_meaning g) o ≡ option_map (pipe_meaning f) o
       stays None e = refl
-      stays (Some p) e = λ i. Some (record { queue = e i; owner = p.owner })
+      stays (Some p) e = λ i. Some (record { queue = e i; owner = p.owner; file = p.file; read_opens = p.read_opens; write_opens = p.write_opens })
 
   pub others_stay : (pipes : List (Option (Pipe Ring))) (n : ℕ)
       → ((k : ℕ) → k ≢ n → queue_of g (slice_index_or (map ring_or pipes) k no_ring) ≡ queue_of f (slice_index_or (map ring_or pipes) k no_ring)) → Others pipes n

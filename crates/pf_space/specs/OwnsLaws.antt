@@ -11,7 +11,7 @@ use Rattle.pf_base.specs.Queue.{empty, bytes_of}
 use Rattle.pf_base.specs.Numbered.{at, put_at, clear_at, sum_of, weight}
 use Rattle.pf_base.proofs.NumberedLaws.{at_within, sum_of-set, sum_of-le}
 use Rattle.pf_base.specs.State.{State, Process, Pipe, opening, with_queue, holding}
-use Rattle.pf_base.specs.Pipes.{opened, reading, writing, with_two}
+use Rattle.pf_base.specs.Pipes.{opened, reading, writing, with_two, new_pipe}
 use Rattle.pf_frame.specs.Live.{Live, IsSound}
 use Rattle.pf_limits.specs.Sums.{AreSumsOf}
 use Rattle.pf_limits.specs.UserPages.{UserPages}
@@ -69,7 +69,7 @@ module _ (f g : Live) (s : State Ring) (n : ℕ) (p : Pipe Ring) (r : Ring) (src
 pub joined_opened : (f : Live) (s : State Ring) (pid : ℕ) (nonblock : Bool) (slots : ℕ) (p : Process) → Joined f (rings_of s) → sum_of (λ (q : Pipe Ring). q.queue.capacity) s.pipes + slots ≤ f.reserved
     → Joined f (rings_of (opened s pid nonblock (record { capacity = slots; windows = [] }) p))
 joined_opened f s pid nonblock slots p joined fits =
-    subst (Joined f) (sym (map_push ring_or s.pipes (Some (record { queue = record { capacity = slots; windows = [] }; owner = p.cred.uid }))))
+    subst (Joined f) (sym (map_push ring_or s.pipes (Some (new_pipe (record { capacity = slots; windows = [] }) p.cred.uid None))))
     (joined_pushed f (rings_of s) slots joined (subst (λ k. k + slots ≤ f.reserved) (sym (slots-rings s.pipes)) fits))
 
 pub meaning-opened : (f : Live) (s : State Ring) (pid : ℕ) (nonblock : Bool) (slots : ℕ) (p : Process)
@@ -77,7 +77,7 @@ pub meaning-opened : (f : Live) (s : State Ring) (pid : ℕ) (nonblock : Bool) (
 meaning-opened f s pid nonblock slots p = λ i. record {
   processes = put_at s.processes (pid - 1) (with_two (length s.descriptions) p);
   descriptions = s.descriptions ++ Some (reading (sym (length-map s.pipes (option_map (pipe_meaning f))) i) nonblock) ∷ Some (writing (sym (length-map s.pipes (option_map (pipe_meaning f))) i) nonblock) ∷ [];
-  pipes = map_push (option_map (pipe_meaning f)) s.pipes (Some (record { queue = record { capacity = slots; windows = [] }; owner = p.cred.uid })) i;
+  pipes = map_push (option_map (pipe_meaning f)) s.pipes (Some (new_pipe (record { capacity = slots; windows = [] }) p.cred.uid None)) i;
   files = s.files;
   files_made = s.files_made;
 }

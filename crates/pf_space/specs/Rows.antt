@@ -1,15 +1,16 @@
 -- What the tables mean to the lone machine, and how their counters are tied to it. No public clause cites this module.
 
-use Rattle.std.specs.Prelude.{◌≡◌, ℕ, zero, suc, ◌+◌, ◌-◌, ◌*◌, ◌<◌, ◌≤◌, Bool, true, not, ◌&&◌, List, [], ◌∷◌, length, map, Option, Some, None, nat_lt, nat_eq, ⊤, if◌then◌else◌, Result, Ok}
-use Rattle.std.specs.Option.{option_map}
+use Rattle.std.specs.Prelude.{◌≡◌, ℕ, zero, suc, ◌+◌, ◌-◌, ◌*◌, ◌<◌, ◌≤◌, Bool, true, not, ◌&&◌, List, [], ◌∷◌, length, map, Option, Some, None, is_some, nat_lt, nat_eq, ⊤, if◌then◌else◌, Result, Ok}
+use Rattle.std.specs.Option.{option_map, option_and_then}
+use Rattle.std.specs.Map.{lookup}
 use Rattle.pf_base.specs.Refusals.{◌>>=◌, ◌>>◌, refuse_if, or_refuse}
 use Rattle.pf_base.specs.FileMap.{Files}
-use Rattle.pf_base.specs.Numbered.{at, put_at, clear_at, change_at, sum_of, one_if}
+use Rattle.pf_base.specs.Numbered.{at, put_at, clear_at, change_at, first_free, sum_of, one_if}
 use Rattle.pf_base.specs.State as machine
 use Rattle.pf_base.specs.State.{State}
 use Rattle.pf_base.specs.declared.TheConstants.{MAX_PROCESSES, MAX_DESCRIPTORS}
 use Rattle.pf_base.specs.declared.errno.Errno.{Errno}
-use Rattle.pf_base.specs.declared.errno.Errno.TheVariants.{ESRCH, EBADF}
+use Rattle.pf_base.specs.declared.errno.Errno.TheVariants.{ESRCH, EBUSY, EBADF}
 use Rattle.pf_base.specs.declared.progress.Side.{Side}
 use Rattle.pf_base.specs.declared.progress.Side.TheVariants as sides
 pub use Rattle.pf_fds.specs.declared.registry.Key.{Key}
@@ -17,11 +18,30 @@ pub use Rattle.pf_fds.specs.declared.descriptions.Named.{Named}
 use Rattle.pf_fds.specs.Descriptions.{one_more}
 use Rattle.pf_fds.specs.Registry.{find}
 pub use Rattle.pf_ring.specs.Ring.{Ring}
+pub use Rattle.pf_pipe.specs.Pipe.{Opens}
 pub use Rattle.pf_pipe.specs.Pipe.{CountedPipe as Pipe}
-pub use Rattle.pf_space.specs.declared.tables.Process.{Process}
+use Rattle.pf_base.specs.declared.cred.Cred.{Cred}
+use Rattle.pf_base.specs.Calls as calls
+pub use Rattle.pf_parked.specs.declared.call.Call.{Call}
+use Rattle.pf_parked.specs.declared.call.Call.TheVariants.{Open, Read, Write, Cross}
+use Rattle.pf_space.specs.declared.process_table.Process.{Process as Stored}
 pub use Rattle.pf_space.specs.declared.tables.Description.{Description}
 use Rattle.pf_limits.specs.UserPages.{UserPages}
 use Rattle.pf_space.specs.Meaning.{AreCharged}
+
+-- A process of the tables, with the call in which it waits
+
+pub record Process : Type 0 where
+  pub cred : Cred
+  pub descriptors : List (Option Key)
+  pub parked : Option (Call Key)
+
+abbrev pub seated : Stored → Option (Call Key) → Process
+seated p call = record { cred = p.cred; descriptors = p.descriptors; parked = call }
+
+-- one that waits in no call
+abbrev pub idle : Stored → Process
+idle p = seated p None
 
 -- The rows of the tables: what stands at each number, with the place that a registry keeps it in
 abbrev pub ProcessRows : Type 0
@@ -33,6 +53,21 @@ DescriptionRows = List (Option (ℕ × Named Description))
 abbrev pub PipeRows : Type 0
 PipeRows = List (Option (ℕ × Pipe))
 
+-- the processes that stand, each with what is parked at its place
+abbrev pub seated_rows : List (Option Stored) → List (Option (Call Key)) → ProcessRows
+seated_rows [] calls = []
+seated_rows (p ∷ ps) [] = option_map idle p ∷ seated_rows ps []
+seated_rows (p ∷ ps) (call ∷ calls) = option_map (λ q. seated q call) p ∷ seated_rows ps calls
+
+-- nothing is parked where no process stands
+pub record IsSeated (ps : List (Option Stored)) (calls : List (Option (Call Key))) : Type 0 where
+  pub places : length ps ≡ MAX_PROCESSES
+  pub calls_too : length calls ≡ MAX_PROCESSES
+  pub beside : (i : ℕ) → at ps i ≡ None → at calls i ≡ None
+  -- a parked open has a descriptor to come
+  pub spare : (i : ℕ) (p : Stored) (description : Key) (kept : ℕ) → at ps i ≡ Some p → at calls i ≡ Some (Open description kept)
+      → first_free p.descriptors < MAX_DESCRIPTORS
+
 -- One row
 
 -- the process of a pid
@@ -42,6 +77,59 @@ process_at ps (suc i) = at ps i
 
 abbrev pub process_in : ProcessRows → ℕ → Result Process Errno
 process_in ps pid = or_refuse ESRCH (process_at ps pid)
+
+-- the same where it waits in no call
+abbrev pub awake : Process → Result Process Errno
+awake p = do
+  refuse_if (is_some p.parked) EBUSY
+  Ok p
+
+abbrev pub ready_in : ProcessRows → ℕ → Result Process Errno
+ready_in ps pid = process_in ps pid >>= awake
+
+-- who lives, or why there is nobody
+pub record Lives (ps : ProcessRows) (pid : ℕ) : Type 0 where
+  pub p : Process
+  pub is : process_in ps pid ≡ Ok p
+
+-- the call in which the process of a pid waits
+abbrev pub call_in : ProcessRows → ℕ → Option (Call Key)
+call_in ps pid = option_and_then (λ p. p.parked) (process_at ps pid)
+
+-- a process stands, and waits in no call
+pub record IsAwake (o : Option Process) : Type 0 where
+  pub p : Process
+  pub is : o ≡ Some p
+  pub awake : p.parked ≡ None
+
+-- a process whose call is over: the description that an open made gets the lowest free descriptor
+abbrev pub over : Option (Call Key) → Process → Process
+over (Some (Open description kept)) p =
+    record p { descriptors = put_at p.descriptors (first_free p.descriptors) description; parked = None }
+over _ p = record p { parked = None }
+
+abbrev pub woken : Process → Process
+woken p = over p.parked p
+
+-- a process that waits in an open has a descriptor to come
+abbrev pub IsSpare : Process → Type 0
+IsSpare p = (description : Key) (kept : ℕ) → p.parked ≡ Some (Open description kept) → first_free p.descriptors < MAX_DESCRIPTORS
+
+abbrev pub HasSpare : ProcessRows → ℕ → Type 0
+HasSpare ps pid = (p : Process) → process_in ps pid ≡ Ok p → IsSpare p
+
+-- which descriptor that is
+abbrev pub HasLowest : ProcessRows → ℕ → ℕ → Type 0
+HasLowest ps pid fd = (p : Process) → process_in ps pid ≡ Ok p → fd ≡ first_free p.descriptors
+
+-- an open may wait where it has a descriptor to come
+abbrev pub MayWait : Call Key → Option Process → Type 0
+MayWait (Open description kept) (Some p) = first_free p.descriptors < MAX_DESCRIPTORS
+MayWait call p = ⊤
+
+-- a process that waits in a call, or in none
+abbrev pub with_call : Option (Call Key) → Process → Process
+with_call call p = record p { parked = call }
 
 -- the key at a descriptor of what stands in a place
 abbrev pub key_at : ℕ → Option Process → Option Key
@@ -62,7 +150,7 @@ with_keys a j b k (Some p) = Some (record p { descriptors = put_at (put_at p.des
 
 -- the key at a process's descriptor
 abbrev pub key_in : ProcessRows → ℕ → ℕ → Result Key Errno
-key_in ps pid fd = process_in ps pid >>= (λ p. or_refuse EBADF (at p.descriptors fd))
+key_in ps pid fd = ready_in ps pid >>= (λ p. or_refuse EBADF (at p.descriptors fd))
 
 -- whether a description is for a side, where one is asked for
 abbrev pub has : Option Side → Description → Bool
@@ -77,7 +165,7 @@ description_in ds k = option_map (λ n. n.value) (find ds k.place k.serial)
 -- the description of the end that a process's descriptor names, of a side where one is asked for
 abbrev pub end_in : Option Side → ProcessRows → DescriptionRows → ℕ → ℕ → Result Description Errno
 end_in side ps ds pid fd = do
-  p ← process_in ps pid
+  p ← ready_in ps pid
   k ← or_refuse EBADF (at p.descriptors fd)
   d ← or_refuse EBADF (description_in ds k)
   refuse_if (not (has side d)) EBADF
@@ -100,8 +188,19 @@ gone d p = if is_used (with_fewer d p) then None else Some (with_fewer d p)
 
 -- All rows
 
+-- the lone machine's call, which knows a description by its number
+abbrev pub call_of : Call Key → calls.Call
+call_of (Open description kept) = calls.Opening description.serial kept
+call_of (Read fd n) = calls.Moving (calls.Reading fd n)
+call_of (Write fd write) = calls.Moving (calls.Writing fd write.bytes write.written)
+call_of (Cross crossing source sink n) = calls.Moving (calls.Bringing crossing source sink n)
+
 abbrev pub process_of : Process → machine.Process
-process_of p = record { cred = p.cred; descriptors = map (option_map (λ k. k.serial)) p.descriptors }
+process_of p = record {
+  cred = p.cred;
+  descriptors = map (option_map (λ k. k.serial)) p.descriptors;
+  parked = option_map call_of p.parked;
+}
 
 abbrev pub description_of : ℕ × Named Description → machine.Description
 description_of e = record {
@@ -111,8 +210,20 @@ description_of e = record {
   nonblocking = e.1.value.nonblocking;
 }
 
+abbrev pub pipe_with : Ring → ℕ → Opens → machine.Pipe Ring
+pipe_with ring owner opens = record {
+  queue = ring;
+  owner = owner;
+  file = opens.file;
+  read_opens = opens.read;
+  write_opens = opens.write;
+}
+
+abbrev pub pipe_shown : Pipe → machine.Pipe Ring
+pipe_shown p = pipe_with p.ring p.owner p.opens
+
 abbrev pub pipe_of : ℕ × Pipe → machine.Pipe Ring
-pipe_of e = record { queue = e.1.ring; owner = e.1.owner }
+pipe_of e = pipe_shown e.1
 
 abbrev pub processes_of : ProcessRows → List (Option machine.Process)
 processes_of ps = map (option_map process_of) ps
@@ -138,10 +249,14 @@ state_of ps ds pipes files files_made = record {
 abbrev pub names_it : ℕ → Key → ℕ
 names_it n k = one_if (nat_eq k.serial n)
 
--- All keys of a process. The first is that of the description which a parked call has made, and which no descriptor
--- names yet: none, as long as no call parks. The others are those of its descriptors.
+-- the key of the description that a parked call has made: an open's
+abbrev pub made_by : Option (Call Key) → Option Key
+made_by (Some (Open description kept)) = Some description
+made_by _ = None
+
+-- all keys of a process: that of its parked open, whose description no descriptor names yet, and those of its descriptors
 abbrev pub keys_of : Process → List (Option Key)
-keys_of p = None ∷ p.descriptors
+keys_of p = made_by p.parked ∷ p.descriptors
 
 -- how many keys of a process name it, and how many of all processes
 abbrev pub keys_to : ℕ → Process → ℕ
@@ -187,9 +302,9 @@ Finds rows k = option_map (λ e. e.0) (at rows k.serial) ≡ Some k.place
 abbrev pub AllFind : List (Option Key) → DescriptionRows → Type 0
 AllFind ks ds = (fd : ℕ) (k : Key) → at ks fd ≡ Some k → Finds ds k
 
--- no description has more names than all processes together have descriptors
+-- no description has more names than all processes together have descriptors and parked calls
 abbrev pub AreFew : DescriptionRows → Type 0
-AreFew ds = (n : ℕ) (e : ℕ × Named Description) → at ds n ≡ Some e → e.1.names ≤ MAX_PROCESSES * MAX_DESCRIPTORS
+AreFew ds = (n : ℕ) (e : ℕ × Named Description) → at ds n ≡ Some e → e.1.names ≤ MAX_PROCESSES * (MAX_DESCRIPTORS + 1)
 
 -- a description with one name more, where there is a key for it
 abbrev pub with_name : Option Key → DescriptionRows → DescriptionRows
@@ -235,7 +350,33 @@ module _ (keys : List Key) (ends : List Description) (ps : ProcessRows) (ds : De
 abbrev pub Tied : ProcessRows → DescriptionRows → PipeRows → Type 0
 Tied ps ds pipes = TiedWith [] [] ps ds pipes
 
+-- FIFOs
+
+-- the FIFO's number and the opens of each pipe, at its place
+abbrev pub opens_at : ℕ × Pipe → ℕ × Opens
+opens_at e = (e.0, e.1.opens)
+
+abbrev pub opens_of : PipeRows → List (Option (ℕ × Opens))
+opens_of ps = map (option_map opens_at) ps
+
+abbrev pub NoMore : ℕ → ℕ × Opens → Type 0
+NoMore drawn o = (o.1.read ≤ drawn) × (o.1.write ≤ drawn)
+
+-- a key is there for the number of each FIFO that a pipe is of, and finds that pipe; there are no more opens than
+-- descriptions were drawn
+pub record AreFifos (fifos : List (ℕ × Key)) (drawn : ℕ) (opens : List (Option (ℕ × Opens))) : Type 0 where
+  pub finds : (file : ℕ) (k : Key) → lookup (nat_eq file) fifos ≡ Some k
+      → (o : Opens) × (at opens k.serial ≡ Some (k.place, o)) × (o.file ≡ Some file)
+  pub there : (n : ℕ) (o : ℕ × Opens) (file : ℕ) → at opens n ≡ Some o → o.1.file ≡ Some file
+      → lookup (nat_eq file) fifos ≡ Some (record { place = o.0; serial = n })
+  pub few : (n : ℕ) (o : ℕ × Opens) → at opens n ≡ Some o → NoMore drawn o
+
 -- the counters are tied, and those of pages are the sums over all pipes
 pub record Kept (charges : UserPages) (ps : ProcessRows) (ds : DescriptionRows) (pipes : PipeRows) : Type 0 where
   pub tied : Tied ps ds pipes
   pub charged : AreCharged charges (pipes_of pipes)
+
+-- and the keys of the FIFOs are those of their pipes
+pub record Whole (charges : UserPages) (fifos : List (ℕ × Key)) (ps : ProcessRows) (ds : DescriptionRows) (pipes : PipeRows) : Type 0 where
+  pub kept : Kept charges ps ds pipes
+  pub filed : AreFifos fifos (length ds) (opens_of pipes)

@@ -1,19 +1,24 @@
 -- What a call of a namespace does over the frames of its door, and what it is told.
 
-use Rattle.std.specs.Prelude.{◌≡◌, ℕ, List, take, ⊤, Result, Ok, Err}
+use Rattle.std.specs.Prelude.{◌≡◌, ℕ, ◌<◌, ◌⊎◌, Bool, false, List, length, Option, Some, None, take, ⊤, Result, Ok, Err}
 use Rattle.pf_base.specs.Refusals.{◌>>=◌}
 use Rattle.pf_base.specs.Queue.{Queue}
 use Rattle.pf_base.specs.Progress.{moved}
-use Rattle.pf_base.specs.State.{State, Outcome, living}
-use Rattle.pf_base.specs.Transfers.{Tried, tried_read, tried_write, tried_cross, cross}
+use Rattle.pf_base.specs.Calls.{Transfer, Call, Moving}
+use Rattle.pf_base.specs.State.{State, Process, Outcome, told, ready, change_process, waiting}
+use Rattle.pf_base.specs.Transfers.{Tried, tried}
+use Rattle.pf_base.specs.Attempts.{attempt, first, is_nonblocking, transfer}
 use Rattle.pf_base.specs.Machine.{swept}
 use Rattle.pf_base.specs.Sweep.{sweep}
 use Rattle.pf_base.specs.declared.errno.Errno.{Errno}
+use Rattle.pf_base.specs.declared.errno.Errno.TheVariants.{EPIPE}
 use Rattle.pf_base.specs.declared.fault.Fault.{Fault}
 use Rattle.pf_base.specs.declared.fault.Fault.TheVariants as faults
-use Rattle.pf_base.specs.declared.progress.Crossing.{Crossing}
 use Rattle.pf_base.specs.declared.progress.Progress.{Progress}
+use Rattle.pf_base.specs.declared.progress.Progress.TheVariants.{Moved, WouldBlock, EndOfFile, NoReader}
 use Rattle.pf_base.specs.declared.step.Reply.{Reply}
+use Rattle.pf_base.specs.declared.step.Reply.TheVariants as replies
+use Rattle.pf_base.specs.declared.step.Reply.TheVariants.{Parked}
 use Rattle.pf_frame.specs.Live.{Live}
 use Rattle.pf_space.specs.declared.tables.transfers.Taken.{Taken}
 use Rattle.pf_space.specs.Meaning.{Namespace, meaning}
@@ -41,18 +46,24 @@ Leaves f g old new (Err e) machine = (machine ≡ Err e) × Stays f g old new
 -- Transfers
 
 -- a transfer that a process tries
-abbrev pub attempted_read : State Queue → ℕ → ℕ → ℕ → Result Tried Errno
-attempted_read s pid fd n = living s pid >>= (λ p. tried_read s p fd n)
+abbrev pub attempted : State Queue → ℕ → Transfer → Result Tried Errno
+attempted s pid call = ready s pid >>= (λ p. tried s p call)
 
-abbrev pub attempted_write : State Queue → ℕ → ℕ → List ℕ → Result Tried Errno
-attempted_write s pid fd x = living s pid >>= (λ p. tried_write s p fd x)
+-- a call that tries it, where this says whether it is nonblocking
+abbrev pub tried_call : State Queue → ℕ → Bool → Transfer → Result Outcome Errno
+tried_call s pid nonblock call = ready s pid >>= (λ p. attempt s pid p (Moving call) >>= first pid nonblock)
 
-abbrev pub attempted_cross : Crossing → State Queue → ℕ → ℕ → ℕ → ℕ → Result Tried Errno
-attempted_cross c s pid source sink n = living s pid >>= (λ p. tried_cross c s p source sink n)
+-- whether the description at a descriptor of a process has O_NONBLOCK
+abbrev pub flag_of : State Queue → ℕ → Result Process Errno → Bool
+flag_of s fd (Ok p) = is_nonblocking s p fd
+flag_of s fd (Err e) = false
 
--- and its call whole: a tee's or a splice's
-abbrev pub called_cross : Crossing → State Queue → ℕ → ℕ → ℕ → ℕ → Result Outcome Errno
-called_cross c s pid source sink n = living s pid >>= (λ p. cross c s p source sink n)
+abbrev pub is_nonblocking_at : State Queue → ℕ → ℕ → Bool
+is_nonblocking_at s pid fd = flag_of s fd (ready s pid)
+
+-- and its call whole, where this is the step's own flag
+abbrev pub transferred : State Queue → ℕ → Bool → Transfer → Result Outcome Errno
+transferred s pid flag call = ready s pid >>= (λ p. transfer s pid p flag call)
 
 -- it came so far, moved these bytes, and left this state, without what nobody can reach any more
 pub record Came (g : Live) (new : Namespace) (machine : Result Tried Errno) (progress : Progress) (bytes : List ℕ) : Type 0 where
@@ -83,6 +94,39 @@ abbrev pub HasCrossed : Live → Namespace → Result Progress Errno → Result 
 HasCrossed g new (Ok progress) machine = Arrived g new machine progress
 HasCrossed g new (Err e) machine = machine ≡ Err e
 
+-- a write that was done at once came to its end; where it would wait, nothing was done
+abbrev pub IsDone : Progress → ℕ → Type 0
+IsDone progress number = (progress ≡ Moved number) ⊎ (progress ≡ NoReader)
+
+abbrev pub IsShort : Progress → ℕ → Type 0
+IsShort (Moved n) number = n < number
+IsShort WouldBlock number = ⊤
+IsShort EndOfFile number = ⊥
+IsShort NoReader number = ⊥
+
+pub record Stops (machine : Result Tried Errno) (number : ℕ) : Type 0 where
+  pub tried : Tried
+  pub is : machine ≡ Ok tried
+  pub short : IsShort tried.progress number
+
+abbrev pub HasWritten : Live → Namespace → List ℕ → Result (Option Progress) Errno → Result Tried Errno → Type 0
+HasWritten g new x (Ok (Some progress)) machine = Came g new machine progress (take (moved progress) x) × IsDone progress (length x)
+HasWritten g new x (Ok None) machine = Stops machine (length x)
+HasWritten g new x (Err e) machine = machine ≡ Err e
+
+-- what a write is told that came to its end at once
+abbrev pub write_ended : Progress → Result Reply Fault
+write_ended (Moved n) = Ok (replies.Num n)
+write_ended WouldBlock = Err (faults.Errno EPIPE)
+write_ended EndOfFile = Err (faults.Errno EPIPE)
+write_ended NoReader = Err (faults.Errno EPIPE)
+
+-- Waiting
+
+-- a process waits in a call, or in none, and nothing else has changed
+abbrev pub waits_in : Option Call → Namespace → ℕ → Namespace
+waits_in call n pid = record n { state = change_process (waiting call) n.state pid }
+
 -- Steps
 
 abbrev pub settled : Result Outcome Errno → Result Outcome Errno
@@ -100,3 +144,14 @@ pub record Told (f g : Live) (old new : Namespace) (result : Result Reply Fault)
   pub owns : Owns g new
   pub limits : new.limits ≡ old.limits
   pub says : Says f g old new result machine
+
+-- the machine's call leaves its process waiting
+pub record Parks (machine : Result Outcome Errno) : Type 0 where
+  pub state : State Queue
+  pub is : machine ≡ Ok (told state Parked)
+
+-- the answer to a call that was resumed: a refusal ends it too, and is its reply
+abbrev pub ended : Result Reply Fault → Result Reply Fault
+ended (Ok reply) = Ok reply
+ended (Err (faults.Errno e)) = Ok (replies.Err e)
+ended (Err faults.NoMemory) = Err faults.NoMemory

@@ -7,8 +7,11 @@ use pf_frame::Frames;
 use std::alloc::{AllocError, Allocator, Global};
 use std::marker::Model;
 
+mod bounds;
 mod descriptors;
 mod files;
+mod opens;
+mod parked;
 mod pipes;
 mod processes;
 mod transfers;
@@ -63,7 +66,8 @@ impl<A: Allocator + Clone> Space<A> {
         ensures answers { Answers self.old.limits result (meaning (F.live f.old) self.old.state) step.now
             (meaning (F.live f.new) self.new.state) }
         ensures unchanged { result ≡ Answer.NoMemory → (self.new ≡ self.old) × (f.new ≡ f.old) }
-        ensures succeeds { may_want_memory self.old.state step.now ≡ false → IsDone result }
+        ensures succeeds { may_want_memory self.old.limits (meaning (F.live f.old) self.old.state) step.now
+            ≡ false → IsDone result }
 
         // No more frames are live than slots in use, and none only where no pipe has a byte.
         ensures spread { (F.live f.new).held ≤ occupied self.new.state }
@@ -86,7 +90,8 @@ impl<A: Allocator + Clone> Space<A> {
         ensures told { Told (F.live door.old) (F.live door.new) self.old self.new result
             (call self.old.limits (meaning (F.live door.old) self.old.state) step.now) }
         ensures unchanged { result ≡ Err Fault.NoMemory → (self.new ≡ self.old) × (door.new ≡ door.old) }
-        ensures succeeds { may_want_memory self.old.state step.now ≡ false → result ≢ Err Fault.NoMemory }
+        ensures succeeds { may_want_memory self.old.limits (meaning (F.live door.old) self.old.state) step.now
+            ≡ false → result ≢ Err Fault.NoMemory }
     {
         match step {
             Step::Spawn {
@@ -110,15 +115,33 @@ impl<A: Allocator + Clone> Space<A> {
                 source,
                 sink,
                 n,
-                nonblock: _,
-            } => self.cross(door, Crossing::Tee, *pid, *source, *sink, *n),
+                nonblock,
+            } => self.cross(
+                door,
+                Crossing::Tee,
+                *pid,
+                *source,
+                *sink,
+                *n,
+                *nonblock,
+                false,
+            ),
             Step::Splice {
                 pid,
                 source,
                 sink,
                 n,
-                nonblock: _,
-            } => self.cross(door, Crossing::Splice, *pid, *source, *sink, *n),
+                nonblock,
+            } => self.cross(
+                door,
+                Crossing::Splice,
+                *pid,
+                *source,
+                *sink,
+                *n,
+                *nonblock,
+                false,
+            ),
             Step::Mkdir { pid, path, mode } => self.mkdir(door, *pid, path.as_slice(), *mode),
             Step::Mkfifo { pid, path, mode } => self.mkfifo(door, *pid, path.as_slice(), *mode),
             Step::Unlink { pid, path } => self.unlink(door, *pid, path.as_slice()),
@@ -126,6 +149,8 @@ impl<A: Allocator + Clone> Space<A> {
             Step::Chmod { pid, path, mode } => self.chmod(door, *pid, path.as_slice(), *mode),
             Step::Stat { pid, path } => self.stat(door, *pid, path.as_slice()),
             Step::List { pid, path } => self.list(door, *pid, path.as_slice()),
+            Step::Open { pid, path, flags } => self.open(door, *pid, path.as_slice(), *flags),
+            Step::Resume { pid } => self.resume(door, *pid),
         }
     }
 }

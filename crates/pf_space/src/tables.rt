@@ -4,29 +4,28 @@
 //! Whatever is said of a call here is said of the lone machine's state that the tables mean over the frames of a door:
 //! above this file nobody sees a ring.
 
-ghost use Rattle.std.specs.Prelude.{◌≡◌, Ok, Err, Some, None, IfOk, IfSome, IfNone, MatchResult};
-ghost use Rattle.pf_space.specs.Rows.{process_in, key_in, end_in};
+ghost use Rattle.std.specs.Prelude.{◌≡◌, Some, None, IfOk};
+ghost use Rattle.pf_space.specs.Rows.{key_in, end_in};
 
+mod bounds;
 mod descriptors;
 mod files;
+mod opens;
+mod parked;
 mod pipes;
 mod processes;
 mod transfers;
 
-use pf_base::{Config, Cred, Errno, File, Side};
-use pf_fds::{Descriptions, FdTable, Key, Places, Registry};
+use crate::file_tree::FileTree;
+use crate::process_table::ProcessTable;
+pub use opens::Access;
+use pf_base::{Config, Errno, Side};
+use pf_fds::{Descriptions, Key, Registry};
 use pf_limits::UserPages;
 use pf_pipe::Pipe;
-use pf_tree::Tree;
 use std::alloc::{AllocError, Allocator, Global};
+use std::collections::HashMap;
 use std::marker::Model;
-
-// A process: its credentials, and at each of its 256 descriptors the key of an open file description.
-#[derive(Drop)]
-struct Process {
-    cred: Cred,
-    descriptors: FdTable,
-}
 
 // An open file description: an end of a pipe.
 #[derive(Clone, Copy)]
@@ -61,12 +60,13 @@ impl Description {
 pub struct Tables<A: Allocator> {
     // The limits, and the pages that each user and all together are charged with.
     pages: UserPages,
-    // 256 places: the process of a pid is in the place before it.
-    processes: Places<Process>,
+    processes: ProcessTable,
     descriptions: Descriptions<Description>,
     pipes: Registry<Pipe>,
+    // The pipe of each FIFO that somebody has open, by the FIFO's number.
+    fifos: HashMap<u64, Key>,
     // The files, which are all that stands in memory of A, and how many were ever made besides the root.
-    files: Tree<A>,
+    files: FileTree<A>,
     files_made: u64,
 }
 
@@ -75,35 +75,21 @@ impl<A: Allocator> Model for Tables<A> {
 
     ghost Value = { Namespace };
 
-    ghost use Rattle.pf_space.specs.Rows.{state_of, Kept};
+    ghost use Rattle.pf_space.specs.Rows.{state_of, Whole};
 
     ghost view = { λ t. record {
       limits = t.pages.limits;
       state = state_of t.processes t.descriptions.items t.pipes.items t.files t.files_made;
     } };
 
-    ghost invariant = { λ t. Kept t.pages t.processes t.descriptions.items t.pipes.items };
-}
-
-// The process of a pid. No other place of the code says that there is none.
-fn caller(processes: &Places<Process>, pid: u32) -> Result<&Process, Errno>
-    ensures { MatchResult result (λ p. process_in processes.now pid ≡ Ok p.now)
-        (λ e. process_in processes.now pid ≡ Err e) }
-{
-    if pid == 0 {
-        return Err(Errno::ESRCH);
-    }
-    match processes.get(pid as usize - 1) {
-        Some(process) => Ok(process),
-        None => Err(Errno::ESRCH),
-    }
+    ghost invariant = { λ t. Whole t.pages t.fifos.entries t.processes t.descriptions.items t.pipes.items };
 }
 
 // The key at a process's descriptor.
-fn key_of(processes: &Places<Process>, pid: u32, fd: u32) -> Result<Key, Errno>
+fn key_of(processes: &ProcessTable, pid: u32, fd: u32) -> Result<Key, Errno>
     ensures { result ≡ key_in processes.now pid fd }
 {
-    match caller(processes, pid)?.descriptors.get(fd as usize) {
+    match processes.ready(pid)?.descriptors.get(fd as usize) {
         Some(key) => Ok(key),
         None => Err(Errno::EBADF),
     }
@@ -111,7 +97,7 @@ fn key_of(processes: &Places<Process>, pid: u32, fd: u32) -> Result<Key, Errno>
 
 // The description of the end that a process's descriptor names, of this side where one is asked for.
 fn end(
-    processes: &Places<Process>,
+    processes: &ProcessTable,
     descriptions: &Descriptions<Description>,
     pid: u32,
     fd: u32,
@@ -119,7 +105,7 @@ fn end(
 ) -> Result<Description, Errno>
     ensures { result ≡ end_in side processes.now descriptions.now.items pid fd }
 {
-    let process = caller(processes, pid)?;
+    let process = processes.ready(pid)?;
     let Some(key) = process.descriptors.get(fd as usize) else {
         return Err(Errno::EBADF);
     };
@@ -134,7 +120,7 @@ fn end(
 
 // The same, of an end that reads.
 fn reading_end(
-    processes: &Places<Process>,
+    processes: &ProcessTable,
     descriptions: &Descriptions<Description>,
     pid: u32,
     fd: u32,
@@ -146,7 +132,7 @@ fn reading_end(
 
 // Or of one that writes.
 fn writing_end(
-    processes: &Places<Process>,
+    processes: &ProcessTable,
     descriptions: &Descriptions<Description>,
     pid: u32,
     fd: u32,
@@ -165,13 +151,14 @@ impl<A: Allocator> Tables<A> {
     pub fn new(alloc: Global, tree: A, config: Config) -> Result<Self, AllocError>
         ensures { IfOk result (λ t. t ≡ record { limits = config; state = opening }) }
     {
-        let processes = Places::new(alloc)?;
+        let processes = ProcessTable::new(alloc)?;
         Ok(Tables {
             pages: UserPages::new(alloc, &config),
             processes,
             descriptions: Descriptions::new(alloc),
             pipes: Registry::new(alloc),
-            files: Tree::new(tree, File::root()),
+            fifos: HashMap::new(alloc),
+            files: FileTree::new(tree),
             files_made: 0,
         })
     }

@@ -1,9 +1,9 @@
 //! Files: mkdir(), mkfifo(), unlink(), rmdir(), chmod() and stat() of POSIX.1-2017, and a list of names, which is this
 //! profile's own. None of them needs a frame, so the door is only looked at.
 
-ghost use Rattle.std.specs.Prelude.{◌≡◌, Err, IsSome};
+ghost use Rattle.std.specs.Prelude.{IsOk, ◌≡◌, Err};
 ghost use Rattle.pf_base.specs.Machine.{call};
-ghost use Rattle.pf_base.specs.State.{process};
+ghost use Rattle.pf_base.specs.State.{ready};
 ghost use Rattle.pf_space.specs.Meaning.{meaning};
 ghost use Rattle.pf_space.specs.Owns.{Owns};
 ghost use Rattle.pf_space.specs.Told.{Told};
@@ -25,9 +25,10 @@ impl<A: Allocator + Clone> Space<A> {
         requires owns { Owns (F.live door.now) self.old }
         ensures told { Told (F.live door.now) (F.live door.now) self.old self.new result
             (call self.old.limits (meaning (F.live door.now) self.old.state) (Step.Mkdir pid path.now mode)) }
-        // Memory is wanted for a process that lives, and then nothing has changed.
+        // Memory is wanted for a process that lives and waits in no call, and then nothing has changed.
         ensures unchanged { result ≡ Err Fault.NoMemory → self.new ≡ self.old }
-        ensures lives { result ≡ Err Fault.NoMemory → IsSome (process self.old.state pid) }
+        ensures ready { result ≡ Err Fault.NoMemory
+            → IsOk (ready (meaning (F.live door.now) self.old.state) pid) }
     {
         self.tables
             .make_file(door, self.alloc, pid, Kind::Directory, path, mode)?;
@@ -44,10 +45,12 @@ impl<A: Allocator + Clone> Space<A> {
     ) -> Result<Reply, Fault>
         requires owns { Owns (F.live door.now) self.old }
         ensures told { Told (F.live door.now) (F.live door.now) self.old self.new result
-            (call self.old.limits (meaning (F.live door.now) self.old.state) (Step.Mkfifo pid path.now mode)) }
-        // Memory is wanted for a process that lives, and then nothing has changed.
+            (call self.old.limits (meaning (F.live door.now) self.old.state)
+            (Step.Mkfifo pid path.now mode)) }
+        // Memory is wanted for a process that lives and waits in no call, and then nothing has changed.
         ensures unchanged { result ≡ Err Fault.NoMemory → self.new ≡ self.old }
-        ensures lives { result ≡ Err Fault.NoMemory → IsSome (process self.old.state pid) }
+        ensures ready { result ≡ Err Fault.NoMemory
+            → IsOk (ready (meaning (F.live door.now) self.old.state) pid) }
     {
         self.tables
             .make_file(door, self.alloc, pid, Kind::Fifo, path, mode)?;
@@ -64,9 +67,10 @@ impl<A: Allocator + Clone> Space<A> {
         requires owns { Owns (F.live door.now) self.old }
         ensures told { Told (F.live door.now) (F.live door.now) self.old self.new result
             (call self.old.limits (meaning (F.live door.now) self.old.state) (Step.Unlink pid path.now)) }
-        // Memory is wanted for a process that lives, and then nothing has changed.
+        // Memory is wanted for a process that lives and waits in no call, and then nothing has changed.
         ensures unchanged { result ≡ Err Fault.NoMemory → self.new ≡ self.old }
-        ensures lives { result ≡ Err Fault.NoMemory → IsSome (process self.old.state pid) }
+        ensures ready { result ≡ Err Fault.NoMemory
+            → IsOk (ready (meaning (F.live door.now) self.old.state) pid) }
     {
         self.tables.unlink(door, self.alloc, pid, path)?;
         Ok(Reply::Num(0))
@@ -82,9 +86,10 @@ impl<A: Allocator + Clone> Space<A> {
         requires owns { Owns (F.live door.now) self.old }
         ensures told { Told (F.live door.now) (F.live door.now) self.old self.new result
             (call self.old.limits (meaning (F.live door.now) self.old.state) (Step.Rmdir pid path.now)) }
-        // Memory is wanted for a process that lives, and then nothing has changed.
+        // Memory is wanted for a process that lives and waits in no call, and then nothing has changed.
         ensures unchanged { result ≡ Err Fault.NoMemory → self.new ≡ self.old }
-        ensures lives { result ≡ Err Fault.NoMemory → IsSome (process self.old.state pid) }
+        ensures ready { result ≡ Err Fault.NoMemory
+            → IsOk (ready (meaning (F.live door.now) self.old.state) pid) }
     {
         self.tables.rmdir(door, self.alloc, pid, path)?;
         Ok(Reply::Num(0))
@@ -101,9 +106,10 @@ impl<A: Allocator + Clone> Space<A> {
         requires owns { Owns (F.live door.now) self.old }
         ensures told { Told (F.live door.now) (F.live door.now) self.old self.new result
             (call self.old.limits (meaning (F.live door.now) self.old.state) (Step.Chmod pid path.now mode)) }
-        // Memory is wanted for a process that lives, and then nothing has changed.
+        // Memory is wanted for a process that lives and waits in no call, and then nothing has changed.
         ensures unchanged { result ≡ Err Fault.NoMemory → self.new ≡ self.old }
-        ensures lives { result ≡ Err Fault.NoMemory → IsSome (process self.old.state pid) }
+        ensures ready { result ≡ Err Fault.NoMemory
+            → IsOk (ready (meaning (F.live door.now) self.old.state) pid) }
     {
         self.tables.chmod(door, self.alloc, pid, path, mode)?;
         Ok(Reply::Num(0))
@@ -119,9 +125,10 @@ impl<A: Allocator + Clone> Space<A> {
         requires owns { Owns (F.live door.now) self.old }
         ensures told { Told (F.live door.now) (F.live door.now) self.old self.new result
             (call self.old.limits (meaning (F.live door.now) self.old.state) (Step.Stat pid path.now)) }
-        // Memory is wanted for a process that lives, and then nothing has changed.
+        // Memory is wanted for a process that lives and waits in no call, and then nothing has changed.
         ensures unchanged { result ≡ Err Fault.NoMemory → self.new ≡ self.old }
-        ensures lives { result ≡ Err Fault.NoMemory → IsSome (process self.old.state pid) }
+        ensures ready { result ≡ Err Fault.NoMemory
+            → IsOk (ready (meaning (F.live door.now) self.old.state) pid) }
     {
         self.tables.settled();
         let meta = self.tables.stat(door, self.alloc, pid, path)?;
@@ -138,9 +145,10 @@ impl<A: Allocator + Clone> Space<A> {
         requires owns { Owns (F.live door.now) self.old }
         ensures told { Told (F.live door.now) (F.live door.now) self.old self.new result
             (call self.old.limits (meaning (F.live door.now) self.old.state) (Step.List pid path.now)) }
-        // Memory is wanted for a process that lives, and then nothing has changed.
+        // Memory is wanted for a process that lives and waits in no call, and then nothing has changed.
         ensures unchanged { result ≡ Err Fault.NoMemory → self.new ≡ self.old }
-        ensures lives { result ≡ Err Fault.NoMemory → IsSome (process self.old.state pid) }
+        ensures ready { result ≡ Err Fault.NoMemory
+            → IsOk (ready (meaning (F.live door.now) self.old.state) pid) }
     {
         self.tables.settled();
         let names = self.tables.list(door, self.alloc, pid, path)?;

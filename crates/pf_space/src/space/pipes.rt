@@ -1,8 +1,8 @@
 //! Pipes: pipe(2), and their capacities: fcntl(2), F_SETPIPE_SZ and F_GETPIPE_SZ.
 
-ghost use Rattle.std.specs.Prelude.{◌≡◌, ◌≢◌, Err, IsSome};
+ghost use Rattle.std.specs.Prelude.{IsOk, ◌≡◌, ◌≢◌, Err};
 ghost use Rattle.pf_base.specs.Machine.{call};
-ghost use Rattle.pf_base.specs.State.{process};
+ghost use Rattle.pf_base.specs.State.{ready};
 ghost use Rattle.pf_space.specs.Meaning.{meaning};
 ghost use Rattle.pf_space.specs.Owns.{Owns};
 ghost use Rattle.pf_space.specs.Told.{Told};
@@ -26,9 +26,10 @@ impl<A: Allocator + Clone> Space<A> {
         ensures rest { F.rest door.new ≡ F.rest door.old }
         ensures told { Told (F.live door.old) (F.live door.new) self.old self.new result
             (call self.old.limits (meaning (F.live door.old) self.old.state) (Step.Pipe pid nonblock)) }
-        // Memory is wanted for a process that lives, and then nothing has changed.
+        // Memory is wanted for a process that lives and waits in no call, and then nothing has changed.
         ensures unchanged { result ≡ Err Fault.NoMemory → (self.new ≡ self.old) × (door.new ≡ door.old) }
-        ensures lives { result ≡ Err Fault.NoMemory → IsSome (process self.old.state pid) }
+        ensures ready { result ≡ Err Fault.NoMemory
+            → IsOk (ready (meaning (F.live door.old) self.old.state) pid) }
     {
         let free = self.tables.free_descriptors(door, pid)?;
         if self.tables.is_spent(door) {
@@ -54,9 +55,10 @@ impl<A: Allocator + Clone> Space<A> {
         ensures rest { F.rest door.new ≡ F.rest door.old }
         ensures told { Told (F.live door.old) (F.live door.new) self.old self.new result
             (call self.old.limits (meaning (F.live door.old) self.old.state) (Step.SetSize pid fd bytes)) }
-        // Memory is wanted for a process that lives, and then nothing has changed.
+        // Memory is wanted for a process that lives and waits in no call, and then nothing has changed.
         ensures unchanged { result ≡ Err Fault.NoMemory → (self.new ≡ self.old) × (door.new ≡ door.old) }
-        ensures lives { result ≡ Err Fault.NoMemory → IsSome (process self.old.state pid) }
+        ensures ready { result ≡ Err Fault.NoMemory
+            → IsOk (ready (meaning (F.live door.old) self.old.state) pid) }
     {
         let size = self.tables.set_size(door, self.alloc, pid, fd, bytes)?;
         Ok(Reply::Num(size))

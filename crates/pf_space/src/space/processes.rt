@@ -1,8 +1,8 @@
 //! Processes: Spawn and Exit (the profile's own), Fork (fork(2)).
 
-ghost use Rattle.std.specs.Prelude.{◌≡◌, ◌≢◌, Err, IsSome};
+ghost use Rattle.std.specs.Prelude.{IsOk, ◌≡◌, ◌≢◌, Err};
 ghost use Rattle.pf_base.specs.Machine.{call};
-ghost use Rattle.pf_base.specs.State.{process};
+ghost use Rattle.pf_base.specs.State.{ready};
 ghost use Rattle.pf_space.specs.Meaning.{meaning};
 ghost use Rattle.pf_space.specs.Owns.{Owns};
 ghost use Rattle.pf_space.specs.Told.{Told};
@@ -50,9 +50,10 @@ impl<A: Allocator + Clone> Space<A> {
         requires owns { Owns (F.live door.now) self.old }
         ensures told { Told (F.live door.now) (F.live door.now) self.old self.new result
             (call self.old.limits (meaning (F.live door.now) self.old.state) (Step.Fork pid)) }
-        // Memory is wanted for a process that lives, and then nothing has changed.
+        // Memory is wanted for a process that lives and waits in no call, and then nothing has changed.
         ensures unchanged { result ≡ Err Fault.NoMemory → self.new ≡ self.old }
-        ensures lives { result ≡ Err Fault.NoMemory → IsSome (process self.old.state pid) }
+        ensures ready { result ≡ Err Fault.NoMemory
+            → IsOk (ready (meaning (F.live door.now) self.old.state) pid) }
     {
         let child = self.tables.fork(door, self.alloc, pid)?;
         Ok(Reply::Pid(child))

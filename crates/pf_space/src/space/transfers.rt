@@ -1,19 +1,32 @@
-//! Bytes into pipes, out of them and between them: write(2), read(2), tee(2) and splice(2), as pipe(7) says of O_NONBLOCK.
+//! Bytes into pipes, out of them and between them: write(2), read(2), tee(2) and splice(2), as pipe(7) says of O_NONBLOCK. A
+//! call that would wait parks, or is told EAGAIN where the step or a description says nonblocking.
 
-ghost use Rattle.std.specs.Prelude.{◌≡◌, ◌≢◌, Err, IsSome};
-ghost use Rattle.pf_base.specs.State.{process};
+ghost use Rattle.std.specs.Prelude.{◌≡◌, ◌≢◌, Err, IsOk, not, ◌&&◌, ◌||◌, false, true};
+ghost use Rattle.pf_base.specs.Calls.{Reading, Writing, Bringing};
+ghost use Rattle.pf_base.specs.State.{ready};
 ghost use Rattle.pf_base.specs.Machine.{call};
 ghost use Rattle.pf_space.specs.Meaning.{meaning};
 ghost use Rattle.pf_space.specs.Owns.{Owns};
-ghost use Rattle.pf_space.specs.Told.{Told, called_cross};
+ghost use Rattle.pf_space.specs.Told.{Told, tried_call, is_nonblocking_at, write_ended, Parks};
 
 use super::Space;
 use pf_base::{ByteString, Crossing, Errno, Fault, Progress, Reply, Step};
 use pf_frame::Frames;
+use pf_parked::{Call, UnfinishedWrite};
 use std::alloc::Allocator;
 
+// What a write is told that came to its end at once.
+fn write_ended(progress: Progress) -> Result<Reply, Fault>
+    ensures { result ≡ write_ended progress }
+{
+    match progress {
+        Progress::Moved(n) => Ok(Reply::Num(n)),
+        _ => Err(Errno::EPIPE.into()),
+    }
+}
+
 impl<A: Allocator + Clone> Space<A> {
-    /// Writes bytes, as many as go in at once, into the pipe that a process's descriptor names (write(2)).
+    /// Writes bytes into the pipe that a process's descriptor names (write(2)).
     pub(super) fn write<F: Frames>(
         &mut self,
         door: &mut F,
@@ -27,13 +40,84 @@ impl<A: Allocator + Clone> Space<A> {
         ensures rest { F.rest door.new ≡ F.rest door.old }
         ensures told { Told (F.live door.old) (F.live door.new) self.old self.new result
             (call self.old.limits (meaning (F.live door.old) self.old.state) (Step.Write pid fd bytes.now)) }
+        // Memory is wanted where the write waits, and then nothing has changed.
+        ensures unchanged { result ≡ Err Fault.NoMemory → (self.new ≡ self.old) × (door.new ≡ door.old) }
+        ensures parks { result ≡ Err Fault.NoMemory
+            → Parks (call self.old.limits (meaning (F.live door.old) self.old.state)
+            (Step.Write pid fd bytes.now)) }
+    {
+        if let Some(progress) = self.tables.write_whole(door, pid, fd, bytes)? {
+            return write_ended(progress);
+        }
+        if self.tables.is_nonblocking(door, pid, fd) {
+            return self.write_some(door, pid, fd, bytes);
+        }
+        // What may be refused comes first.
+        let copy = Vec::from_slice(self.alloc, bytes)?;
+        self.write_on(door, pid, fd, UnfinishedWrite::new(ByteString::new(copy)))
+    }
+
+    // Writes as many bytes as go in now, and waits for none.
+    fn write_some<F: Frames>(
+        &mut self,
+        door: &mut F,
+        pid: u32,
+        fd: u32,
+        bytes: &[u8],
+    ) -> Result<Reply, Fault>
+        requires fact { F.fact door.old }
+        requires owns { Owns (F.live door.old) self.old }
+        ensures fact { F.fact door.new }
+        ensures rest { F.rest door.new ≡ F.rest door.old }
+        ensures told { Told (F.live door.old) (F.live door.new) self.old self.new result
+            (tried_call (meaning (F.live door.old) self.old.state) pid true (Writing fd bytes.now 0)) }
         ensures succeeds { result ≢ Err Fault.NoMemory }
     {
-        match self.tables.write_now(door, pid, fd, bytes)? {
+        match self.tables.write_now(door, pid, fd, bytes, 0)? {
             Progress::Moved(n) => Ok(Reply::Num(n)),
             Progress::NoReader => Err(Errno::EPIPE.into()),
             Progress::WouldBlock | Progress::EndOfFile => Err(Errno::EAGAIN.into()),
         }
+    }
+
+    /// Goes on with a write, which waits where it has to.
+    pub(super) fn write_on<F: Frames>(
+        &mut self,
+        door: &mut F,
+        pid: u32,
+        fd: u32,
+        mut write: UnfinishedWrite,
+    ) -> Result<Reply, Fault>
+        requires fact { F.fact door.old }
+        requires owns { Owns (F.live door.old) self.old }
+        ensures fact { F.fact door.new }
+        ensures rest { F.rest door.new ≡ F.rest door.old }
+        ensures told { Told (F.live door.old) (F.live door.new) self.old self.new result
+            (tried_call (meaning (F.live door.old) self.old.state) pid false
+            (Writing fd write.bytes write.written)) }
+        ensures succeeds { result ≢ Err Fault.NoMemory }
+    {
+        let written = write.written();
+        match self
+            .tables
+            .write_now(door, pid, fd, write.bytes(), written as usize)?
+        {
+            Progress::Moved(n) => {
+                if written + n == write.total() {
+                    return Ok(Reply::Num(write.total()));
+                }
+                write.advance(n);
+            }
+            Progress::NoReader => {
+                if written == 0 {
+                    return Err(Errno::EPIPE.into());
+                }
+                return Ok(Reply::Num(written));
+            }
+            Progress::WouldBlock | Progress::EndOfFile => {}
+        }
+        self.tables.park(door, pid, Call::Write { fd, write });
+        Ok(Reply::Parked)
     }
 
     /// Reads at most n bytes out of the pipe that a process's descriptor names (read(2)).
@@ -50,19 +134,71 @@ impl<A: Allocator + Clone> Space<A> {
         ensures rest { F.rest door.new ≡ F.rest door.old }
         ensures told { Told (F.live door.old) (F.live door.new) self.old self.new result
             (call self.old.limits (meaning (F.live door.old) self.old.state) (Step.Read pid fd n)) }
-        // Memory is wanted for a process that lives, and then nothing has changed.
+        // Memory is wanted for a process that lives and waits in no call, and then nothing has changed.
         ensures unchanged { result ≡ Err Fault.NoMemory → (self.new ≡ self.old) × (door.new ≡ door.old) }
-        ensures lives { result ≡ Err Fault.NoMemory → IsSome (process self.old.state pid) }
+        ensures ready { result ≡ Err Fault.NoMemory
+            → IsOk (ready (meaning (F.live door.old) self.old.state) pid) }
+    {
+        self.read_on(door, pid, fd, n, false)
+    }
+
+    /// Reads what there is, and waits where it has to; where it isn't tried again, a nonblocking description doesn't wait.
+    pub(super) fn read_on<F: Frames>(
+        &mut self,
+        door: &mut F,
+        pid: u32,
+        fd: u32,
+        n: u64,
+        again: bool,
+    ) -> Result<Reply, Fault>
+        requires fact { F.fact door.old }
+        requires owns { Owns (F.live door.old) self.old }
+        ensures fact { F.fact door.new }
+        ensures rest { F.rest door.new ≡ F.rest door.old }
+        ensures told { let s = meaning (F.live door.old) self.old.state in
+            Told (F.live door.old) (F.live door.new) self.old self.new result
+            (tried_call s pid (not again && is_nonblocking_at s pid fd) (Reading fd n)) }
+        // Memory is wanted for a process that lives and waits in no call, and then nothing has changed.
+        ensures unchanged { result ≡ Err Fault.NoMemory → (self.new ≡ self.old) × (door.new ≡ door.old) }
+        ensures ready { result ≡ Err Fault.NoMemory
+            → IsOk (ready (meaning (F.live door.old) self.old.state) pid) }
     {
         let taken = self.tables.read_now(self.alloc, door, pid, fd, n)?;
         match taken.progress {
-            Progress::WouldBlock => Err(Errno::EAGAIN.into()),
-            _ => Ok(Reply::Bytes(ByteString::new(taken.bytes))),
+            Progress::WouldBlock => {}
+            _ => return Ok(Reply::Bytes(ByteString::new(taken.bytes))),
         }
+        if !again && self.tables.is_nonblocking(door, pid, fd) {
+            return Err(Errno::EAGAIN.into());
+        }
+        self.tables.park(door, pid, Call::Read { fd, n });
+        Ok(Reply::Parked)
+    }
+
+    // Whether a tee or splice that would wait is told EAGAIN.
+    fn mustnt_wait<F: Frames>(
+        &self,
+        door: &F,
+        pid: u32,
+        source: u32,
+        sink: u32,
+        flag: bool,
+        again: bool,
+    ) -> bool
+        ensures { let s = meaning (F.live door.now) self.now.state in
+            let asked = flag || (is_nonblocking_at s pid source || is_nonblocking_at s pid sink) in
+            result ≡ (not again && asked) }
+    {
+        if again {
+            return false;
+        }
+        flag || self.tables.is_nonblocking(door, pid, source)
+            || self.tables.is_nonblocking(door, pid, sink)
     }
 
     /// Brings at most n bytes from the pipe that one descriptor of a process names to the pipe that another one names: a copy
-    /// of them (tee(2)), or the bytes themselves (splice(2)).
+    /// of them (tee(2)), or the bytes themselves (splice(2)). It waits where it has to; where it isn't tried again, it
+    /// doesn't wait with the flag, or where one of the two descriptions is nonblocking.
     pub(super) fn cross<F: Frames>(
         &mut self,
         door: &mut F,
@@ -71,21 +207,35 @@ impl<A: Allocator + Clone> Space<A> {
         source: u32,
         sink: u32,
         n: u64,
+        flag: bool,
+        again: bool,
     ) -> Result<Reply, Fault>
         requires fact { F.fact door.old }
         requires owns { Owns (F.live door.old) self.old }
         ensures fact { F.fact door.new }
         ensures rest { F.rest door.new ≡ F.rest door.old }
-        ensures told { Told (F.live door.old) (F.live door.new) self.old self.new result
-            (called_cross crossing (meaning (F.live door.old) self.old.state) pid source sink n) }
+        ensures told { let s = meaning (F.live door.old) self.old.state in
+            let asked = flag || (is_nonblocking_at s pid source || is_nonblocking_at s pid sink) in
+            Told (F.live door.old) (F.live door.new) self.old self.new result
+            (tried_call s pid (not again && asked) (Bringing crossing source sink n)) }
         ensures succeeds { result ≢ Err Fault.NoMemory }
     {
-        let number = match self.tables.cross_now(door, crossing, pid, source, sink, n)? {
-            Progress::Moved(number) => number,
-            Progress::EndOfFile => 0,
+        match self.tables.cross_now(door, crossing, pid, source, sink, n)? {
+            Progress::Moved(number) => return Ok(Reply::Num(number)),
+            Progress::EndOfFile => return Ok(Reply::Num(0)),
             Progress::NoReader => return Err(Errno::EPIPE.into()),
-            Progress::WouldBlock => return Err(Errno::EAGAIN.into()),
+            Progress::WouldBlock => {}
+        }
+        if self.mustnt_wait(door, pid, source, sink, flag, again) {
+            return Err(Errno::EAGAIN.into());
+        }
+        let call = Call::Cross {
+            crossing,
+            source,
+            sink,
+            n,
         };
-        Ok(Reply::Num(number))
+        self.tables.park(door, pid, call);
+        Ok(Reply::Parked)
     }
 }

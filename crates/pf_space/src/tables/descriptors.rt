@@ -2,42 +2,25 @@
 //! description's last name goes, so does its end of the pipe; where a pipe's last end goes, so does the pipe: its slots
 //! are released, and its pages are charged no more.
 
-ghost use Rattle.std.specs.Prelude.{◌≡◌, ℕ, ◌<◌, ◌≤◌, None, IsSome, IfSome, OnErr, slice_set};
+ghost use Rattle.std.specs.Prelude.{◌≡◌, ℕ, ◌+◌, ◌<◌, ◌≤◌, None, IsSome, IfSome, OnErr, length, slice_set};
+ghost use Rattle.pf_base.specs.Machine.{call_of};
 ghost use Rattle.pf_base.specs.Numbered.{at, one_if};
 ghost use Rattle.pf_fds.specs.Registry.{find};
 ghost use Rattle.pf_space.specs.Meaning.{meaning};
 ghost use Rattle.pf_space.specs.Owns.{Owns};
-ghost use Rattle.pf_space.specs.Rows.{key_at, with_key, without_key, with_fewer, left, gone, pipes_of, state_of, Tied};
+ghost use Rattle.pf_space.specs.Rows.{with_fewer, left, gone, opens_of, pipes_of, state_of, Tied};
 ghost use Rattle.pf_space.specs.Tables.{closed, descriptor, duped, emptied, flagged, without_place};
-ghost use Rattle.pf_space.specs.Tables.{HasDuped, Left, LetsGo};
+ghost use Rattle.pf_space.specs.Tables.{Forgets, HasDuped, Left, LetsGo, LetsGoOpens};
 ghost use Rattle.pf_space.specs.Told.{Becomes, Leaves};
 
-use super::{Description, Process, Tables, caller, key_of};
+use super::{Description, Tables, key_of};
+use crate::process_table::ProcessTable;
 use pf_base::{Errno, MAX_DESCRIPTORS, Side};
-use pf_fds::{Descriptions, Key, Places, Registry};
+use pf_fds::{Descriptions, Key, Registry};
 use pf_frame::Frames;
 use pf_pipe::Pipe;
 use std::alloc::Allocator;
-
-// Empties a descriptor of the process in a place, and gives out the key that was there.
-fn take_key(processes: &mut Places<Process>, i: usize, fd: usize) -> Option<Key>
-    ensures key { result ≡ key_at fd (at processes.old i) }
-    ensures places { processes.new ≡ slice_set processes.old i (without_key fd (at processes.old i)) }
-{
-    if processes.get(i).is_none() {
-        return None;
-    }
-    processes.value_mut(i).descriptors.clear(fd)
-}
-
-// Puts a key at a descriptor of the process in a place.
-fn give_key(processes: &mut Places<Process>, i: usize, fd: usize, key: Key)
-    requires there { IsSome (at processes.old i) }
-    requires fd_in { fd < 256 }
-    ensures { processes.new ≡ slice_set processes.old i (with_key fd key (at processes.old i)) }
-{
-    processes.value_mut(i).descriptors.set(fd, key);
-}
+use std::collections::HashMap;
 
 // Counts an end of a pipe no more.
 fn uncount(pipe: &mut Pipe, end: Description)
@@ -73,7 +56,7 @@ fn drop_end(pipes: &mut Registry<Pipe>, end: Description) -> Option<Pipe>
 // Drops a descriptor of the process in a place, if there is one, and what nobody can reach any more. A pipe that goes is
 // given out.
 fn let_go(
-    processes: &mut Places<Process>,
+    processes: &mut ProcessTable,
     descriptions: &mut Descriptions<Description>,
     pipes: &mut Registry<Pipe>,
     i: usize,
@@ -83,10 +66,21 @@ fn let_go(
     ensures left { Left processes.old descriptions.old.items pipes.old.items
         processes.new descriptions.new.items pipes.new.items i fd }
     ensures pipe { LetsGo (pipes_of pipes.old.items) (pipes_of pipes.new.items) result }
+    ensures opens { LetsGoOpens (opens_of pipes.old.items) (opens_of pipes.new.items) result }
+    ensures drawn { length descriptions.new.items ≡ length descriptions.old.items }
 {
-    let key = take_key(processes, i, fd)?;
+    let key = processes.take_key(i, fd)?;
     let end = descriptions.unname(key)?;
     drop_end(pipes, end)
+}
+
+// Takes the key of a pipe that goes out of those of the FIFOs, where it is a FIFO's.
+fn forget(fifos: &mut HashMap<u64, Key>, file: Option<u64>)
+    ensures { Forgets file fifos.old.entries fifos.new.entries }
+{
+    if let Some(file) = file {
+        fifos.remove(&file);
+    }
 }
 
 impl<A: Allocator> Tables<A> {
@@ -109,6 +103,7 @@ impl<A: Allocator> Tables<A> {
         );
         if let Some(mut pipe) = gone {
             self.pages.refund(pipe.owner(), pipe.slots() as u32);
+            forget(&mut self.fifos, pipe.file());
             pipe.clear(door);
         }
     }
@@ -123,12 +118,12 @@ impl<A: Allocator> Tables<A> {
     {
         let _door = door;
         let key = key_of(&self.processes, pid, fd)?;
-        let to = caller(&self.processes, pid)?.descriptors.lowest();
+        let to = self.processes.ready(pid)?.descriptors.lowest();
         if to >= MAX_DESCRIPTORS {
             return Err(Errno::EMFILE);
         }
         self.descriptions.name(key);
-        give_key(&mut self.processes, pid as usize - 1, to, key);
+        self.processes.give_key(pid as usize - 1, to, key);
         Ok(to as u32)
     }
 
@@ -172,11 +167,12 @@ impl<A: Allocator> Tables<A> {
         Ok(())
     }
 
-    // Takes a process away that has no descriptors.
+    // Takes a process away that has no descriptors, and waits in no call.
     pub(super) fn take_process<F: Frames>(&mut self, door: &F, i: usize)
         requires i_in { i < 256 }
         requires owns { Owns (F.live door.now) self.old }
         requires bare { (fd : ℕ) → descriptor self.old.state i fd ≡ None }
+        requires awake { call_of self.old.state (i + 1) ≡ None }
         ensures gone { Becomes (F.live door.now) (F.live door.now) self.old self.new
             (without_place (meaning (F.live door.now) self.old.state) i) }
     {

@@ -1,13 +1,13 @@
 //! Files: the calls of `pf_walk` on the tree, for the process that makes them.
 
-ghost use Rattle.std.specs.Prelude.{◌≡◌, Err, IsSome, OnErr};
-ghost use Rattle.pf_base.specs.State.{process};
+ghost use Rattle.std.specs.Prelude.{◌≡◌, Err, IsOk, OnErr};
+ghost use Rattle.pf_base.specs.State.{ready};
 ghost use Rattle.pf_space.specs.Meaning.{meaning};
 ghost use Rattle.pf_space.specs.Owns.{Owns};
 ghost use Rattle.pf_space.specs.Tables.{HasFiled, making, unlinking, removing, remoding, known, names_in};
 ghost use Rattle.pf_walk.specs.Told.{Told};
 
-use super::{Tables, caller};
+use super::Tables;
 use pf_base::{ByteString, Fault, Kind, Meta, Mode};
 use pf_frame::Frames;
 use std::alloc::{Allocator, Global};
@@ -26,21 +26,15 @@ impl<A: Allocator + Clone> Tables<A> {
         requires owns { Owns (F.live door.now) self.old }
         ensures made { HasFiled (F.live door.now) self.old self.new result
             (making kind (meaning (F.live door.now) self.old.state) pid path.now bits) }
-        ensures lives { result ≡ Err Fault.NoMemory → IsSome (process self.old.state pid) }
+        ensures ready { result ≡ Err Fault.NoMemory
+            → IsOk (ready (meaning (F.live door.now) self.old.state) pid) }
         ensures refused { OnErr result (self.new ≡ self.old) }
     {
         let _door = door;
-        let cred = &caller(&self.processes, pid)?.cred;
+        let cred = &self.processes.ready(pid)?.cred;
         let mode = Mode::new(bits)?;
-        pf_walk::make(
-            alloc,
-            &mut self.files,
-            cred,
-            path,
-            kind,
-            mode,
-            self.files_made,
-        )?;
+        self.files
+            .make(alloc, cred, path, kind, mode, self.files_made)?;
         self.files_made += 1;
         Ok(())
     }
@@ -56,12 +50,13 @@ impl<A: Allocator + Clone> Tables<A> {
         requires owns { Owns (F.live door.now) self.old }
         ensures made { HasFiled (F.live door.now) self.old self.new result
             (unlinking (meaning (F.live door.now) self.old.state) pid path.now) }
-        ensures lives { result ≡ Err Fault.NoMemory → IsSome (process self.old.state pid) }
+        ensures ready { result ≡ Err Fault.NoMemory
+            → IsOk (ready (meaning (F.live door.now) self.old.state) pid) }
         ensures refused { OnErr result (self.new ≡ self.old) }
     {
         let _door = door;
-        let cred = &caller(&self.processes, pid)?.cred;
-        pf_walk::unlink(alloc, &mut self.files, cred, path)
+        let cred = &self.processes.ready(pid)?.cred;
+        self.files.unlink(alloc, cred, path)
     }
 
     /// Takes a directory away that has no entries (rmdir()).
@@ -75,12 +70,13 @@ impl<A: Allocator + Clone> Tables<A> {
         requires owns { Owns (F.live door.now) self.old }
         ensures made { HasFiled (F.live door.now) self.old self.new result
             (removing (meaning (F.live door.now) self.old.state) pid path.now) }
-        ensures lives { result ≡ Err Fault.NoMemory → IsSome (process self.old.state pid) }
+        ensures ready { result ≡ Err Fault.NoMemory
+            → IsOk (ready (meaning (F.live door.now) self.old.state) pid) }
         ensures refused { OnErr result (self.new ≡ self.old) }
     {
         let _door = door;
-        let cred = &caller(&self.processes, pid)?.cred;
-        pf_walk::rmdir(alloc, &mut self.files, cred, path)
+        let cred = &self.processes.ready(pid)?.cred;
+        self.files.rmdir(alloc, cred, path)
     }
 
     /// Gives a file another mode (chmod()). `bits` is the mode.
@@ -95,13 +91,14 @@ impl<A: Allocator + Clone> Tables<A> {
         requires owns { Owns (F.live door.now) self.old }
         ensures made { HasFiled (F.live door.now) self.old self.new result
             (remoding (meaning (F.live door.now) self.old.state) pid path.now bits) }
-        ensures lives { result ≡ Err Fault.NoMemory → IsSome (process self.old.state pid) }
+        ensures ready { result ≡ Err Fault.NoMemory
+            → IsOk (ready (meaning (F.live door.now) self.old.state) pid) }
         ensures refused { OnErr result (self.new ≡ self.old) }
     {
         let _door = door;
-        let cred = &caller(&self.processes, pid)?.cred;
+        let cred = &self.processes.ready(pid)?.cred;
         let mode = Mode::new(bits)?;
-        pf_walk::chmod(alloc, &mut self.files, cred, path, mode)
+        self.files.chmod(alloc, cred, path, mode)
     }
 
     /// What is known of a file (stat()).
@@ -112,12 +109,14 @@ impl<A: Allocator + Clone> Tables<A> {
         pid: u32,
         path: &[u8],
     ) -> Result<Meta, Fault>
-        ensures told { Told (λ meta. meta) result (known (meaning (F.live door.now) self.now.state) pid path.now) }
-        ensures lives { result ≡ Err Fault.NoMemory → IsSome (process self.now.state pid) }
+        ensures told { Told (λ meta. meta) result
+            (known (meaning (F.live door.now) self.now.state) pid path.now) }
+        ensures ready { result ≡ Err Fault.NoMemory
+            → IsOk (ready (meaning (F.live door.now) self.now.state) pid) }
     {
         let _door = door;
-        let cred = &caller(&self.processes, pid)?.cred;
-        pf_walk::stat(alloc, &self.files, cred, path)
+        let cred = &self.processes.ready(pid)?.cred;
+        pf_walk::stat(alloc, self.files.tree(), cred, path)
     }
 
     /// The names in a directory, each with a slash behind it.
@@ -130,11 +129,12 @@ impl<A: Allocator + Clone> Tables<A> {
     ) -> Result<ByteString, Fault>
         ensures told { Told (λ names. names) result
             (names_in (meaning (F.live door.now) self.now.state) pid path.now) }
-        ensures lives { result ≡ Err Fault.NoMemory → IsSome (process self.now.state pid) }
+        ensures ready { result ≡ Err Fault.NoMemory
+            → IsOk (ready (meaning (F.live door.now) self.now.state) pid) }
     {
         let _door = door;
-        let cred = &caller(&self.processes, pid)?.cred;
-        match pf_walk::list(alloc, &self.files, cred, path) {
+        let cred = &self.processes.ready(pid)?.cred;
+        match pf_walk::list(alloc, self.files.tree(), cred, path) {
             Ok(names) => Ok(ByteString::new(names)),
             Err(fault) => Err(fault),
         }

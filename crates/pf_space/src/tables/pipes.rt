@@ -1,46 +1,25 @@
 //! Pipes: what makes one with its two ends.
 
-ghost use Rattle.std.specs.Prelude.{◌≡◌, ◌+◌, ◌-◌, ◌^◌, ◌<◌, ◌≤◌, false, Err, Some, IsSome, IfOk, OnOk, OnErr, slice_set, length, [], ◌∷◌, ◌++◌, not, ◌&&◌, nat_lt};
+ghost use Rattle.std.specs.Prelude.{◌≡◌, ◌+◌, ◌-◌, ◌^◌, ◌<◌, ◌≤◌, false, Err, Some, None, IsOk, IfOk, OnOk, OnErr, slice_set, length, [], ◌∷◌, ◌++◌, not, ◌&&◌, nat_lt};
 ghost use Rattle.pf_base.specs.Numbered.{at};
 ghost use Rattle.pf_base.specs.Counts.{total};
-ghost use Rattle.pf_base.specs.Pipes.{is_spent};
 ghost use Rattle.pf_space.specs.Meaning.{meaning};
-ghost use Rattle.pf_base.specs.State.{process};
+ghost use Rattle.pf_base.specs.State.{ready};
 ghost use Rattle.pf_limits.specs.UserPages.{charged_to};
+ghost use Rattle.pf_pipe.specs.Pipe.{unopened};
 ghost use Rattle.pf_space.specs.Owns.{Owns};
-ghost use Rattle.pf_space.specs.Rows.{with_keys};
-ghost use Rattle.pf_space.specs.Tables.{HasTwo, FindsTwo, Opens, Resizing, HasResized, capacity_of_caller, size_of_end, sized};
+ghost use Rattle.pf_space.specs.Tables.{HasTwo, FindsTwo, Opens, Resizing, HasResized, is_spent_for_pipe, capacity_of_caller, size_of_end, sized};
 
-use super::{Description, Process, Tables, caller, end};
+use super::{Description, Tables, end};
 use pf_base::{Config, Errno, Fault, MAX_DESCRIPTORS, MAX_SIZE, PAGE_SIZE, Side, pages_for};
-use pf_fds::{Descriptions, Key, Places};
+use pf_fds::{Descriptions, Key};
 use pf_frame::Frames;
 use pf_limits::UserPages;
 use pf_pipe::Pipe;
 use std::alloc::{AllocError, Allocator, Global};
 
-// Puts keys at two descriptors of the process in a place.
-fn set_descriptors(
-    processes: &mut Places<Process>,
-    i: usize,
-    first: usize,
-    first_key: Key,
-    second: usize,
-    second_key: Key,
-)
-    requires there { IsSome (at processes.old i) }
-    requires first_in { first < 256 }
-    requires second_in { second < 256 }
-    ensures { processes.new
-        ≡ slice_set processes.old i (with_keys first first_key second second_key (at processes.old i)) }
-{
-    let process = processes.value_mut(i);
-    process.descriptors.set(first, first_key);
-    process.descriptors.set(second, second_key);
-}
-
 // Makes a description that has one name: the key that is given out.
-fn insert_named(descriptions: &mut Descriptions<Description>, end: Description) -> Key
+pub(super) fn insert_named(descriptions: &mut Descriptions<Description>, end: Description) -> Key
     requires room { 0 < descriptions.old.room }
     requires unspent { length descriptions.old.items < 2 ^ 64 - 1 }
     ensures serial { result.serial ≡ length descriptions.old.items }
@@ -61,9 +40,10 @@ fn two_ended(alloc: Global, slots: usize, owner: u32) -> Result<Pipe, AllocError
       owner = owner;
       readers = 1;
       writers = 1;
+      opens = unopened None;
     }) }
 {
-    let mut pipe = Pipe::new(alloc, slots, owner)?;
+    let mut pipe = Pipe::new(alloc, slots, owner, None)?;
     pipe.add_end(Side::Read);
     pipe.add_end(Side::Write);
     Ok(pipe)
@@ -112,7 +92,7 @@ impl<A: Allocator> Tables<A> {
         ensures { FindsTwo (meaning (F.live door.now) self.now.state) pid result }
     {
         let _door = door;
-        let process = caller(&self.processes, pid)?;
+        let process = self.processes.ready(pid)?;
         let first = process.descriptors.lowest();
         if first >= MAX_DESCRIPTORS {
             return Err(Errno::EMFILE);
@@ -127,7 +107,7 @@ impl<A: Allocator> Tables<A> {
     /// Whether one more pipe with its two descriptions would need a number above the last one that may be
     /// drawn.
     pub fn is_spent<F: Frames>(&self, door: &F) -> bool
-        ensures { result ≡ is_spent (meaning (F.live door.now) self.now.state) }
+        ensures { result ≡ is_spent_for_pipe (meaning (F.live door.now) self.now.state) }
     {
         let _door = door;
         self.descriptions.drawn() > u64::MAX - 2 || self.pipes.drawn() > u64::MAX - 1
@@ -141,7 +121,7 @@ impl<A: Allocator> Tables<A> {
             (λ slots. total (meaning (F.live door.now) self.now.state) + slots ≤ self.now.limits.reserve) }
     {
         let _door = door;
-        let cred = &caller(&self.processes, pid)?.cred;
+        let cred = &self.processes.ready(pid)?.cred;
         match self.pages.new_capacity(cred.uid, cred.is_privileged()) {
             Ok(slots) => Ok(slots),
             Err(fault) => Err(fault.errno(Errno::ENFILE)),
@@ -161,13 +141,13 @@ impl<A: Allocator> Tables<A> {
     ) -> Result<(), AllocError>
         requires owns { Owns (F.live door.now) self.old }
         requires free { HasTwo (meaning (F.live door.now) self.old.state) pid free }
-        requires unspent { is_spent (meaning (F.live door.now) self.old.state) ≡ false }
+        requires unspent { is_spent_for_pipe (meaning (F.live door.now) self.old.state) ≡ false }
         requires room { total (meaning (F.live door.now) self.old.state) + slots ≤ self.old.limits.reserve }
         ensures made { OnOk result (Opens (F.live door.now) self.old self.new pid nonblocking slots) }
         ensures refused { OnErr result (self.new ≡ self.old) }
     {
         let _door = door;
-        let Ok(process) = caller(&self.processes, pid) else {
+        let Ok(process) = self.processes.ready(pid) else {
             unreachable!()
         };
         let owner = process.cred.uid;
@@ -192,7 +172,7 @@ impl<A: Allocator> Tables<A> {
         let writing = insert_named(&mut self.descriptions, writer);
         let i = pid as usize - 1;
         let (first, second) = (free.0 as usize, free.1 as usize);
-        set_descriptors(&mut self.processes, i, first, reading, second, writing);
+        self.processes.give_keys(i, first, reading, second, writing);
         Ok(())
     }
 
@@ -221,12 +201,13 @@ impl<A: Allocator> Tables<A> {
         requires owns { Owns (F.live door.now) self.old }
         ensures resized { HasResized (F.live door.now) self.old self.new result
             (sized self.old.limits (meaning (F.live door.now) self.old.state) pid fd bytes) }
-        ensures lives { result ≡ Err Fault.NoMemory → IsSome (process self.old.state pid) }
+        ensures ready { result ≡ Err Fault.NoMemory
+            → IsOk (ready (meaning (F.live door.now) self.old.state) pid) }
         ensures refused { OnErr result (self.new ≡ self.old) }
     {
         let _door = door;
         let end = end(&self.processes, &self.descriptions, pid, fd, None)?;
-        let privileged = caller(&self.processes, pid)?.cred.is_privileged();
+        let privileged = self.processes.ready(pid)?.cred.is_privileged();
         if bytes > MAX_SIZE {
             return Err(Errno::EINVAL.into());
         }

@@ -1,8 +1,8 @@
 //! Processes: what makes one, and what lets one go.
 
-ghost use Rattle.std.specs.Prelude.{◌≡◌, ◌+◌, ◌≤◌, Err, IsSome, IfSome, IfNone, OnOk, OnErr, length};
+ghost use Rattle.std.specs.Prelude.{◌≡◌, ◌+◌, ◌≤◌, Err, IsOk, IfSome, IfNone, OnOk, OnErr, length};
 ghost use Rattle.pf_base.specs.Numbered.{first_free};
-ghost use Rattle.pf_base.specs.State.{process, with_process, vacant};
+ghost use Rattle.pf_base.specs.State.{ready, with_process, vacant};
 ghost use Rattle.pf_base.specs.declared.TheConstants.{MAX_DESCRIPTORS, MAX_PROCESSES};
 ghost use Rattle.pf_space.specs.Meaning.{meaning};
 ghost use Rattle.pf_space.specs.Owns.{Owns};
@@ -10,7 +10,8 @@ ghost use Rattle.pf_space.specs.Rows.{AllFind, AreFew, named_once_more};
 ghost use Rattle.pf_space.specs.Tables.{exited, forked, HasForked};
 ghost use Rattle.pf_space.specs.Told.{Becomes, Leaves};
 
-use super::{Description, Process, Tables, caller};
+use super::{Description, Tables};
+use crate::process_table::Process;
 use pf_base::{Cred, Errno, Fault, MAX_DESCRIPTORS, MAX_PROCESSES};
 use pf_fds::{Descriptions, FdTable};
 use pf_frame::Frames;
@@ -58,7 +59,7 @@ impl<A: Allocator> Tables<A> {
         requires within { pid ≤ MAX_PROCESSES }
         ensures made { OnOk result (Becomes (F.live door.now) (F.live door.now) self.old self.new
             (with_process (meaning (F.live door.now) self.old.state) pid
-            (record { cred = cred; descriptors = vacant }))) }
+            (record { cred = cred; descriptors = vacant; parked = None }))) }
         ensures refused { OnErr result (self.new ≡ self.old) }
     {
         let _door = door;
@@ -74,11 +75,12 @@ impl<A: Allocator> Tables<A> {
         requires owns { Owns (F.live door.now) self.old }
         ensures forked { HasForked (F.live door.now) self.old self.new result
             (forked (meaning (F.live door.now) self.old.state) pid) }
-        ensures lives { result ≡ Err Fault.NoMemory → IsSome (process self.old.state pid) }
+        ensures ready { result ≡ Err Fault.NoMemory
+            → IsOk (ready (meaning (F.live door.now) self.old.state) pid) }
         ensures refused { OnErr result (self.new ≡ self.old) }
     {
         let _door = door;
-        let parent = caller(&self.processes, pid)?;
+        let parent = self.processes.ready(pid)?;
         let i = self.processes.lowest();
         if i >= MAX_PROCESSES {
             return Err(Errno::EAGAIN.into());
@@ -100,7 +102,8 @@ impl<A: Allocator> Tables<A> {
         ensures left { Leaves (F.live door.old) (F.live door.new) self.old self.new result
             (exited (meaning (F.live door.old) self.old.state) pid) }
     {
-        caller(&self.processes, pid)?;
+        self.processes.lives(pid)?;
+        self.wake(door, pid);
         let i = pid as usize - 1;
         for fd in 0..MAX_DESCRIPTORS {
             self.empty(door, i, fd);

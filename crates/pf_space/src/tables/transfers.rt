@@ -1,14 +1,15 @@
 //! Bytes into pipes, out of them and between them: one look-up for each end, and one borrow of the pipe that is found. Where
 //! there are two, one is taken out for as long.
 
-ghost use Rattle.std.specs.Prelude.{◌≡◌, ◌≤◌, Err, IfOk, IsSome, OnErr};
+ghost use Rattle.std.specs.Prelude.{◌≡◌, ◌≤◌, Ok, Err, None, IfOk, IfSome, IsOk, OnErr, drop, length};
+ghost use Rattle.pf_base.specs.Calls.{Reading, Writing, Bringing};
 ghost use Rattle.pf_base.specs.Progress.{moved};
-ghost use Rattle.pf_base.specs.State.{process};
+ghost use Rattle.pf_base.specs.State.{ready};
 ghost use Rattle.pf_space.specs.Meaning.{meaning};
 ghost use Rattle.pf_space.specs.Owns.{Owns};
-ghost use Rattle.pf_space.specs.Told.{attempted_read, attempted_write, attempted_cross, HasRead, HasCrossed, Wrote};
+ghost use Rattle.pf_space.specs.Told.{attempted, is_nonblocking_at, HasRead, HasCrossed, HasWritten, Wrote};
 
-use super::{Tables, reading_end, writing_end};
+use super::{Tables, end, reading_end, writing_end};
 use pf_base::{Crossing, Errno, Fault, MAX_WRITE, PIPE_BUF, Progress};
 use pf_frame::Frames;
 use std::alloc::{Allocator, Global};
@@ -23,27 +24,40 @@ pub struct Taken {
 }
 
 impl<A: Allocator> Tables<A> {
-    /// Puts bytes at the end of the pipe that a process's descriptor writes, as many as go in now.
-    pub fn write_now<F: Frames>(
+    /// Whether the description that a process's descriptor names has O_NONBLOCK; false where it names none.
+    pub fn is_nonblocking<F: Frames>(&self, door: &F, pid: u32, fd: u32) -> bool
+        ensures { result ≡ is_nonblocking_at (meaning (F.live door.now) self.now.state) pid fd }
+    {
+        let _door = door;
+        match end(&self.processes, &self.descriptions, pid, fd, None) {
+            Ok(end) => end.nonblocking,
+            Err(_) => false,
+        }
+    }
+
+    /// Writes where the write comes to its end at once: all its bytes go in, or nobody reads them. Where it would wait, it
+    /// does nothing.
+    pub fn write_whole<F: Frames>(
         &mut self,
         door: &mut F,
         pid: u32,
         fd: u32,
         bytes: &[u8],
-    ) -> Result<Progress, Errno>
+    ) -> Result<Option<Progress>, Errno>
         requires fact { F.fact door.old }
         requires owns { Owns (F.live door.old) self.old }
         ensures fact { F.fact door.new }
         ensures rest { F.rest door.new ≡ F.rest door.old }
         ensures owns { Owns (F.live door.new) self.new }
         ensures limits { self.new.limits ≡ self.old.limits }
-        // It came as far as the machine's write, or is refused as that is.
-        ensures wrote { Wrote (F.live door.new) self.new bytes.now result
-            (attempted_write (meaning (F.live door.old) self.old.state) pid fd bytes.now) }
-
+        // It came to the machine's end, or the machine's would wait, or is refused.
+        ensures written { HasWritten (F.live door.new) self.new bytes.now result
+            (attempted (meaning (F.live door.old) self.old.state) pid (Writing fd bytes.now 0)) }
         // Where no byte went in, nothing has changed.
-        ensures untouched { IfOk result
-            (λ progress. moved progress ≡ 0 → (self.new ≡ self.old) × (door.new ≡ door.old)) }
+        ensures untouched { IfOk result (λ done. IfSome done
+            (λ progress. moved progress ≡ 0 → (self.new ≡ self.old) × (door.new ≡ door.old))) }
+        // Where it would wait or is refused, nothing has changed.
+        ensures waits { result ≡ Ok None → (self.new ≡ self.old) × (door.new ≡ door.old) }
         ensures refused { OnErr result ((self.new ≡ self.old) × (door.new ≡ door.old)) }
     {
         let end = writing_end(&self.processes, &self.descriptions, pid, fd)?;
@@ -52,7 +66,45 @@ impl<A: Allocator> Tables<A> {
         }
         let whole = bytes.len() <= PIPE_BUF;
         let pipe = self.pipes.value_mut(end.pipe);
-        Ok(pipe.write_now(door, bytes, whole))
+        if pipe.readers() > 0 && pipe.room() < bytes.len() {
+            return Ok(None);
+        }
+        Ok(Some(pipe.write_now(door, bytes, whole)))
+    }
+
+    /// Puts what is left of a write at the end of the pipe that a process's descriptor writes, as many bytes as go in now;
+    /// so many went in before.
+    pub fn write_now<F: Frames>(
+        &mut self,
+        door: &mut F,
+        pid: u32,
+        fd: u32,
+        bytes: &[u8],
+        written: usize,
+    ) -> Result<Progress, Errno>
+        requires written { written ≤ length bytes.now }
+        requires fact { F.fact door.old }
+        requires owns { Owns (F.live door.old) self.old }
+        ensures fact { F.fact door.new }
+        ensures rest { F.rest door.new ≡ F.rest door.old }
+        ensures owns { Owns (F.live door.new) self.new }
+        ensures limits { self.new.limits ≡ self.old.limits }
+        // It came as far as the machine's write, or is refused as that is.
+        ensures wrote { Wrote (F.live door.new) self.new (drop written bytes.now) result
+            (attempted (meaning (F.live door.old) self.old.state) pid (Writing fd bytes.now written)) }
+
+        // Where no byte went in, nothing has changed.
+        ensures untouched { IfOk result
+            (λ progress. moved progress ≡ 0 → (self.new ≡ self.old) × (door.new ≡ door.old)) }
+        ensures refused { OnErr result ((self.new ≡ self.old) × (door.new ≡ door.old)) }
+    {
+        let sink = writing_end(&self.processes, &self.descriptions, pid, fd)?;
+        if bytes.len() > MAX_WRITE {
+            return Err(Errno::EINVAL);
+        }
+        let whole = bytes.len() <= PIPE_BUF;
+        let pipe = self.pipes.value_mut(sink.pipe);
+        Ok(pipe.write_now(door, &bytes[written..], whole))
     }
 
     /// Takes at most n bytes from the front of the pipe that a process's descriptor reads. Their memory is made first,
@@ -74,8 +126,9 @@ impl<A: Allocator> Tables<A> {
         // It came as far as the machine's read, or is refused as that is, or memory was wanted for a process that
         // lives.
         ensures read { HasRead (F.live door.new) self.new result
-            (attempted_read (meaning (F.live door.old) self.old.state) pid fd n) }
-        ensures lives { result ≡ Err Fault.NoMemory → IsSome (process self.old.state pid) }
+            (attempted (meaning (F.live door.old) self.old.state) pid (Reading fd n)) }
+        ensures ready { result ≡ Err Fault.NoMemory
+            → IsOk (ready (meaning (F.live door.old) self.old.state) pid) }
 
         // Where no byte came out, nothing has changed.
         ensures untouched { IfOk result
@@ -111,7 +164,7 @@ impl<A: Allocator> Tables<A> {
         ensures limits { self.new.limits ≡ self.old.limits }
         // It came as far as the machine's, or is refused as that is.
         ensures crossed { HasCrossed (F.live door.new) self.new result
-            (attempted_cross crossing (meaning (F.live door.old) self.old.state) pid source sink n) }
+            (attempted (meaning (F.live door.old) self.old.state) pid (Bringing crossing source sink n)) }
 
         // No frame is taken or freed. Where no byte came, nothing has changed.
         ensures takes { (F.live door.new).held ≡ (F.live door.old).held }

@@ -16,6 +16,6 @@ returns-clause-made g c =
     let s : State Queue = meaning f (state_of i.processes i.descriptions.items i.pipes.items i.files i.files_made) in
     let cred = c.in_ok-cred.field-0.now.cred in
     let judged = ap (λ r. r >>= (λ mode. calls.chmod i.files cred c.args.path.now mode >>= (λ fs. Ok (done (with_files s fs) 0)))) (sym c.in_ok-mode.ensures) in
-    changed-filed f c.self.invariant.tied c.self.view_is c.args.pid c.in_ok-cred.ensures c.chmod.new.tree i.files_made c.requires.owns
+    changed-filed f c.self.invariant.kept.tied c.self.view_is c.args.pid c.in_ok-cred.ensures c.chmod.new.self i.files_made c.requires.owns
     (λ t q. chmod t q c.args.path.now c.args.bits) (calls.chmod i.files cred c.args.path.now c.in_ok-mode.mode) c.chmod.result c.chmod.ensures
     (λ e. judged ∙ ap (λ r. r >>= (λ fs. Ok (done (with_files s fs) 0))) e) (λ x e. judged ∙ ap (λ r. r >>= (λ fs. Ok (done (with_files s fs) 0))) e)

@@ -8,7 +8,7 @@ use Rattle.pf_space.proofs.tables.Tables.drop_descriptor.Goals as goal
 
 pub returns-in_err-key_of-clause-left : goal.returns-in_err-key_of-clause-left
 returns-in_err-key_of-clause-left g c =
-    let refused = names_nothing (g.F.Frames.live c.args.door.now) c.self.invariant.tied c.self.view_is c.args.pid c.args.fd
+    let refused = names_nothing (g.F.Frames.live c.args.door.now) c.self.invariant.kept.tied c.self.view_is c.args.pid c.args.fd
     (λ p _. Ok (with_process (meaning (g.F.Frames.live c.args.door.now) c.args.self.now.state) c.args.pid (without_descriptor c.args.fd p))) (sym c.in_err-key_of.ensures) in
     search rules
 

@@ -1,6 +1,6 @@
 use Rattle.std.proofs.Common.{◌≡◌}
 use Rattle.pf_space.specs.Meaning.{meaning}
-use Rattle.pf_space.specs.Tables.{without_first}
+use Rattle.pf_space.specs.Tables.{awoken, without_first}
 use Rattle.pf_space.specs.Told.{Becomes}
 use Rattle.pf_space.proofs.tables.Tables.drop_process.Given as goal
 
@@ -8,5 +8,5 @@ abbrev pub invariant-loop-fd : goal.invariant-loop-fd
 invariant-loop-fd g l = record {
   fact : g.F.Frames.fact l.door;
   rest : g.F.Frames.rest l.door ≡ g.F.Frames.rest l.fn.door;
-  first : Becomes (g.F.Frames.live l.fn.door) (g.F.Frames.live l.door) l.fn.self l.self (without_first (meaning (g.F.Frames.live l.fn.door) l.fn.self.state) l.i l.fd);
+  first : Becomes (g.F.Frames.live l.fn.door) (g.F.Frames.live l.door) l.fn.self l.self (without_first (awoken (meaning (g.F.Frames.live l.fn.door) l.fn.self.state) l.fn.pid) l.i l.fd);
 }

@@ -21,9 +21,9 @@ returns-in_err-make-clause-made g c =
     let cred = c.in_ok-cred.field-0.now.cred in
     let judged = ap (λ r. r >>= (λ mode. calls.make c.args.kind i.files i.files_made cred c.args.path.now mode >>= (λ fs. Ok (done (with_new s fs) 0)))) (sym c.in_ok-mode.ensures) in
     let gives : c.from_residual-in_err-make.result ≡ Err c.in_err-make.field-0.0 = search rules in
-    let m : Namespace = record { limits = i.pages.limits; state = state_of i.processes i.descriptions.items i.pipes.items c.make.new.tree i.files_made } in
+    let m : Namespace = record { limits = i.pages.limits; state = state_of i.processes i.descriptions.items i.pipes.items c.make.new.self i.files_made } in
     subst (λ r. HasFiled f c.args.self.now m r (making c.args.kind (meaning f c.args.self.now.state) c.args.pid c.args.path.now c.args.bits)) (sym gives)
-    (refused-filed f c.self.invariant.tied c.self.view_is c.args.pid c.in_ok-cred.ensures c.make.new.tree m
+    (refused-filed f c.self.invariant.kept.tied c.self.view_is c.args.pid c.in_ok-cred.ensures c.make.new.self m
     (λ t q. make c.args.kind t q c.args.path.now c.args.bits) (calls.make c.args.kind i.files i.files_made cred c.args.path.now c.in_ok-mode.mode) c.in_err-make.field-0.0 c.in_err-make.ensures.changed
     (λ x e. judged ∙ ap (λ r. r >>= (λ fs. Ok (done (with_new s fs) 0))) e))
 
@@ -34,6 +34,6 @@ returns-clause-made g c =
     let s : State Queue = meaning f (state_of i.processes i.descriptions.items i.pipes.items i.files i.files_made) in
     let cred = c.in_ok-cred.field-0.now.cred in
     let judged = ap (λ r. r >>= (λ mode. calls.make c.args.kind i.files i.files_made cred c.args.path.now mode >>= (λ fs. Ok (done (with_new s fs) 0)))) (sym c.in_ok-mode.ensures) in
-    changed-filed f c.self.invariant.tied c.self.view_is c.args.pid c.in_ok-cred.ensures c.make.new.tree (i.files_made + 1) c.requires.owns
+    changed-filed f c.self.invariant.kept.tied c.self.view_is c.args.pid c.in_ok-cred.ensures c.make.new.self (i.files_made + 1) c.requires.owns
     (λ t q. make c.args.kind t q c.args.path.now c.args.bits) (calls.make c.args.kind i.files i.files_made cred c.args.path.now c.in_ok-mode.mode) (Ok c.in_ok-make.field-0) c.in_ok-make.ensures.changed
     (λ e. judged ∙ ap (λ r. r >>= (λ fs. Ok (done (with_new s fs) 0))) e) (λ x e. judged ∙ ap (λ r. r >>= (λ fs. Ok (done (with_new s fs) 0))) e)

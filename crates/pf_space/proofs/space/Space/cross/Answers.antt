@@ -1,0 +1,23 @@
+use Rattle.std.proofs.Common.{◌≡◌, false, not, ◌&&◌, ◌||◌, Ok, refl, sym, ap, subst, ◌∙◌}
+use Rattle.pf_base.specs.Calls.{Bringing, Moving}
+use Rattle.pf_base.specs.Progress.{moved}
+use Rattle.pf_base.specs.Attempts.{transfer_told}
+use Rattle.pf_base.specs.declared.step.Reply.TheVariants as replies
+use Rattle.pf_space.specs.Meaning.{Namespace, meaning}
+use Rattle.pf_space.specs.Told.{Told, tried_call, is_nonblocking_at}
+use Rattle.pf_space.proofs.Waiting.{parks}
+use Rattle.pf_space.proofs.space.Space.cross.Goals as goal
+
+pub returns-clause-told : goal.returns-clause-told
+returns-clause-told g c =
+    let f = g.F.Frames.live c.args.door.now in
+    let after = g.F.Frames.live c.cross_now.new.door in
+    let t = Bringing c.args.crossing c.args.source c.args.sink c.args.n in
+    let came = c.in_ok-number.ensures.crossed in
+    let same = c.in_ok-number.ensures.untouched (ap moved c.in-WouldBlock.is) in
+    let told = parks f after c.self.inside.tables c.cross_now.new.self c.park.new.self c.args.pid t came.tried came.is c.in_ok-number.ensures.owns c.in_ok-number.ensures.limits came.state (Moving t) refl (ap (transfer_told t came.tried) (came.progress_is ∙ c.in-WouldBlock.is)) c.park.ensures in
+    let flag : (not c.args.again && (c.args.flag || (is_nonblocking_at (meaning f c.self.inside.tables.state) c.args.pid c.args.source || is_nonblocking_at (meaning f c.self.inside.tables.state) c.args.pid c.args.sink))) ≡ false =
+    (λ j. let s = meaning (g.F.Frames.live (sym same.1 j)) (sym same.0 j).state in not c.args.again && (c.args.flag || (is_nonblocking_at s c.args.pid c.args.source || is_nonblocking_at s c.args.pid c.args.sink)))
+    ∙ sym c.mustnt_wait.ensures ∙ c.if-mustnt_wait.false in
+    subst (λ (o : Namespace). Told f after o c.park.new.self (Ok replies.Parked) (tried_call (meaning f o.state) c.args.pid (not c.args.again && (c.args.flag || (is_nonblocking_at (meaning f o.state) c.args.pid c.args.source || is_nonblocking_at (meaning f o.state) c.args.pid c.args.sink))) t)) c.self.view_is
+    (subst (λ b. Told f after c.self.inside.tables c.park.new.self (Ok replies.Parked) (tried_call (meaning f c.self.inside.tables.state) c.args.pid b t)) (sym flag) told)

@@ -1,0 +1,35 @@
+//! What is known of a reply before its step is made, and of a write that waits: numbers, which take no memory.
+
+ghost use Rattle.std.specs.Prelude.{◌≡◌, ◌≤◌};
+ghost use Rattle.pf_base.specs.Machine.{call_of};
+ghost use Rattle.pf_space.specs.Bounds.{Covers, most_of, written_in};
+
+use super::Space;
+use pf_base::Step;
+use std::alloc::Allocator;
+
+impl<A: Allocator> Space<A> {
+    /// How many bytes of its write went in before a process waited; 0 where it waits in no write.
+    pub fn parked_written(&self, pid: u32) -> u64
+        ensures { result ≡ written_in (call_of self.now.state pid) }
+    {
+        self.tables.parked_written(pid)
+    }
+
+    /// A number of bytes that the vector of a step's reply is no longer than, in this state, to reserve memory for a copy of it.
+    /// It costs constant time.
+    ///
+    /// A read's is what the pipe holds, up to what is asked for. A list's is 256 for each file but the root, and that of a
+    /// read that waits what it asks for, up to all that 65,536 frames hold.
+    pub fn reply_bound(&self, step: &Step) -> usize
+        ensures covers { Covers self.now step.now result }
+        ensures most { result ≤ most_of step.now }
+    {
+        match step {
+            Step::Read { pid, fd, n } => self.tables.read_bound(*pid, *fd, *n),
+            Step::List { pid: _, path: _ } => self.tables.list_bound(),
+            Step::Resume { pid } => self.tables.resume_bound(*pid),
+            _ => 0,
+        }
+    }
+}
