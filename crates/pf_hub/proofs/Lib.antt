@@ -3,4 +3,5 @@ pub mod StepLemmas
 pub mod DepotLemmas
 pub mod OpeningLemmas
 pub mod RunLemmas
+pub mod Bounding
 pub mod WorkedWorlds

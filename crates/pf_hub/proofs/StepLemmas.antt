@@ -8,7 +8,6 @@ use Rattle.pf_base.specs.declared.step.Step.{Step}
 use Rattle.pf_base.specs.declared.step.Answer.{Answer}
 use Rattle.pf_frame.specs.Live.{Live}
 use Rattle.pf_space.specs.Meaning.{Namespace, meaning}
-use Rattle.pf_space.specs.MeaningLaws.{may_want-meaning}
 use Rattle.pf_space.specs.Owns.{Owns}
 use Rattle.pf_hub.specs.Covered.{IsCovered}
 use Rattle.pf_hub.specs.Shared.{space_at, no_space}
@@ -54,6 +53,6 @@ module _ (f g : ℕ → Live) (ss : List Namespace) {n : ℕ} {s : Namespace} {s
           subst (λ (x : Tenant). Answers x.limits a x.state step (state_at new n)) (sym was)
           (subst (λ (x : Tenant). Answers (space_at ss n).limits a (meaning (f n) (space_at ss n).state) step x.state) (sym is) moved.answers);
       others = λ k ne. tenants-at g (slice_set ss n s) after k ∙ (λ i. tenant_of (others k ne i) (other_after k ne i)) ∙ sym (tenants-at f ss before k);
-      succeeds = λ quiet. moved.succeeds (sym (may_want-meaning (f n) (space_at ss n).state step) ∙ ap (λ (x : Tenant). may_want_memory x.state step) (sym was) ∙ quiet);
+      succeeds = λ quiet. moved.succeeds (ap (λ (x : Tenant). may_want_memory x.limits x.state step) (sym was) ∙ quiet);
       covered = covered;
     }

@@ -17,7 +17,7 @@ pub record Moved (f g : Live) (old new : Namespace) (step : Step) (answer : Answ
   pub owns : Owns g new
   pub limits : new.limits ≡ old.limits
   pub answers : Answers old.limits answer (meaning f old.state) step (meaning g new.state)
-  pub succeeds : may_want_memory old.state step ≡ false → IsDone answer
+  pub succeeds : may_want_memory old.limits (meaning f old.state) step ≡ false → IsDone answer
 
 -- namespace n of a hub alone is another: no namespace and no frame comes or goes, and every other namespace is as it was
 pub record Stepped (old new : Tenants) (n : ℕ) (step : Step) (answer : Answer) : Type 0 where
@@ -26,5 +26,5 @@ pub record Stepped (old new : Tenants) (n : ℕ) (step : Step) (answer : Answer)
   pub limits : limits_at new n ≡ limits_at old n
   pub answers : Answers (limits_at old n) answer (state_at old n) step (state_at new n)
   pub others : (m : ℕ) → m ≢ n → tenant_at new m ≡ tenant_at old m
-  pub succeeds : may_want_memory (state_at old n) step ≡ false → IsDone answer
+  pub succeeds : may_want_memory (limits_at old n) (state_at old n) step ≡ false → IsDone answer
   pub covered : IsCovered new

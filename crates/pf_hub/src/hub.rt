@@ -129,9 +129,10 @@ fn step_over<A: Allocator + Clone, D: Lender>(
 
 impl<A: Allocator + Clone> Hub<A> {
     ghost use Rattle.std.specs.Prelude.{◌≡◌, ◌≢◌, ℕ, ◌<◌, length, IfOk, IfErr, IsOk, None, false};
-    ghost use Rattle.pf_base.specs.Machine.{Answers, may_want_memory};
+    ghost use Rattle.pf_base.specs.Machine.{Answers, may_want_memory, step_of};
     ghost use Rattle.pf_base.specs.Events.{IsDone};
     ghost use Rattle.pf_frame.specs.Faults.{IsFault};
+    ghost use Rattle.pf_space.specs.Bounds.{reply_length, most_of};
     ghost use Rattle.pf_hub.specs.Tenants.{tenant_at, limits_at, state_at, held_at, frames_in};
     ghost use Rattle.pf_hub.specs.Covered.{IsCovered};
     ghost use Rattle.pf_hub.specs.Opening.{new_hub, limits_of, first_fault};
@@ -215,7 +216,8 @@ impl<A: Allocator + Clone> Hub<A> {
         ensures others { (m : ℕ) → m ≢ ns → tenant_at self.new m ≡ tenant_at self.old m }
         // want of memory changes nothing, and comes of no step that needs none
         ensures unchanged { result ≡ Answer.NoMemory → self.new ≡ self.old }
-        ensures succeeds { may_want_memory (state_at self.old ns) step.now ≡ false → IsDone result }
+        ensures succeeds { may_want_memory (limits_at self.old ns) (state_at self.old ns) step.now ≡ false
+            → IsDone result }
         ensures covered { IsCovered self.new }
     {
         self.step_in(ns, step)
@@ -233,6 +235,16 @@ impl<A: Allocator + Clone> Hub<A> {
             &mut self.loans[ns as usize],
             step,
         )
+    }
+
+    /// A number of bytes that the vector of the reply to a namespace's step is no longer than, as `Space::reply_bound` says.
+    pub fn reply_bound(&self, ns: u32, step: &Step) -> usize
+        requires exists { ns < length self.now.tenants }
+        ensures covers { reply_length
+            (step_of (limits_at self.now ns) (state_at self.now ns) step.now).reply ≤ result }
+        ensures most { result ≤ most_of step.now }
+    {
+        self.spaces[ns as usize].reply_bound(step)
     }
 
     /// How many namespaces there are.

@@ -109,7 +109,8 @@ impl<A: Allocator + Clone> Plain<A> {
             (state_at self.old ns) step.now (state_at self.new ns) }
         ensures others { (m : ℕ) → m ≢ ns → tenant_at self.new m ≡ tenant_at self.old m }
         ensures unchanged { result ≡ Answer.NoMemory → self.new ≡ self.old }
-        ensures succeeds { may_want_memory (state_at self.old ns) step.now ≡ false → IsDone result }
+        ensures succeeds { may_want_memory (limits_at self.old ns) (state_at self.old ns) step.now ≡ false
+            → IsDone result }
         ensures covered { IsCovered self.new }
     {
         self.step_in(ns, step)
