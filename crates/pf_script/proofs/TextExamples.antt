@@ -7,7 +7,7 @@ use Rattle.std.specs.Prelude.{codes}
 use Rattle.pf_base.specs.declared.step.Answer.{Answer}
 use Rattle.pf_base.specs.declared.step.Answer.TheVariants.{Done}
 use Rattle.pf_base.specs.declared.step.Reply.TheVariants as kinds
-use Rattle.pf_script.specs.Text.{print, lines_text, answers_of, sections, octal_text, number_of_names, names_text}
+use Rattle.pf_script.specs.Text.{print, line_text, lines_text, answers_of, sections, octal_text, number_of_names, names_text}
 use Rattle.pf_script.proofs.ScriptExamples.{hello_draft}
 use Rattle.hex.specs.Hex.{encode_with}
 
@@ -17,6 +17,10 @@ hello_answers = Done (kinds.Pid 1) ∷ Done (kinds.Fds 0 1) ∷ Done (kinds.Num 
 pub hello_text : print hello_draft hello_answers ≡ codes "== red\n1: pid 1\n2: fds 0 1\n3: num 5\n4: bytes 3 68656c\n5: bytes 2 6c6f\n6: num 0\n7: bytes 0 -\n8: num 0\n"
 unfolding lines_text answers_of sections encode_with
 hello_text = rw (decimal_digit 0 (omega arith), decimal_digit 1 (omega arith), decimal_digit 2 (omega arith), decimal_digit 3 (omega arith), decimal_digit 4 (omega arith), decimal_digit 5 (omega arith), decimal_digit 6 (omega arith), decimal_digit 7 (omega arith), decimal_digit 8 (omega arith)) refl
+
+-- a call that waits
+pub waits : line_text 3 (Done kinds.Parked) ≡ codes "3: parked\n"
+waits = rw (decimal_digit 3 (omega arith)) refl
 
 -- a mode, and names
 octal : octal_text 420 ≡ codes "0644"

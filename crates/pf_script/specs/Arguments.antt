@@ -9,6 +9,7 @@ use Rattle.pf_script.specs.declared.arguments.Crossing.{Crossing}
 use Rattle.pf_script.specs.declared.arguments.Named.{Named}
 use Rattle.pf_script.specs.declared.arguments.Moded.{Moded}
 use Rattle.pf_script.specs.Words.{number, octal, numbers_of, bytes_of}
+use Rattle.pf_base.specs.declared.open_flags.OpenFlags.{OpenFlags}
 
 -- the second step, if the first gave a value
 infixl 10 ◌>>=◌
@@ -53,6 +54,21 @@ abbrev pub switch_at : List ℕ → Result Bool Cause
 switch_at word =
     if bytes_eq word (codes "on") then Ok true
     else if bytes_eq word (codes "off") then Ok false
+    else Err causes.BadFlags
+
+-- the flags of these bits: 1 for reading, 2 for writing, 4 for O_NONBLOCK
+abbrev pub flags_with : ℕ → OpenFlags
+flags_with bits = record { 0 = bits }
+
+-- how a FIFO is opened: `r` for reading, `w` for writing, `rw` for both, and `n` behind these for O_NONBLOCK
+abbrev pub flags_at : List ℕ → Result OpenFlags Cause
+flags_at word =
+    if bytes_eq word (codes "r") then Ok (flags_with 1)
+    else if bytes_eq word (codes "w") then Ok (flags_with 2)
+    else if bytes_eq word (codes "rw") then Ok (flags_with 3)
+    else if bytes_eq word (codes "rn") then Ok (flags_with 5)
+    else if bytes_eq word (codes "wn") then Ok (flags_with 6)
+    else if bytes_eq word (codes "rwn") then Ok (flags_with 7)
     else Err causes.BadFlags
 
 abbrev pub bytes_at : List ℕ → Result (List ℕ) Cause

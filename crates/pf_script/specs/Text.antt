@@ -49,6 +49,7 @@ reply_text (kinds.Fds a b) = codes "fds " ++ decimal a ++ codes " " ++ decimal b
 reply_text (kinds.Bytes bytes) = codes "bytes " ++ decimal (length bytes) ++ codes " " ++ hex_text bytes
 reply_text (kinds.Names bytes) = codes "names " ++ decimal (number_of_names bytes) ++ names_text [] bytes
 reply_text (kinds.Meta m) = meta_text m
+reply_text kinds.Parked = codes "parked"
 reply_text (kinds.Err e) = codes "err " ++ name_of e
 
 abbrev pub answer_text : Answer → List ℕ

@@ -4,8 +4,8 @@ use Rattle.std.specs.Prelude.{ℕ, List, [], ◌∷◌, codes, bytes_eq, Option,
 use Rattle.pf_script.specs.declared.refusal.Cause.{Cause}
 use Rattle.pf_script.specs.declared.refusal.Cause.TheVariants as causes
 use Rattle.pf_base.specs.declared.step.Step.{Step}
-use Rattle.pf_base.specs.declared.step.Step.TheVariants.{Spawn, Fork, Exit, Pipe, Dup, Close, Read, Write, Tee, Splice, SetSize, GetSize, SetNonblock, Mkdir, Mkfifo, Unlink, Rmdir, Chmod, Stat, List as ListNames}
-use Rattle.pf_script.specs.Arguments.{◌>>=◌, u32_at, octal_at, groups_at, flag_at, switch_at, bytes_at, pid_of, descriptor_of, sized_of, crossing_of, named_of, moded_of}
+use Rattle.pf_base.specs.declared.step.Step.TheVariants.{Spawn, Fork, Exit, Pipe, Dup, Close, Read, Write, Tee, Splice, SetSize, GetSize, SetNonblock, Mkdir, Mkfifo, Open, Unlink, Rmdir, Chmod, Stat, List as ListNames, Resume}
+use Rattle.pf_script.specs.Arguments.{◌>>=◌, u32_at, octal_at, groups_at, flag_at, switch_at, flags_at, bytes_at, pid_of, descriptor_of, sized_of, crossing_of, named_of, moded_of}
 
 -- Processes
 
@@ -34,6 +34,12 @@ unfoldable pub exit_step : List (List ℕ) → Result Step Cause
 exit_step words = do
   p ← pid_of words
   Ok (Exit p)
+
+-- resume PID
+unfoldable pub resume_step : List (List ℕ) → Result Step Cause
+resume_step words = do
+  p ← pid_of words
+  Ok (Resume p)
 
 -- Descriptors
 
@@ -133,6 +139,17 @@ mkfifo_step words = do
   a ← moded_of words
   Ok (Mkfifo a.pid a.path a.mode)
 
+unfoldable pub open_with : List ℕ → List ℕ → List ℕ → Result Step Cause
+open_with pid path flags = do
+  p ← u32_at pid
+  f ← flags_at flags
+  Ok (Open p path f)
+
+-- open PID PATH FLAGS
+unfoldable pub open_step : List (List ℕ) → Result Step Cause
+open_step (pid ∷ path ∷ flags ∷ []) = open_with pid path flags
+open_step _ = Err causes.WrongWords
+
 -- unlink PID PATH
 unfoldable pub unlink_step : List (List ℕ) → Result Step Cause
 unlink_step words = do
@@ -169,6 +186,7 @@ unfoldable pub file_call : List ℕ → List (List ℕ) → Result Step Cause
 file_call verb words =
     if bytes_eq verb (codes "mkdir") then mkdir_step words
     else if bytes_eq verb (codes "mkfifo") then mkfifo_step words
+    else if bytes_eq verb (codes "open") then open_step words
     else if bytes_eq verb (codes "unlink") then unlink_step words
     else if bytes_eq verb (codes "rmdir") then rmdir_step words
     else if bytes_eq verb (codes "chmod") then chmod_step words
@@ -181,6 +199,7 @@ process_call verb words =
     if bytes_eq verb (codes "spawn") then spawn_step words
     else if bytes_eq verb (codes "fork") then fork_step words
     else if bytes_eq verb (codes "exit") then exit_step words
+    else if bytes_eq verb (codes "resume") then resume_step words
     else if bytes_eq verb (codes "dup") then dup_step words
     else if bytes_eq verb (codes "nonblock") then nonblock_step words
     else file_call verb words

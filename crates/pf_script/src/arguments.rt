@@ -1,12 +1,13 @@
 ghost use Rattle.std.specs.Prelude.{◌≡◌, map, option_copied};
 ghost use Rattle.pf_script.specs.Arguments as shapes;
-ghost use Rattle.pf_script.specs.Arguments.{number_at, u32_at, u64_at, octal_at, groups_at, flag_at, switch_at};
+ghost use Rattle.pf_script.specs.Arguments.{number_at, u32_at, u64_at, octal_at, groups_at, flag_at, switch_at, flags_at};
 ghost use Rattle.pf_script.specs.Faults.{Gives};
 
 use crate::fault::LineFault;
 use crate::refusal::Cause;
 use crate::words::{groups_of, number_of, octal_of};
-use pf_base::{ByteString, Groups};
+use bitflags::Flags;
+use pf_base::{ByteString, Groups, OpenFlags};
 use std::alloc::Global;
 
 /// A number of 32 bits, at most `most`.
@@ -85,8 +86,33 @@ pub fn switch(word: &[u8]) -> Result<bool, LineFault>
     }
 }
 
+/// How a FIFO is opened: `r`, `w` or `rw`, and `n` behind these for O_NONBLOCK.
+pub fn open_flags(word: &[u8]) -> Result<OpenFlags, LineFault>
+    ensures { Gives result (flags_at word.now) }
+{
+    if word == b"r".as_slice() {
+        Ok(OpenFlags::READ)
+    } else if word == b"w".as_slice() {
+        Ok(OpenFlags::WRITE)
+    } else if word == b"rw".as_slice() {
+        Ok(OpenFlags::READ.union(OpenFlags::WRITE))
+    } else if word == b"rn".as_slice() {
+        Ok(OpenFlags::READ.union(OpenFlags::NONBLOCK))
+    } else if word == b"wn".as_slice() {
+        Ok(OpenFlags::WRITE.union(OpenFlags::NONBLOCK))
+    } else if word == b"rwn".as_slice() {
+        Ok(
+            OpenFlags::READ
+                .union(OpenFlags::WRITE)
+                .union(OpenFlags::NONBLOCK),
+        )
+    } else {
+        Err(LineFault::Refused(Cause::BadFlags))
+    }
+}
+
 /// The word as a path.
-fn path_of(alloc: Global, word: &[u8]) -> Result<ByteString, LineFault>
+pub fn path_of(alloc: Global, word: &[u8]) -> Result<ByteString, LineFault>
     ensures { Gives result (Ok word.now) }
 {
     Ok(ByteString::new(Vec::from_slice(alloc, word)?))

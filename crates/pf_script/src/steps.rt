@@ -46,7 +46,8 @@ fn note(places: &mut Vec<Vec<u32>>, number: usize, place: u32) -> Result<(), All
     requires { number < length places.old.items }
     ensures many { length places.new.items ≡ length places.old.items }
     ensures noted { OnOk result ((n : ℕ) (d : Vec ℕ Global) → n < length places.old.items →
-        (slice_index_or places.new.items n d).items ≡ (if nat_eq number n then (slice_index_or places.old.items n d).items ++ place ∷ []
+        (slice_index_or places.new.items n d).items ≡ (if nat_eq number n
+        then (slice_index_or places.old.items n d).items ++ place ∷ []
         else (slice_index_or places.old.items n d).items)) }
     ensures unchanged { OnErr result ((n : ℕ) (d : Vec ℕ Global) → n < length places.old.items →
         (slice_index_or places.new.items n d).items ≡ (slice_index_or places.old.items n d).items) }

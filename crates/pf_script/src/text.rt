@@ -145,6 +145,7 @@ fn put_reply<W: Sink>(out: &mut Printer, writer: &mut W, reply: &Reply)
             put_names(out, writer, bytes.as_slice());
         }
         Reply::Meta(meta) => put_meta(out, writer, meta),
+        Reply::Parked => out.put(writer, b"parked"),
         Reply::Err(errno) => {
             out.put(writer, b"err ");
             out.put(writer, errno.name().as_bytes());

@@ -4,7 +4,7 @@ ghost use Rattle.pf_script.specs.Faults.{Gives};
 
 use crate::arguments::{
     Moded, Named, bits, crossing_of, descriptor_of, flag, groups, moded_of, named_of, number_32,
-    pid_of, sized_of, switch,
+    open_flags, path_of, pid_of, sized_of, switch,
 };
 use crate::fault::LineFault;
 use crate::refusal::Cause;
@@ -64,6 +64,15 @@ fn exit_step(words: &[&[u8]]) -> Result<Step, LineFault>
 {
     let pid = pid_of(words)?;
     Ok(Step::Exit { pid })
+}
+
+/// resume PID.
+#[tactic(auto, unfolding(crate::specs::Verbs::resume_step))]
+fn resume_step(words: &[&[u8]]) -> Result<Step, LineFault>
+    ensures { Gives result (Verbs.resume_step (map (λ w. w.now) words.now)) }
+{
+    let pid = pid_of(words)?;
+    Ok(Step::Resume { pid })
 }
 
 // Descriptors
@@ -247,6 +256,27 @@ fn mkfifo_step(alloc: Global, words: &[&[u8]]) -> Result<Step, LineFault>
     Ok(Step::Mkfifo { pid, path, mode })
 }
 
+#[tactic(auto, unfolding(crate::specs::Verbs::open_with))]
+fn open_with(alloc: Global, pid: &[u8], path: &[u8], word: &[u8]) -> Result<Step, LineFault>
+    ensures { Gives result (Verbs.open_with pid.now path.now word.now) }
+{
+    let pid = number_32(pid)?;
+    let flags = open_flags(word)?;
+    let path = path_of(alloc, path)?;
+    Ok(Step::Open { pid, path, flags })
+}
+
+/// open PID PATH FLAGS.
+#[tactic(auto, unfolding(crate::specs::Verbs::open_step))]
+fn open_step(alloc: Global, words: &[&[u8]]) -> Result<Step, LineFault>
+    ensures { Gives result (Verbs.open_step (map (λ w. w.now) words.now)) }
+{
+    match words {
+        [pid, path, word] => open_with(alloc, pid, path, word),
+        _ => Err(LineFault::Refused(Cause::WrongWords)),
+    }
+}
+
 /// unlink PID PATH.
 #[tactic(auto, unfolding(crate::specs::Verbs::unlink_step))]
 fn unlink_step(alloc: Global, words: &[&[u8]]) -> Result<Step, LineFault>
@@ -301,6 +331,8 @@ fn file_call(alloc: Global, verb: &[u8], words: &[&[u8]]) -> Result<Step, LineFa
         mkdir_step(alloc, words)
     } else if verb == b"mkfifo".as_slice() {
         mkfifo_step(alloc, words)
+    } else if verb == b"open".as_slice() {
+        open_step(alloc, words)
     } else if verb == b"unlink".as_slice() {
         unlink_step(alloc, words)
     } else if verb == b"rmdir".as_slice() {
@@ -327,6 +359,8 @@ fn process_call(alloc: Global, verb: &[u8], words: &[&[u8]]) -> Result<Step, Lin
         fork_step(words)
     } else if verb == b"exit".as_slice() {
         exit_step(words)
+    } else if verb == b"resume".as_slice() {
+        resume_step(words)
     } else if verb == b"dup".as_slice() {
         dup_step(words)
     } else if verb == b"nonblock".as_slice() {
