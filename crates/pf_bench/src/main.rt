@@ -1,5 +1,5 @@
-//! Pairs of a write and a read through a hub, whose frames are on loan from a depot, and tees and splices between two
-//! of its pipes; and the same through the plain form, whose frames are one array. With no word, it plays a short fixed
+//! Pairs of a write and a read through a hub, whose frames are on loan from a depot, tees and splices between two of its
+//! pipes, and reads that wait; and the same through the plain form, whose frames are one array. With no word, it plays a short fixed
 //! load through both and looks at each byte; with a number, it plays so many of each size, and prints how long one takes.
 #![tactic(auto)]
 
@@ -15,7 +15,7 @@ use std::{env, io};
 /// How many bytes the pairs write and read.
 const SIZES: [usize; 5] = [1, 64, 512, PAGE_SIZE, 65_536];
 
-/// How many bytes the tees and splices that are timed bring.
+/// How many bytes the tees, the splices and the waiting reads that are timed bring.
 const TIMED_CROSSINGS: [usize; 2] = [1, 65_536];
 
 /// How many pairs, tees or splices are timed together. The least of all these times counts: what else the machine
@@ -25,7 +25,7 @@ const BATCH: u32 = 100;
 /// How many pairs of each size the fixed load has.
 const FIXED_PAIRS: u32 = 1000;
 
-/// How many tees of each size the fixed load has, and how many splices.
+/// How many tees of each size the fixed load has, how many splices, and how many reads that wait.
 const FIXED_CROSSINGS: u32 = 100;
 
 /// So many bytes, no page of them like the next.
@@ -113,6 +113,29 @@ impl Passage {
     }
 }
 
+/// A read of the second process, which waits while the first pipe is empty, the write that brings its bytes, and its
+/// resume.
+#[derive(Drop)]
+struct Wait {
+    pair: Pair,
+    read: Step,
+    resume: Step,
+}
+
+impl Wait {
+    fn new(alloc: Global, size: usize) -> Result<Wait, AllocError> {
+        Ok(Wait {
+            pair: Pair::new(alloc, size)?,
+            read: Step::Read {
+                pid: 2,
+                fd: 0,
+                n: size as u64,
+            },
+            resume: Step::Resume { pid: 2 },
+        })
+    }
+}
+
 /// Namespaces by number, whatever lends them their frames. What is timed and looked at is namespace 0.
 trait Host {
     /// Its answer to one step of namespace 0, where there is one.
@@ -185,7 +208,7 @@ impl Shape {
         Ok(configs)
     }
 
-    /// A hub of this shape, with a process and two pipes in namespace 0.
+    /// A hub of this shape, with two processes that share two pipes in namespace 0.
     fn hub(self, alloc: Global) -> Result<Option<Hub<Global>>, AllocError> {
         let Ok(mut hub) = Hub::new(alloc, self.frames(alloc)?, self.configs(alloc)?) else {
             return Ok(None);
@@ -208,7 +231,7 @@ impl Shape {
     }
 }
 
-/// Whether a process and two pipes of it are made.
+/// Whether a process with two pipes, and another that has them too, are made.
 fn starts<H: Host>(alloc: Global, host: &mut H) -> bool {
     let spawn = Step::Spawn {
         uid: 5,
@@ -218,11 +241,12 @@ fn starts<H: Host>(alloc: Global, host: &mut H) -> bool {
     };
     let pipe = Step::Pipe {
         pid: 1,
-        nonblock: true,
+        nonblock: false,
     };
     host.step(&spawn) == Answer::Done(Reply::Pid(1))
         && host.step(&pipe) == Answer::Done(Reply::Fds(0, 1))
         && host.step(&pipe) == Answer::Done(Reply::Fds(2, 3))
+        && host.step(&Step::Fork { pid: 1 }) == Answer::Done(Reply::Pid(2))
 }
 
 /// Whether a step is answered by this number of bytes.
@@ -270,6 +294,42 @@ fn brings_all<H: Host>(host: &mut H, passage: &Passage) -> bool {
     host.held() == 0
 }
 
+/// Whether a step is answered that its process waits.
+fn parks<H: Host>(host: &mut H, asked: &Step) -> bool {
+    host.step(asked) == Answer::Done(Reply::Parked)
+}
+
+/// What a read hands out that waited first, if the write counts as many bytes.
+fn take_after_wait<H: Host>(host: &mut H, waiting: &Wait) -> Option<ByteString> {
+    let size = waiting.pair.payload.len();
+    if !parks(host, &waiting.read) || !counts(host, &waiting.pair.write, size) {
+        return None;
+    }
+    take(host, &waiting.resume, size)
+}
+
+/// Plays the fixed load's tees and splices of a size, and its reads that wait.
+fn play_calls<H: Host>(alloc: Global, host: &mut H, size: usize) -> Result<bool, AllocError> {
+    for crossing in [Crossing::Tee, Crossing::Splice] {
+        let passage = Passage::new(alloc, crossing, size)?;
+        for _ in 0..FIXED_CROSSINGS {
+            if !brings_all(host, &passage) {
+                return Ok(false);
+            }
+        }
+    }
+    let waiting = Wait::new(alloc, size)?;
+    for _ in 0..FIXED_CROSSINGS {
+        let Some(bytes) = take_after_wait(host, &waiting) else {
+            return Ok(false);
+        };
+        if bytes.as_slice() != waiting.pair.payload.as_slice() {
+            return Ok(false);
+        }
+    }
+    Ok(true)
+}
+
 /// Plays the fixed load, and says whether each answer was right.
 fn play_fixed<H: Host>(alloc: Global, host: &mut H) -> Result<bool, AllocError> {
     for size in SIZES {
@@ -282,13 +342,8 @@ fn play_fixed<H: Host>(alloc: Global, host: &mut H) -> Result<bool, AllocError> 
                 return Ok(false);
             }
         }
-        for crossing in [Crossing::Tee, Crossing::Splice] {
-            let passage = Passage::new(alloc, crossing, size)?;
-            for _ in 0..FIXED_CROSSINGS {
-                if !brings_all(host, &passage) {
-                    return Ok(false);
-                }
-            }
+        if !play_calls(alloc, host, size)? {
+            return Ok(false);
         }
     }
     Ok(true)
@@ -337,6 +392,36 @@ struct Spent {
     clock: u128,
 }
 
+impl Spent {
+    const NOTHING: Spent = Spent { calls: 0, clock: 0 };
+
+    const ALL: Spent = Spent {
+        calls: u128::MAX,
+        clock: u128::MAX,
+    };
+
+    /// Adds a call that began then and is over now, and a reading of the clock.
+    fn add(&mut self, rt: &HostRuntime, start: Instant) -> io::Result<()> {
+        self.calls = self.calls.saturating_add(start.elapsed(rt)?.as_nanos());
+        let start = Instant::now(rt)?;
+        self.clock = self.clock.saturating_add(start.elapsed(rt)?.as_nanos());
+        Ok(())
+    }
+
+    /// The least of both.
+    fn least(self, other: Spent) -> Spent {
+        Spent {
+            calls: self.calls.min(other.calls),
+            clock: self.clock.min(other.clock),
+        }
+    }
+
+    /// How long a call of a batch took, the clock's own time taken off.
+    fn each(self) -> u128 {
+        self.calls.saturating_sub(self.clock) / u128::from(BATCH)
+    }
+}
+
 /// Times so many tees or splices alone, if each answer was right.
 fn time_batch<H: Host>(
     rt: &HostRuntime,
@@ -344,16 +429,14 @@ fn time_batch<H: Host>(
     passage: &Passage,
 ) -> io::Result<Option<Spent>> {
     let size = passage.payload.len();
-    let mut spent = Spent { calls: 0, clock: 0 };
+    let mut spent = Spent::NOTHING;
     for _ in 0..BATCH {
         if !counts(host, &passage.write, size) {
             return Ok(None);
         }
         let start = Instant::now(rt)?;
         let crossed = counts(host, &passage.cross, size);
-        spent.calls = spent.calls.saturating_add(start.elapsed(rt)?.as_nanos());
-        let start = Instant::now(rt)?;
-        spent.clock = spent.clock.saturating_add(start.elapsed(rt)?.as_nanos());
+        spent.add(rt, start)?;
         if !crossed {
             return Ok(None);
         }
@@ -375,18 +458,60 @@ fn time_crossing<H: Host>(
     rounds: u32,
 ) -> io::Result<Option<u128>> {
     let passage = Passage::new(rt.alloc(), crossing, size)?;
-    let mut least = Spent {
-        calls: u128::MAX,
-        clock: u128::MAX,
-    };
+    let mut least = Spent::ALL;
     for _ in 0..(rounds / BATCH).max(1) {
         let Some(spent) = time_batch(rt, host, &passage)? else {
             return Ok(None);
         };
-        least.calls = least.calls.min(spent.calls);
-        least.clock = least.clock.min(spent.clock);
+        least = least.least(spent);
     }
-    Ok(Some(least.calls.saturating_sub(least.clock) / u128::from(BATCH)))
+    Ok(Some(least.each()))
+}
+
+/// Times so many reads that wait, and their resumes, without the writes between, if each answer was right.
+fn time_waits<H: Host>(
+    rt: &HostRuntime,
+    host: &mut H,
+    waiting: &Wait,
+) -> io::Result<Option<(Spent, Spent)>> {
+    let size = waiting.pair.payload.len();
+    let mut reads = Spent::NOTHING;
+    let mut resumes = Spent::NOTHING;
+    for _ in 0..BATCH {
+        let start = Instant::now(rt)?;
+        let parked = parks(host, &waiting.read);
+        reads.add(rt, start)?;
+        if !parked || !counts(host, &waiting.pair.write, size) {
+            return Ok(None);
+        }
+        let start = Instant::now(rt)?;
+        let taken = take(host, &waiting.resume, size);
+        resumes.add(rt, start)?;
+        if taken.is_none() {
+            return Ok(None);
+        }
+    }
+    Ok(Some((reads, resumes)))
+}
+
+/// How many nanoseconds a read that waits takes alone, and its resume, if each answer was right.
+fn time_wait<H: Host>(
+    rt: &HostRuntime,
+    host: &mut H,
+    size: usize,
+    rounds: u32,
+) -> io::Result<Option<(u128, u128)>> {
+    let waiting = Wait::new(rt.alloc(), size)?;
+    let mut read = Spent::ALL;
+    let mut resume = Spent::ALL;
+    for _ in 0..(rounds / BATCH).max(1) {
+        let Some((reads, resumes)) = time_waits(rt, host, &waiting)? else {
+            return Ok(None);
+        };
+        read = read.least(reads);
+        resume = resume.least(resumes);
+    }
+    Ok(Some((read.each(), resume.each())))
 }
 
 /// Times so many pairs of each size through both forms, in turn.
@@ -408,7 +533,7 @@ fn time_pairs(
     Ok(true)
 }
 
-/// Times so many tees and splices through one of them.
+/// Times so many tees, splices and waiting reads through one of them.
 fn time_crossings<H: Host>(
     rt: &HostRuntime,
     host: &mut H,
@@ -422,12 +547,16 @@ fn time_crossings<H: Host>(
         let Some(splice) = time_crossing(rt, host, Crossing::Splice, size, rounds)? else {
             return Ok(false);
         };
+        let Some((read, resume)) = time_wait(rt, host, size, rounds)? else {
+            return Ok(false);
+        };
         println!(rt; "{name} {size} bytes: {tee} ns a tee, {splice} ns a splice")?;
+        println!(rt; "{name} {size} bytes: {read} ns a read that waits, {resume} ns its resume")?;
     }
     Ok(true)
 }
 
-/// Times so many pairs, tees and splices through both forms, and says whether each answer was right.
+/// Times so many pairs, tees, splices and waiting reads through both forms, and says whether each answer was right.
 fn time(rt: &HostRuntime, shape: Shape, pairs: u32) -> io::Result<bool> {
     let Some(mut hub) = shape.hub(rt.alloc())? else {
         return Ok(false);
@@ -452,7 +581,9 @@ fn run(rt: &HostRuntime) -> io::Result<bool> {
         if !play_both(rt.alloc())? {
             return Ok(false);
         }
-        println!(rt; "played 5000 pairs, 500 tees and 500 splices through each form")?;
+        println!(rt;
+            "played 5000 pairs, 500 tees, 500 splices and 500 waiting reads through each form"
+        )?;
         return Ok(true);
     };
     let Ok(pairs) = word.parse::<u32>() else {

@@ -22,3 +22,5 @@ mod tests_sharing;
 mod tests_sizes;
 #[cfg(test)]
 mod tests_steps;
+#[cfg(test)]
+mod tests_waiting;

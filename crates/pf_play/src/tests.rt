@@ -174,7 +174,7 @@ const REFUSED_OPENINGS: [(&str, &str); 26] = [
 ];
 
 /// Lines that are refused behind a pool line and the space line of `a`, each with what is told.
-const REFUSED_STEPS: [(&str, &str); 32] = [
+const REFUSED_STEPS: [(&str, &str); 43] = [
     ("b fork 1", "unknown namespace"),
     ("admit b 1", "unknown namespace"),
     ("a", "wrong words"),
@@ -200,6 +200,17 @@ const REFUSED_STEPS: [(&str, &str); 32] = [
     ("a mkdir 1 /d 000755", "bad number"),
     ("a mkfifo 1 /d 10000", "bad number"),
     ("a list 1", "wrong words"),
+    ("a open 1 /f", "wrong words"),
+    ("a open 1 /f r n", "wrong words"),
+    ("a open 1 /f nr", "bad flags"),
+    ("a open 1 /f n", "bad flags"),
+    ("a open 1 /f wr", "bad flags"),
+    ("a open 1 /f rwnn", "bad flags"),
+    ("a open 1 /f R", "bad flags"),
+    ("a open x /f nr", "bad number"),
+    ("a resume", "wrong words"),
+    ("a resume 1 1", "wrong words"),
+    ("a resume 01", "bad number"),
     ("a write 1 1 abc", "bad data"),
     ("a write 1 1 0*61", "bad data"),
     ("a write 1 1 2097153*61", "bad data"),

@@ -5,7 +5,7 @@ use std::test::Fail;
 
 /// The pipe stays open for writing under the other name, and the number that is free goes to the next one.
 const A_NAME_OUTLIVES_ANOTHER: [Row; 8] = [
-    ("pipe 1", "fds 0 1", 0),
+    ("pipe 1 n", "fds 0 1", 0),
     ("dup 1 1", "num 2", 0),
     ("close 1 1", "num 0", 0),
     ("write 1 2 61", "num 1", 1),

@@ -153,10 +153,10 @@ const NO_FREE_SLOT: [Row; 20] = [
     ("exit 1", "num 0", 0),
 ];
 
-/// No call waits yet, so the flag of a call and those of the pipes change nothing.
+/// Where there is something to do at once, nobody waits, whatever flags there are.
 const NOBODY_WAITS: [Row; 9] = [
     ("pipe 1", "fds 0 1", 0),
-    ("pipe 1", "fds 2 3", 0),
+    ("pipe 1 n", "fds 2 3", 0),
     ("both 1 0 3 5", "err EAGAIN", 0),
     ("write 1 1 68656c6c6f", "num 5", 1),
     ("tee 1 0 3 3 n", "num 3", 1),

@@ -11,7 +11,10 @@ pub(crate) enum Call {
     Spawn(u32, u32, &'static [u32]),
     Exit(u32),
     Fork(u32),
+    // With O_NONBLOCK, so that no call on it waits.
     Pipe(u32),
+    WaitingPipe(u32),
+    Resume(u32),
     Dup(u32, u32),
     Close(u32, u32),
     GetSize(u32, u32),
@@ -40,6 +43,8 @@ pub(crate) enum Told {
     Names(&'static [u8]),
     // A file of the uid 5 and the gid 6.
     Known(Kind, u32),
+    // That the call waits.
+    Parked,
     Err(Errno),
 }
 
@@ -64,11 +69,8 @@ fn write(pid: u32, fd: u32, payload: ByteString) -> Step {
     Step::Write { pid, fd, payload }
 }
 
-fn pipe(pid: u32) -> Step {
-    Step::Pipe {
-        pid,
-        nonblock: true,
-    }
+fn pipe(pid: u32, nonblock: bool) -> Step {
+    Step::Pipe { pid, nonblock }
 }
 
 fn tee(pid: u32, source: u32, sink: u32, n: u64) -> Step {
@@ -94,7 +96,9 @@ pub(crate) fn step_of(alloc: Global, call: Call) -> Result<Step, AllocError> {
         Call::Spawn(uid, gid, groups) => spawn(alloc, uid, gid, groups)?,
         Call::Exit(pid) => Step::Exit { pid },
         Call::Fork(pid) => Step::Fork { pid },
-        Call::Pipe(pid) => pipe(pid),
+        Call::Pipe(pid) => pipe(pid, true),
+        Call::WaitingPipe(pid) => pipe(pid, false),
+        Call::Resume(pid) => Step::Resume { pid },
         Call::Dup(pid, fd) => Step::Dup { pid, fd },
         Call::Close(pid, fd) => Step::Close { pid, fd },
         Call::GetSize(pid, fd) => Step::GetSize { pid, fd },
@@ -131,6 +135,7 @@ pub(crate) fn answer_of(alloc: Global, told: Told) -> Result<Answer, Fail> {
             uid: 5,
             gid: 6,
         }),
+        Told::Parked => Reply::Parked,
         Told::Err(errno) => Reply::Err(errno),
     };
     Ok(Answer::Done(reply))

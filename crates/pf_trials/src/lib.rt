@@ -10,3 +10,5 @@ mod files;
 mod hubs;
 #[cfg(test)]
 mod spaces;
+#[cfg(test)]
+mod waiting;

@@ -14,10 +14,10 @@ use std::process::Abort;
 use std::test::Fail;
 
 // A step, its answer, and how many frames are held after it.
-type Row = (Call, Told, u32);
+pub(crate) type Row = (Call, Told, u32);
 
 // What stands before most tables.
-const SPAWN: Row = (Call::Spawn(5, 5, &[]), Told::Pid(1), 0);
+pub(crate) const SPAWN: Row = (Call::Spawn(5, 5, &[]), Told::Pid(1), 0);
 
 const PIPE: Row = (Call::Pipe(1), Told::Fds(0, 1), 0);
 
@@ -193,7 +193,13 @@ fn answered(
 }
 
 // Plays rows in a namespace that is alone, over so many frames: each has its answer, and leaves so many held.
-fn play(rt: &impl Abort, alloc: Global, reserve: u32, fill: u8, rows: &[Row]) -> Result<(), Fail> {
+pub(crate) fn play(
+    rt: &impl Abort,
+    alloc: Global,
+    reserve: u32,
+    fill: u8,
+    rows: &[Row],
+) -> Result<(), Fail> {
     let config = Config::new(
         reserve,
         Config::DEFAULT_SOFT,

@@ -6,9 +6,11 @@ use std::alloc::Global;
 use std::{fs, io};
 
 /// The names of the examples.
-const EXAMPLES: [&str; 4] = [
+const EXAMPLES: [&str; 6] = [
     "pipeline_with_tee",
+    "fifo_between_users",
     "permissions",
+    "full_pipe",
     "page_limits",
     "two_tenants",
 ];
