@@ -13,14 +13,4 @@ pub use run::{ReplayFault, Replayed, replay};
 #[cfg(test)]
 mod tests;
 #[cfg(test)]
-mod tests_files;
-#[cfg(test)]
 mod tests_rows;
-#[cfg(test)]
-mod tests_sharing;
-#[cfg(test)]
-mod tests_sizes;
-#[cfg(test)]
-mod tests_steps;
-#[cfg(test)]
-mod tests_waiting;

@@ -8,14 +8,16 @@ use std::alloc::Global;
 use std::io::{self, ErrorKind, Read};
 use std::test::Fail;
 
-const OPTIONS: Options<'static> = Options {
+pub(crate) const OPTIONS: Options<'static> = Options {
     only: None,
     fill: 165,
 };
 
-/// Gives line feeds, a byte at a time, and fails at one read. Whoever asks it once more finds the end.
+/// Gives these bytes and then line feeds, a byte at a time, and fails at one read. Whoever asks it once more finds the
+/// end.
 #[derive(Debug, Drop)]
 struct Breaking {
+    front: &'static [u8],
     fails_at: u32,
     asked: u32,
     failures: u64,
@@ -35,15 +37,19 @@ impl Source for Breaking {
         if self.asked > self.fails_at || buffer.is_empty() {
             return Ok(0);
         }
-        buffer[0] = b'\n';
+        let (byte, rest) = self.front.split_first().unwrap_or((&b'\n', b""));
+        buffer[0] = *byte;
+        self.front = rest;
         Ok(1)
     }
 }
 
-/// Gives lines of comment as long as what it is asked for, but for its first byte, as far as it has bytes left.
+/// Gives lines of comment as long as what it is asked for, but for its first byte and the last ones of the lines, as far
+/// as it has bytes left.
 #[derive(Debug, Drop)]
 struct Comments {
     first: u8,
+    last: u8,
     left: usize,
 }
 
@@ -58,7 +64,7 @@ impl Source for Comments {
         front.fill(b'#');
         if let [first, .., last] = front {
             *first = self.first;
-            *last = b'\n';
+            *last = self.last;
         }
         self.first = b'#';
         self.left -= n;
@@ -67,21 +73,25 @@ impl Source for Comments {
 }
 
 /// Takes some bytes, one at a time, and then refuses once: it fails, or takes none. Whoever asks it once more finds
-/// that it takes all.
+/// that it takes all. It counts the strays: those that it takes and this text doesn't have at their place.
 #[derive(Debug, Drop)]
 pub(crate) struct Full {
+    text: &'static [u8],
     room: u32,
     fails: bool,
     pub(crate) asked: u32,
+    pub(crate) strays: u32,
     refusals: u64,
 }
 
 impl Full {
-    pub(crate) fn new(room: u32, fails: bool) -> Self {
+    pub(crate) fn new(text: &'static [u8], room: u32, fails: bool) -> Self {
         Full {
+            text,
             room,
             fails,
             asked: 0,
+            strays: 0,
             refusals: 0,
         }
     }
@@ -93,11 +103,15 @@ impl Sink for Full {
     ghost output = { λ w. record { contents = None; refusals = w.refusals } };
 
     fn write(&mut self, bytes: &[u8]) -> Result<usize, Failed> {
+        let expected = self.text.get(self.asked as usize);
         self.asked = self.asked.saturating_add(1);
         if bytes.is_empty() {
             return Ok(0);
         }
         if self.asked <= self.room {
+            self.strays = self
+                .strays
+                .saturating_add(u32::from(bytes.first() != expected));
             return Ok(1);
         }
         if self.asked - self.room > 1 {
@@ -135,7 +149,7 @@ impl<'a> Read for Stopping<'a> {
 }
 
 /// Scripts that are refused for their lines before the steps, each with what is told.
-const REFUSED_OPENINGS: [(&str, &str); 26] = [
+const REFUSED_OPENINGS: [(&str, &str); 29] = [
     ("foo\n", "line 1: no pool"),
     ("pool 4", "line 1: cut short"),
     ("pool 4\n#", "line 2: cut short"),
@@ -171,6 +185,15 @@ const REFUSED_OPENINGS: [(&str, &str); 26] = [
         "line 2: reservations 33 exceed pool 32",
     ),
     ("pool 4\na exit 1\n", "line 2: unknown namespace"),
+    (
+        "pool 32\nspace a 16\nspace b 17\n",
+        "line 3: reservations 33 exceed pool 32",
+    ),
+    (
+        "pool 16\nspace red 16\nred spawn 5 5 02",
+        "line 3: cut short",
+    ),
+    ("pool 4\nspace a 1\nspace a 1\n", "line 3: name twice"),
 ];
 
 /// Lines that are refused behind a pool line and the space line of `a`, each with what is told.
@@ -221,7 +244,7 @@ const REFUSED_STEPS: [(&str, &str); 43] = [
 ];
 
 /// Whether a script is refused with this text, and nothing is written.
-fn is_refused(alloc: Global, script: &str, text: &str) -> Result<bool, Fail> {
+pub(crate) fn is_refused(alloc: Global, script: &str, text: &str) -> Result<bool, Fail> {
     let mut reader = MemoryBytes::new(script.as_bytes());
     let mut writer = Collected::new(alloc);
     let Err(ReplayFault::Script(refusal)) = replay(alloc, &mut reader, &mut writer, &OPTIONS) else {
@@ -281,25 +304,34 @@ fn too_many_namespaces(rt: HostRuntime) -> Result<(), Fail> {
     Ok(())
 }
 
+/// One line of this length behind `#`, whether a line feed ends it, and what is told.
+const LONG_LINES: [(usize, bool, &str); 4] = [
+    (2_200_000, true, "accepted"),
+    (2_200_001, true, "line 1: too long"),
+    (2_200_000, false, "line 1: cut short"),
+    (2_200_001, false, "line 1: too long"),
+];
+
+/// What is told of a script of one line.
+fn verdict_of(alloc: Global, count: usize, is_ended: bool) -> Result<String, Fail> {
+    let mut script = vec![in alloc; b'#'; count]?;
+    if is_ended {
+        script.push(b'\n')?;
+    }
+    let mut reader = MemoryBytes::new(script.as_slice());
+    let mut writer = Collected::new(alloc);
+    match replay(alloc, &mut reader, &mut writer, &OPTIONS) {
+        Err(fault) => Ok(fault.to_string(alloc)?),
+        Ok(replayed) if replayed.nomem == 0 => Ok(String::from_str(alloc, "accepted")?),
+        Ok(_) => Ok(String::from_str(alloc, "no memory")?),
+    }
+}
+
 #[test]
 fn long_lines(rt: HostRuntime) -> Result<(), Fail> {
-    let alloc = rt.alloc();
-    for (count, refused) in [(2_200_000, false), (2_200_001, true)] {
-        let mut script = vec![in alloc; b'#'; count]?;
-        script.push(b'\n')?;
-        let mut reader = MemoryBytes::new(script.as_slice());
-        let mut writer = Collected::new(alloc);
-        match replay(alloc, &mut reader, &mut writer, &OPTIONS) {
-            Err(ReplayFault::Script(refusal)) => {
-                assert!(rt; refused);
-                assert_eq!(rt; refusal.to_string(alloc)?.as_str(), "line 1: too long");
-            }
-            Ok(replayed) => {
-                assert!(rt; !refused);
-                assert_eq!(rt; replayed.nomem, 0);
-            }
-            _ => assert!(rt; false, "no verdict"),
-        }
+    for (count, is_ended, told) in LONG_LINES {
+        let verdict = verdict_of(rt.alloc(), count, is_ended)?;
+        assert_eq!(rt; verdict.as_str(), told, "{count}");
     }
     Ok(())
 }
@@ -327,8 +359,15 @@ fn accepted_scripts(rt: HostRuntime) -> Result<(), Fail> {
 #[test]
 fn readers_that_fail(rt: HostRuntime) -> Result<(), Fail> {
     let alloc = rt.alloc();
-    for fails_at in [1, 2, 70_000] {
+    // the last one would be refused at its end for its first line
+    for (front, fails_at) in [
+        (b"".as_slice(), 1),
+        (b"".as_slice(), 2),
+        (b"".as_slice(), 70_000),
+        (b"foo\n".as_slice(), 5),
+    ] {
         let mut reader = Breaking {
+            front,
             fails_at,
             asked: 0,
             failures: 0,
@@ -342,13 +381,15 @@ fn readers_that_fail(rt: HostRuntime) -> Result<(), Fail> {
     Ok(())
 }
 
-/// What a replay of so many bytes of comment answers, whose first byte is this one, and how many it left.
+/// What a replay of so many bytes of comment answers, whose first byte is this one, and whose lines end with that one,
+/// and how many it left.
 fn replay_comments(
     alloc: Global,
     first: u8,
+    last: u8,
     left: usize,
 ) -> (Result<Replayed, ReplayFault>, usize) {
-    let mut reader = Comments { first, left };
+    let mut reader = Comments { first, last, left };
     let mut writer = Collected::new(alloc);
     let result = replay(alloc, &mut reader, &mut writer, &OPTIONS);
     (result, reader.left)
@@ -356,16 +397,23 @@ fn replay_comments(
 
 #[test]
 fn the_longest_input(rt: HostRuntime) {
-    let (result, left) = replay_comments(rt.alloc(), b'#', INPUT_LIMIT);
+    let (result, left) = replay_comments(rt.alloc(), b'#', b'\n', INPUT_LIMIT);
     assert!(rt; result.is_ok());
     assert_eq!(rt; left, 0);
 }
 
 #[test]
 fn a_byte_more_than_the_longest_input(rt: HostRuntime) {
-    let (result, left) = replay_comments(rt.alloc(), b'x', INPUT_LIMIT + 1);
+    let (result, left) = replay_comments(rt.alloc(), b'x', b'\n', INPUT_LIMIT + 1);
     assert!(rt; matches!(result, Err(ReplayFault::ReadFault)));
     assert_eq!(rt; left, 0);
+}
+
+/// A line that never ends is no line that is too long.
+#[test]
+fn a_reader_without_end(rt: HostRuntime) {
+    let (result, _) = replay_comments(rt.alloc(), b'#', b'#', usize::MAX);
+    assert!(rt; matches!(result, Err(ReplayFault::ReadFault)));
 }
 
 #[test]
@@ -373,10 +421,10 @@ fn writers_that_fail(rt: HostRuntime) -> Result<(), Fail> {
     let alloc = rt.alloc();
     for (room, fails) in [(0, true), (0, false), (3, true), (3, false)] {
         let mut reader = MemoryBytes::new(b"pool 4\nspace a 1\n");
-        let mut writer = Full::new(room, fails);
+        let mut writer = Full::new(b"== a\n", room, fails);
         let result = replay(alloc, &mut reader, &mut writer, &OPTIONS);
         assert!(rt; matches!(result, Err(ReplayFault::WriteFault)));
-        assert_eq!(rt; writer.asked, room + 1);
+        assert_eq!(rt; (writer.asked, writer.strays), (room + 1, 0));
     }
     Ok(())
 }

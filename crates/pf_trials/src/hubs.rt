@@ -1,6 +1,7 @@
 //! Worked examples of two namespaces over one pool: none sees the other's bytes, or lacks a frame for them.
 
 use crate::calls::{Call, Told, answer_of, step_of};
+use crate::hosts::frames;
 use pf_base::{Config, Errno, Step};
 use pf_frame::{Frame, PoolFault};
 use pf_hub::{Hub, RunFault};
@@ -86,15 +87,6 @@ const COPY: [Row; 7] = [
     (RED, Call::Read(1, 0, 5), Told::Filled(0x61, 5), (1, 0, 32)),
     (RED, Call::Read(1, 2, 5), Told::Filled(0x61, 5), (0, 0, 33)),
 ];
-
-// Frames that each hold this byte throughout, or, with none, each another.
-fn frames(alloc: Global, count: usize, fill: Option<u8>) -> Result<Vec<Frame>, AllocError> {
-    let mut frames = Vec::new(alloc);
-    for i in 0..count {
-        frames.push(Frame::filled(alloc, fill.unwrap_or((i % 256) as u8))?)?;
-    }
-    Ok(frames)
-}
 
 // A hub with a namespace of each of these reservations.
 fn open(alloc: Global, frames: Vec<Frame>, reserves: &[u32]) -> Result<Hub<Global>, PoolFault> {

@@ -1,20 +1,12 @@
-//! Worked examples of capacities and page limits as tables of steps, each with what its process is told and with the
-//! frames that its namespace holds then.
+//! Worked examples of capacities and page limits.
 
-use crate::engine::frames_of;
-use crate::tests_rows::FILLS;
-use crate::tests_steps::{BLUE, RED, Row, SPAWN, play};
-use pf_base::Config;
-use pf_hub::Hub;
+use crate::player::{Row, SPAWN, Trial, play, play_in_red, play_once};
 use std::alloc::Global;
 use std::process::Abort;
 use std::test::Fail;
 
 /// The limits of a namespace: its reservation, pipe-user-pages-soft and pipe-user-pages-hard.
 type Limits = (u32, u32, u32);
-
-/// Limits that say nothing but how many frames there are.
-const WIDE: Limits = (64, Config::DEFAULT_SOFT, Config::DEFAULT_HARD);
 
 /// What stands before a table of the privileged user's steps.
 const SPAWN_ROOT: [Row; 1] = [("spawn 0 0 022", "pid 1", 0)];
@@ -190,6 +182,9 @@ const CHARGED_NO_MORE: [Row; 3] = [
     ("getsize 1 2", "num 4096", 0),
 ];
 
+/// What a user has before it asks for a second pipe.
+const FIRST: Row = ("pipe 1", "fds 0 1", 0);
+
 /// A limit just at a number of pages, one page below it, and one above, where a user has a pipe of 16 pages and asks for
 /// another: what the second pipe is told, and its capacity.
 const SOFT_LIMITS: [(Limits, &str, &str); 6] = [
@@ -295,192 +290,122 @@ const AT_ONE_PAGE: [Row; 3] = [
     ("exit 1", "num 0", 0),
 ];
 
-/// Two namespaces over 17 frames: what one has, the other neither sees nor lacks.
-const NEIGHBOURS: [(u32, Row); 10] = [
-    (RED, ("spawn 5 5 022", "pid 1", 0)),
-    (RED, ("pipe 1", "fds 0 1", 0)),
-    (BLUE, ("spawn 5 5 022", "pid 1", 0)),
-    (RED, ("write 1 1 65536*61", "num 65536", 16)),
-    (BLUE, ("pipe 1", "fds 0 1", 0)),
-    (RED, ("pipe 1", "err ENFILE", 16)),
-    (BLUE, ("getsize 1 0", "num 4096", 0)),
-    (BLUE, ("write 1 1 4096*62", "num 4096", 1)),
-    (BLUE, ("read 1 0 2", "bytes 2 6262", 1)),
-    (BLUE, ("setsize 1 0 4097", "err ENFILE", 1)),
-];
-
-/// A hub of namespaces with these limits, over so many frames that hold this byte throughout.
-fn open(alloc: Global, frames: u32, limits: &[Limits], fill: u8) -> Result<Hub<Global>, Fail> {
-    let frames = frames_of(alloc, frames, fill)?;
-    let mut configs = Vec::new(alloc);
-    for (reserve, soft, hard) in limits {
-        configs.push((
-            Config::new(*reserve, *soft, *hard, Config::DEFAULT_MAX)?,
-            alloc,
-        ))?;
-    }
-    Ok(Hub::new(alloc, frames, configs)?)
-}
-
-/// Plays tables one behind the other in the one namespace of a hub, over frames of each kind.
+/// Plays tables one behind the other in a namespace that has these limits, over as many frames as it has reserved.
 fn play_within(
     rt: &impl Abort,
     alloc: Global,
     limits: Limits,
     tables: &[&[Row]],
 ) -> Result<(), Fail> {
-    for fill in FILLS {
-        let mut hub = open(alloc, limits.0, &[limits], fill)?;
-        for rows in tables {
-            play(rt, alloc, &mut hub, RED, rows)?;
-        }
-    }
-    Ok(())
-}
-
-/// Plays these steps in the one namespace of a hub.
-fn play_once(rt: &impl Abort, alloc: Global, limits: Limits, rows: &[Row]) -> Result<(), Fail> {
-    let mut hub = open(alloc, limits.0, &[limits], 165)?;
-    play(rt, alloc, &mut hub, RED, rows)
+    let (reserve, soft, hard) = limits;
+    let lines = format!(in alloc; "pool {reserve}\nspace red {reserve} {soft} {hard}\n")?;
+    play(rt, alloc, lines.as_str(), tables)
 }
 
 #[test]
 fn a_pipe_of_one_page(rt: HostRuntime) -> Result<(), Fail> {
-    let alloc = rt.alloc();
-    for rows in [
+    let tables = [
         ONE_PAGE.as_slice(),
         SPLICED_INTO_ONE_PAGE.as_slice(),
         ROUNDED_AND_BUSY.as_slice(),
         BYTES_STAY.as_slice(),
         REFUSED_IN_ORDER.as_slice(),
-    ] {
-        play_within(&rt, alloc, WIDE, &[SPAWN.as_slice(), rows])?;
-    }
-    Ok(())
+    ];
+    play_in_red(&rt, rt.alloc(), tables.as_slice())
 }
 
 #[test]
 fn pages_are_limited(rt: HostRuntime) -> Result<(), Fail> {
-    let alloc = rt.alloc();
     let (user, root) = (SPAWN.as_slice(), SPAWN_ROOT.as_slice());
-    play_within(&rt, alloc, (64, 17, 0), &[user, ABOVE_SOFT.as_slice()])?;
-    play_within(&rt, alloc, (64, 17, 17), &[user, ABOVE_HARD.as_slice()])?;
-    play_within(&rt, alloc, (64, 20, 0), &[user, AT_SOFT.as_slice()])?;
-    play_within(&rt, alloc, (64, 20, 20), &[root, AT_RESERVE.as_slice()])?;
-    play_within(&rt, alloc, (512, 20, 20), &[root, ABOVE_MAX.as_slice()])?;
-    play_within(&rt, alloc, (512, 16_384, 0), &[user, AT_MAX.as_slice()])?;
-    play_within(&rt, alloc, WIDE, &[root, MORE_THAN_ANYBODY_MAY.as_slice()])
+    for (limits, spawn, rows) in [
+        ((64, 17, 0), user, ABOVE_SOFT.as_slice()),
+        ((64, 17, 17), user, ABOVE_HARD.as_slice()),
+        ((64, 20, 0), user, AT_SOFT.as_slice()),
+        ((64, 20, 20), root, AT_RESERVE.as_slice()),
+        ((512, 20, 20), root, ABOVE_MAX.as_slice()),
+        ((512, 16_384, 0), user, AT_MAX.as_slice()),
+        ((64, 16_384, 0), root, MORE_THAN_ANYBODY_MAY.as_slice()),
+    ] {
+        play_within(&rt, rt.alloc(), limits, &[spawn, rows])?;
+    }
+    Ok(())
 }
 
 #[test]
 fn pages_come_back(rt: HostRuntime) -> Result<(), Fail> {
-    let alloc = rt.alloc();
+    let (alloc, limits) = (rt.alloc(), (64, 17, 17));
     let user = SPAWN.as_slice();
-    play_within(&rt, alloc, (64, 17, 17), &[user, REFUNDED.as_slice()])?;
-    let tables = [
-        user,
-        CHARGED_BY_GROWTH.as_slice(),
-        CHARGED_NO_MORE.as_slice(),
-    ];
-    play_within(&rt, alloc, (64, 17, 17), &tables)
+    play_within(&rt, alloc, limits, &[user, REFUNDED.as_slice()])?;
+    let charged = CHARGED_BY_GROWTH.as_slice();
+    play_within(
+        &rt,
+        alloc,
+        limits,
+        &[user, charged, CHARGED_NO_MORE.as_slice()],
+    )
 }
 
 #[test]
-fn each_limit_at_its_number(rt: HostRuntime) -> Result<(), Fail> {
-    let alloc = rt.alloc();
-    let first: Row = ("pipe 1", "fds 0 1", 0);
+fn a_soft_limit_at_its_number(rt: HostRuntime) -> Result<(), Fail> {
     for (limits, told, size) in SOFT_LIMITS {
-        play_once(
-            &rt,
-            alloc,
-            limits,
-            &[
-                SPAWN[0],
-                first,
-                ("pipe 1", told, 0),
-                ("getsize 1 3", size, 0),
-            ],
-        )?;
+        let rows = [
+            SPAWN[0],
+            FIRST,
+            ("pipe 1", told, 0),
+            ("getsize 1 3", size, 0),
+        ];
+        play_within(&rt, rt.alloc(), limits, &[rows.as_slice()])?;
     }
+    Ok(())
+}
+
+#[test]
+fn a_hard_limit_at_its_number(rt: HostRuntime) -> Result<(), Fail> {
     for (limits, user, root) in HARD_LIMITS {
-        play_once(&rt, alloc, limits, &[SPAWN[0], first, ("pipe 1", user, 0)])?;
-        play_once(
-            &rt,
-            alloc,
-            limits,
-            &[SPAWN_ROOT[0], first, ("pipe 1", root, 0)],
-        )?;
+        let rows = [SPAWN[0], FIRST, ("pipe 1", user, 0)];
+        play_within(&rt, rt.alloc(), limits, &[rows.as_slice()])?;
+        let rows = [SPAWN_ROOT[0], FIRST, ("pipe 1", root, 0)];
+        play_within(&rt, rt.alloc(), limits, &[rows.as_slice()])?;
     }
+    Ok(())
+}
+
+/// Has the user of this row ask for a second page in its second pipe.
+fn grow(
+    rt: &impl Abort,
+    alloc: Global,
+    limits: Limits,
+    spawn: Row,
+    told: &'static str,
+) -> Result<(), Fail> {
+    let rows = [
+        spawn,
+        FIRST,
+        ("setsize 1 0 4096", "num 4096", 0),
+        ("pipe 1", "fds 2 3", 0),
+        ("setsize 1 3 4096", "num 4096", 0),
+        ("setsize 1 1 65536", "num 65536", 0),
+        ("setsize 1 3 8192", told, 0),
+    ];
+    play_within(rt, alloc, limits, &[rows.as_slice()])
+}
+
+#[test]
+fn growth_at_a_limits_number(rt: HostRuntime) -> Result<(), Fail> {
     for (limits, user, root) in GROWTH_LIMITS {
-        for (spawn, told) in [(SPAWN[0], user), (SPAWN_ROOT[0], root)] {
-            play_once(
-                &rt,
-                alloc,
-                limits,
-                &[
-                    spawn,
-                    first,
-                    ("setsize 1 0 4096", "num 4096", 0),
-                    ("pipe 1", "fds 2 3", 0),
-                    ("setsize 1 3 4096", "num 4096", 0),
-                    ("setsize 1 1 65536", "num 65536", 0),
-                    ("setsize 1 3 8192", told, 0),
-                ],
-            )?;
-        }
-    }
-    Ok(())
-}
-
-#[test]
-fn neighbours_have_limits_of_their_own(rt: HostRuntime) -> Result<(), Fail> {
-    let alloc = rt.alloc();
-    let limits: [Limits; 2] = [(16, 16_384, 0), (1, 16_384, 0)];
-    let mut hub = open(alloc, 17, limits.as_slice(), 165)?;
-    for (ns, row) in NEIGHBOURS {
-        play(&rt, alloc, &mut hub, ns, &[row])?;
-    }
-    // blue alone
-    let mut lone = open(alloc, 1, &[limits[1]], 0)?;
-    for (ns, row) in NEIGHBOURS {
-        if ns == BLUE {
-            play(&rt, alloc, &mut lone, 0, &[row])?;
-        }
-    }
-    Ok(())
-}
-
-#[test]
-fn one_user_in_64_namespaces(rt: HostRuntime) -> Result<(), Fail> {
-    let alloc = rt.alloc();
-    let mut limits: Vec<Limits> = Vec::new(alloc);
-    for ns in 0..64u32 {
-        limits.push((64, 17 + ns % 2, 17 + ns % 2))?;
-    }
-    let mut hub = open(alloc, 64 * 64, limits.as_slice(), 165)?;
-    for ns in 0..64u32 {
-        play(&rt, alloc, &mut hub, ns, SPAWN.as_slice())?;
-    }
-    for row in [("pipe 1", "fds 0 1", 0), ("pipe 1", "fds 2 3", 0)] {
-        for ns in 0..64u32 {
-            play(&rt, alloc, &mut hub, ns, &[row])?;
-        }
-    }
-    for ns in 0..64u32 {
-        let third = if ns % 2 == 0 { "err ENFILE" } else { "fds 4 5" };
-        play(&rt, alloc, &mut hub, ns, &[("pipe 1", third, 0)])?;
-        play(&rt, alloc, &mut hub, ns, &[("pipe 1", "err ENFILE", 0)])?;
+        grow(&rt, rt.alloc(), limits, SPAWN[0], user)?;
+        grow(&rt, rt.alloc(), limits, SPAWN_ROOT[0], root)?;
     }
     Ok(())
 }
 
 #[test]
 fn a_full_pipe_shrinks_as_it_is_read(rt: HostRuntime) -> Result<(), Fail> {
-    let alloc = rt.alloc();
-    let mut hub = open(alloc, 512, &[(512, 16_384, 0)], 165)?;
-    play(&rt, alloc, &mut hub, RED, FULL.as_slice())?;
+    let mut trial = Trial::new(rt.alloc(), "pool 512\nspace red 512\n")?;
+    trial.push_rows(FULL.as_slice())?;
     for rows in HALVES {
-        play(&rt, alloc, &mut hub, RED, rows.as_slice())?;
+        trial.push_rows(rows.as_slice())?;
     }
-    play(&rt, alloc, &mut hub, RED, AT_ONE_PAGE.as_slice())
+    trial.push_rows(AT_ONE_PAGE.as_slice())?;
+    play_once(&rt, &trial)
 }

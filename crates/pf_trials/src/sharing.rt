@@ -1,6 +1,6 @@
 //! Worked examples of descriptors that share an open file description, in one process and in several.
 
-use crate::tests_steps::{HEADER, RED, Row, SPAWN, open, play, play_in_red, told};
+use crate::player::{HEADER, RED, Row, SPAWN, Trial, play_in_red, play_trial};
 use std::test::Fail;
 
 /// The pipe stays open for writing under the other name, and the number that is free goes to the next one.
@@ -82,6 +82,15 @@ const FLAGS: [Row; 8] = [
     ("dup 3 2", "err ESRCH", 0),
 ];
 
+/// O_NONBLOCK is the description's, whoever sets it.
+const THE_FLAG_IS_SHARED: [Row; 5] = [
+    ("pipe 1", "fds 0 1", 0),
+    ("fork 1", "pid 2", 0),
+    ("nonblock 2 0 on", "num 0", 0),
+    ("read 1 0 1", "err EAGAIN", 0),
+    ("read 1 1 1", "err EBADF", 0),
+];
+
 /// Behind 254 further names of a pipe's reading end: the descriptor is tested first, and a pipe needs two free ones.
 const ALL_DESCRIPTORS_ARE_TAKEN: [Row; 9] = [
     ("dup 1 0", "err EMFILE", 0),
@@ -111,46 +120,39 @@ const ALL_PIDS_ARE_TAKEN: [Row; 10] = [
 
 #[test]
 fn a_description_has_many_names(rt: HostRuntime) -> Result<(), Fail> {
-    for rows in [
+    let tables = [
         A_NAME_OUTLIVES_ANOTHER.as_slice(),
         THE_LAST_NAME_GOES.as_slice(),
         TWO_PROCESSES_WRITE.as_slice(),
         TABLES_ARE_APART.as_slice(),
         THE_CHILD_KEEPS_THE_PIPE.as_slice(),
         FLAGS.as_slice(),
-    ] {
-        play_in_red(&rt, rt.alloc(), HEADER, &[rows])?;
-    }
-    Ok(())
+        THE_FLAG_IS_SHARED.as_slice(),
+    ];
+    play_in_red(&rt, rt.alloc(), tables.as_slice())
 }
 
 #[test]
 fn names_for_all_descriptors(rt: HostRuntime) -> Result<(), Fail> {
-    let alloc = rt.alloc();
-    let mut hub = open(alloc, HEADER, 165)?;
-    play(&rt, alloc, &mut hub, RED, SPAWN.as_slice())?;
-    play(&rt, alloc, &mut hub, RED, &[("pipe 1", "fds 0 1", 0)])?;
+    let mut trial = Trial::new(rt.alloc(), HEADER)?;
+    trial.push_rows(SPAWN.as_slice())?;
+    trial.push(RED, "pipe 1", "fds 0 1", 0)?;
     for fd in 2..256u32 {
-        let told = told(&rt, alloc, &mut hub, RED, "dup 1 0")?;
-        assert_eq!(rt; told.as_slice(), format!(in alloc; "num {fd}")?.as_bytes());
+        let told = format!(in rt.alloc(); "num {fd}")?;
+        trial.push(RED, "dup 1 0", told.as_str(), 0)?;
     }
-    play(
-        &rt,
-        alloc,
-        &mut hub,
-        RED,
-        ALL_DESCRIPTORS_ARE_TAKEN.as_slice(),
-    )
+    trial.push_rows(ALL_DESCRIPTORS_ARE_TAKEN.as_slice())?;
+    play_trial(&rt, &trial)
 }
 
 #[test]
 fn children_for_all_pids(rt: HostRuntime) -> Result<(), Fail> {
-    let alloc = rt.alloc();
-    let mut hub = open(alloc, HEADER, 165)?;
-    play(&rt, alloc, &mut hub, RED, SPAWN.as_slice())?;
+    let mut trial = Trial::new(rt.alloc(), HEADER)?;
+    trial.push_rows(SPAWN.as_slice())?;
     for pid in 2..257u32 {
-        let told = told(&rt, alloc, &mut hub, RED, "fork 1")?;
-        assert_eq!(rt; told.as_slice(), format!(in alloc; "pid {pid}")?.as_bytes());
+        let told = format!(in rt.alloc(); "pid {pid}")?;
+        trial.push(RED, "fork 1", told.as_str(), 0)?;
     }
-    play(&rt, alloc, &mut hub, RED, ALL_PIDS_ARE_TAKEN.as_slice())
+    trial.push_rows(ALL_PIDS_ARE_TAKEN.as_slice())?;
+    play_trial(&rt, &trial)
 }
