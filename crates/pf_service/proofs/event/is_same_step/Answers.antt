@@ -1,0 +1,13 @@
+use Rattle.std.proofs.Common.{rules, IsTrue, ◌≡◌, Bool, true, refl, sym, ◌∙◌, ap, subst}
+use Rattle.pf_base.specs.declared.step.Step.{Step}
+use Rattle.pf_base.specs.contracts.step.StepPartialEq.TheImpl.{ghosts}
+use Rattle.pf_service.proofs.Sameness.{sound, reflexive}
+use Rattle.pf_service.proofs.event.is_same_step.Goals as goal
+
+pub returns : goal.returns
+returns c =
+    let is : c.eq.result ≡ ghosts.eq c.args.a.now c.args.b.now = c.eq.ensures in
+    decides c.args.a.now c.args.b.now c.eq.result is
+  where
+    decides : (a b : Step) (r : Bool) → r ≡ ghosts.eq a b → (IsTrue r → a ≡ b) × (a ≡ b → IsTrue r)
+    decides a b r is = (λ t. sound a b (sym is ∙ t), λ e. is ∙ subst (λ (s : Step). ghosts.eq a s ≡ true) e (reflexive a))
