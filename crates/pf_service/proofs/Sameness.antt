@@ -6,93 +6,97 @@ use Rattle.pf_base.specs.declared.step.Step.{Step}
 use Rattle.pf_base.specs.declared.step.Step.TheVariants.{Spawn, Exit, Pipe, Close, Read, Write, Tee, SetSize, GetSize, Fork, Dup, SetNonblock, Splice, Mkdir, Mkfifo, Open, Unlink, Rmdir, Chmod, Stat, List as Names, Resume}
 use Rattle.pf_base.specs.contracts.step.StepPartialEq.TheImpl.{ghosts}
 
+-- what compares unequal
+differ : false ≡ true → ⊥
+differ e = absurd (cc)
+
 same_spawn : (u g : ℕ) (gs : List ℕ) (m : ℕ) (b : Step) → ghosts.eq (Spawn u g gs m) b ≡ true → Spawn u g gs m ≡ b
 same_spawn u g gs m (Spawn u' g' gs' m') h = search rules
-same_spawn u g gs m b h = absurd (cc)
+same_spawn u g gs m b h = absurd (differ h)
 
 same_exit : (p : ℕ) (b : Step) → ghosts.eq (Exit p) b ≡ true → Exit p ≡ b
 same_exit p (Exit p') h = search rules
-same_exit p b h = absurd (cc)
+same_exit p b h = absurd (differ h)
 
 same_pipe : (p : ℕ) (o : Bool) (b : Step) → ghosts.eq (Pipe p o) b ≡ true → Pipe p o ≡ b
 same_pipe p o (Pipe p' o') h = search rules
-same_pipe p o b h = absurd (cc)
+same_pipe p o b h = absurd (differ h)
 
 same_close : (p d : ℕ) (b : Step) → ghosts.eq (Close p d) b ≡ true → Close p d ≡ b
 same_close p d (Close p' d') h = search rules
-same_close p d b h = absurd (cc)
+same_close p d b h = absurd (differ h)
 
 same_read : (p d n : ℕ) (b : Step) → ghosts.eq (Read p d n) b ≡ true → Read p d n ≡ b
 same_read p d n (Read p' d' n') h = search rules
-same_read p d n b h = absurd (cc)
+same_read p d n b h = absurd (differ h)
 
 same_write : (p d : ℕ) (x : List ℕ) (b : Step) → ghosts.eq (Write p d x) b ≡ true → Write p d x ≡ b
 same_write p d x (Write p' d' x') h = search rules
-same_write p d x b h = absurd (cc)
+same_write p d x b h = absurd (differ h)
 
 same_tee : (p d e n : ℕ) (o : Bool) (b : Step) → ghosts.eq (Tee p d e n o) b ≡ true → Tee p d e n o ≡ b
 same_tee p d e n o (Tee p' d' e' n' o') h = search rules
-same_tee p d e n o b h = absurd (cc)
+same_tee p d e n o b h = absurd (differ h)
 
 same_set_size : (p d n : ℕ) (b : Step) → ghosts.eq (SetSize p d n) b ≡ true → SetSize p d n ≡ b
 same_set_size p d n (SetSize p' d' n') h = search rules
-same_set_size p d n b h = absurd (cc)
+same_set_size p d n b h = absurd (differ h)
 
 same_get_size : (p d : ℕ) (b : Step) → ghosts.eq (GetSize p d) b ≡ true → GetSize p d ≡ b
 same_get_size p d (GetSize p' d') h = search rules
-same_get_size p d b h = absurd (cc)
+same_get_size p d b h = absurd (differ h)
 
 same_fork : (p : ℕ) (b : Step) → ghosts.eq (Fork p) b ≡ true → Fork p ≡ b
 same_fork p (Fork p') h = search rules
-same_fork p b h = absurd (cc)
+same_fork p b h = absurd (differ h)
 
 same_dup : (p d : ℕ) (b : Step) → ghosts.eq (Dup p d) b ≡ true → Dup p d ≡ b
 same_dup p d (Dup p' d') h = search rules
-same_dup p d b h = absurd (cc)
+same_dup p d b h = absurd (differ h)
 
 same_set_nonblock : (p d : ℕ) (o : Bool) (b : Step) → ghosts.eq (SetNonblock p d o) b ≡ true → SetNonblock p d o ≡ b
 same_set_nonblock p d o (SetNonblock p' d' o') h = search rules
-same_set_nonblock p d o b h = absurd (cc)
+same_set_nonblock p d o b h = absurd (differ h)
 
 same_splice : (p d e n : ℕ) (o : Bool) (b : Step) → ghosts.eq (Splice p d e n o) b ≡ true → Splice p d e n o ≡ b
 same_splice p d e n o (Splice p' d' e' n' o') h = search rules
-same_splice p d e n o b h = absurd (cc)
+same_splice p d e n o b h = absurd (differ h)
 
 same_mkdir : (p : ℕ) (x : List ℕ) (m : ℕ) (b : Step) → ghosts.eq (Mkdir p x m) b ≡ true → Mkdir p x m ≡ b
 same_mkdir p x m (Mkdir p' x' m') h = search rules
-same_mkdir p x m b h = absurd (cc)
+same_mkdir p x m b h = absurd (differ h)
 
 same_mkfifo : (p : ℕ) (x : List ℕ) (m : ℕ) (b : Step) → ghosts.eq (Mkfifo p x m) b ≡ true → Mkfifo p x m ≡ b
 same_mkfifo p x m (Mkfifo p' x' m') h = search rules
-same_mkfifo p x m b h = absurd (cc)
+same_mkfifo p x m b h = absurd (differ h)
 
 same_open : (p : ℕ) (x : List ℕ) (f : OpenFlags) (b : Step) → ghosts.eq (Open p x f) b ≡ true → Open p x f ≡ b
 same_open p x f (Open p' x' f') h = search rules
-same_open p x f b h = absurd (cc)
+same_open p x f b h = absurd (differ h)
 
 same_unlink : (p : ℕ) (x : List ℕ) (b : Step) → ghosts.eq (Unlink p x) b ≡ true → Unlink p x ≡ b
 same_unlink p x (Unlink p' x') h = search rules
-same_unlink p x b h = absurd (cc)
+same_unlink p x b h = absurd (differ h)
 
 same_rmdir : (p : ℕ) (x : List ℕ) (b : Step) → ghosts.eq (Rmdir p x) b ≡ true → Rmdir p x ≡ b
 same_rmdir p x (Rmdir p' x') h = search rules
-same_rmdir p x b h = absurd (cc)
+same_rmdir p x b h = absurd (differ h)
 
 same_chmod : (p : ℕ) (x : List ℕ) (m : ℕ) (b : Step) → ghosts.eq (Chmod p x m) b ≡ true → Chmod p x m ≡ b
 same_chmod p x m (Chmod p' x' m') h = search rules
-same_chmod p x m b h = absurd (cc)
+same_chmod p x m b h = absurd (differ h)
 
 same_stat : (p : ℕ) (x : List ℕ) (b : Step) → ghosts.eq (Stat p x) b ≡ true → Stat p x ≡ b
 same_stat p x (Stat p' x') h = search rules
-same_stat p x b h = absurd (cc)
+same_stat p x b h = absurd (differ h)
 
 same_names : (p : ℕ) (x : List ℕ) (b : Step) → ghosts.eq (Names p x) b ≡ true → Names p x ≡ b
 same_names p x (Names p' x') h = search rules
-same_names p x b h = absurd (cc)
+same_names p x b h = absurd (differ h)
 
 same_resume : (p : ℕ) (b : Step) → ghosts.eq (Resume p) b ≡ true → Resume p ≡ b
 same_resume p (Resume p') h = search rules
-same_resume p b h = absurd (cc)
+same_resume p b h = absurd (differ h)
 
 pub sound : (a b : Step) → ghosts.eq a b ≡ true → a ≡ b
 sound (Spawn u g gs m) b h = same_spawn u g gs m b h

@@ -104,7 +104,7 @@ impl<A: Allocator + Clone> Desk<A> {
         let room = Vec::with_capacity(self.alloc, self.logged.reply_bound(ns, step))?;
         gate.pass(ns, place);
         let reply = self.logged.apply(ns, step)?;
-        let told = copy_into(room, &reply);
+        let told = copy_into(self.alloc, room, &reply);
         seat.keep(Event {
             place,
             step: asked,

@@ -1,5 +1,5 @@
-//! Tenants call from their own threads: a hub behind one lock, seats that keep what their callers were told, and at the
-//! end a comparison of all seats with all transcripts.
+//! A hub behind one lock: seats that keep what their callers were told, and at the end a comparison of all seats with all
+//! transcripts.
 #![tactic(auto)]
 
 mod copies;
@@ -14,6 +14,8 @@ pub mod merge;
 pub mod receipt;
 pub mod seat;
 pub mod service;
+#[cfg(test)]
+mod tests;
 pub mod transcript;
 
 pub use event::Event;

@@ -155,7 +155,7 @@ impl<A: Allocator + Clone> LoggedHub<A> {
         let Answer::Done(reply) = self.hub.step(ns, step) else {
             return Err(ServiceFault::NoMemory);
         };
-        let told = copy_into(room, &reply);
+        let told = copy_into(self.alloc, room, &reply);
         entries.push_reserved((asked, told));
         Ok(reply)
     }

@@ -15,7 +15,7 @@ use std::alloc::{AllocError, Allocator, Global};
 use std::marker::Model;
 use std::sync::{Mutex, Wait};
 
-/// Many namespaces whose tenants call from their own threads: all of them behind one lock.
+/// Many namespaces behind one lock.
 ///
 /// Whoever calls has a seat at a namespace, which keeps what its caller asked and was told. At the end all seats are
 /// compared with all transcripts. A contract sees the limits that the namespaces were given: what lies behind the lock is
