@@ -1,3 +1,6 @@
+-- Tee and Splice are one method with a word for which of the two it is: its clause becomes that of the step once the
+-- kind is known.
+
 use Rattle.std.proofs.Common.{subst, sym}
 use Rattle.pf_base.specs.Machine.{call}
 use Rattle.pf_base.specs.declared.progress.Crossing.TheVariants as crossings

@@ -1,3 +1,6 @@
+-- It chains two changes where it waits: an attempt that moved nothing, and a process that parks; and it asks two
+-- descriptions whether it may wait.
+
 use Rattle.std.proofs.Common.{◌≡◌, false, not, ◌&&◌, ◌||◌, Ok, refl, sym, ap, subst, ◌∙◌}
 use Rattle.pf_base.specs.Calls.{Bringing, Moving}
 use Rattle.pf_base.specs.Progress.{moved}

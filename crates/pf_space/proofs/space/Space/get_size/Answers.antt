@@ -1,3 +1,5 @@
+-- It changes nothing, so what it tells of the tables as they stand has to be what the machine tells of a swept state.
+
 use Rattle.std.proofs.Common.{◌≡◌, Ok, sym, subst}
 use Rattle.pf_base.specs.Sweep.{sweep}
 use Rattle.pf_space.specs.Meaning.{Namespace, meaning}

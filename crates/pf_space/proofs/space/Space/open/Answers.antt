@@ -1,3 +1,6 @@
+-- It chains two look-ups, of the file and of what its opening would give, to the machine's one; each way out ends the
+-- chain elsewhere.
+
 use Rattle.std.proofs.Common.{Option, Some, None, Ok, Err, subst, sym, rules}
 use Rattle.pf_base.specs.Opens.{access_of, open_path}
 use Rattle.pf_base.specs.Refusals.{◌>>=◌}

@@ -1,3 +1,6 @@
+-- It chains two changes where it waits: an attempt that moved nothing, and a process that parks; and the question
+-- whether it may wait comes between.
+
 use Rattle.std.proofs.Common.{◌≡◌, false, not, ◌&&◌, Ok, refl, sym, ap, subst, ◌∙◌}
 use Rattle.pf_base.specs.Calls.{Reading, Moving}
 use Rattle.pf_base.specs.Progress.{moved}

@@ -1,3 +1,5 @@
+-- It is no step. The last arm stands for all kinds that hand out nothing, and the numbers are of the tables inside.
+
 use Rattle.std.proofs.Common.{sym, subst, arith}
 use Rattle.pf_base.specs.declared.step.Step.{Step}
 use Rattle.pf_base.specs.declared.step.Step.TheVariants.{List}

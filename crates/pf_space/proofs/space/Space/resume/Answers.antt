@@ -1,3 +1,6 @@
+-- It chains three changes: the call is taken from its process, the attempt is made as a first one would be, and want
+-- of memory puts the call back.
+
 use Rattle.std.proofs.Common.{Some, Ok, Err, refl, sym, ap, subst, ◌∙◌}
 use Rattle.pf_base.specs.Calls.{Reading, Writing, Bringing, Moving}
 use Rattle.pf_base.specs.Machine.{call}

@@ -1,3 +1,5 @@
+-- It asks who came and went since the open was made, which the machine counts and the tables keep.
+
 use Rattle.std.proofs.Common.{Ok, subst, sym}
 use Rattle.pf_base.specs.Machine.{call}
 use Rattle.pf_base.specs.declared.step.Reply.TheVariants as replies

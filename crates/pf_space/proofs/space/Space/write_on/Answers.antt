@@ -1,3 +1,6 @@
+-- It chains two changes where it waits: an attempt that put some bytes or none, and a process that parks with the
+-- rest of them.
+
 use Rattle.std.proofs.Common.{◌≡◌, ◌+◌, false, Ok, refl, sym, ap, subst, ◌∙◌}
 use Rattle.pf_base.specs.Calls.{Writing, Moving}
 use Rattle.pf_base.specs.Attempts.{Waits, transfer_told}
