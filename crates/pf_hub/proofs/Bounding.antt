@@ -9,8 +9,8 @@ use Rattle.pf_depot.specs.declared.depot.Depot.{Depot}
 use Rattle.pf_depot.specs.declared.loans.Loans.{Loans}
 use Rattle.pf_depot.specs.AllLoans.{live_at}
 use Rattle.pf_depot.specs.AllLoansLaws.{live_sound}
-use Rattle.pf_space.specs.Meaning.{Namespace, meaning}
-use Rattle.pf_space.specs.Owns.{Owns}
+use Rattle.pf_tables.specs.Meaning.{Namespace, meaning}
+use Rattle.pf_tables.specs.Owns.{Owns}
 use Rattle.pf_hub.specs.Tenants.{Tenants, Tenant, limits_at, state_at}
 use Rattle.pf_hub.specs.Shared.{IsShared, space_at, hub_of}
 use Rattle.pf_hub.proofs.DepotLemmas.{fits}

@@ -14,8 +14,8 @@ use Rattle.pf_depot.specs.AllLoansLaws.{live_sound, held_at as loans_held_at, re
 use Rattle.pf_depot.specs.Depot.{free_of, frames_of}
 use Rattle.pf_depot.specs.Door.{IsCovered as IsCoveredBy}
 use Rattle.pf_depot.specs.Loans.{loans_live}
-use Rattle.pf_space.specs.Meaning.{Namespace}
-use Rattle.pf_space.specs.Owns.{Owns}
+use Rattle.pf_tables.specs.Meaning.{Namespace}
+use Rattle.pf_tables.specs.Owns.{Owns}
 use Rattle.pf_hub.specs.Covered.{IsCovered}
 use Rattle.pf_hub.specs.Tenants.{Tenants, Tenant, tenants_of, held_at, frames_in}
 use Rattle.pf_hub.specs.Shared.{IsShared, space_at, no_space, hub_of}

@@ -7,8 +7,8 @@ use Rattle.pf_base.specs.Machine.{Answers, may_want_memory}
 use Rattle.pf_base.specs.declared.step.Step.{Step}
 use Rattle.pf_base.specs.declared.step.Answer.{Answer}
 use Rattle.pf_frame.specs.Live.{Live}
-use Rattle.pf_space.specs.Meaning.{Namespace, meaning}
-use Rattle.pf_space.specs.Owns.{Owns}
+use Rattle.pf_tables.specs.Meaning.{Namespace, meaning}
+use Rattle.pf_tables.specs.Owns.{Owns}
 use Rattle.pf_hub.specs.Covered.{IsCovered}
 use Rattle.pf_hub.specs.Shared.{space_at, no_space}
 use Rattle.pf_hub.specs.Stepped.{Moved, Stepped}

@@ -5,7 +5,7 @@ use Rattle.pf_base.specs.Limits.{Limits}
 use Rattle.pf_base.specs.State.{opening}
 use Rattle.pf_frame.specs.declared.fault.PoolFault.{PoolFault}
 use Rattle.pf_frame.specs.Faults.{fault_of}
-use Rattle.pf_space.specs.Meaning.{Namespace}
+use Rattle.pf_tables.specs.Meaning.{Namespace}
 use Rattle.pf_hub.specs.Tenants.{Tenant, Tenants}
 
 -- the limits alone, without the allocators that stand beside them

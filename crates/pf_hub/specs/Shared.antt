@@ -7,8 +7,8 @@ use Rattle.pf_depot.specs.declared.depot.Depot.{Depot}
 use Rattle.pf_depot.specs.declared.loans.Loans.{Loans}
 use Rattle.pf_depot.specs.AllLoans.{held_of, reserved_of, live_at}
 use Rattle.pf_depot.specs.Depot.{free_of, frames_of}
-use Rattle.pf_space.specs.Meaning.{Namespace}
-use Rattle.pf_space.specs.Owns.{Owns}
+use Rattle.pf_tables.specs.Meaning.{Namespace}
+use Rattle.pf_tables.specs.Owns.{Owns}
 use Rattle.pf_hub.specs.Tenants.{Tenants, tenants_of}
 
 -- no namespace

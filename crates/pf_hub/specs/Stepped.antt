@@ -6,8 +6,8 @@ use Rattle.pf_base.specs.Events.{IsDone}
 use Rattle.pf_base.specs.declared.step.Step.{Step}
 use Rattle.pf_base.specs.declared.step.Answer.{Answer}
 use Rattle.pf_frame.specs.Live.{Live}
-use Rattle.pf_space.specs.Meaning.{Namespace, meaning}
-use Rattle.pf_space.specs.Owns.{Owns}
+use Rattle.pf_tables.specs.Meaning.{Namespace, meaning}
+use Rattle.pf_tables.specs.Owns.{Owns}
 use Rattle.pf_hub.specs.Covered.{IsCovered}
 use Rattle.pf_hub.specs.Tenants.{Tenants, tenant_at, limits_at, state_at, frames_in}
 

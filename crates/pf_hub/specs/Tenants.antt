@@ -5,7 +5,7 @@ use Rattle.pf_base.specs.Limits.{Limits}
 use Rattle.pf_base.specs.Queue.{Queue}
 use Rattle.pf_base.specs.State.{State, opening}
 use Rattle.pf_frame.specs.Live.{Live}
-use Rattle.pf_space.specs.Meaning.{Namespace, meaning}
+use Rattle.pf_tables.specs.Meaning.{Namespace, meaning}
 
 -- a namespace: its limits, the lone machine's state that it is in, and how many frames it holds
 pub record Tenant : Type 0 where

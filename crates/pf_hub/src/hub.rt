@@ -3,7 +3,7 @@ ghost use Rattle.pf_hub.specs.Opening.{new_space, limits_of, first_fault};
 ghost use Rattle.pf_depot.specs.Door.{IsCovered as IsCoveredBy};
 ghost use Rattle.pf_depot.specs.Loans.{loans_live};
 ghost use Rattle.pf_hub.specs.Stepped.{Moved};
-ghost use Rattle.pf_space.specs.Owns.{Owns};
+ghost use Rattle.pf_tables.specs.Owns.{Owns};
 
 use pf_base::{Answer, Config, MAX_NAMESPACES, Step};
 use pf_depot::{Depot, Lender, LoanDoor, Loans};
@@ -132,7 +132,7 @@ impl<A: Allocator + Clone> Hub<A> {
     ghost use Rattle.pf_base.specs.Machine.{Answers, may_want_memory, step_of};
     ghost use Rattle.pf_base.specs.Events.{IsDone};
     ghost use Rattle.pf_frame.specs.Faults.{IsFault};
-    ghost use Rattle.pf_space.specs.Bounds.{reply_length, most_of};
+    ghost use Rattle.pf_tables.specs.Bounds.{reply_length, most_of};
     ghost use Rattle.pf_hub.specs.Tenants.{tenant_at, limits_at, state_at, held_at, frames_in};
     ghost use Rattle.pf_hub.specs.Covered.{IsCovered};
     ghost use Rattle.pf_hub.specs.Opening.{new_hub, limits_of, first_fault};

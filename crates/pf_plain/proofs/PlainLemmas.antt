@@ -15,8 +15,8 @@ use Rattle.pf_frame.specs.Live.{Live, IsIdle}
 use Rattle.pf_pool.specs.declared.pool.FramePool.{FramePool}
 use Rattle.pf_pool.specs.Pool.{pool_live, pool_rest, frames_of, all_held, IsFresh, DoorRest}
 use Rattle.pf_pool.specs.PoolLaws.{pool_sound, held_is, same_view, same_reserves, same_frames}
-use Rattle.pf_space.specs.Meaning.{Namespace}
-use Rattle.pf_space.specs.Owns.{Owns}
+use Rattle.pf_tables.specs.Meaning.{Namespace}
+use Rattle.pf_tables.specs.Owns.{Owns}
 use Rattle.pf_hub.specs.Covered.{IsCovered}
 use Rattle.pf_hub.specs.Opening.{limits_of, new_space, new_hub, first_fault}
 use Rattle.pf_hub.specs.Shared.{space_at, no_space}

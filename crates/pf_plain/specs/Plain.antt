@@ -3,8 +3,8 @@
 use Rattle.std.specs.Prelude.{◌≡◌, ℕ, ◌-◌, List, length}
 use Rattle.pf_pool.specs.declared.pool.FramePool.{FramePool}
 use Rattle.pf_pool.specs.Pool.{pool_live, namespaces_of, frames_of, all_held}
-use Rattle.pf_space.specs.Meaning.{Namespace}
-use Rattle.pf_space.specs.Owns.{Owns}
+use Rattle.pf_tables.specs.Meaning.{Namespace}
+use Rattle.pf_tables.specs.Owns.{Owns}
 use Rattle.pf_hub.specs.Tenants.{Tenants, tenants_of}
 use Rattle.pf_hub.specs.Shared.{space_at}
 

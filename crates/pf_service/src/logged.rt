@@ -54,7 +54,7 @@ impl<A: Allocator + Clone> LoggedHub<A> {
     ghost use Rattle.pf_frame.specs.Faults.{IsFault};
     ghost use Rattle.pf_hub.specs.Opening.{first_fault};
     ghost use Rattle.pf_hub.specs.Tenants.{limits_at, state_at, tenant_at};
-    ghost use Rattle.pf_space.specs.Bounds.{reply_length};
+    ghost use Rattle.pf_tables.specs.Bounds.{reply_length};
     ghost use Rattle.pf_service.specs.Logs.{entries_at, new_logs, IsApplyFault};
     ghost use Rattle.pf_service.specs.Transcripts.{steps_in, replies_in, transcript_at, IsLone};
     ghost use Rattle.pf_service.specs.declared.TheConstants.{MAX_ENTRIES};

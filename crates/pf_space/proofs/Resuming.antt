@@ -27,13 +27,13 @@ use Rattle.pf_base.specs.declared.step.Reply.{Reply}
 use Rattle.pf_base.specs.declared.step.Reply.TheVariants as replies
 use Rattle.pf_base.specs.declared.step.Step.TheVariants as steps
 use Rattle.pf_frame.specs.Live.{Live}
-use Rattle.pf_space.specs.Meaning.{Namespace, meaning}
-use Rattle.pf_space.specs.Owns.{Owns}
-use Rattle.pf_space.specs.Tables.{over, woken, awoken, HasLowest}
-use Rattle.pf_space.specs.Opened.{IsOver}
-use Rattle.pf_space.specs.Told.{Becomes, Told, Says, tried_call, waits_in, settled, ended}
-use Rattle.pf_space.proofs.Exiting.{change-change}
-use Rattle.pf_space.proofs.Shown.{set_same}
+use Rattle.pf_tables.specs.Meaning.{Namespace, meaning}
+use Rattle.pf_tables.specs.Owns.{Owns}
+use Rattle.pf_tables.specs.Tables.{over, woken, awoken, HasLowest}
+use Rattle.pf_tables.specs.Opened.{IsOver}
+use Rattle.pf_tables.specs.Told.{Becomes, Told, Says, tried_call, waits_in, settled, ended}
+use Rattle.pf_tables.proofs.Exiting.{change-change}
+use Rattle.pf_tables.proofs.Shown.{set_same}
 use Rattle.pf_space.proofs.Waiting.{sweep-waiting}
 
 -- A transfer of a process that was woken

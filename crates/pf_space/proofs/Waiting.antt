@@ -25,9 +25,9 @@ use Rattle.pf_base.specs.declared.step.Reply.{Reply}
 use Rattle.pf_base.specs.declared.step.Reply.TheVariants as replies
 use Rattle.pf_frame.specs.Live.{Live}
 use Rattle.pf_parked.specs.UnfinishedWrite.{UnfinishedWrite}
-use Rattle.pf_space.specs.Meaning.{Namespace, meaning}
-use Rattle.pf_space.specs.Owns.{Owns}
-use Rattle.pf_space.specs.Told.{Told, attempted, tried_call, flag_of, is_nonblocking_at, transferred, waits_in, settled}
+use Rattle.pf_tables.specs.Meaning.{Namespace, meaning}
+use Rattle.pf_tables.specs.Owns.{Owns}
+use Rattle.pf_tables.specs.Told.{Told, attempted, tried_call, flag_of, is_nonblocking_at, transferred, waits_in, settled}
 
 -- Another call of a process, which is no open: nothing that was swept comes back
 

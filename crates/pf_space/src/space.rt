@@ -1,9 +1,9 @@
 ghost use Rattle.std.specs.Prelude.{◌≡◌, ◌≢◌, Err};
 ghost use Rattle.pf_base.specs.Machine.{call};
 
-use crate::tables::Tables;
 use pf_base::{Answer, Config, Crossing, Fault, Reply, Step};
 use pf_frame::Frames;
+use pf_tables::Tables;
 use std::alloc::{AllocError, Allocator, Global};
 use std::marker::Model;
 
@@ -27,7 +27,7 @@ pub struct Space<A: Allocator> {
 }
 
 impl<A: Allocator> Model for Space<A> {
-    ghost use Rattle.pf_space.specs.Meaning.{Namespace};
+    ghost use Rattle.pf_tables.specs.Meaning.{Namespace};
 
     ghost Value = { Namespace };
 
@@ -39,9 +39,9 @@ impl<A: Allocator + Clone> Space<A> {
     ghost use Rattle.pf_base.specs.State.{opening};
     ghost use Rattle.pf_base.specs.Machine.{Answers, call, may_want_memory};
     ghost use Rattle.pf_base.specs.Events.{IsDone};
-    ghost use Rattle.pf_space.specs.Meaning.{meaning, occupied, AreEmpty};
-    ghost use Rattle.pf_space.specs.Owns.{Owns};
-    ghost use Rattle.pf_space.specs.Told.{Told};
+    ghost use Rattle.pf_tables.specs.Meaning.{meaning, occupied, AreEmpty};
+    ghost use Rattle.pf_tables.specs.Owns.{Owns};
+    ghost use Rattle.pf_tables.specs.Told.{Told};
 
     /// A namespace at its opening state, with its files in memory of an allocator of their own. Nothing else stands there.
     pub fn new(alloc: Global, tree: A, config: Config) -> Result<Self, AllocError>

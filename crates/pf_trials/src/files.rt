@@ -2,7 +2,7 @@
 //! is refused in turn. Where an allocation is refused, nothing has changed, and the step is asked for again.
 
 ghost use Rattle.pf_frame.specs.Own.{own_live};
-ghost use Rattle.pf_space.specs.Owns.{Owns};
+ghost use Rattle.pf_tables.specs.Owns.{Owns};
 
 use crate::calls::{Call, Told, answer_of, step_of};
 use bumpalo::Bump;

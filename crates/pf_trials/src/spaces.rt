@@ -3,7 +3,7 @@
 
 ghost use Rattle.std.specs.Prelude.{◌≡◌, length, IfOk};
 ghost use Rattle.pf_frame.specs.Own.{own_live};
-ghost use Rattle.pf_space.specs.Owns.{Owns};
+ghost use Rattle.pf_tables.specs.Owns.{Owns};
 
 use crate::calls::{Call, Told, answer_of, step_of};
 use pf_base::{Answer, ByteString, Config, Errno, Reply, Step};

@@ -2,7 +2,7 @@
 
 ghost use Rattle.std.specs.Prelude.{◌≡◌, ◌≤◌};
 ghost use Rattle.pf_base.specs.Machine.{call_of};
-ghost use Rattle.pf_space.specs.Bounds.{Covers, most_of, written_in};
+ghost use Rattle.pf_tables.specs.Bounds.{Covers, most_of, written_in};
 
 use super::Space;
 use pf_base::Step;

@@ -3,14 +3,14 @@
 ghost use Rattle.std.specs.Prelude.{IsOk, ◌≡◌, ◌≢◌, Err};
 ghost use Rattle.pf_base.specs.Machine.{call};
 ghost use Rattle.pf_base.specs.State.{ready};
-ghost use Rattle.pf_space.specs.Meaning.{meaning};
-ghost use Rattle.pf_space.specs.Owns.{Owns};
-ghost use Rattle.pf_space.specs.Told.{Told};
+ghost use Rattle.pf_tables.specs.Meaning.{meaning};
+ghost use Rattle.pf_tables.specs.Owns.{Owns};
+ghost use Rattle.pf_tables.specs.Told.{Told};
 
 use super::Space;
-use crate::tables::Access;
 use pf_base::{Fault, OpenFlags, Reply, Step};
 use pf_frame::Frames;
+use pf_tables::Access;
 use std::alloc::Allocator;
 
 impl<A: Allocator + Clone> Space<A> {

@@ -2,10 +2,10 @@
 
 ghost use Rattle.std.specs.Prelude.{◌≡◌, ◌≢◌, Ok, Err, true};
 ghost use Rattle.pf_base.specs.Machine.{call, call_of, hands_out};
-ghost use Rattle.pf_space.specs.Meaning.{meaning};
-ghost use Rattle.pf_space.specs.Owns.{Owns};
-ghost use Rattle.pf_space.specs.Told.{Told, ended};
-ghost use Rattle.pf_space.specs.Tables.{waits_in_open};
+ghost use Rattle.pf_tables.specs.Meaning.{meaning};
+ghost use Rattle.pf_tables.specs.Owns.{Owns};
+ghost use Rattle.pf_tables.specs.Told.{Told, ended};
+ghost use Rattle.pf_tables.specs.Tables.{waits_in_open};
 
 use super::Space;
 use pf_base::{Fault, Reply, Step};

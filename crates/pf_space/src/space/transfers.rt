@@ -5,9 +5,9 @@ ghost use Rattle.std.specs.Prelude.{◌≡◌, ◌≢◌, Err, IsOk, not, ◌&&�
 ghost use Rattle.pf_base.specs.Calls.{Reading, Writing, Bringing};
 ghost use Rattle.pf_base.specs.State.{ready};
 ghost use Rattle.pf_base.specs.Machine.{call};
-ghost use Rattle.pf_space.specs.Meaning.{meaning};
-ghost use Rattle.pf_space.specs.Owns.{Owns};
-ghost use Rattle.pf_space.specs.Told.{Told, tried_call, is_nonblocking_at, write_ended, Parks};
+ghost use Rattle.pf_tables.specs.Meaning.{meaning};
+ghost use Rattle.pf_tables.specs.Owns.{Owns};
+ghost use Rattle.pf_tables.specs.Told.{Told, tried_call, is_nonblocking_at, write_ended, Parks};
 
 use super::Space;
 use pf_base::{ByteString, Crossing, Errno, Fault, Progress, Reply, Step};

@@ -1,5 +1,5 @@
 use Rattle.pf_frame.specs.Own.{own_live}
-use Rattle.pf_space.specs.Owns.{Owns}
+use Rattle.pf_tables.specs.Owns.{Owns}
 use Rattle.pf_trials.proofs.files.seen.Given as goal
 
 abbrev pub invariant-loop-call : goal.invariant-loop-call

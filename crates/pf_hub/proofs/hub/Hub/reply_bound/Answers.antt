@@ -1,8 +1,8 @@
 -- What bounds a namespace's replies bounds them here.
 use Rattle.std.proofs.Common.{subst, ◌∙◌, rules}
 use Rattle.std.proofs.lemmas.List.{get_or_default}
-use Rattle.pf_space.specs.Meaning.{Namespace}
-use Rattle.pf_space.specs.Bounds.{reply_length, Covers}
+use Rattle.pf_tables.specs.Meaning.{Namespace}
+use Rattle.pf_tables.specs.Bounds.{reply_length, Covers}
 use Rattle.pf_hub.specs.Shared.{no_space}
 use Rattle.pf_hub.proofs.DepotLemmas.{here}
 use Rattle.pf_hub.proofs.Bounding.{bounded}

@@ -2,9 +2,9 @@
 
 use Rattle.std.proofs.Common.{◌≡◌, Ok, sym, subst}
 use Rattle.pf_base.specs.Sweep.{sweep}
-use Rattle.pf_space.specs.Meaning.{Namespace, meaning}
-use Rattle.pf_space.specs.Tables.{size_of_end}
-use Rattle.pf_space.proofs.Resizing.{tells_size}
+use Rattle.pf_tables.specs.Meaning.{Namespace, meaning}
+use Rattle.pf_tables.specs.Tables.{size_of_end}
+use Rattle.pf_tables.proofs.Resizing.{tells_size}
 use Rattle.pf_space.proofs.space.Space.get_size.Goals as goal
 
 pub returns-clause-told : goal.returns-clause-told

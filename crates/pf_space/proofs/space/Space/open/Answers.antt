@@ -6,11 +6,11 @@ use Rattle.pf_base.specs.Opens.{access_of, open_path}
 use Rattle.pf_base.specs.Refusals.{◌>>=◌}
 use Rattle.pf_base.specs.State.{ready}
 use Rattle.pf_base.specs.declared.step.Reply.TheVariants as replies
-use Rattle.pf_space.specs.Meaning.{Namespace, meaning}
-use Rattle.pf_space.specs.Opened.{access_seen, opening, HasOpened}
-use Rattle.pf_space.specs.Owns.{Owns}
-use Rattle.pf_space.specs.Told.{Told}
-use Rattle.pf_space.proofs.Resolving as lemmas
+use Rattle.pf_tables.specs.Meaning.{Namespace, meaning}
+use Rattle.pf_tables.specs.Opened.{access_seen, opening, HasOpened}
+use Rattle.pf_tables.specs.Owns.{Owns}
+use Rattle.pf_tables.specs.Told.{Told}
+use Rattle.pf_tables.proofs.Resolving as lemmas
 use Rattle.pf_space.proofs.space.Space.open.Goals as goal
 
 pub returns-in_err-file-clause-told : goal.returns-in_err-file-clause-told

@@ -4,10 +4,10 @@ use Rattle.std.proofs.Common.{Ok, subst, sym}
 use Rattle.pf_base.specs.Machine.{call}
 use Rattle.pf_base.specs.declared.step.Reply.TheVariants as replies
 use Rattle.pf_base.specs.declared.step.Step.TheVariants.{Resume}
-use Rattle.pf_space.specs.Meaning.{Namespace, meaning}
-use Rattle.pf_space.specs.MeaningLaws.{settled-meaning}
-use Rattle.pf_space.specs.Owns.{Owns}
-use Rattle.pf_space.specs.Told.{Told}
+use Rattle.pf_tables.specs.Meaning.{Namespace, meaning}
+use Rattle.pf_tables.specs.MeaningLaws.{settled-meaning}
+use Rattle.pf_tables.specs.Owns.{Owns}
+use Rattle.pf_tables.specs.Told.{Told}
 use Rattle.pf_space.proofs.Resuming as lemmas
 use Rattle.pf_space.proofs.space.Space.resume_open.Goals as goal
 

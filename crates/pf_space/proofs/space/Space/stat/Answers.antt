@@ -4,9 +4,9 @@ use Rattle.std.proofs.Common.{◌≡◌, Ok, subst}
 use Rattle.pf_base.specs.FileCalls as calls
 use Rattle.pf_base.specs.Sweep.{sweep}
 use Rattle.pf_base.specs.declared.step.Reply.TheVariants as replies
-use Rattle.pf_space.specs.Meaning.{Namespace, meaning}
-use Rattle.pf_space.specs.Tables.{known}
-use Rattle.pf_space.proofs.Filing.{tells}
+use Rattle.pf_tables.specs.Meaning.{Namespace, meaning}
+use Rattle.pf_tables.specs.Tables.{known}
+use Rattle.pf_tables.proofs.Filing.{tells}
 use Rattle.pf_walk.specs.Told.{Told}
 use Rattle.pf_space.proofs.space.Space.stat.Goals as goal
 

@@ -1,5 +1,0 @@
-use Rattle.pf_space.proofs.Filling as lemmas
-use Rattle.pf_space.proofs.file_tree.FileTree.chmod.Goals as goal
-
-pub invariant_of-self : goal.invariant_of-self
-invariant_of-self g c = lemmas.chmoded _ _ _ c.args.cred.now c.args.path.now c.args.mode c.self.invariant c.chmod.ensures

@@ -1,9 +1,0 @@
-use Rattle.std.proofs.Common.{subst, arith, ◌≤◌, ◌-◌, ◌*◌, length}
-use Rattle.pf_base.specs.FileMap.{Files, names_below, listed}
-use Rattle.pf_space.proofs.Filling as lemmas
-use Rattle.pf_space.proofs.file_tree.FileTree.list_bound.Goals as goal
-
-pub returns-clause-covers : goal.returns-clause-covers
-returns-clause-covers g c path =
-    let few = lemmas.names_within c.self.inside.tree c.self.invariant c.root-root.ensures.map.root path in
-    subst (λ (fs : Files). length (listed (names_below path fs)) ≤ (c.count.result - 1) * 256) c.self.view_is (omega (arith, few, c.count.ensures))

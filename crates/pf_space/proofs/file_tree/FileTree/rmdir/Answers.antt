@@ -1,5 +1,0 @@
-use Rattle.pf_space.proofs.Filling as lemmas
-use Rattle.pf_space.proofs.file_tree.FileTree.rmdir.Goals as goal
-
-pub invariant_of-self : goal.invariant_of-self
-invariant_of-self g c = lemmas.rmdired _ _ _ c.args.cred.now c.args.path.now c.self.invariant c.rmdir.ensures

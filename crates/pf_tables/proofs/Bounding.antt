@@ -1,0 +1,196 @@
+-- How much a reply hands out, as the tables know it.
+
+use Rattle.std.proofs.Common.{◌≡◌, ℕ, zero, suc, ◌≤◌, not, List, length, Option, Some, None, Result, Ok, Err, refl, sym, ap, subst, ◌∙◌, arith}
+use Rattle.std.specs.Prelude.{min}
+use Rattle.std.specs.Option.{option_map, option_and_then}
+use Rattle.pf_base.specs.FileMap.{Files, Path, names_below, listed, is_directory}
+use Rattle.pf_base.specs.Paths.{target}
+use Rattle.pf_base.specs.Permissions.{allows}
+use Rattle.pf_base.specs.declared.permissions.Want.TheVariants as Access
+use Rattle.pf_base.specs.Limits.{Limits}
+use Rattle.pf_base.specs.Refusals.{refuse_if, or_refuse}
+use Rattle.pf_base.specs.Queue.{Queue, IsQueue, bytes_of}
+use Rattle.pf_base.proofs.QueueLaws.{length-joined-le}
+use Rattle.pf_base.specs.Numbered.{at, weight}
+use Rattle.pf_base.proofs.NumberedLaws.{at-map, weight-le-sum_of}
+use Rattle.pf_base.proofs.HoldsLaws.{Holds, goes, carries, passes}
+use Rattle.pf_base.specs.Calls as calls
+use Rattle.pf_base.specs.State as machine
+use Rattle.pf_base.specs.State.{State, End, ready, end_at, end_of, reading_end}
+use Rattle.pf_base.specs.Machine.{step_of, call, call_of as machine_call_of}
+use Rattle.pf_base.specs.declared.TheConstants.{MAX_RESERVE}
+use Rattle.pf_base.specs.declared.errno.Errno.{Errno}
+use Rattle.pf_base.specs.declared.errno.Errno.TheVariants.{EBADF, ENOTDIR, EACCES}
+use Rattle.pf_base.specs.declared.progress.Side.TheVariants as sides
+use Rattle.pf_base.specs.declared.step.Step.{Step}
+use Rattle.pf_base.specs.declared.step.Step.TheVariants as steps
+use Rattle.pf_fds.specs.Registry.{find}
+use Rattle.pf_frame.specs.Live.{Live, IsSound}
+use Rattle.pf_limits.specs.UserPages.{UserPages}
+use Rattle.pf_parked.specs.declared.call.Call.TheVariants.{Open, Read, Write, Cross}
+use Rattle.pf_ring.specs.Ring.{Ring, queue_of}
+use Rattle.pf_ring.specs.Windows.{Stands}
+use Rattle.pf_ring.specs.Table.{slots_used, slots_of, ring_queue}
+use Rattle.pf_tables.specs.Bounds.{reply_length, Covers}
+use Rattle.pf_tables.specs.Meaning.{Namespace, meaning, pipe_meaning, pages}
+use Rattle.pf_tables.specs.Owns.{Owns}
+use Rattle.pf_tables.specs.OwnsLaws.{ring_at-pipe, stands_at, pages_within}
+use Rattle.pf_tables.specs.Rows.{ProcessRows, DescriptionRows, PipeRows, Key, Call, Process, Description, Pipe, call_of, call_in, process_of, state_of, end_in, Kept}
+use Rattle.pf_tables.proofs.Bounds.{read_bytes, read-few, resume-few, list-few, quiet, few}
+use Rattle.pf_tables.proofs.Ends.{end_of_rows, refused, found}
+use Rattle.pf_tables.proofs.Shown.{find_at, was}
+use Rattle.pf_tables.proofs.Transfers as transfers
+
+-- the reply to a step hands out no more, over these frames
+abbrev AtMost : Live → Step → ℕ → Namespace → Type 0
+AtMost f step bound n = reply_length (step_of n.limits (meaning f n.state) step).reply ≤ bound
+
+-- No pipe has more bytes than all frames
+
+module _ (f : Live) (n : Namespace) (sound : IsSound f) (owns : Owns f n) (most : n.limits.reserve ≤ MAX_RESERVE) where
+  pub all_bytes : (j : ℕ) (p : machine.Pipe Queue) → at (meaning f n.state).pipes j ≡ Some p → length (bytes_of p.queue) ≤ 268435456
+  all_bytes j p there =
+      let w = was (pipe_meaning f) n.state.pipes j p there in
+      let fits : slots_used w.0.queue ≤ slots_of w.0.queue = subst (λ (r : Ring). slots_used r ≤ slots_of r) (ring_at-pipe n.state.pipes j w.0 w.1) (owns.joined.fits j) in
+      let queue : IsQueue (queue_of f w.0.queue) = ring_queue f w.0.queue sound (stands_at f n.state j w.0 owns.joined w.1) fits in
+      let bytes = length-joined-le (queue_of f w.0.queue).segments queue.each in
+      let slots = queue.slots in
+      let h : machine.Pipe Ring → ℕ = λ (q : machine.Pipe Ring). q.queue.capacity in
+      let weighs = ap (weight h) w.1 in
+      let among = weight-le-sum_of h n.state.pipes j in
+      let within : pages n.state ≤ n.limits.reserve = pages_within f n owns in
+      let here : length (bytes_of (queue_of f w.0.queue)) ≤ 268435456 = omega (arith, bytes, slots, weighs, among, within, most) in
+      subst (λ (q : machine.Pipe Queue). length (bytes_of q.queue) ≤ 268435456) w.2 here
+
+-- A read
+
+module _ {files : Files} {files_made : ℕ} (limits : Limits) (charges : UserPages) (ps : ProcessRows) (ds : DescriptionRows) (pipes : PipeRows) (k : Kept charges ps ds pipes)
+    (n : Namespace) (view : record { limits = limits; state = state_of ps ds pipes files files_made } ≡ n) (pid fd count : ℕ) where
+  abbrev shows : Live → State Queue
+  shows f = meaning f (state_of ps ds pipes files files_made)
+
+  -- nothing where there is no end that reads
+  pub no_read : ((d : Description) → end_in (Some sides.Read) ps ds pid fd ≡ Ok d → ⊥) → Covers n (steps.Read pid fd count) 0
+  no_read none f sound owns = subst (AtMost f (steps.Read pid fd count) 0) view (by_end (end_in (Some sides.Read) ps ds pid fd) refl)
+    where
+      by_end : (r : Result Description Errno) → end_in (Some sides.Read) ps ds pid fd ≡ r → AtMost f (steps.Read pid fd count) 0 (record { limits = limits; state = state_of ps ds pipes files files_made })
+      by_end (Ok d) h = absurd (none d h)
+      by_end (Err e) h =
+          few (shows f) 0 (call limits (shows f) (steps.Read pid fd count)) (read-few (shows f) 0 limits pid fd count
+          (λ x is. let both : ◌≡◌ {A = Result (End Queue) Errno} (Err e) (Ok x) = sym (refused f (Some sides.Read) ps ds pipes files files_made k.tied pid fd e h) ∙ is in absurd (cc)))
+
+  module _ (d : Description) (h : end_in (Some sides.Read) ps ds pid fd ≡ Ok d) where
+    -- it has a pipe
+    pub no_pipe : find pipes d.pipe.place d.pipe.serial ≡ None → Covers n (steps.Read pid fd count) 0
+    no_pipe none f sound owns =
+        let e = found f (Some sides.Read) ps ds pipes files files_made k.tied pid fd d h in
+        let there = find_at pipes d.pipe.place d.pipe.serial e.pipe e.stands in
+        let both : ◌≡◌ {A = Option Pipe} None (Some e.pipe) = sym none ∙ there in
+        absurd (cc)
+
+    -- what the pipe holds, up to what is asked for
+    pub reads : (r : Pipe) → find pipes d.pipe.place d.pipe.serial ≡ Some r → (held : ℕ) → ((f : Live) → IsSound f → Stands f r.ring.windows → held ≡ length (bytes_of (queue_of f r.ring)))
+        → Covers n (steps.Read pid fd count) (min held count)
+    reads r handed held holds f sound owns =
+        let e = found f (Some sides.Read) ps ds pipes files files_made k.tied pid fd d h in
+        let rows : ◌≡◌ {A = Option Pipe} (Some e.pipe) (Some r) = sym (find_at pipes d.pipe.place d.pipe.serial e.pipe e.stands) ∙ handed in
+        let same : e.pipe ≡ r = cc in
+        let stands : Stands f r.ring.windows = transfers.stands_in f limits charges ps ds pipes k n view owns d r handed in
+        let number : held ≡ length (bytes_of (queue_of f r.ring)) = holds f sound stands in
+        subst (AtMost f (steps.Read pid fd count) (min held count)) view
+        (few (shows f) (min held count) (call limits (shows f) (steps.Read pid fd count)) (read-few (shows f) (min held count) limits pid fd count
+        (λ x is.
+        let ends : ◌≡◌ {A = Result (End Queue) Errno} (Ok (end_of_rows f d e.pipe)) (Ok x) = sym e.is ∙ is in
+        let end : end_of_rows f d e.pipe ≡ x = cc in
+        let bytes : length (bytes_of (queue_of f r.ring)) ≡ length (bytes_of x.pipe.queue) = ap (λ (q : Pipe). length (bytes_of (queue_of f q.ring))) (sym same) ∙ ap (λ (y : End Queue). length (bytes_of y.pipe.queue)) end in
+        omega (arith, read_bytes (shows f) x count, bytes, number))))
+
+-- A list
+
+module _ {files : Files} {files_made : ℕ} (limits : Limits) (ps : ProcessRows) (ds : DescriptionRows) (pipes : PipeRows)
+    (n : Namespace) (view : record { limits = limits; state = state_of ps ds pipes files files_made } ≡ n) where
+  pub lists : (most : ℕ) → ((path : Path) → length (listed (names_below path files)) ≤ most) → (pid : ℕ) (path : List ℕ) → Covers n (steps.List pid path) most
+  lists most h pid path f sound owns =
+      subst (AtMost f (steps.List pid path) most) view
+      (few s most (call limits s (steps.List pid path)) (list-few s most limits pid path
+      (λ p ready. carries Short (target files p.cred path) _
+      (λ t. passes Short (refuse_if (not (is_directory t.file)) ENOTDIR) _ (passes Short (refuse_if (not (allows p.cred t.file.meta Access.Read)) EACCES) _ (h t.path))))))
+    where
+      s : State Queue
+      s = meaning f (state_of ps ds pipes files files_made)
+
+      Short : List ℕ → Type 0
+      Short names = length names ≤ most
+
+-- A call that is tried again
+
+-- the pipe of an end that reads stands
+abbrev Standing : State Queue → End Queue → Type 0
+Standing s e = at s.pipes e.description.pipe ≡ Some e.pipe
+
+end_at-stands : (s : State Queue) (m : ℕ) → Holds (Standing s) (or_refuse EBADF (end_at s m))
+end_at-stands s m = by_description (at s.descriptions m)
+  where
+    by_pipe : (d : machine.Description) (o : Option (machine.Pipe Queue)) → at s.pipes d.pipe ≡ o → Holds (Standing s) (or_refuse EBADF (option_map (λ (pipe : machine.Pipe Queue). record { description = d; pipe = pipe }) o))
+    by_pipe d None e = tt
+    by_pipe d (Some p) e = e
+
+    by_description : (o : Option machine.Description) → Holds (Standing s) (or_refuse EBADF (option_and_then (λ d. option_map (λ (pipe : machine.Pipe Queue). record { description = d; pipe = pipe }) (at s.pipes d.pipe)) o))
+    by_description None = tt
+    by_description (Some d) = by_pipe d (at s.pipes d.pipe) refl
+
+reading_end-stands : (s : State Queue) (p : machine.Process) (fd : ℕ) → Holds (Standing s) (reading_end s p fd)
+reading_end-stands s p fd = goes (Standing s) (Standing s) (end_of s p fd) _ (by_number (at p.descriptors fd)) (λ e h. passes (Standing s) (refuse_if (not e.description.reads) EBADF) (Ok e) h)
+  where
+    by_number : (o : Option ℕ) → Holds (Standing s) (or_refuse EBADF (option_and_then (end_at s) o))
+    by_number None = tt
+    by_number (Some m) = end_at-stands s m
+
+reading_there : (s : State Queue) (p : machine.Process) (fd : ℕ) (e : End Queue) → reading_end s p fd ≡ Ok e → Standing s e
+reading_there s p fd e is = subst (Holds (Standing s)) is (reading_end-stands s p fd)
+
+-- the machine's call is the one that the tables keep
+call_shown : (f : Live) (ps : ProcessRows) (ds : DescriptionRows) (pipes : PipeRows) (files : Files) (files_made pid : ℕ) → machine_call_of (meaning f (state_of ps ds pipes files files_made)) pid ≡ option_map call_of (call_in ps pid)
+call_shown f ps ds pipes files files_made pid = by_pid pid
+  where
+    by_row : (x : Option Process) → option_and_then (λ (p : machine.Process). p.parked) (option_map process_of x) ≡ option_map call_of (option_and_then (λ (p : Process). p.parked) x)
+    by_row None = refl
+    by_row (Some p) = refl
+
+    by_pid : (m : ℕ) → machine_call_of (meaning f (state_of ps ds pipes files files_made)) m ≡ option_map call_of (call_in ps m)
+    by_pid zero = refl
+    by_pid (suc i) = ap (option_and_then (λ (p : machine.Process). p.parked)) (at-map process_of ps i) ∙ by_row (at ps i)
+
+-- what a call asks for, as far as it hands anything out
+abbrev pub asked : Option (Call Key) → ℕ
+asked (Some (Read fd count)) = count
+asked _ = 0
+
+module _ {files : Files} {files_made : ℕ} (limits : Limits) (ps : ProcessRows) (ds : DescriptionRows) (pipes : PipeRows)
+    (n : Namespace) (view : record { limits = limits; state = state_of ps ds pipes files files_made } ≡ n) (most : limits.reserve ≤ MAX_RESERVE) (pid : ℕ) where
+  pub resumes : (o : Option (Call Key)) → o ≡ call_in ps pid → Covers n (steps.Resume pid) (min 268435456 (asked o))
+  resumes o is f sound owns =
+      subst (AtMost f (steps.Resume pid) (min 268435456 (asked o))) view
+      (few s (min 268435456 (asked o)) (call limits s (steps.Resume pid)) (resume-few s (min 268435456 (asked o)) limits pid
+      (λ p fd count e waits reads.
+      let all = all_bytes f m sound (subst (Owns f) (sym view) owns) most e.description.pipe e.pipe (reading_there s p fd e reads) in
+      let asks : asked o ≡ count = by_call o fd count (ap (option_map call_of) is ∙ sym (call_shown f ps ds pipes files files_made pid) ∙ waits) in
+      omega (arith, read_bytes s e count, all, asks))))
+    where
+      m : Namespace
+      m = record { limits = limits; state = state_of ps ds pipes files files_made }
+
+      s : State Queue
+      s = meaning f (state_of ps ds pipes files files_made)
+
+      by_call : (x : Option (Call Key)) (fd count : ℕ) → option_map call_of x ≡ Some (calls.Moving (calls.Reading fd count)) → asked x ≡ count
+      by_call None fd count e = absurd (cc)
+      by_call (Some (Open key kept)) fd count e = absurd (cc)
+      by_call (Some (Read fd' count')) fd count e = cc
+      by_call (Some (Write fd' write)) fd count e = absurd (cc)
+      by_call (Some (Cross crossing source sink c)) fd count e = absurd (cc)
+
+-- Any other step
+
+pub others : (n : Namespace) (step : Step) → ((pid fd count : ℕ) → step ≡ steps.Read pid fd count → ⊥) → ((pid : ℕ) (path : List ℕ) → step ≡ steps.List pid path → ⊥) → ((pid : ℕ) → step ≡ steps.Resume pid → ⊥) → Covers n step 0
+others n step r l a f sound owns = few (meaning f n.state) 0 (call n.limits (meaning f n.state) step) (quiet (meaning f n.state) 0 n.limits step r l a)

@@ -1,0 +1,105 @@
+-- Who makes a step, as the tables find it and as the machine does.
+
+use Rattle.std.proofs.Common.{◌≡◌, ℕ, zero, suc, ◌-◌, Bool, true, false, Option, Some, None, is_some, Result, Ok, Err, refl, sym, ap, ◌∙◌, arith}
+use Rattle.std.specs.Option.{option_map}
+use Rattle.pf_base.specs.FileMap.{Files}
+use Rattle.pf_base.specs.Refusals.{◌>>=◌, ◌>>◌, refuse_if, or_refuse}
+use Rattle.pf_base.specs.Numbered.{at}
+use Rattle.pf_base.proofs.NumberedLaws.{at-map}
+use Rattle.pf_base.specs.State as machine
+use Rattle.pf_base.specs.State.{living, ready}
+use Rattle.pf_base.specs.declared.errno.Errno.{Errno}
+use Rattle.pf_base.specs.declared.errno.Errno.TheVariants.{ESRCH, EBUSY}
+use Rattle.pf_base.specs.Queue.{Queue}
+use Rattle.pf_frame.specs.Live.{Live}
+use Rattle.pf_tables.specs.Meaning.{meaning}
+use Rattle.pf_tables.specs.Rows.{ProcessRows, DescriptionRows, PipeRows, Key, Process, Call, call_of, process_of, state_of, process_in, awake, ready_in}
+
+-- a process with what the machine sees of it
+abbrev pub shown_in : Result Process Errno → Result machine.Process Errno
+shown_in (Ok p) = Ok (process_of p)
+shown_in (Err e) = Err e
+
+abbrev machine_awake : machine.Process → Result machine.Process Errno
+machine_awake p = refuse_if (is_some p.parked) EBUSY >> Ok p
+
+pub awake_shown : (p : Process) → machine_awake (process_of p) ≡ shown_in (awake p)
+awake_shown p = by_call p.parked
+  where
+    by_call : (o : Option (Call Key)) → (refuse_if (is_some (option_map call_of o)) EBUSY >> Ok (process_of p)) ≡ shown_in (refuse_if (is_some o) EBUSY >> Ok p)
+    by_call None = refl
+    by_call (Some call) = refl
+
+module _ (f : Live) (ps : ProcessRows) (ds : DescriptionRows) (pipes : PipeRows) (files : Files) (files_made : ℕ) (pid : ℕ) where
+  abbrev s : machine.State Queue
+  s = meaning f (state_of ps ds pipes files files_made)
+
+  -- the machine's process is the one that the tables show
+  pub living_shown : living s pid ≡ shown_in (process_in ps pid)
+  living_shown = by_pid pid
+    where
+      same : (o : Option Process) → or_refuse ESRCH (option_map process_of o) ≡ shown_in (or_refuse ESRCH o)
+      same None = refl
+      same (Some p) = refl
+
+      by_pid : (n : ℕ) → living s n ≡ shown_in (process_in ps n)
+      by_pid zero = refl
+      by_pid (suc i) = ap (or_refuse ESRCH) (at-map process_of ps i) ∙ same (at ps i)
+
+  pub ready_shown : ready s pid ≡ shown_in (ready_in ps pid)
+  ready_shown = ap (λ r. r >>= machine_awake) living_shown ∙ by_row (process_in ps pid)
+    where
+      by_row : (r : Result Process Errno) → (shown_in r >>= machine_awake) ≡ shown_in (r >>= awake)
+      by_row (Err e) = refl
+      by_row (Ok p) = awake_shown p
+
+  pub lives : (p : Process) → process_in ps pid ≡ Ok p → living s pid ≡ Ok (process_of p)
+  lives p h = living_shown ∙ ap shown_in h
+
+  pub lives_not : (e : Errno) → process_in ps pid ≡ Err e → living s pid ≡ Err e
+  lives_not e h = living_shown ∙ ap shown_in h
+
+  pub readies : (p : Process) → ready_in ps pid ≡ Ok p → ready s pid ≡ Ok (process_of p)
+  readies p h = ready_shown ∙ ap shown_in h
+
+  pub readies_not : (e : Errno) → ready_in ps pid ≡ Err e → ready s pid ≡ Err e
+  readies_not e h = ready_shown ∙ ap shown_in h
+
+-- who is ready lives
+pub is_living : (ps : ProcessRows) (pid : ℕ) (p : Process) → ready_in ps pid ≡ Ok p → process_in ps pid ≡ Ok p
+is_living ps pid p h = by_row (process_in ps pid) h
+  where
+    by_call : (q : Process) (b : Bool) → (refuse_if b EBUSY >> Ok q) ≡ Ok p → ◌≡◌ {A = Result Process Errno} (Ok q) (Ok p)
+    by_call q true g = absurd (cc)
+    by_call q false g = g
+
+    by_row : (r : Result Process Errno) → (r >>= awake) ≡ Ok p → r ≡ Ok p
+    by_row (Err e) g = absurd (cc)
+    by_row (Ok q) g = by_call q (is_some q.parked) g
+
+-- its place is one below its pid
+pub place_of : (ps : ProcessRows) (pid : ℕ) (p : Process) → process_in ps pid ≡ Ok p → at ps (pid - 1) ≡ Some p
+place_of ps pid p h = by_pid pid h
+  where
+    found : (o : Option Process) → or_refuse ESRCH o ≡ Ok p → o ≡ Some p
+    found None g = absurd (cc)
+    found (Some q) g = cc
+
+    by_pid : (n : ℕ) → process_in ps n ≡ Ok p → at ps (n - 1) ≡ Some p
+    by_pid zero g = absurd (cc)
+    by_pid (suc i) g = let same : suc i - 1 ≡ i = omega arith in ap (at ps) same ∙ found (at ps i) g
+
+pub place_is : (ps : ProcessRows) (pid : ℕ) (p : Process) → ready_in ps pid ≡ Ok p → at ps (pid - 1) ≡ Some p
+place_is ps pid p h = place_of ps pid p (is_living ps pid p h)
+
+-- and it waits in no call
+pub is_awake : (ps : ProcessRows) (pid : ℕ) (p : Process) → ready_in ps pid ≡ Ok p → p.parked ≡ None
+is_awake ps pid p h = by_row (process_in ps pid) h
+  where
+    by_call : (q : Process) (o : Option (Call Key)) → q.parked ≡ o → (refuse_if (is_some o) EBUSY >> Ok q) ≡ Ok p → p.parked ≡ None
+    by_call q None e g = let same : q ≡ p = cc in ap (λ (x : Process). x.parked) (sym same) ∙ e
+    by_call q (Some call) e g = absurd (cc)
+
+    by_row : (r : Result Process Errno) → (r >>= awake) ≡ Ok p → p.parked ≡ None
+    by_row (Err e) g = absurd (cc)
+    by_row (Ok q) g = by_call q q.parked refl g

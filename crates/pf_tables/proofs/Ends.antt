@@ -1,0 +1,129 @@
+-- The end of a pipe that a descriptor names, as the tables find it and as the machine does.
+
+use Rattle.std.proofs.Common.{◌≡◌, ℕ, suc, ◌+◌, ◌-◌, Bool, true, false, not, Option, Some, None, IsOk, is_ok, Result, Ok, Err, refl, sym, ap, subst, ◌∙◌, arith}
+use Rattle.std.specs.Option.{option_map, option_and_then}
+use Rattle.pf_base.specs.FileMap.{Files}
+use Rattle.pf_base.specs.Refusals.{◌>>=◌, ◌>>◌, refuse_if, or_refuse}
+use Rattle.pf_base.specs.Queue.{Queue}
+use Rattle.pf_base.specs.Numbered.{at}
+use Rattle.pf_base.proofs.NumberedLaws.{at-map}
+use Rattle.pf_base.specs.State as machine
+use Rattle.pf_base.specs.State.{State, End, ready, end_at, end_of, reading_end, writing_end}
+use Rattle.pf_base.specs.Counts.{readers, writers}
+use Rattle.pf_base.specs.declared.errno.Errno.{Errno}
+use Rattle.pf_base.specs.declared.errno.Errno.TheVariants.{EBADF}
+use Rattle.pf_base.specs.declared.progress.Side.{Side}
+use Rattle.pf_base.specs.declared.progress.Side.TheVariants as sides
+use Rattle.pf_frame.specs.Live.{Live}
+use Rattle.pf_tables.specs.Meaning.{meaning, pipe_meaning}
+use Rattle.pf_tables.specs.Rows.{ProcessRows, DescriptionRows, PipeRows, Key, Named, Process, Description, Pipe, process_of, description_of, pipe_of, pipes_of, state_of, ready_in, has, description_in, end_in, read_by, written_by, UsedRow, Tied}
+use Rattle.pf_tables.proofs.Callers.{shown_in, ready_shown, place_is}
+use Rattle.pf_tables.proofs.Held.{finds}
+use Rattle.pf_tables.proofs.Shown.{shown, find_at}
+use Rattle.pf_tables.proofs.Swept.{readers_shown, writers_shown}
+
+-- the machine's end of a side, or any where none is asked for
+abbrev pub side_end : Option Side → State Queue → machine.Process → ℕ → Result (End Queue) Errno
+side_end None s p fd = end_of s p fd
+side_end (Some sides.Read) s p fd = reading_end s p fd
+side_end (Some sides.Write) s p fd = writing_end s p fd
+
+-- the machine's end that two rows show
+abbrev pub end_of_rows : Live → Description → Pipe → End Queue
+end_of_rows f d r = record {
+  description = description_of (0, record { value = d; names = 0 });
+  pipe = pipe_meaning f (pipe_of (0, r));
+}
+
+-- what is known of an end that the tables found: its pipe, and that the machine finds the same
+pub record Found (f : Live) (side : Option Side) (ps : ProcessRows) (ds : DescriptionRows) (pipes : PipeRows) (files : Files) (files_made : ℕ) (pid fd : ℕ) (d : Description) : Type 0 where
+  pub pipe : Pipe
+  pub stands : at pipes d.pipe.serial ≡ Some (d.pipe.place, pipe)
+  pub is : (ready (meaning f (state_of ps ds pipes files files_made)) pid >>= (λ p. side_end side (meaning f (state_of ps ds pipes files files_made)) p fd)) ≡ Ok (end_of_rows f d pipe)
+  pub caller : IsOk (ready_in ps pid)
+
+module _ (f : Live) (side : Option Side) (ps : ProcessRows) (ds : DescriptionRows) (pipes : PipeRows) (files : Files) (files_made : ℕ) (t : Tied ps ds pipes) (pid fd : ℕ) where
+  abbrev s : State Queue
+  s = meaning f (state_of ps ds pipes files files_made)
+
+  -- whether an end is of the side
+  abbrev sided : Bool → End Queue → Result (End Queue) Errno
+  sided b e = refuse_if (not b) EBADF >> Ok e
+
+  -- the machine's test of the side is that of the rows
+  by_side : (p : machine.Process) (d : Description) (r : Pipe) → option_and_then (end_at s) (at p.descriptors fd) ≡ Some (end_of_rows f d r) → side_end side s p fd ≡ sided (has side d) (end_of_rows f d r)
+  by_side p d r h = of_side side
+    where
+      of_side : (x : Option Side) → side_end x s p fd ≡ sided (has x d) (end_of_rows f d r)
+      of_side None = ap (or_refuse EBADF) h
+      of_side (Some sides.Read) = ap (λ o. or_refuse EBADF o >>= (λ e. refuse_if (not e.description.reads) EBADF >> Ok e)) h
+      of_side (Some sides.Write) = ap (λ o. or_refuse EBADF o >>= (λ e. refuse_if (not e.description.writes) EBADF >> Ok e)) h
+
+  no_side : (p : machine.Process) → at p.descriptors fd ≡ None → side_end side s p fd ≡ Err EBADF
+  no_side p h = of_side side
+    where
+      of_side : (x : Option Side) → side_end x s p fd ≡ Err EBADF
+      of_side None = ap (λ o. or_refuse EBADF (option_and_then (end_at s) o)) h
+      of_side (Some sides.Read) = ap (λ o. or_refuse EBADF (option_and_then (end_at s) o) >>= (λ e. refuse_if (not e.description.reads) EBADF >> Ok e)) h
+      of_side (Some sides.Write) = ap (λ o. or_refuse EBADF (option_and_then (end_at s) o) >>= (λ e. refuse_if (not e.description.writes) EBADF >> Ok e)) h
+
+  shown_key : (p : Process) (o : Option Key) → at p.descriptors fd ≡ o → at (process_of p).descriptors fd ≡ option_map (λ k. k.serial) o
+  shown_key p o g = at-map (λ (k : Key). k.serial) p.descriptors fd ∙ ap (option_map (λ (k : Key). k.serial)) g
+
+  -- a description's end of its pipe
+  pub end_shown : (k : Key) (e : Named Description) (r : Pipe) → at ds k.serial ≡ Some (k.place, e) → at pipes e.value.pipe.serial ≡ Some (e.value.pipe.place, r) → end_at s k.serial ≡ Some (end_of_rows f e.value r)
+  end_shown k e r h g =
+      ap (option_and_then (λ (d : machine.Description). option_map (λ (pipe : machine.Pipe Queue). record { description = d; pipe = pipe }) (at s.pipes d.pipe))) (shown description_of ds k.serial (k.place, e) h)
+      ∙ ap (option_map (λ (pipe : machine.Pipe Queue). record { description = description_of (k.place, e); pipe = pipe }))
+      (at-map (pipe_meaning f) (pipes_of pipes) e.value.pipe.serial ∙ ap (option_map (pipe_meaning f)) (shown pipe_of pipes e.value.pipe.serial (e.value.pipe.place, r) g))
+
+  -- what the tables find and what the machine finds: one refusal, or the end that the rows show
+  abbrev Agrees : Result Description Errno → Result (End Queue) Errno → Type 0
+  Agrees (Err e) machine = machine ≡ Err e
+  Agrees (Ok d) machine = (r : Pipe) × (at pipes d.pipe.serial ≡ Some (d.pipe.place, r)) × (machine ≡ Ok (end_of_rows f d r))
+
+  abbrev if_sided : Description → Result Description Errno
+  if_sided d = refuse_if (not (has side d)) EBADF >> Ok d
+
+  abbrev of_key : Option Key → Result Description Errno
+  of_key o = or_refuse EBADF o >>= (λ k. or_refuse EBADF (description_in ds k) >>= if_sided)
+
+  by_sides : (b : Bool) (d : Description) (r : Pipe) → at pipes d.pipe.serial ≡ Some (d.pipe.place, r) → Agrees (refuse_if (not b) EBADF >> Ok d) (sided b (end_of_rows f d r))
+  by_sides true d r h = (r, h, refl)
+  by_sides false d r h = refl
+
+  by_key : (i : ℕ) (p : Process) → at ps i ≡ Some p → (o : Option Key) → at p.descriptors fd ≡ o → Agrees (of_key o) (side_end side s (process_of p) fd)
+  by_key i p h None g = no_side (process_of p) (shown_key p None g)
+  by_key i p h (Some k) g =
+      let e = finds ds k (t.finds i (suc fd) p k h g) in
+      let r = finds pipes e.0.value.pipe (t.is_end k.serial (k.place, e.0) e.1).0 in
+      let row = ap (option_map (λ (n : Named Description). n.value)) (find_at ds k.place k.serial e.0 e.1) in
+      let machine = by_side (process_of p) e.0.value r.0 (ap (option_and_then (end_at s)) (shown_key p (Some k) g) ∙ end_shown k e.0 r.0 e.1 r.1) in
+      subst (λ o. Agrees (or_refuse EBADF o >>= if_sided) (side_end side s (process_of p) fd)) (sym row) (subst (Agrees (if_sided e.0.value)) (sym machine) (by_sides (has side e.0.value) e.0.value r.0 r.1))
+
+  by_caller : (r : Result Process Errno) → ready_in ps pid ≡ r → Agrees (r >>= (λ p. of_key (at p.descriptors fd))) (shown_in r >>= (λ p. side_end side s p fd))
+  by_caller (Err e) h = refl
+  by_caller (Ok p) h = by_key (pid - 1) p (place_is ps pid p h) (at p.descriptors fd) refl
+
+  both_find : (r : Result Description Errno) → end_in side ps ds pid fd ≡ r → Agrees r (ready s pid >>= (λ p. side_end side s p fd))
+  both_find r h =
+      subst (λ x. Agrees x (ready s pid >>= (λ p. side_end side s p fd))) h
+      (subst (λ x. Agrees (end_in side ps ds pid fd) (x >>= (λ p. side_end side s p fd))) (sym (ready_shown f ps ds pipes files files_made pid)) (by_caller (ready_in ps pid) refl))
+
+  -- The machine refuses what the tables refuse
+  pub refused : (err : Errno) → end_in side ps ds pid fd ≡ Err err → (ready s pid >>= (λ p. side_end side s p fd)) ≡ Err err
+  refused err h = both_find (Err err) h
+
+  -- and finds what they find
+  pub found : (d : Description) → end_in side ps ds pid fd ≡ Ok d → Found f side ps ds pipes files files_made pid fd d
+  found d h = let w = both_find (Ok d) h in record { pipe = w.0; stands = w.1; is = w.2; caller = by_row (ready_in ps pid) refl h }
+    where
+      by_row : (r : Result Process Errno) → ready_in ps pid ≡ r → (r >>= (λ p. of_key (at p.descriptors fd))) ≡ Ok d → IsOk (ready_in ps pid)
+      by_row (Err e) c g = absurd (cc)
+      by_row (Ok p) c g = ap is_ok c
+
+  -- the counts of a pipe are the machine's
+  pub counted : (n place : ℕ) (r : Pipe) → at pipes n ≡ Some (place, r) → (readers s n ≡ r.readers) × (writers s n ≡ r.writers)
+  counted n place r h =
+      let row = subst (UsedRow (read_by ds n + 0) (written_by ds n + 0)) h (t.uses n) in
+      (omega (arith, row.0, readers_shown ps ds pipes files files_made n), omega (arith, row.1, writers_shown ps ds pipes files files_made n))

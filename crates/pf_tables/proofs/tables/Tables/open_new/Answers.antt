@@ -1,0 +1,48 @@
+use Rattle.std.proofs.Common.{◌∙◌, length, ap, arith}
+use Rattle.pf_fds.specs.Descriptions.{Descriptions}
+use Rattle.pf_tables.specs.Meaning.{Namespace}
+use Rattle.pf_tables.specs.Opened.{counted}
+use Rattle.pf_tables.specs.Rows.{Description, Pipe, idle}
+use Rattle.pf_tables.proofs.Founding as lemmas
+use Rattle.pf_tables.proofs.Joining as joining
+use Rattle.pf_tables.proofs.Opening.{total_is}
+use Rattle.pf_tables.proofs.tables.Tables.open_new.Goals as goal
+
+pub make_fifo-requires-clause-room : goal.make_fifo-requires-clause-room
+make_fifo-requires-clause-room g c =
+    let all = total_is (g.F.Frames.live c.args.door.now) c.self.invariant.kept c.self.view_is in
+    let same = ap (λ (n : Namespace). n.limits.reserve) c.self.view_is in
+    let slots = ap (λ (p : Pipe). p.ring.capacity) (c.count.ensures ∙ ap (counted c.args.access) c.in_ok-pipe.ensures) in
+    omega (arith, all, same, slots, c.requires.room)
+
+pub make_fifo-requires-clause-unspent : goal.make_fifo-requires-clause-unspent
+make_fifo-requires-clause-unspent g c =
+    lemmas.unspent-pipes (g.F.Frames.live c.args.door.now) _ _ _ _ _ _ c.self.invariant _ c.self.view_is c.args.pid c.args.access c.args.file c.requires.may c.args.slots c.requires.slots
+
+pub invariant_of-self-in_err-key : goal.invariant_of-self-in_err-key
+invariant_of-self-in_err-key g c =
+    lemmas.whole-alike c.in_err-key.ensures.pages (ap (λ (x : Descriptions Description). x.items) c.in_ok-reserve.ensures.rest) c.in_err-key.ensures.pipes c.in_err-key.ensures.fifos c.self.invariant
+
+pub describe-requires-clause-spare : goal.describe-requires-clause-spare
+describe-requires-clause-spare g c = joining.has_free (g.F.Frames.live c.args.door.now) _ _ _ _ _ _ c.self.invariant _ c.self.view_is c.args.pid c.args.access c.args.file c.requires.may
+
+pub describe-requires-clause-unspent : goal.describe-requires-clause-unspent
+describe-requires-clause-unspent g c =
+    let same = ap (λ (x : Descriptions Description). length x.items) c.in_ok-reserve.ensures.rest in
+    let few = joining.unspent (g.F.Frames.live c.args.door.now) _ _ _ _ _ _ c.self.invariant _ c.self.view_is c.args.pid c.args.access c.args.file c.requires.may in
+    omega (arith, same, few)
+
+pub invariant_of-self-2 : goal.invariant_of-self-2
+invariant_of-self-2 g c =
+    let z = rw (ap (λ (x : Descriptions Description). x.items) c.in_ok-reserve.ensures.rest, c.end.ensures, c.before-kept.ensures, c.in_ok-pipe.ensures) at c.describe.ensures in
+    let pipe = c.count.ensures ∙ ap (counted c.args.access) c.in_ok-pipe.ensures in
+    let made = rw (pipe) at c.in_ok-key.ensures.made in
+    let charged = rw (pipe) at c.in_ok-key.ensures.charged in
+    lemmas.founded-whole (g.F.Frames.live c.args.door.now) _ _ _ _ _ _ c.self.invariant _ c.self.view_is c.args.pid c.args.access c.args.file c.requires.may c.args.slots c.requires.slots (idle c.in-Ok.process.now) c.in-Ok.ensures c.in_ok-key.key made.k_is c.requires.sided _ _ _ z _ _ _ made c.requires.closed charged
+
+pub returns-clause-opened : goal.returns-clause-opened
+returns-clause-opened g c =
+    let z = rw (ap (λ (x : Descriptions Description). x.items) c.in_ok-reserve.ensures.rest, c.end.ensures, c.before-kept.ensures, c.in_ok-pipe.ensures) at c.describe.ensures in
+    let pipe = c.count.ensures ∙ ap (counted c.args.access) c.in_ok-pipe.ensures in
+    let made = rw (pipe) at c.in_ok-key.ensures.made in
+    lemmas.founded-opened (g.F.Frames.live c.args.door.now) _ _ _ _ _ _ c.self.invariant _ c.self.view_is c.args.pid c.args.access c.args.file c.requires.may c.args.slots c.requires.slots (idle c.in-Ok.process.now) c.in-Ok.ensures c.in_ok-key.key made.k_is c.requires.sided _ _ _ z c.requires.owns c.requires.room c.requires.closed _ _ c.in_ok-key.ensures.charged.limits made.stored

@@ -1,0 +1,11 @@
+use Rattle.std.proofs.Common.{◌≡◌, Bool, false, Some, None, IfSome, set, sym, ap, subst, ◌∙◌, if◌then◌else◌}
+use Rattle.std.proofs.lemmas.List.{set-set}
+use Rattle.pf_tables.specs.Rows.{Pipe, with_fewer, is_used, left}
+use Rattle.pf_tables.proofs.tables.descriptors.drop_end.Goals as goal
+
+pub returns-clause-items : goal.returns-clause-items
+returns-clause-items c =
+    let unused : is_used (with_fewer c.args.end c.value_mut-pipe.result.now) ≡ false = ap is_used (sym c.uncount.ensures) ∙ sym c.is_open.ensures ∙ c.if-is_open.false in
+    let none : left c.args.end c.value_mut-pipe.result.now ≡ None = ap (λ (b : Bool). if b then Some (c.args.end.pipe.place, with_fewer c.args.end c.value_mut-pipe.result.now) else None) unused in
+    subst (λ o. IfSome o (λ (p : Pipe). c.remove.new.self.items ≡ set c.args.pipes.now.items c.args.end.pipe.serial (left c.args.end p))) (sym c.value_mut-pipe.ensures.value)
+    (c.remove.ensures.items ∙ set-set c.args.pipes.now.items c.args.end.pipe.serial _ None ∙ ap (set c.args.pipes.now.items c.args.end.pipe.serial) (sym none))

@@ -1,0 +1,139 @@
+-- What an open of a FIFO does to the tables and tells.
+
+use Rattle.std.specs.Prelude.{◌≡◌, ℕ, ◌+◌, ◌-◌, ◌<◌, ⊤, Bool, not, ◌&&◌, List, [], ◌∷◌, ◌++◌, length, Option, Some, None, nat_eq, nat_le, if◌then◌else◌, Result, Ok, Err}
+use Rattle.std.specs.Map.{lookup}
+use Rattle.pf_base.specs.Refusals.{◌>>=◌, ◌>>◌, refuse_if}
+use Rattle.pf_base.specs.Limits.{Limits}
+use Rattle.pf_base.specs.Queue.{Queue}
+use Rattle.pf_base.specs.Calls.{Opening}
+use Rattle.pf_base.specs.Capacities.{told_as}
+use Rattle.pf_base.specs.Numbered.{put_at, change_at, first_free, one_if}
+use Rattle.pf_base.specs.State as machine
+use Rattle.pf_base.specs.State.{State, Outcome, ready, living}
+use Rattle.pf_base.specs.Pipes.{is_spent, capacity_for}
+use Rattle.pf_base.specs.Attempts.{Waits, attempt, given}
+use Rattle.pf_base.specs.Opens.{Access, openable, is_waiting, fifo_pipe, fifo_readers, open_fifo}
+use Rattle.pf_base.specs.declared.TheConstants.{MAX_DESCRIPTORS}
+use Rattle.pf_base.specs.declared.errno.Errno.{Errno}
+use Rattle.pf_base.specs.declared.errno.Errno.TheVariants.{EMFILE, ENXIO, ENFILE, ENOMEM}
+use Rattle.pf_base.specs.declared.fault.Fault.{Fault}
+use Rattle.pf_base.specs.declared.fault.Fault.TheVariants as faults
+use Rattle.pf_base.specs.declared.step.Reply.TheVariants.{Num, Parked}
+use Rattle.pf_frame.specs.Live.{Live}
+use Rattle.pf_parked.specs.declared.call.Call.TheVariants.{Open}
+use Rattle.pf_tables.specs.declared.tables.opens.Access.{Access as Stored}
+use Rattle.pf_tables.specs.Meaning.{Namespace}
+use Rattle.pf_tables.specs.Rows.{ProcessRows, DescriptionRows, PipeRows, Key, Process, Description, Pipe, process_in}
+use Rattle.pf_tables.specs.Tables.{Tells}
+
+-- How a FIFO is opened
+
+abbrev pub access_seen : Stored → Access
+access_seen a = record { reads = a.reads; writes = a.writes; nonblock = a.nonblock }
+
+abbrev pub waits : Stored → ℕ → ℕ → Bool
+waits a readers writers = is_waiting (access_seen a) readers writers
+
+-- how often the other side of a pipe was opened than that which an end is for
+abbrev pub other_opens : Bool → Pipe → ℕ
+other_opens reads p = if reads then p.opens.write else p.opens.read
+
+-- the same, where an open of it waits
+abbrev pub before : Stored → Pipe → Option ℕ
+before a p = if waits a p.readers p.writers then Some (other_opens a.reads p) else None
+
+-- a pipe with the ends of one open more
+abbrev pub counted : Stored → Pipe → Pipe
+counted a p = record p {
+  readers = p.readers + one_if a.reads;
+  writers = p.writers + one_if a.writes;
+  opens = record p.opens { read = p.opens.read + one_if a.reads; write = p.opens.write + one_if a.writes };
+}
+
+-- the description that it makes
+abbrev pub end_of : Stored → Key → Description
+end_of a k = record { pipe = k; reads = a.reads; writes = a.writes; nonblocking = a.nonblock }
+
+-- What the machine says of it
+
+-- the number of the FIFO at a path
+abbrev pub fifo_named : State Queue → ℕ → List ℕ → Access → Result ℕ Errno
+fifo_named s pid path a = do
+  p ← ready s pid
+  f ← openable s.files p.cred path a
+  Ok f.number
+
+-- nobody reads it, and it is opened for writing alone, with O_NONBLOCK
+abbrev pub lacks_readers : State Queue → Access → ℕ → Bool
+lacks_readers s a file = a.writes && not a.reads && a.nonblock && nat_eq (fifo_readers s (fifo_pipe s file)) 0
+
+-- why a process may not open it, whoever has it open
+abbrev pub may_open : State Queue → ℕ → Access → ℕ → Result (Unit {0}) Errno
+may_open s pid a file = do
+  p ← ready s pid
+  refuse_if (nat_le MAX_DESCRIPTORS (first_free p.descriptors)) EMFILE
+  refuse_if (lacks_readers s a file) ENXIO
+  refuse_if (is_spent s.descriptions 1) ENFILE
+
+-- how many slots its pipe gets, where it has none
+abbrev pub fifo_capacity : Limits → State Queue → ℕ → Result ℕ Errno
+fifo_capacity c s pid = do
+  p ← ready s pid
+  refuse_if (is_spent s.pipes 1) ENFILE
+  told_as ENOMEM (capacity_for c s p.cred)
+
+abbrev pub opening : Limits → State Queue → ℕ → Access → ℕ → Result Outcome Errno
+opening c s pid a file = ready s pid >>= (λ p. open_fifo c s pid p a file)
+
+-- it was opened at a descriptor, or its process waits; or its refusal is the machine's; or memory was wanted
+abbrev pub HasOpened : Live → Namespace → Namespace → Result (Option ℕ) Fault → Result Outcome Errno → Type 0
+HasOpened f old new (Ok (Some fd)) machine = Tells f old new machine (Num fd)
+HasOpened f old new (Ok None) machine = Tells f old new machine Parked
+HasOpened f old new (Err (faults.Errno e)) machine = machine ≡ Err e
+HasOpened f old new (Err faults.NoMemory) machine = ⊤
+
+-- The rows
+
+-- a process that has a description at its lowest free descriptor, or waits in the open that has made it
+abbrev pub taking : Option ℕ → Key → Process → Process
+taking None k p = record p { descriptors = put_at p.descriptors (first_free p.descriptors) k }
+taking (Some kept) k p = record p { parked = Some (Open k kept) }
+
+-- which descriptor it is told
+abbrev pub told_at : Option ℕ → Process → Option ℕ
+told_at None p = Some (first_free p.descriptors)
+told_at (Some kept) p = None
+
+-- its lowest free descriptor is one
+abbrev pub HasFree : ProcessRows → ℕ → Type 0
+HasFree ps pid = (p : Process) → process_in ps pid ≡ Ok p → first_free p.descriptors < MAX_DESCRIPTORS
+
+-- one description more, which has one name
+pub record Describes (ps ps' : ProcessRows) (ds ds' : DescriptionRows) (pid : ℕ) (end : Description) (kept fd : Option ℕ) : Type 0 where
+  pub k : Key
+  pub k_is : k.serial ≡ length ds
+  pub described : ds' ≡ ds ++ Some (k.place, record { value = end; names = 1 }) ∷ []
+  pub seated : ps' ≡ change_at (taking kept k) ps (pid - 1)
+  pub p : Process
+  pub is : process_in ps pid ≡ Ok p
+  pub told : fd ≡ told_at kept p
+
+-- the same FIFOs have keys
+abbrev pub SameKeys : List (ℕ × Key) → List (ℕ × Key) → Type 0
+SameKeys es fs = (n : ℕ) → lookup (nat_eq n) fs ≡ lookup (nat_eq n) es
+
+-- one pipe more, and its FIFO's key
+pub record MakesFifo (pipes pipes' : PipeRows) (es fs : List (ℕ × Key)) (pipe : Pipe) (file : ℕ) (k : Key) : Type 0 where
+  pub k_is : k.serial ≡ length pipes
+  pub stored : pipes' ≡ pipes ++ Some (k.place, pipe) ∷ []
+  pub keys : (n : ℕ) → lookup (nat_eq n) fs ≡ (if nat_eq file n then Some k else lookup (nat_eq n) es)
+
+-- Whether the open in which a process waits is over: the other side was opened after it parked
+
+pub record IsOver (s : State Queue) (pid : ℕ) (over : Bool) : Type 0 where
+  pub p : machine.Process
+  pub n : ℕ
+  pub before : ℕ
+  pub lives : living s pid ≡ Ok p
+  pub waits : p.parked ≡ Some (Opening n before)
+  pub is : attempt s pid p (Opening n before) ≡ Ok (if over then given s pid p n else Waits s (Opening n before))

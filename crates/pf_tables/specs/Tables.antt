@@ -1,0 +1,243 @@
+-- What the calls of the tables do, in terms of the lone machine's state.
+
+use Rattle.std.specs.Prelude.{◌≡◌, ℕ, ◌*◌, ◌<◌, ◌≤◌, ⊤, ◌||◌, length, nat_lt, if◌then◌else◌, Bool, true, false, List, Option, Some, None, Result, Ok, Err, nat_le, nat_eq}
+use Rattle.std.specs.Map.{lookup}
+use Rattle.std.specs.Option.{option_and_then}
+use Rattle.pf_base.specs.Refusals.{◌>>=◌, refuse_if, or_refuse}
+use Rattle.pf_base.specs.FileMap.{Files}
+use Rattle.pf_base.specs.Queue.{Queue, empty}
+use Rattle.pf_base.specs.Numbered.{at, clear_at, change_at, first_free, keep}
+use Rattle.pf_base.specs.Calls.{Call, Opening, Moving}
+use Rattle.pf_base.specs.State.{State, Process, Pipe, Outcome, living, ready, end_of, told, with_process, change_process, without_process, with_descriptor, waiting}
+use Rattle.pf_base.specs.Processes.{fork}
+use Rattle.pf_base.specs.Descriptors.{named, dup, without_descriptor, with_flag}
+use Rattle.pf_base.specs.Sweep.{sweep}
+use Rattle.pf_base.specs.FileCalls as calls
+use Rattle.pf_base.specs.Files.{make, unlink, rmdir, chmod}
+use Rattle.pf_base.specs.declared.meta.Kind.{Kind}
+use Rattle.pf_base.specs.declared.meta.Meta.{Meta}
+use Rattle.pf_base.specs.Pipes.{first_descriptor, second_descriptor, is_spent, capacity_for, set_size, opened}
+use Rattle.pf_base.specs.Capacities.{may_grow, told_as}
+use Rattle.pf_base.specs.Limits.{Limits}
+use Rattle.pf_base.specs.declared.TheConstants.{PAGE_SIZE, MAX_DESCRIPTORS}
+use Rattle.pf_base.specs.declared.errno.Errno.{Errno}
+use Rattle.pf_base.specs.declared.errno.Errno.TheVariants.{EMFILE, ENFILE, EPERM, EBUSY, EINVAL}
+use Rattle.pf_base.specs.declared.fault.Fault.{Fault}
+use Rattle.pf_base.specs.declared.fault.Fault.TheVariants as faults
+use Rattle.pf_base.specs.declared.step.Reply.{Reply}
+use Rattle.pf_base.specs.declared.step.Reply.TheVariants.{Num, Pid}
+use Rattle.pf_limits.specs.UserPages.{UserPages, charged_to}
+use Rattle.pf_frame.specs.Live.{Live}
+use Rattle.pf_ring.specs.Ring.{Ring}
+use Rattle.pf_tables.specs.Meaning.{Namespace, meaning}
+use Rattle.pf_tables.specs.Rows as rows
+use Rattle.pf_tables.specs.Rows.{ProcessRows, DescriptionRows, PipeRows, state_of, Tied}
+use Rattle.pf_tables.specs.Recharging.{Recharges}
+use Rattle.pf_tables.specs.Told.{Becomes}
+
+-- a process without its first n descriptors
+abbrev pub empty_first : ℕ → Process → Process
+empty_first n p = record p { descriptors = keep (λ fd. nat_le n fd) p.descriptors }
+
+module _ {Q : Type 0} where
+  -- the description's number at a descriptor of the process in place i
+  abbrev pub descriptor : State Q → ℕ → ℕ → Option ℕ
+  descriptor s i fd = option_and_then (λ p. at p.descriptors fd) (at s.processes i)
+
+  -- the process in place i has no descriptor fd
+  abbrev pub emptied : State Q → ℕ → ℕ → State Q
+  emptied s i fd = record s { processes = change_at (without_descriptor fd) s.processes i }
+
+  -- no process is in place i
+  abbrev pub without_place : State Q → ℕ → State Q
+  without_place s i = record s { processes = clear_at s.processes i }
+
+  -- the process in place i has none of its first n descriptors
+  abbrev pub without_first : State Q → ℕ → ℕ → State Q
+  without_first s i n = record s { processes = change_at (empty_first n) s.processes i }
+
+-- a process whose call is over: the description that an open made gets the lowest free descriptor
+abbrev pub over : Option Call → Process → Process
+over (Some (Opening n kept)) p = waiting None (with_descriptor (first_free p.descriptors) n p)
+over _ p = waiting None p
+
+abbrev pub woken : Process → Process
+woken p = over p.parked p
+
+abbrev pub awoken : {Q : Type 0} → State Q → ℕ → State Q
+awoken s pid = change_process woken s pid
+
+-- the lowest free descriptor of a process
+abbrev pub HasLowest : State Queue → ℕ → ℕ → Type 0
+HasLowest s pid fd = (p : Process) → living s pid ≡ Ok p → fd ≡ first_free p.descriptors
+
+-- whether the call in which a process waits is an open; or why it waits in none
+abbrev pub is_open : Call → Bool
+is_open (Opening n kept) = true
+is_open (Moving call) = false
+
+abbrev pub waits_in_open : State Queue → ℕ → Result Bool Errno
+waits_in_open s pid = do
+  p ← living s pid
+  call ← or_refuse EINVAL p.parked
+  Ok (is_open call)
+
+-- a process that waits in no call loses a descriptor; one that lives goes
+abbrev pub closed : State Queue → ℕ → ℕ → Result (State Queue) Errno
+closed s pid fd = do
+  p ← ready s pid
+  n ← named p fd
+  Ok (with_process s pid (without_descriptor fd p))
+
+abbrev pub exited : State Queue → ℕ → Result (State Queue) Errno
+exited s pid = do
+  p ← living s pid
+  Ok (without_process s pid)
+
+-- such a process gets a child
+abbrev pub forked : State Queue → ℕ → Result Outcome Errno
+forked s pid = ready s pid >>= (λ p. fork s p)
+
+-- its lowest free descriptor names what another one names
+abbrev pub duped : State Queue → ℕ → ℕ → Result Outcome Errno
+duped s pid fd = ready s pid >>= (λ p. dup s pid p fd)
+
+-- the description that its descriptor names gets O_NONBLOCK, or loses it
+abbrev pub flagged : State Queue → ℕ → ℕ → Bool → Result (State Queue) Errno
+flagged s pid fd on = do
+  p ← ready s pid
+  n ← named p fd
+  Ok (with_flag s n on)
+
+-- a process lives and waits in no call, and these are its two lowest free descriptors
+pub record HasTwo (s : State Queue) (pid : ℕ) (free : ℕ × ℕ) : Type 0 where
+  pub p : Process
+  pub lives : ready s pid ≡ Ok p
+  pub first : free.0 ≡ first_descriptor p
+  pub second : free.1 ≡ second_descriptor p
+  pub within : free.1 < MAX_DESCRIPTORS
+
+-- or this is why it has not two
+abbrev pub FindsTwo : State Queue → ℕ → Result (ℕ × ℕ) Errno → Type 0
+FindsTwo s pid (Ok free) = HasTwo s pid free
+FindsTwo s pid (Err e) = (ready s pid >>= (λ p. refuse_if (nat_le MAX_DESCRIPTORS (second_descriptor p)) EMFILE)) ≡ Err e
+
+-- two more descriptions, or one more pipe, would pass the last number to draw
+abbrev pub is_spent_for_pipe : {Q : Type 0} → State Q → Bool
+is_spent_for_pipe s = is_spent s.descriptions 2 || is_spent s.pipes 1
+
+-- how many slots a new pipe of the process of a pid gets, or why it gets none
+abbrev pub capacity_of_caller : Limits → State Queue → ℕ → Result ℕ Errno
+capacity_of_caller c s pid = do
+  p ← ready s pid
+  told_as ENFILE (capacity_for c s p.cred)
+
+-- the capacity in bytes of the pipe that a process's descriptor names
+abbrev pub size_of_end : State Queue → ℕ → ℕ → Result ℕ Errno
+size_of_end s pid fd = do
+  p ← ready s pid
+  e ← end_of s p fd
+  Ok (PAGE_SIZE * e.pipe.queue.capacity)
+
+-- a call that gives it another one
+abbrev pub sized : Limits → State Queue → ℕ → ℕ → ℕ → Result Outcome Errno
+sized c s pid fd bytes = ready s pid >>= (λ p. set_size c s p fd bytes)
+
+-- it was made, and this is told
+pub record Tells (f : Live) (old new : Namespace) (machine : Result Outcome Errno) (reply : Reply) : Type 0 where
+  pub state : State Queue
+  pub is : machine ≡ Ok (told state reply)
+  pub becomes : Becomes f f old new state
+
+-- or its refusal is the machine's
+abbrev pub HasDuped : Live → Namespace → Namespace → Result ℕ Errno → Result Outcome Errno → Type 0
+HasDuped f old new (Ok to) machine = Tells f old new machine (Num to)
+HasDuped f old new (Err e) machine = machine ≡ Err e
+
+-- or memory was wanted
+abbrev pub HasResized : Live → Namespace → Namespace → Result ℕ Fault → Result Outcome Errno → Type 0
+HasResized f old new (Ok size) machine = Tells f old new machine (Num size)
+HasResized f old new (Err (faults.Errno e)) machine = machine ≡ Err e
+HasResized f old new (Err faults.NoMemory) machine = ⊤
+
+abbrev pub HasForked : Live → Namespace → Namespace → Result ℕ Fault → Result Outcome Errno → Type 0
+HasForked f old new (Ok pid) machine = Tells f old new machine (Pid pid)
+HasForked f old new (Err (faults.Errno e)) machine = machine ≡ Err e
+HasForked f old new (Err faults.NoMemory) machine = ⊤
+
+-- a call on files that is told nothing but that it was made; or its refusal is the machine's; or memory was wanted
+abbrev pub HasFiled : Live → Namespace → Namespace → Result (Unit {0}) Fault → Result Outcome Errno → Type 0
+HasFiled f old new (Ok made) machine = Tells f old new machine (Num 0)
+HasFiled f old new (Err (faults.Errno e)) machine = machine ≡ Err e
+HasFiled f old new (Err faults.NoMemory) machine = ⊤
+
+abbrev pub making : Kind → State Queue → ℕ → List ℕ → ℕ → Result Outcome Errno
+making kind s pid path bits = ready s pid >>= (λ p. make kind s p path bits)
+
+abbrev pub unlinking : State Queue → ℕ → List ℕ → Result Outcome Errno
+unlinking s pid path = ready s pid >>= (λ p. unlink s p path)
+
+abbrev pub removing : State Queue → ℕ → List ℕ → Result Outcome Errno
+removing s pid path = ready s pid >>= (λ p. rmdir s p path)
+
+abbrev pub remoding : State Queue → ℕ → List ℕ → ℕ → Result Outcome Errno
+remoding s pid path bits = ready s pid >>= (λ p. chmod s p path bits)
+
+-- what is known of a file, and the names in a directory, as a process is told them
+abbrev pub known : State Queue → ℕ → List ℕ → Result Meta Errno
+known s pid path = ready s pid >>= (λ p. calls.stat s.files p.cred path)
+
+abbrev pub names_in : State Queue → ℕ → List ℕ → Result (List ℕ) Errno
+names_in s pid path = ready s pid >>= (λ p. calls.list s.files p.cred path)
+
+-- whether a pipe of an owner with so many pages may have so many slots
+abbrev pub verdict : UserPages → Bool → rows.Pipe → ℕ → Result (Unit {0}) Errno
+verdict u privileged p to =
+    if nat_lt p.ring.capacity to
+    then told_as EPERM (may_grow u.limits privileged (charged_to u p.owner) u.total p.ring.capacity to)
+    else refuse_if (nat_lt to (length p.ring.windows)) EBUSY
+
+-- a pipe has so many slots, and its owner is charged with them; or it has not, and nobody is charged otherwise
+pub record Resizes (u v : UserPages) (p q : rows.Pipe) (privileged : Bool) (to : ℕ) : Type 0 where
+  pub may : verdict u privileged p to ≡ Ok tt
+  pub pipe : q ≡ record p { ring = record { capacity = to; windows = p.ring.windows } }
+  pub fits : length p.ring.windows ≤ to
+  pub charges : Recharges u v p.owner p.ring.capacity to
+
+pub record Refuses (u v : UserPages) (p q : rows.Pipe) : Type 0 where
+  pub pipe : q ≡ p
+  pub charges : Recharges u v p.owner 0 0
+
+abbrev pub Resizing : UserPages → UserPages → rows.Pipe → rows.Pipe → Bool → ℕ → Result (Unit {0}) Fault → Type 0
+Resizing u v p q privileged to (Ok done) = Resizes u v p q privileged to
+Resizing u v p q privileged to (Err (faults.Errno e)) = (verdict u privileged p to ≡ Err e) × Refuses u v p q
+Resizing u v p q privileged to (Err faults.NoMemory) = Refuses u v p q
+
+-- one more pipe, of so many slots, owned by a process that has its two ends
+pub record Opens (f : Live) (old new : Namespace) (pid : ℕ) (nonblocking : Bool) (slots : ℕ) : Type 0 where
+  pub p : Process
+  pub lives : ready (meaning f old.state) pid ≡ Ok p
+  pub becomes : Becomes f f old new (opened (meaning f old.state) pid nonblocking (empty slots) p)
+
+-- the rows that are left are tied, and show the state without a descriptor and without what nobody can reach any more
+pub record Left (ps : ProcessRows) (ds : DescriptionRows) (pipes : PipeRows) (ps' : ProcessRows) (ds' : DescriptionRows) (pipes' : PipeRows) (i fd : ℕ) : Type 0 where
+  pub tied : Tied ps' ds' pipes'
+  pub state : (files : Files) (files_made : ℕ)
+      → state_of ps' ds' pipes' files files_made ≡ sweep (emptied (state_of ps ds pipes files files_made) i fd)
+
+-- which pipe went, if one did
+abbrev pub LetsGo : List (Option (Pipe Ring)) → List (Option (Pipe Ring)) → Option rows.Pipe → Type 0
+LetsGo old new None = new ≡ old
+LetsGo old new (Some pipe) = (n : ℕ) × (at old n ≡ Some (rows.pipe_shown pipe)) × (new ≡ clear_at old n)
+
+-- and what it was open with
+abbrev pub LetsGoOpens : List (Option (ℕ × rows.Opens)) → List (Option (ℕ × rows.Opens)) → Option rows.Pipe → Type 0
+LetsGoOpens old new None = new ≡ old
+LetsGoOpens old new (Some pipe) =
+    (n : ℕ) × (place : ℕ) × (at old n ≡ Some (place, pipe.opens)) × (new ≡ clear_at old n)
+
+-- a FIFO's key is there no more, and the others are
+abbrev pub Forgets : Option ℕ → List (ℕ × rows.Key) → List (ℕ × rows.Key) → Type 0
+Forgets None old new = new ≡ old
+Forgets (Some file) old new =
+    (n : ℕ) → lookup (nat_eq n) new ≡ (if nat_eq file n then None else lookup (nat_eq n) old)

@@ -1,0 +1,157 @@
+-- What a call of a namespace does over the frames of its door, and what it is told.
+
+use Rattle.std.specs.Prelude.{◌≡◌, ℕ, ◌<◌, ◌⊎◌, Bool, false, List, length, Option, Some, None, take, ⊤, Result, Ok, Err}
+use Rattle.pf_base.specs.Refusals.{◌>>=◌}
+use Rattle.pf_base.specs.Queue.{Queue}
+use Rattle.pf_base.specs.Progress.{moved}
+use Rattle.pf_base.specs.Calls.{Transfer, Call, Moving}
+use Rattle.pf_base.specs.State.{State, Process, Outcome, told, ready, change_process, waiting}
+use Rattle.pf_base.specs.Transfers.{Tried, tried}
+use Rattle.pf_base.specs.Attempts.{attempt, first, is_nonblocking, transfer}
+use Rattle.pf_base.specs.Machine.{swept}
+use Rattle.pf_base.specs.Sweep.{sweep}
+use Rattle.pf_base.specs.declared.errno.Errno.{Errno}
+use Rattle.pf_base.specs.declared.errno.Errno.TheVariants.{EPIPE}
+use Rattle.pf_base.specs.declared.fault.Fault.{Fault}
+use Rattle.pf_base.specs.declared.fault.Fault.TheVariants as faults
+use Rattle.pf_base.specs.declared.progress.Progress.{Progress}
+use Rattle.pf_base.specs.declared.progress.Progress.TheVariants.{Moved, WouldBlock, EndOfFile, NoReader}
+use Rattle.pf_base.specs.declared.step.Reply.{Reply}
+use Rattle.pf_base.specs.declared.step.Reply.TheVariants as replies
+use Rattle.pf_base.specs.declared.step.Reply.TheVariants.{Parked}
+use Rattle.pf_frame.specs.Live.{Live}
+use Rattle.pf_tables.specs.declared.tables.transfers.Taken.{Taken}
+use Rattle.pf_tables.specs.Meaning.{Namespace, meaning}
+use Rattle.pf_tables.specs.Owns.{Owns}
+
+-- Changes
+
+-- the live frames are the namespace's own again, and its state is this one, without what nobody can reach any more
+pub record Becomes (f g : Live) (old new : Namespace) (s : State Queue) : Type 0 where
+  pub owns : Owns g new
+  pub limits : new.limits ≡ old.limits
+  pub state : meaning g new.state ≡ sweep s
+
+-- the state is as it was
+pub record Stays (f g : Live) (old new : Namespace) : Type 0 where
+  pub owns : Owns g new
+  pub limits : new.limits ≡ old.limits
+  pub state : meaning g new.state ≡ meaning f old.state
+
+-- a change is the machine's, or its refusal is, and then the state is as it was
+abbrev pub Leaves : {X : Type 0} → Live → Live → Namespace → Namespace → Result X Errno → Result (State Queue) Errno → Type 0
+Leaves f g old new (Ok x) machine = (s : State Queue) × (machine ≡ Ok s) × Becomes f g old new s
+Leaves f g old new (Err e) machine = (machine ≡ Err e) × Stays f g old new
+
+-- Transfers
+
+-- a transfer that a process tries
+abbrev pub attempted : State Queue → ℕ → Transfer → Result Tried Errno
+attempted s pid call = ready s pid >>= (λ p. tried s p call)
+
+-- a call that tries it, where this says whether it is nonblocking
+abbrev pub tried_call : State Queue → ℕ → Bool → Transfer → Result Outcome Errno
+tried_call s pid nonblock call = ready s pid >>= (λ p. attempt s pid p (Moving call) >>= first pid nonblock)
+
+-- whether the description at a descriptor of a process has O_NONBLOCK
+abbrev pub flag_of : State Queue → ℕ → Result Process Errno → Bool
+flag_of s fd (Ok p) = is_nonblocking s p fd
+flag_of s fd (Err e) = false
+
+abbrev pub is_nonblocking_at : State Queue → ℕ → ℕ → Bool
+is_nonblocking_at s pid fd = flag_of s fd (ready s pid)
+
+-- and its call whole, where this is the step's own flag
+abbrev pub transferred : State Queue → ℕ → Bool → Transfer → Result Outcome Errno
+transferred s pid flag call = ready s pid >>= (λ p. transfer s pid p flag call)
+
+-- it came so far, moved these bytes, and left this state, without what nobody can reach any more
+pub record Came (g : Live) (new : Namespace) (machine : Result Tried Errno) (progress : Progress) (bytes : List ℕ) : Type 0 where
+  pub tried : Tried
+  pub is : machine ≡ Ok tried
+  pub progress_is : tried.progress ≡ progress
+  pub bytes_are : tried.bytes ≡ bytes
+  pub state : meaning g new.state ≡ sweep tried.state
+
+-- the same where the bytes stay in the pipes
+pub record Arrived (g : Live) (new : Namespace) (machine : Result Tried Errno) (progress : Progress) : Type 0 where
+  pub tried : Tried
+  pub is : machine ≡ Ok tried
+  pub progress_is : tried.progress ≡ progress
+  pub state : meaning g new.state ≡ sweep tried.state
+
+-- a transfer came as far as the machine's, or its refusal is the machine's
+abbrev pub Wrote : Live → Namespace → List ℕ → Result Progress Errno → Result Tried Errno → Type 0
+Wrote g new x (Ok progress) machine = Came g new machine progress (take (moved progress) x)
+Wrote g new x (Err e) machine = machine ≡ Err e
+
+abbrev pub HasRead : Live → Namespace → Result Taken Fault → Result Tried Errno → Type 0
+HasRead g new (Ok t) machine = Came g new machine t.progress t.bytes.items
+HasRead g new (Err (faults.Errno e)) machine = machine ≡ Err e
+HasRead g new (Err faults.NoMemory) machine = ⊤
+
+abbrev pub HasCrossed : Live → Namespace → Result Progress Errno → Result Tried Errno → Type 0
+HasCrossed g new (Ok progress) machine = Arrived g new machine progress
+HasCrossed g new (Err e) machine = machine ≡ Err e
+
+-- a write that was done at once came to its end; where it would wait, nothing was done
+abbrev pub IsDone : Progress → ℕ → Type 0
+IsDone progress number = (progress ≡ Moved number) ⊎ (progress ≡ NoReader)
+
+abbrev pub IsShort : Progress → ℕ → Type 0
+IsShort (Moved n) number = n < number
+IsShort WouldBlock number = ⊤
+IsShort EndOfFile number = ⊥
+IsShort NoReader number = ⊥
+
+pub record Stops (machine : Result Tried Errno) (number : ℕ) : Type 0 where
+  pub tried : Tried
+  pub is : machine ≡ Ok tried
+  pub short : IsShort tried.progress number
+
+abbrev pub HasWritten : Live → Namespace → List ℕ → Result (Option Progress) Errno → Result Tried Errno → Type 0
+HasWritten g new x (Ok (Some progress)) machine = Came g new machine progress (take (moved progress) x) × IsDone progress (length x)
+HasWritten g new x (Ok None) machine = Stops machine (length x)
+HasWritten g new x (Err e) machine = machine ≡ Err e
+
+-- what a write is told that came to its end at once
+abbrev pub write_ended : Progress → Result Reply Fault
+write_ended (Moved n) = Ok (replies.Num n)
+write_ended WouldBlock = Err (faults.Errno EPIPE)
+write_ended EndOfFile = Err (faults.Errno EPIPE)
+write_ended NoReader = Err (faults.Errno EPIPE)
+
+-- Waiting
+
+-- a process waits in a call, or in none, and nothing else has changed
+abbrev pub waits_in : Option Call → Namespace → ℕ → Namespace
+waits_in call n pid = record n { state = change_process (waiting call) n.state pid }
+
+-- Steps
+
+abbrev pub settled : Result Outcome Errno → Result Outcome Errno
+settled (Ok o) = Ok (swept o)
+settled (Err e) = Err e
+
+-- the reply and the state after are the machine's; or the refusal is, and the state is as it was; or memory was wanted,
+-- and nothing has changed
+abbrev pub Says : Live → Live → Namespace → Namespace → Result Reply Fault → Result Outcome Errno → Type 0
+Says f g old new (Ok reply) machine = settled machine ≡ Ok (record { state = meaning g new.state; reply = reply })
+Says f g old new (Err (faults.Errno e)) machine = (machine ≡ Err e) × (meaning g new.state ≡ meaning f old.state)
+Says f g old new (Err faults.NoMemory) machine = (new ≡ old) × (g ≡ f)
+
+pub record Told (f g : Live) (old new : Namespace) (result : Result Reply Fault) (machine : Result Outcome Errno) : Type 0 where
+  pub owns : Owns g new
+  pub limits : new.limits ≡ old.limits
+  pub says : Says f g old new result machine
+
+-- the machine's call leaves its process waiting
+pub record Parks (machine : Result Outcome Errno) : Type 0 where
+  pub state : State Queue
+  pub is : machine ≡ Ok (told state Parked)
+
+-- the answer to a call that was resumed: a refusal ends it too, and is its reply
+abbrev pub ended : Result Reply Fault → Result Reply Fault
+ended (Ok reply) = Ok reply
+ended (Err (faults.Errno e)) = Ok (replies.Err e)
+ended (Err faults.NoMemory) = Err faults.NoMemory

@@ -1,0 +1,182 @@
+//! Descriptors: what gives a description one name more, what sets its flag, and what drops a name. Where a
+//! description's last name goes, so does its end of the pipe; where a pipe's last end goes, so does the pipe: its slots
+//! are released, and its pages are charged no more.
+
+ghost use Rattle.std.specs.Prelude.{◌≡◌, ℕ, ◌+◌, ◌<◌, ◌≤◌, None, IsSome, IfSome, OnErr, length, slice_set};
+ghost use Rattle.pf_base.specs.Machine.{call_of};
+ghost use Rattle.pf_base.specs.Numbered.{at, one_if};
+ghost use Rattle.pf_fds.specs.Registry.{find};
+ghost use Rattle.pf_tables.specs.Meaning.{meaning};
+ghost use Rattle.pf_tables.specs.Owns.{Owns};
+ghost use Rattle.pf_tables.specs.Rows.{with_fewer, left, gone, opens_of, pipes_of, state_of, Tied};
+ghost use Rattle.pf_tables.specs.Tables.{closed, descriptor, duped, emptied, flagged, without_place};
+ghost use Rattle.pf_tables.specs.Tables.{Forgets, HasDuped, Left, LetsGo, LetsGoOpens};
+ghost use Rattle.pf_tables.specs.Told.{Becomes, Leaves};
+
+use super::{Description, Tables, key_of};
+use crate::process_table::ProcessTable;
+use pf_base::{Errno, MAX_DESCRIPTORS, Side};
+use pf_fds::{Descriptions, Key, Registry};
+use pf_frame::Frames;
+use pf_pipe::Pipe;
+use std::alloc::Allocator;
+use std::collections::HashMap;
+
+// Counts an end of a pipe no more.
+fn uncount(pipe: &mut Pipe, end: Description)
+    requires reads { one_if end.reads ≤ pipe.old.readers }
+    requires writes { one_if end.writes ≤ pipe.old.writers }
+    ensures { pipe.new ≡ with_fewer end pipe.old }
+{
+    if end.reads {
+        pipe.drop_end(Side::Read);
+    }
+    if end.writes {
+        pipe.drop_end(Side::Write);
+    }
+}
+
+// Takes an end from its pipe. The pipe goes where that was its last, and is given out.
+fn drop_end(pipes: &mut Registry<Pipe>, end: Description) -> Option<Pipe>
+    requires stands { IsSome (find pipes.old.items end.pipe.place end.pipe.serial) }
+    requires counted { IfSome (find pipes.old.items end.pipe.place end.pipe.serial)
+        (λ p. (one_if end.reads ≤ p.readers) × (one_if end.writes ≤ p.writers)) }
+    ensures items { IfSome (find pipes.old.items end.pipe.place end.pipe.serial)
+        (λ p. pipes.new.items ≡ slice_set pipes.old.items end.pipe.serial (left end p)) }
+    ensures pipe { IfSome (find pipes.old.items end.pipe.place end.pipe.serial) (λ p. result ≡ gone end p) }
+{
+    let pipe = pipes.value_mut(end.pipe);
+    uncount(pipe, end);
+    if pipe.is_open() {
+        return None;
+    }
+    Some(pipes.remove(end.pipe))
+}
+
+// Drops a descriptor of the process in a place, if there is one, and what nobody can reach any more. A pipe that goes is
+// given out.
+fn let_go(
+    processes: &mut ProcessTable,
+    descriptions: &mut Descriptions<Description>,
+    pipes: &mut Registry<Pipe>,
+    i: usize,
+    fd: usize,
+) -> Option<Pipe>
+    requires { Tied processes.old descriptions.old.items pipes.old.items }
+    ensures left { Left processes.old descriptions.old.items pipes.old.items
+        processes.new descriptions.new.items pipes.new.items i fd }
+    ensures pipe { LetsGo (pipes_of pipes.old.items) (pipes_of pipes.new.items) result }
+    ensures opens { LetsGoOpens (opens_of pipes.old.items) (opens_of pipes.new.items) result }
+    ensures drawn { length descriptions.new.items ≡ length descriptions.old.items }
+{
+    let key = processes.take_key(i, fd)?;
+    let end = descriptions.unname(key)?;
+    drop_end(pipes, end)
+}
+
+// Takes the key of a pipe that goes out of those of the FIFOs, where it is a FIFO's.
+fn forget(fifos: &mut HashMap<u64, Key>, file: Option<u64>)
+    ensures { Forgets file fifos.old.entries fifos.new.entries }
+{
+    if let Some(file) = file {
+        fifos.remove(&file);
+    }
+}
+
+impl<A: Allocator> Tables<A> {
+    // Drops a descriptor of the process in a place, if there is one, and what nobody can reach any more.
+    pub(super) fn empty<F: Frames>(&mut self, door: &mut F, i: usize, fd: usize)
+        requires fact { F.fact door.old }
+        requires owns { Owns (F.live door.old) self.old }
+        ensures fact { F.fact door.new }
+        ensures rest { F.rest door.new ≡ F.rest door.old }
+        ensures emptied { Becomes (F.live door.old) (F.live door.new) self.old self.new
+            (emptied (meaning (F.live door.old) self.old.state) i fd) }
+    {
+        let _ = &self.pages;
+        let gone = let_go(
+            &mut self.processes,
+            &mut self.descriptions,
+            &mut self.pipes,
+            i,
+            fd,
+        );
+        if let Some(mut pipe) = gone {
+            self.pages.refund(pipe.owner(), pipe.slots() as u32);
+            forget(&mut self.fifos, pipe.file());
+            pipe.clear(door);
+        }
+    }
+
+    /// Gives the description that a process's descriptor names one name more, the lowest free descriptor (dup(2)), and
+    /// tells which that is.
+    pub fn dup<F: Frames>(&mut self, door: &F, pid: u32, fd: u32) -> Result<u32, Errno>
+        requires owns { Owns (F.live door.now) self.old }
+        ensures duped { HasDuped (F.live door.now) self.old self.new result
+            (duped (meaning (F.live door.now) self.old.state) pid fd) }
+        ensures refused { OnErr result (self.new ≡ self.old) }
+    {
+        let _door = door;
+        let key = key_of(&self.processes, pid, fd)?;
+        let to = self.processes.ready(pid)?.descriptors.lowest();
+        if to >= MAX_DESCRIPTORS {
+            return Err(Errno::EMFILE);
+        }
+        self.descriptions.name(key);
+        self.processes.give_key(pid as usize - 1, to, key);
+        Ok(to as u32)
+    }
+
+    /// Sets O_NONBLOCK of the description that a process's descriptor names, or takes it away. Whatever else names the
+    /// description sees it.
+    pub fn set_nonblocking<F: Frames>(
+        &mut self,
+        door: &F,
+        pid: u32,
+        fd: u32,
+        on: bool,
+    ) -> Result<(), Errno>
+        requires owns { Owns (F.live door.now) self.old }
+        ensures left { Leaves (F.live door.now) (F.live door.now) self.old self.new result
+            (flagged (meaning (F.live door.now) self.old.state) pid fd on) }
+    {
+        let _door = door;
+        let end = self
+            .descriptions
+            .value_mut(key_of(&self.processes, pid, fd)?);
+        end.nonblocking = on;
+        Ok(())
+    }
+
+    /// Drops a process's descriptor (close(2)), and what nobody can reach any more.
+    pub fn drop_descriptor<F: Frames>(
+        &mut self,
+        door: &mut F,
+        pid: u32,
+        fd: u32,
+    ) -> Result<(), Errno>
+        requires fact { F.fact door.old }
+        requires owns { Owns (F.live door.old) self.old }
+        ensures fact { F.fact door.new }
+        ensures rest { F.rest door.new ≡ F.rest door.old }
+        ensures left { Leaves (F.live door.old) (F.live door.new) self.old self.new result
+            (closed (meaning (F.live door.old) self.old.state) pid fd) }
+    {
+        key_of(&self.processes, pid, fd)?;
+        self.empty(door, pid as usize - 1, fd as usize);
+        Ok(())
+    }
+
+    // Takes a process away that has no descriptors, and waits in no call.
+    pub(super) fn take_process<F: Frames>(&mut self, door: &F, i: usize)
+        requires i_in { i < 256 }
+        requires owns { Owns (F.live door.now) self.old }
+        requires bare { (fd : ℕ) → descriptor self.old.state i fd ≡ None }
+        requires awake { call_of self.old.state (i + 1) ≡ None }
+        ensures gone { Becomes (F.live door.now) (F.live door.now) self.old self.new
+            (without_place (meaning (F.live door.now) self.old.state) i) }
+    {
+        let _door = door;
+        self.processes.take(i);
+    }
+}

@@ -1,0 +1,397 @@
+//! Opens of FIFOs (open(2), fifo(7)): a FIFO has a pipe while somebody has it open, which its first opener is charged
+//! with.
+
+ghost use Rattle.std.specs.Prelude.{◌≡◌, ◌+◌, ◌-◌, ◌^◌, ◌<◌, ◌≤◌, [], false, true, None, Some, Ok, Err, IsSome, is_some, IsOk, IfOk, OnOk, OnErr, length, nat_lt};
+ghost use Rattle.pf_base.specs.Opens.{has_flag, access_of, fifo_pipe, fifo_readers};
+ghost use Rattle.pf_base.specs.Numbered.{one_if};
+ghost use Rattle.pf_base.specs.State.{ready};
+ghost use Rattle.pf_base.specs.Counts.{total};
+ghost use Rattle.pf_limits.specs.UserPages.{charged_to, Charges};
+ghost use Rattle.pf_pipe.specs.Pipe.{unopened};
+ghost use Rattle.pf_tables.specs.Meaning.{meaning};
+ghost use Rattle.pf_tables.specs.Owns.{Owns};
+ghost use Rattle.pf_tables.specs.Rows.{ready_in};
+ghost use Rattle.pf_tables.specs.Opened.{access_seen, counted, waits, before, other_opens, lacks_readers, end_of};
+ghost use Rattle.pf_tables.specs.Opened.{fifo_named, may_open, fifo_capacity, opening};
+ghost use Rattle.pf_tables.specs.Opened.{HasOpened, HasFree, Describes, SameKeys, MakesFifo, IsOver};
+ghost use Rattle.pf_tables.specs.Tables.{waits_in_open};
+ghost use Rattle.pf_walk.specs.Told.{Told};
+
+use super::pipes::insert_named;
+use super::{Description, Tables};
+use crate::process_table::ProcessTable;
+use bitflags::Flags;
+use pf_base::{Errno, Fault, MAX_DESCRIPTORS, OpenFlags, Side};
+use pf_fds::{Descriptions, Key, Registry};
+use pf_frame::Frames;
+use pf_limits::UserPages;
+use pf_parked::Call;
+use pf_pipe::Pipe;
+use std::alloc::{AllocError, Allocator, Global};
+use std::collections::HashMap;
+
+/// How a FIFO is opened: for which sides, and whether with O_NONBLOCK.
+#[derive(Clone, Copy)]
+pub struct Access {
+    reads: bool,
+    writes: bool,
+    nonblock: bool,
+}
+
+// Whether a bit of the flags is set.
+fn is_set(flags: OpenFlags, bit: u32) -> bool
+    requires { bit < 32 }
+    ensures { result ≡ has_flag flags.0 bit }
+{
+    (flags.bits() >> bit) % 2 == 1
+}
+
+impl Access {
+    /// What the flags of an open ask for.
+    pub fn new(flags: OpenFlags) -> Self
+        ensures { access_seen result ≡ access_of flags.0 }
+    {
+        Access {
+            reads: is_set(flags, 0),
+            writes: is_set(flags, 1),
+            nonblock: is_set(flags, 2),
+        }
+    }
+
+    // How often the other side of a pipe was opened, where an open of it waits.
+    fn before(self, pipe: &Pipe) -> Option<u64>
+        ensures { result ≡ before self pipe.now }
+    {
+        if self.waits(pipe.readers(), pipe.writers()) {
+            Some(other_opens(pipe, self.reads))
+        } else {
+            None
+        }
+    }
+
+    // The description that it makes of a pipe.
+    fn end(self, pipe: Key) -> Description
+        ensures { result ≡ end_of self pipe }
+    {
+        Description {
+            pipe,
+            reads: self.reads,
+            writes: self.writes,
+            nonblocking: self.nonblock,
+        }
+    }
+
+    // Whether an open waits, where so many ends read the pipe and so many write it (fifo(7)).
+    fn waits(self, readers: u64, writers: u64) -> bool
+        ensures { result ≡ waits self readers writers }
+    {
+        let others = if self.reads { writers } else { readers };
+        !self.nonblock && !(self.reads && self.writes) && others == 0
+    }
+}
+
+// How often the other side of a pipe was opened than that which an end is for.
+fn other_opens(pipe: &Pipe, reads: bool) -> u64
+    ensures { result ≡ other_opens reads pipe.now }
+{
+    if reads {
+        pipe.opens(Side::Write)
+    } else {
+        pipe.opens(Side::Read)
+    }
+}
+
+// Counts the ends that an open makes.
+fn count(pipe: &mut Pipe, access: Access)
+    requires readers { pipe.old.readers < 2 ^ 64 - 1 }
+    requires writers { pipe.old.writers < 2 ^ 64 - 1 }
+    requires read_opens { pipe.old.opens.read < 2 ^ 64 - 1 }
+    requires write_opens { pipe.old.opens.write < 2 ^ 64 - 1 }
+    ensures { pipe.new ≡ counted access pipe.old }
+{
+    if access.reads {
+        pipe.open_end(Side::Read);
+    }
+    if access.writes {
+        pipe.open_end(Side::Write);
+    }
+}
+
+// Makes the description that an open draws, with one name: the process's lowest free descriptor, which is told, or the
+// open itself where it waits.
+fn describe(
+    processes: &mut ProcessTable,
+    descriptions: &mut Descriptions<Description>,
+    pid: u32,
+    end: Description,
+    kept: Option<u64>,
+) -> Option<u32>
+    requires ready { IsOk (ready_in processes.old pid) }
+    requires spare { HasFree processes.old pid }
+    requires room { 0 < descriptions.old.room }
+    requires unspent { length descriptions.old.items < 2 ^ 64 - 1 }
+    ensures { Describes processes.old processes.new descriptions.old.items descriptions.new.items
+        pid end kept result }
+{
+    let description = insert_named(descriptions, end);
+    if let Some(kept) = kept {
+        processes.park(pid, Call::Open { description, kept });
+        return None;
+    }
+    let Ok(process) = processes.ready(pid) else {
+        unreachable!()
+    };
+    let fd = process.descriptors.lowest();
+    processes.give_key(pid as usize - 1, fd, description);
+    Some(fd as u32)
+}
+
+// A FIFO's first pipe, opened once. Where memory is refused, nothing has changed.
+fn make_fifo(
+    pages: &mut UserPages,
+    pipes: &mut Registry<Pipe>,
+    fifos: &mut HashMap<u64, Key>,
+    pipe: Pipe,
+    file: u64,
+) -> Result<Key, AllocError>
+    requires room { pages.old.total + pipe.ring.capacity ≤ pages.old.limits.reserve }
+    requires range { pipe.ring.capacity < 2 ^ 32 }
+    requires unspent { length pipes.old.items < 2 ^ 64 - 1 }
+    ensures made { IfOk result
+        (MakesFifo pipes.old.items pipes.new.items fifos.old.entries fifos.new.entries pipe file) }
+    ensures charged { OnOk result (Charges pages.old pages.new pipe.owner pipe.ring.capacity) }
+    ensures pages { OnErr result (pages.new ≡ pages.old) }
+    ensures pipes { OnErr result (pipes.new.items ≡ pipes.old.items) }
+    ensures fifos { OnErr result (SameKeys fifos.old.entries fifos.new.entries) }
+{
+    pipes.reserve(1)?;
+    fifos.reserve(1)?;
+    pages.charge(pipe.owner(), pipe.slots() as u32)?;
+    let key = pipes.insert_reserved(pipe);
+    let Ok(_) = fifos.insert(file, key) else {
+        unreachable!()
+    };
+    Ok(key)
+}
+
+impl<A: Allocator> Tables<A> {
+    /// The number of the FIFO at a path that a process may open so.
+    pub fn openable<F: Frames>(
+        &self,
+        door: &F,
+        alloc: Global,
+        pid: u32,
+        path: &[u8],
+        access: Access,
+    ) -> Result<u64, Fault>
+        ensures told { Told (λ file. file) result
+            (fifo_named (meaning (F.live door.now) self.now.state) pid path.now (access_seen access)) }
+        ensures sided { IfOk result (λ _. 0 < one_if access.reads + one_if access.writes) }
+        ensures ready { result ≡ Err Fault.NoMemory
+            → IsOk (ready (meaning (F.live door.now) self.now.state) pid) }
+    {
+        let _door = door;
+        let cred = &self.processes.ready(pid)?.cred;
+        match pf_walk::openable(
+            alloc,
+            self.files.tree(),
+            cred,
+            path,
+            access.reads,
+            access.writes,
+        ) {
+            Ok(file) => Ok(file.number),
+            Err(fault) => Err(fault),
+        }
+    }
+
+    // Why a process may not open a FIFO, whoever has it open.
+    fn may_open<F: Frames>(
+        &self,
+        door: &F,
+        pid: u32,
+        file: u64,
+        access: Access,
+    ) -> Result<(), Errno>
+        ensures { result ≡ may_open (meaning (F.live door.now) self.now.state) pid (access_seen access) file }
+    {
+        let _door = door;
+        if self.processes.ready(pid)?.descriptors.lowest() >= MAX_DESCRIPTORS {
+            return Err(Errno::EMFILE);
+        }
+        if self.lacks_readers(door, file, access) {
+            return Err(Errno::ENXIO);
+        }
+        if self.descriptions.drawn() == u64::MAX {
+            return Err(Errno::ENFILE);
+        }
+        Ok(())
+    }
+
+    // Whether nobody reads a FIFO that is opened for writing alone, with O_NONBLOCK.
+    fn lacks_readers<F: Frames>(&self, door: &F, file: u64, access: Access) -> bool
+        ensures { result
+            ≡ lacks_readers (meaning (F.live door.now) self.now.state) (access_seen access) file }
+    {
+        let _door = door;
+        access.writes && !access.reads && access.nonblock && self.fifo_readers(door, file) == 0
+    }
+
+    // How many ends read a FIFO's pipe, 0 where it has none.
+    fn fifo_readers<F: Frames>(&self, door: &F, file: u64) -> u64
+        ensures { let s = meaning (F.live door.now) self.now.state in
+            result ≡ fifo_readers s (fifo_pipe s file) }
+    {
+        let _door = door;
+        let Some(key) = self.fifos.get(&file) else {
+            return 0;
+        };
+        match self.pipes.get(*key) {
+            Some(pipe) => pipe.readers(),
+            None => 0,
+        }
+    }
+
+    // How many slots a FIFO's pipe gets that a process makes, or why it gets none.
+    fn fifo_capacity<F: Frames>(&self, door: &F, pid: u32) -> Result<u32, Errno>
+        ensures found { result
+            ≡ fifo_capacity self.now.limits (meaning (F.live door.now) self.now.state) pid }
+        ensures room { IfOk result
+            (λ slots. total (meaning (F.live door.now) self.now.state) + slots ≤ self.now.limits.reserve) }
+    {
+        let _door = door;
+        let cred = &self.processes.ready(pid)?.cred;
+        if self.pipes.drawn() == u64::MAX {
+            return Err(Errno::ENFILE);
+        }
+        match self.pages.new_capacity(cred.uid, cred.is_privileged()) {
+            Ok(slots) => Ok(slots),
+            Err(fault) => Err(fault.errno(Errno::ENOMEM)),
+        }
+    }
+
+    // Opens a FIFO that somebody has open. Where memory is refused, nothing has changed.
+    fn open_found<F: Frames>(
+        &mut self,
+        door: &F,
+        pid: u32,
+        file: u64,
+        access: Access,
+    ) -> Result<Option<u32>, Fault>
+        requires owns { Owns (F.live door.now) self.old }
+        requires may { may_open (meaning (F.live door.now) self.old.state) pid (access_seen access) file
+            ≡ Ok tt }
+        requires found { IsSome (fifo_pipe (meaning (F.live door.now) self.old.state) file) }
+        requires sided { 0 < one_if access.reads + one_if access.writes }
+        ensures opened { HasOpened (F.live door.now) self.old self.new result
+            (opening self.old.limits (meaning (F.live door.now) self.old.state) pid (access_seen access)
+            file) }
+        ensures refused { OnErr result (self.new ≡ self.old) }
+    {
+        let _door = door;
+        self.descriptions.reserve(1)?;
+        let Some(key) = self.fifos.get(&file).copied() else {
+            unreachable!()
+        };
+        let pipe = self.pipes.value_mut(key);
+        let kept = access.before(pipe);
+        count(pipe, access);
+        let (processes, descriptions) = (&mut self.processes, &mut self.descriptions);
+        Ok(describe(processes, descriptions, pid, access.end(key), kept))
+    }
+
+    // Opens a FIFO that nobody has open: its first opener is charged with its pipe. Where memory is refused, nothing has
+    // changed.
+    fn open_new<F: Frames>(
+        &mut self,
+        door: &F,
+        alloc: Global,
+        pid: u32,
+        file: u64,
+        access: Access,
+        slots: u32,
+    ) -> Result<Option<u32>, Fault>
+        requires owns { Owns (F.live door.now) self.old }
+        requires may { may_open (meaning (F.live door.now) self.old.state) pid (access_seen access) file
+            ≡ Ok tt }
+        requires closed { fifo_pipe (meaning (F.live door.now) self.old.state) file ≡ None }
+        requires slots { fifo_capacity self.old.limits (meaning (F.live door.now) self.old.state) pid
+            ≡ Ok slots }
+        requires room { total (meaning (F.live door.now) self.old.state) + slots ≤ self.old.limits.reserve }
+        requires sided { 0 < one_if access.reads + one_if access.writes }
+        ensures opened { HasOpened (F.live door.now) self.old self.new result
+            (opening self.old.limits (meaning (F.live door.now) self.old.state) pid (access_seen access)
+            file) }
+        ensures refused { OnErr result (self.new ≡ self.old) }
+    {
+        let _door = door;
+        let Ok(process) = self.processes.ready(pid) else {
+            unreachable!()
+        };
+        let mut pipe = Pipe::new(alloc, slots as usize, process.cred.uid, Some(file))?;
+        self.descriptions.reserve(1)?;
+        let kept = access.before(&pipe);
+        count(&mut pipe, access);
+        let key = make_fifo(
+            &mut self.pages,
+            &mut self.pipes,
+            &mut self.fifos,
+            pipe,
+            file,
+        )?;
+        let (processes, descriptions) = (&mut self.processes, &mut self.descriptions);
+        Ok(describe(processes, descriptions, pid, access.end(key), kept))
+    }
+
+    /// Opens a FIFO for a process: its lowest free descriptor names the description, or the process waits for the other
+    /// side. Where memory is refused, nothing has changed.
+    pub fn open<F: Frames>(
+        &mut self,
+        door: &F,
+        alloc: Global,
+        pid: u32,
+        file: u64,
+        access: Access,
+    ) -> Result<Option<u32>, Fault>
+        requires owns { Owns (F.live door.now) self.old }
+        requires sided { 0 < one_if access.reads + one_if access.writes }
+        ensures opened { HasOpened (F.live door.now) self.old self.new result
+            (opening self.old.limits (meaning (F.live door.now) self.old.state) pid (access_seen access)
+            file) }
+        ensures refused { OnErr result (self.new ≡ self.old) }
+    {
+        self.may_open(door, pid, file, access)?;
+        if self.has_pipe(door, file) {
+            return self.open_found(door, pid, file, access);
+        }
+        let slots = self.fifo_capacity(door, pid)?;
+        self.open_new(door, alloc, pid, file, access, slots)
+    }
+
+    // Whether somebody has a FIFO open.
+    fn has_pipe<F: Frames>(&self, door: &F, file: u64) -> bool
+        ensures { result ≡ is_some (fifo_pipe (meaning (F.live door.now) self.now.state) file) }
+    {
+        let _door = door;
+        self.fifos.contains_key(&file)
+    }
+
+    /// Whether the open in which a process waits is over: the other side was opened since, also where it was closed
+    /// again (fifo(7)).
+    pub fn open_is_over<F: Frames>(&self, door: &F, pid: u32) -> bool
+        requires { waits_in_open (meaning (F.live door.now) self.now.state) pid ≡ Ok true }
+        ensures { IsOver (meaning (F.live door.now) self.now.state) pid result }
+    {
+        let _door = door;
+        let Some(Call::Open { description, kept }) = self.processes.call(pid) else {
+            return false;
+        };
+        let Some(end) = self.descriptions.get(*description) else {
+            return false;
+        };
+        let Some(pipe) = self.pipes.get(end.pipe) else {
+            return false;
+        };
+        other_opens(pipe, end.reads) > *kept
+    }
+}

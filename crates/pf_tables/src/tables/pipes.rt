@@ -1,0 +1,223 @@
+//! Pipes: what makes one with its two ends.
+
+ghost use Rattle.std.specs.Prelude.{◌≡◌, ◌+◌, ◌-◌, ◌^◌, ◌<◌, ◌≤◌, false, Err, Some, None, IsOk, IfOk, OnOk, OnErr, slice_set, length, [], ◌∷◌, ◌++◌, not, ◌&&◌, nat_lt};
+ghost use Rattle.pf_base.specs.Numbered.{at};
+ghost use Rattle.pf_base.specs.Counts.{total};
+ghost use Rattle.pf_tables.specs.Meaning.{meaning};
+ghost use Rattle.pf_base.specs.State.{ready};
+ghost use Rattle.pf_limits.specs.UserPages.{charged_to};
+ghost use Rattle.pf_pipe.specs.Pipe.{unopened};
+ghost use Rattle.pf_tables.specs.Owns.{Owns};
+ghost use Rattle.pf_tables.specs.Tables.{HasTwo, FindsTwo, Opens, Resizing, HasResized, is_spent_for_pipe, capacity_of_caller, size_of_end, sized};
+
+use super::{Description, Tables, end};
+use pf_base::{Config, Errno, Fault, MAX_DESCRIPTORS, MAX_SIZE, PAGE_SIZE, Side, pages_for};
+use pf_fds::{Descriptions, Key};
+use pf_frame::Frames;
+use pf_limits::UserPages;
+use pf_pipe::Pipe;
+use std::alloc::{AllocError, Allocator, Global};
+
+// Makes a description that has one name: the key that is given out.
+pub(super) fn insert_named(descriptions: &mut Descriptions<Description>, end: Description) -> Key
+    requires room { 0 < descriptions.old.room }
+    requires unspent { length descriptions.old.items < 2 ^ 64 - 1 }
+    ensures serial { result.serial ≡ length descriptions.old.items }
+    ensures items { descriptions.new.items
+        ≡ descriptions.old.items ++ Some (result.place, record { value = end; names = 1 }) ∷ [] }
+    ensures room { descriptions.new.room + 1 ≡ descriptions.old.room }
+{
+    let key = descriptions.insert_reserved(end);
+    descriptions.name(key);
+    key
+}
+
+// A pipe with nothing in it that has an end of each side.
+fn two_ended(alloc: Global, slots: usize, owner: u32) -> Result<Pipe, AllocError>
+    requires { slots < 2 ^ 32 }
+    ensures { IfOk result (λ p. p ≡ record {
+      ring = record { capacity = slots; windows = [] };
+      owner = owner;
+      readers = 1;
+      writers = 1;
+      opens = unopened None;
+    }) }
+{
+    let mut pipe = Pipe::new(alloc, slots, owner, None)?;
+    pipe.add_end(Side::Read);
+    pipe.add_end(Side::Write);
+    Ok(pipe)
+}
+
+// Whether a capacity in bytes is above pipe-max-size, for a caller that is held to it.
+fn is_too_large(config: Config, privileged: bool, size: u64) -> bool
+    ensures { result ≡ not privileged && nat_lt config.max size }
+{
+    !privileged && size > config.max() as u64
+}
+
+// Gives a pipe another number of slots, as far as its owner may have them and its slots in use allow.
+fn resize(
+    pages: &mut UserPages,
+    pipe: &mut Pipe,
+    alloc: Global,
+    privileged: bool,
+    slots: u32,
+) -> Result<(), Fault>
+    requires covered { pipe.old.ring.capacity ≤ charged_to pages.old pipe.old.owner }
+    ensures { Resizing pages.old pages.new pipe.old pipe.new privileged slots result }
+{
+    let owner = pipe.owner();
+    let from = pipe.slots() as u32;
+    if slots <= from {
+        pipe.set_size(alloc, slots as usize)?;
+        pages.refund(owner, from - slots);
+        return Ok(());
+    }
+    if let Err(fault) = pages.may_grow(owner, privileged, from, slots) {
+        return Err(fault.errno(Errno::EPERM).into());
+    }
+    pages.charge(owner, slots - from)?;
+    if pipe.set_size(alloc, slots as usize).is_err() {
+        // It was memory that was refused: what is in use fits.
+        pages.refund(owner, slots - from);
+        return Err(Fault::NoMemory);
+    }
+    Ok(())
+}
+
+impl<A: Allocator> Tables<A> {
+    /// The two lowest free descriptors of a process, or why it has not two.
+    pub fn free_descriptors<F: Frames>(&self, door: &F, pid: u32) -> Result<(u32, u32), Errno>
+        ensures { FindsTwo (meaning (F.live door.now) self.now.state) pid result }
+    {
+        let _door = door;
+        let process = self.processes.ready(pid)?;
+        let first = process.descriptors.lowest();
+        if first >= MAX_DESCRIPTORS {
+            return Err(Errno::EMFILE);
+        }
+        let second = process.descriptors.next_lowest(first);
+        if second >= MAX_DESCRIPTORS {
+            return Err(Errno::EMFILE);
+        }
+        Ok((first as u32, second as u32))
+    }
+
+    /// Whether one more pipe with its two descriptions would need a number above the last one that may be
+    /// drawn.
+    pub fn is_spent<F: Frames>(&self, door: &F) -> bool
+        ensures { result ≡ is_spent_for_pipe (meaning (F.live door.now) self.now.state) }
+    {
+        let _door = door;
+        self.descriptions.drawn() > u64::MAX - 2 || self.pipes.drawn() > u64::MAX - 1
+    }
+
+    /// How many slots a new pipe of a process gets, or why it gets none.
+    pub fn new_capacity<F: Frames>(&self, door: &F, pid: u32) -> Result<u32, Errno>
+        ensures found { let state = meaning (F.live door.now) self.now.state in
+            result ≡ capacity_of_caller self.now.limits state pid }
+        ensures room { IfOk result
+            (λ slots. total (meaning (F.live door.now) self.now.state) + slots ≤ self.now.limits.reserve) }
+    {
+        let _door = door;
+        let cred = &self.processes.ready(pid)?.cred;
+        match self.pages.new_capacity(cred.uid, cred.is_privileged()) {
+            Ok(slots) => Ok(slots),
+            Err(fault) => Err(fault.errno(Errno::ENFILE)),
+        }
+    }
+
+    /// Makes a pipe of so many slots, owned by a process that has its two ends at its two lowest free
+    /// descriptors. Where memory is refused, nothing has changed.
+    pub fn open_pipe<F: Frames>(
+        &mut self,
+        door: &F,
+        alloc: Global,
+        pid: u32,
+        free: (u32, u32),
+        nonblocking: bool,
+        slots: u32,
+    ) -> Result<(), AllocError>
+        requires owns { Owns (F.live door.now) self.old }
+        requires free { HasTwo (meaning (F.live door.now) self.old.state) pid free }
+        requires unspent { is_spent_for_pipe (meaning (F.live door.now) self.old.state) ≡ false }
+        requires room { total (meaning (F.live door.now) self.old.state) + slots ≤ self.old.limits.reserve }
+        ensures made { OnOk result (Opens (F.live door.now) self.old self.new pid nonblocking slots) }
+        ensures refused { OnErr result (self.new ≡ self.old) }
+    {
+        let _door = door;
+        let Ok(process) = self.processes.ready(pid) else {
+            unreachable!()
+        };
+        let owner = process.cred.uid;
+        // What may be refused comes first.
+        let pipe = two_ended(alloc, slots as usize, owner)?;
+        self.descriptions.reserve(2)?;
+        self.pipes.reserve(1)?;
+        self.pages.charge(owner, slots)?;
+        let pipe = self.pipes.insert_reserved(pipe);
+        let reader = Description {
+            pipe,
+            reads: true,
+            writes: false,
+            nonblocking,
+        };
+        let writer = Description {
+            reads: false,
+            writes: true,
+            ..reader
+        };
+        let reading = insert_named(&mut self.descriptions, reader);
+        let writing = insert_named(&mut self.descriptions, writer);
+        let i = pid as usize - 1;
+        let (first, second) = (free.0 as usize, free.1 as usize);
+        self.processes.give_keys(i, first, reading, second, writing);
+        Ok(())
+    }
+
+    /// The capacity in bytes of the pipe that a process's descriptor names.
+    pub fn size<F: Frames>(&self, door: &F, pid: u32, fd: u32) -> Result<u64, Errno>
+        ensures { result ≡ size_of_end (meaning (F.live door.now) self.now.state) pid fd }
+    {
+        let _door = door;
+        let end = end(&self.processes, &self.descriptions, pid, fd, None)?;
+        let Some(pipe) = self.pipes.get(end.pipe) else {
+            return Err(Errno::EBADF);
+        };
+        Ok(pipe.slots() as u64 * PAGE_SIZE as u64)
+    }
+
+    /// Gives the pipe that a process's descriptor names the capacity that holds so many bytes, and tells it in bytes. Its
+    /// owner is charged with the pages by which it grows, and gets those back by which it shrinks.
+    pub fn set_size<F: Frames>(
+        &mut self,
+        door: &F,
+        alloc: Global,
+        pid: u32,
+        fd: u32,
+        bytes: u64,
+    ) -> Result<u64, Fault>
+        requires owns { Owns (F.live door.now) self.old }
+        ensures resized { HasResized (F.live door.now) self.old self.new result
+            (sized self.old.limits (meaning (F.live door.now) self.old.state) pid fd bytes) }
+        ensures ready { result ≡ Err Fault.NoMemory
+            → IsOk (ready (meaning (F.live door.now) self.old.state) pid) }
+        ensures refused { OnErr result (self.new ≡ self.old) }
+    {
+        let _door = door;
+        let end = end(&self.processes, &self.descriptions, pid, fd, None)?;
+        let privileged = self.processes.ready(pid)?.cred.is_privileged();
+        if bytes > MAX_SIZE {
+            return Err(Errno::EINVAL.into());
+        }
+        let slots = pages_for(bytes);
+        let size = slots * PAGE_SIZE as u64;
+        if is_too_large(self.pages.config(), privileged, size) {
+            return Err(Errno::EPERM.into());
+        }
+        let pipe = self.pipes.value_mut(end.pipe);
+        resize(&mut self.pages, pipe, alloc, privileged, slots as u32)?;
+        Ok(size)
+    }
+}

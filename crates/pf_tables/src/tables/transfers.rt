@@ -1,0 +1,188 @@
+//! Bytes into pipes, out of them and between them: one look-up for each end, and one borrow of the pipe that is found. Where
+//! there are two, one is taken out for as long.
+
+ghost use Rattle.std.specs.Prelude.{◌≡◌, ◌≤◌, Ok, Err, None, IfOk, IfSome, IsOk, OnErr, drop, length};
+ghost use Rattle.pf_base.specs.Calls.{Reading, Writing, Bringing};
+ghost use Rattle.pf_base.specs.Progress.{moved};
+ghost use Rattle.pf_base.specs.State.{ready};
+ghost use Rattle.pf_tables.specs.Meaning.{meaning};
+ghost use Rattle.pf_tables.specs.Owns.{Owns};
+ghost use Rattle.pf_tables.specs.Told.{attempted, is_nonblocking_at, HasRead, HasCrossed, HasWritten, Wrote};
+
+use super::{Tables, end, reading_end, writing_end};
+use pf_base::{Crossing, Errno, Fault, MAX_WRITE, PIPE_BUF, Progress};
+use pf_frame::Frames;
+use std::alloc::{Allocator, Global};
+
+/// What a read came to: how far, and the bytes.
+#[derive(Debug, Drop)]
+pub struct Taken {
+    /// How far it came.
+    pub progress: Progress,
+    /// The bytes that were taken.
+    pub bytes: Vec<u8>,
+}
+
+impl<A: Allocator> Tables<A> {
+    /// Whether the description that a process's descriptor names has O_NONBLOCK; false where it names none.
+    pub fn is_nonblocking<F: Frames>(&self, door: &F, pid: u32, fd: u32) -> bool
+        ensures { result ≡ is_nonblocking_at (meaning (F.live door.now) self.now.state) pid fd }
+    {
+        let _door = door;
+        match end(&self.processes, &self.descriptions, pid, fd, None) {
+            Ok(end) => end.nonblocking,
+            Err(_) => false,
+        }
+    }
+
+    /// Writes where the write comes to its end at once: all its bytes go in, or nobody reads them. Where it would wait, it
+    /// does nothing.
+    pub fn write_whole<F: Frames>(
+        &mut self,
+        door: &mut F,
+        pid: u32,
+        fd: u32,
+        bytes: &[u8],
+    ) -> Result<Option<Progress>, Errno>
+        requires fact { F.fact door.old }
+        requires owns { Owns (F.live door.old) self.old }
+        ensures fact { F.fact door.new }
+        ensures rest { F.rest door.new ≡ F.rest door.old }
+        ensures owns { Owns (F.live door.new) self.new }
+        ensures limits { self.new.limits ≡ self.old.limits }
+        // It came to the machine's end, or the machine's would wait, or is refused.
+        ensures written { HasWritten (F.live door.new) self.new bytes.now result
+            (attempted (meaning (F.live door.old) self.old.state) pid (Writing fd bytes.now 0)) }
+        // Where no byte went in, nothing has changed.
+        ensures untouched { IfOk result (λ done. IfSome done
+            (λ progress. moved progress ≡ 0 → (self.new ≡ self.old) × (door.new ≡ door.old))) }
+        // Where it would wait or is refused, nothing has changed.
+        ensures waits { result ≡ Ok None → (self.new ≡ self.old) × (door.new ≡ door.old) }
+        ensures refused { OnErr result ((self.new ≡ self.old) × (door.new ≡ door.old)) }
+    {
+        let end = writing_end(&self.processes, &self.descriptions, pid, fd)?;
+        if bytes.len() > MAX_WRITE {
+            return Err(Errno::EINVAL);
+        }
+        let whole = bytes.len() <= PIPE_BUF;
+        let pipe = self.pipes.value_mut(end.pipe);
+        if pipe.readers() > 0 && pipe.room() < bytes.len() {
+            return Ok(None);
+        }
+        Ok(Some(pipe.write_now(door, bytes, whole)))
+    }
+
+    /// Puts what is left of a write at the end of the pipe that a process's descriptor writes, as many bytes as go in now;
+    /// so many went in before.
+    pub fn write_now<F: Frames>(
+        &mut self,
+        door: &mut F,
+        pid: u32,
+        fd: u32,
+        bytes: &[u8],
+        written: usize,
+    ) -> Result<Progress, Errno>
+        requires written { written ≤ length bytes.now }
+        requires fact { F.fact door.old }
+        requires owns { Owns (F.live door.old) self.old }
+        ensures fact { F.fact door.new }
+        ensures rest { F.rest door.new ≡ F.rest door.old }
+        ensures owns { Owns (F.live door.new) self.new }
+        ensures limits { self.new.limits ≡ self.old.limits }
+        // It came as far as the machine's write, or is refused as that is.
+        ensures wrote { Wrote (F.live door.new) self.new (drop written bytes.now) result
+            (attempted (meaning (F.live door.old) self.old.state) pid (Writing fd bytes.now written)) }
+
+        // Where no byte went in, nothing has changed.
+        ensures untouched { IfOk result
+            (λ progress. moved progress ≡ 0 → (self.new ≡ self.old) × (door.new ≡ door.old)) }
+        ensures refused { OnErr result ((self.new ≡ self.old) × (door.new ≡ door.old)) }
+    {
+        let sink = writing_end(&self.processes, &self.descriptions, pid, fd)?;
+        if bytes.len() > MAX_WRITE {
+            return Err(Errno::EINVAL);
+        }
+        let whole = bytes.len() <= PIPE_BUF;
+        let pipe = self.pipes.value_mut(sink.pipe);
+        Ok(pipe.write_now(door, &bytes[written..], whole))
+    }
+
+    /// Takes at most n bytes from the front of the pipe that a process's descriptor reads. Their memory is made first,
+    /// at its exact size.
+    pub fn read_now<F: Frames>(
+        &mut self,
+        alloc: Global,
+        door: &mut F,
+        pid: u32,
+        fd: u32,
+        n: u64,
+    ) -> Result<Taken, Fault>
+        requires fact { F.fact door.old }
+        requires owns { Owns (F.live door.old) self.old }
+        ensures fact { F.fact door.new }
+        ensures rest { F.rest door.new ≡ F.rest door.old }
+        ensures owns { Owns (F.live door.new) self.new }
+        ensures limits { self.new.limits ≡ self.old.limits }
+        // It came as far as the machine's read, or is refused as that is, or memory was wanted for a process that
+        // lives.
+        ensures read { HasRead (F.live door.new) self.new result
+            (attempted (meaning (F.live door.old) self.old.state) pid (Reading fd n)) }
+        ensures ready { result ≡ Err Fault.NoMemory
+            → IsOk (ready (meaning (F.live door.old) self.old.state) pid) }
+
+        // Where no byte came out, nothing has changed.
+        ensures untouched { IfOk result
+            (λ t. moved t.progress ≡ 0 → (self.new ≡ self.old) × (door.new ≡ door.old)) }
+        ensures refused { OnErr result ((self.new ≡ self.old) × (door.new ≡ door.old)) }
+    {
+        let end = reading_end(&self.processes, &self.descriptions, pid, fd)?;
+        let pipe = self.pipes.value_mut(end.pipe);
+        let count = pipe.len().min(n as usize);
+        let mut bytes = Vec::with_capacity(alloc, count)?;
+        let progress = pipe.read_onto(door, n as usize, &mut bytes);
+        Ok(Taken { progress, bytes })
+    }
+
+    /// Brings at most n bytes from the front of the pipe that one descriptor of a process reads to the end of the pipe that
+    /// another one writes: a copy of them, or the bytes themselves.
+    // Inlined, it makes a write and a read slower by a third.
+    #[inline(never)]
+    pub fn cross_now<F: Frames>(
+        &mut self,
+        door: &mut F,
+        crossing: Crossing,
+        pid: u32,
+        source: u32,
+        sink: u32,
+        n: u64,
+    ) -> Result<Progress, Errno>
+        requires fact { F.fact door.old }
+        requires owns { Owns (F.live door.old) self.old }
+        ensures fact { F.fact door.new }
+        ensures rest { F.rest door.new ≡ F.rest door.old }
+        ensures owns { Owns (F.live door.new) self.new }
+        ensures limits { self.new.limits ≡ self.old.limits }
+        // It came as far as the machine's, or is refused as that is.
+        ensures crossed { HasCrossed (F.live door.new) self.new result
+            (attempted (meaning (F.live door.old) self.old.state) pid (Bringing crossing source sink n)) }
+
+        // No frame is taken or freed. Where no byte came, nothing has changed.
+        ensures takes { (F.live door.new).held ≡ (F.live door.old).held }
+        ensures untouched { IfOk result
+            (λ progress. moved progress ≡ 0 → (self.new ≡ self.old) × (door.new ≡ door.old)) }
+        ensures refused { OnErr result ((self.new ≡ self.old) × (door.new ≡ door.old)) }
+    {
+        let from = reading_end(&self.processes, &self.descriptions, pid, source)?;
+        let to = writing_end(&self.processes, &self.descriptions, pid, sink)?;
+        if from.pipe.serial == to.pipe.serial {
+            return Err(Errno::EINVAL);
+        }
+        // All slots together are within the reservation, which is far below the end of a count.
+        let _most = self.pages.config().reserve();
+        let mut taken = self.pipes.take_out(to.pipe);
+        let pipe = self.pipes.value_mut(from.pipe);
+        let progress = pipe.cross_now(door, crossing, &mut taken, n as usize);
+        self.pipes.put_back(to.pipe, taken);
+        Ok(progress)
+    }
+}
