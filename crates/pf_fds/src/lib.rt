@@ -8,8 +8,6 @@ mod marks;
 pub mod places;
 pub mod registry;
 pub mod table;
-#[cfg(test)]
-mod tests;
 
 pub use descriptions::{Descriptions, Named};
 pub use places::Places;

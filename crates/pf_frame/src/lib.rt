@@ -6,8 +6,6 @@ pub mod frame;
 pub mod frames;
 pub mod own;
 pub mod table;
-#[cfg(test)]
-mod tests;
 
 pub use fault::PoolFault;
 pub use frame::Frame;

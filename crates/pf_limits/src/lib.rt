@@ -3,8 +3,6 @@
 #![tactic(auto)]
 
 pub mod laws;
-#[cfg(test)]
-mod tests;
 pub mod user_pages;
 
 pub use pf_base::LimitFault;

@@ -3,8 +3,6 @@
 
 pub mod call;
 pub mod table;
-#[cfg(test)]
-mod tests;
 pub mod unfinished;
 
 pub use call::Call;

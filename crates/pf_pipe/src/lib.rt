@@ -2,7 +2,5 @@
 #![tactic(auto)]
 
 pub mod pipe;
-#[cfg(test)]
-mod tests;
 
 pub use pipe::Pipe;

@@ -5,12 +5,7 @@ mod engine;
 mod program;
 mod run;
 
-pub use engine::Options;
+pub use engine::{Options, frames_of};
 pub use pf_script::{Collected, Failed, INPUT_LIMIT, MemoryBytes, Reading, Sink, Source, Writing};
 pub use program::run_program;
 pub use run::{ReplayFault, Replayed, replay};
-
-#[cfg(test)]
-mod tests;
-#[cfg(test)]
-mod tests_rows;

@@ -4,4 +4,3 @@ pub mod Loops
 pub mod Queues
 pub mod Segments
 pub mod Shifting
-pub mod Pairs

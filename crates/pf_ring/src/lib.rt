@@ -2,8 +2,6 @@
 #![tactic(auto)]
 
 pub mod ring;
-#[cfg(test)]
-mod tests;
 mod windows;
 
 pub use ring::{SlotRing, Window};

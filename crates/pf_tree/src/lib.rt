@@ -3,8 +3,6 @@
 #![tactic(auto)]
 
 pub mod node;
-#[cfg(test)]
-mod tests;
 pub mod tree;
 
 pub use node::Node;

@@ -8,6 +8,8 @@ mod calls;
 #[cfg(test)]
 mod files;
 #[cfg(test)]
+mod fronts;
+#[cfg(test)]
 mod hosts;
 #[cfg(test)]
 mod hubs;
@@ -21,6 +23,8 @@ mod paths;
 mod pipes;
 #[cfg(test)]
 mod player;
+#[cfg(test)]
+mod replay;
 #[cfg(test)]
 mod sharing;
 #[cfg(test)]

@@ -6,8 +6,6 @@
 
 pub mod calls;
 pub mod resolution;
-#[cfg(test)]
-mod tests;
 mod walk;
 pub mod words;
 

@@ -1,0 +1,2 @@
+mod PipePairs
+mod RingPairs

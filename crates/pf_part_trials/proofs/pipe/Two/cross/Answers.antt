@@ -1,0 +1,18 @@
+use Rattle.std.proofs.Common.{[], ◌∷◌, arith}
+use Rattle.pf_frame.specs.Own.{own_live}
+use Rattle.pf_ring.specs.Table.{rings_stand}
+use Rattle.pf_part_trials.proofs.RingPairs.{shares_le}
+use Rattle.pf_part_trials.proofs.PipePairs.{crosses_joined}
+use Rattle.pf_part_trials.proofs.pipe.Two.cross.Goals as goal
+
+pub cross_now-requires-clause-stands : goal.cross_now-requires-clause-stands
+cross_now-requires-clause-stands c = rings_stand (own_live c.args.self.now.frames) (c.args.self.now.source.ring ∷ c.args.self.now.sink.ring ∷ []) 0 1 (λ e. omega arith) c.args.self.now.joined
+
+pub cross_now-requires-clause-few : goal.cross_now-requires-clause-few
+cross_now-requires-clause-few c = omega (arith, shares_le (own_live c.args.self.now.frames) c.args.self.now.source.ring c.args.self.now.sink.ring c.args.self.now.joined, c.args.self.now.few)
+
+pub invariant_of-self : goal.invariant_of-self
+invariant_of-self c = record {
+  joined = crosses_joined (own_live c.args.self.now.frames) _ c.args.self.now.source _ c.args.self.now.sink _ _ _ c.args.self.now.joined c.cross_now.ensures.crosses;
+  few = omega (arith, c.args.self.now.few, c.cross_now.ensures.crosses.source_is.capacity, c.cross_now.ensures.crosses.sink_is.capacity);
+}

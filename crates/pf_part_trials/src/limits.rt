@@ -1,0 +1,130 @@
+use pf_base::Config;
+use pf_limits::{LimitFault, UserPages};
+use std::alloc::AllocError;
+use std::test::Fail;
+
+// The user that asks, and another one.
+const USER: u32 = 5;
+
+const OTHER: u32 = 6;
+
+#[test]
+fn a_new_pipe_has_16_slots_or_1_or_is_refused(rt: HostRuntime) -> Result<(), Fail> {
+    use LimitFault::{Hard, Reserve};
+    for (soft, hard, own, others, privileged, want) in [
+        // The soft limit: one below, at its number, one above.
+        (17, 0, 0, 0, false, Ok(16)),
+        (17, 0, 1, 0, false, Ok(16)),
+        (17, 0, 2, 0, false, Ok(1)),
+        (17, 0, 2, 0, true, Ok(16)),
+        (0, 0, 40, 0, false, Ok(16)),
+        (17, 0, 1, 40, false, Ok(16)),
+        // The hard limit, with 16 slots and with 1.
+        (0, 17, 0, 0, false, Ok(16)),
+        (0, 17, 1, 0, false, Ok(16)),
+        (0, 17, 2, 0, false, Err(Hard)),
+        (0, 17, 2, 0, true, Ok(16)),
+        (17, 17, 16, 0, false, Ok(1)),
+        (17, 17, 17, 0, false, Err(Hard)),
+        // The reservation of 64 pages, with 16 slots and with 1.
+        (0, 0, 0, 47, false, Ok(16)),
+        (0, 0, 0, 48, false, Ok(16)),
+        (0, 0, 0, 49, false, Ok(1)),
+        (0, 0, 0, 49, true, Ok(1)),
+        (0, 0, 0, 63, true, Ok(1)),
+        (0, 0, 0, 64, false, Err(Reserve)),
+        (0, 0, 0, 64, true, Err(Reserve)),
+        // Both would be passed.
+        (0, 1, 1, 63, false, Err(Hard)),
+        (0, 1, 1, 63, true, Err(Reserve)),
+    ] {
+        let config = Config::new(64, soft, hard, Config::DEFAULT_MAX)?;
+        let mut pages = UserPages::new(rt.alloc(), &config);
+        assert!(rt; own <= 64 && others <= 64 - own && config.reserve() == 64);
+        pages.charge(USER, own)?;
+        assert!(rt; pages.total() == own);
+        pages.charge(OTHER, others)?;
+        assert_eq!(rt;
+            pages.new_capacity(USER, privileged),
+            want,
+            "{soft} {hard} {own} {others} {privileged}"
+        );
+    }
+    Ok(())
+}
+
+#[test]
+fn a_pipe_grows_as_far_as_its_owner_may(rt: HostRuntime) -> Result<(), Fail> {
+    use LimitFault::{Hard, Reserve, Soft};
+    for (soft, hard, others, privileged, to, want) in [
+        // The owner has 9 pages, of which this pipe has 1. The soft limit: one below, at its number, one above.
+        (17, 0, 0, false, 8, Ok(())),
+        (17, 0, 0, false, 9, Ok(())),
+        (17, 0, 0, false, 10, Err(Soft)),
+        (17, 0, 0, true, 10, Ok(())),
+        // The hard limit.
+        (0, 17, 0, false, 8, Ok(())),
+        (0, 17, 0, false, 9, Ok(())),
+        (0, 17, 0, false, 10, Err(Hard)),
+        (0, 17, 0, true, 10, Ok(())),
+        // The reservation of 64 pages.
+        (0, 0, 40, false, 15, Ok(())),
+        (0, 0, 40, false, 16, Ok(())),
+        (0, 0, 40, false, 17, Err(Reserve)),
+        (0, 0, 40, true, 17, Err(Reserve)),
+        // More than one would be passed.
+        (17, 17, 0, false, 10, Err(Soft)),
+        (17, 17, 0, false, 512, Err(Soft)),
+        (0, 17, 0, false, 512, Err(Hard)),
+        (17, 17, 0, true, u32::MAX, Err(Reserve)),
+    ] {
+        let config = Config::new(64, soft, hard, Config::DEFAULT_MAX)?;
+        let mut pages = UserPages::new(rt.alloc(), &config);
+        assert!(rt; others <= 55 && config.reserve() == 64);
+        pages.charge(USER, 9)?;
+        assert!(rt; pages.total() == 9);
+        pages.charge(OTHER, others)?;
+        assert!(rt; pages.charged(USER) == 9);
+        assert_eq!(rt;
+            pages.may_grow(USER, privileged, 1, to),
+            want,
+            "{soft} {hard} {others} {privileged} {to}"
+        );
+    }
+    Ok(())
+}
+
+#[test]
+fn a_user_stays_as_long_as_it_is_charged(rt: HostRuntime) -> Result<(), Fail> {
+    let config = Config::new(100, 0, 0, Config::DEFAULT_MAX)?;
+    let mut pages = UserPages::new(rt.alloc(), &config);
+    for uid in 0..20 {
+        assert!(rt; pages.total() == 2 * uid && config.reserve() == 100);
+        if pages.charge(uid, 2).is_err() {
+            // Nothing has changed.
+            assert_eq!(rt; (pages.users(), pages.total()), (uid as usize, 2 * uid));
+            assert_eq!(rt; pages.charged(uid), 0);
+            return Err(AllocError.into());
+        }
+    }
+    assert!(rt; pages.total() == 40 && pages.charged(7) == 2);
+    pages.charge(100, 0)?;
+    assert_eq!(rt; (pages.users(), pages.charged(100)), (20, 0));
+    assert!(rt; pages.charged(7) == 2);
+    pages.refund(7, 1);
+    assert!(rt; pages.charged(7) == 1);
+    assert_eq!(rt; (pages.users(), pages.total()), (20, 39));
+    pages.refund(7, 1);
+    assert_eq!(rt;
+        (
+            pages.users(),
+            pages.total(),
+            pages.charged(7),
+            pages.charged(8)
+        ),
+        (19, 38, 0, 2)
+    );
+    pages.refund(7, 0);
+    assert_eq!(rt; (pages.users(), pages.total()), (19, 38));
+    Ok(())
+}

@@ -1,0 +1,497 @@
+//! The replayer over readers and writers that fail, long inputs, and scripts that are refused.
+
+use pf_base::MAX_NAMESPACES;
+use pf_play::{
+    Collected, Failed, INPUT_LIMIT, MemoryBytes, Options, Reading, ReplayFault, Replayed, Sink,
+    Source, Writing, frames_of, replay,
+};
+use std::alloc::Global;
+use std::io::{self, ErrorKind, Read};
+use std::test::Fail;
+
+pub(crate) const OPTIONS: Options<'static> = Options {
+    only: None,
+    fill: 165,
+};
+
+/// Gives these bytes and then line feeds, a byte at a time, and fails at one read. Whoever asks it once more finds the
+/// end.
+#[derive(Debug, Drop)]
+struct Breaking {
+    front: &'static [u8],
+    fails_at: u32,
+    asked: u32,
+    failures: u64,
+}
+
+impl Source for Breaking {
+    ghost use Rattle.std.specs.Prelude.{None};
+
+    ghost input = { λ r. record { remaining = None; failures = r.failures } };
+
+    fn read(&mut self, buffer: &mut [u8]) -> Result<usize, Failed> {
+        self.asked = self.asked.saturating_add(1);
+        if self.asked == self.fails_at {
+            self.failures = self.failures.saturating_add(1);
+            return Err(Failed);
+        }
+        if self.asked > self.fails_at || buffer.is_empty() {
+            return Ok(0);
+        }
+        let (byte, rest) = self.front.split_first().unwrap_or((&b'\n', b""));
+        buffer[0] = *byte;
+        self.front = rest;
+        Ok(1)
+    }
+}
+
+/// Gives lines of comment as long as what it is asked for, but for its first byte and the last ones of the lines, as far
+/// as it has bytes left.
+#[derive(Debug, Drop)]
+struct Comments {
+    first: u8,
+    last: u8,
+    left: usize,
+}
+
+impl Source for Comments {
+    ghost use Rattle.std.specs.Prelude.{None};
+
+    ghost input = { λ _. record { remaining = None; failures = 0 } };
+
+    fn read(&mut self, buffer: &mut [u8]) -> Result<usize, Failed> {
+        let n = self.left.min(buffer.len());
+        let (front, _) = buffer.split_at_mut(n);
+        front.fill(b'#');
+        if let [first, .., last] = front {
+            *first = self.first;
+            *last = self.last;
+        }
+        self.first = b'#';
+        self.left -= n;
+        Ok(n)
+    }
+}
+
+/// Takes some bytes, one at a time, and then refuses once: it fails, or takes none. Whoever asks it once more finds
+/// that it takes all. It counts the strays: those that it takes and this text doesn't have at their place.
+#[derive(Debug, Drop)]
+pub(crate) struct Full {
+    text: &'static [u8],
+    room: u32,
+    fails: bool,
+    pub(crate) asked: u32,
+    pub(crate) strays: u32,
+    refusals: u64,
+}
+
+impl Full {
+    pub(crate) fn new(text: &'static [u8], room: u32, fails: bool) -> Self {
+        Full {
+            text,
+            room,
+            fails,
+            asked: 0,
+            strays: 0,
+            refusals: 0,
+        }
+    }
+}
+
+impl Sink for Full {
+    ghost use Rattle.std.specs.Prelude.{None};
+
+    ghost output = { λ w. record { contents = None; refusals = w.refusals } };
+
+    fn write(&mut self, bytes: &[u8]) -> Result<usize, Failed> {
+        let expected = self.text.get(self.asked as usize);
+        self.asked = self.asked.saturating_add(1);
+        if bytes.is_empty() {
+            return Ok(0);
+        }
+        if self.asked <= self.room {
+            self.strays = self
+                .strays
+                .saturating_add(u32::from(bytes.first() != expected));
+            return Ok(1);
+        }
+        if self.asked - self.room > 1 {
+            return Ok(bytes.len());
+        }
+        self.refusals = self.refusals.saturating_add(1);
+        if self.fails { Err(Failed) } else { Ok(0) }
+    }
+}
+
+/// A reader of std that gives some bytes a read, and fails at one read. Whoever asks it once more finds the end.
+#[derive(Debug, Drop)]
+struct Stopping<'a> {
+    rest: &'a [u8],
+    fails_at: u32,
+    asked: u32,
+}
+
+impl<'a> Read for Stopping<'a> {
+    fn read(&mut self, buffer: &mut [u8]) -> io::Result<usize> {
+        self.asked = self.asked.saturating_add(1);
+        if self.asked == self.fails_at {
+            return Err(io::Error::from(ErrorKind::Interrupted));
+        }
+        if self.asked > self.fails_at {
+            return Ok(0);
+        }
+        let n = self.rest.len().min(buffer.len()).min(1000);
+        let (front, back) = self.rest.split_at(n);
+        let (room, _) = buffer.split_at_mut(n);
+        room.copy_from_slice(front);
+        self.rest = back;
+        Ok(n)
+    }
+}
+
+/// Scripts that are refused for their lines before the steps, each with what is told.
+const REFUSED_OPENINGS: [(&str, &str); 29] = [
+    ("foo\n", "line 1: no pool"),
+    ("pool 4", "line 1: cut short"),
+    ("pool 4\n#", "line 2: cut short"),
+    ("\n# a\npool  4\n", "line 3: bad spacing"),
+    ("pool 4 \n", "line 1: bad spacing"),
+    (" pool 4\n", "line 1: bad spacing"),
+    ("space a 1\n", "line 1: no pool"),
+    ("pool 4\npool 4\n", "line 2: second pool"),
+    ("pool 4 4\n", "line 1: wrong words"),
+    ("pool 0\n", "line 1: bad number"),
+    ("pool 65537\n", "line 1: bad number"),
+    ("pool 04\n", "line 1: bad number"),
+    ("pool +4\n", "line 1: bad number"),
+    ("pool 4\nspace Red 1\n", "line 2: bad name"),
+    ("pool 4\nspace pool 1\n", "line 2: bad name"),
+    ("pool 4\nspace retire 1\n", "line 2: bad name"),
+    (
+        "pool 4\nspace abcdefghijabcdefghijabcdefghijabc 1\n",
+        "line 2: bad name",
+    ),
+    ("pool 4\nspace a 1\nspace a x\n", "line 3: name twice"),
+    ("pool 4\nspace a x\n", "line 2: bad number"),
+    ("pool 4\nspace a 1 2 3 65536 5\n", "line 2: wrong words"),
+    ("pool 4\nspace a 1 4294967296\n", "line 2: bad number"),
+    ("pool 4\nspace a 1 2 03\n", "line 2: bad number"),
+    ("pool 4\nspace a 5 2 3 65537\n", "line 2: bad number"),
+    (
+        "pool 4\nspace a 5 2 3 65536\n",
+        "line 2: reservations 5 exceed pool 4",
+    ),
+    (
+        "pool 32\nspace a 33\n",
+        "line 2: reservations 33 exceed pool 32",
+    ),
+    ("pool 4\na exit 1\n", "line 2: unknown namespace"),
+    (
+        "pool 32\nspace a 16\nspace b 17\n",
+        "line 3: reservations 33 exceed pool 32",
+    ),
+    (
+        "pool 16\nspace red 16\nred spawn 5 5 02",
+        "line 3: cut short",
+    ),
+    ("pool 4\nspace a 1\nspace a 1\n", "line 3: name twice"),
+];
+
+/// Lines that are refused behind a pool line and the space line of `a`, each with what is told.
+const REFUSED_STEPS: [(&str, &str); 43] = [
+    ("b fork 1", "unknown namespace"),
+    ("admit b 1", "unknown namespace"),
+    ("a", "wrong words"),
+    ("a jump 1", "unknown verb"),
+    ("a jump", "unknown verb"),
+    ("a fork", "wrong words"),
+    ("a exit 1 1", "wrong words"),
+    ("a exit 4294967296", "bad number"),
+    ("a exit 01", "bad number"),
+    ("a spawn 5 5 08", "bad number"),
+    ("a spawn 5 5 000777", "bad number"),
+    ("a spawn 5 5 00777 5,", "bad number"),
+    ("a pipe 1 m", "bad flags"),
+    ("a pipe x m", "bad number"),
+    ("a nonblock 1 0 yes", "bad flags"),
+    ("a nonblock 1 x yes", "bad number"),
+    ("a tee 1 0 3 5 m", "bad flags"),
+    ("a splice 1 0 3 x m", "bad number"),
+    ("a read 1 0 18446744073709551616", "bad number"),
+    ("a setsize 1 0", "wrong words"),
+    ("a getsize 1 0 0", "wrong words"),
+    ("a mkdir 1 /d 0800", "bad number"),
+    ("a mkdir 1 /d 000755", "bad number"),
+    ("a mkfifo 1 /d 10000", "bad number"),
+    ("a list 1", "wrong words"),
+    ("a open 1 /f", "wrong words"),
+    ("a open 1 /f r n", "wrong words"),
+    ("a open 1 /f nr", "bad flags"),
+    ("a open 1 /f n", "bad flags"),
+    ("a open 1 /f wr", "bad flags"),
+    ("a open 1 /f rwnn", "bad flags"),
+    ("a open 1 /f R", "bad flags"),
+    ("a open x /f nr", "bad number"),
+    ("a resume", "wrong words"),
+    ("a resume 1 1", "wrong words"),
+    ("a resume 01", "bad number"),
+    ("a write 1 1 abc", "bad data"),
+    ("a write 1 1 0*61", "bad data"),
+    ("a write 1 1 2097153*61", "bad data"),
+    ("a write 1 1 04*61", "bad data"),
+    ("a write 1 1 4*6", "bad data"),
+    ("a write 1 1 4*61*61", "bad data"),
+    ("a write 1 x abc", "bad number"),
+];
+
+/// Whether a script is refused with this text, and nothing is written.
+pub(crate) fn is_refused(alloc: Global, script: &str, text: &str) -> Result<bool, Fail> {
+    let mut reader = MemoryBytes::new(script.as_bytes());
+    let mut writer = Collected::new(alloc);
+    let Err(ReplayFault::Script(refusal)) = replay(alloc, &mut reader, &mut writer, &OPTIONS) else {
+        return Ok(false);
+    };
+    Ok(writer.as_slice().is_empty() && refusal.to_string(alloc)?.as_str() == text)
+}
+
+#[test]
+fn each_cause(rt: HostRuntime) -> Result<(), Fail> {
+    let alloc = rt.alloc();
+    for (script, text) in REFUSED_OPENINGS {
+        assert!(rt; is_refused(alloc, script, text)?, "{script}");
+    }
+    Ok(())
+}
+
+#[test]
+fn each_cause_of_a_step(rt: HostRuntime) -> Result<(), Fail> {
+    let alloc = rt.alloc();
+    for (line, text) in REFUSED_STEPS {
+        // the first faulty line decides
+        let script = format!(in alloc; "pool 4\nspace a 1\n{line}\nspace\n")?;
+        let text = format!(in alloc; "line 3: {text}")?;
+        assert!(rt;
+            is_refused(alloc, script.as_str(), text.as_str())?,
+            "{line}"
+        );
+    }
+    assert!(rt;
+        is_refused(
+            alloc,
+            "pool 4\nspace a 1\na fork 1\nspace b 1\n",
+            "line 4: late space"
+        )?
+    );
+    Ok(())
+}
+
+#[test]
+fn too_many_namespaces(rt: HostRuntime) -> Result<(), Fail> {
+    let alloc = rt.alloc();
+    let mut script = String::from_str(alloc, "pool 65536\n")?;
+    for i in 0..MAX_NAMESPACES {
+        script.push_str(format!(in alloc; "space n{i} 1\n")?.as_str())?;
+    }
+    script.push_str("space last x\n")?;
+    let mut reader = MemoryBytes::new(script.as_bytes());
+    let mut writer = Collected::new(alloc);
+    match replay(alloc, &mut reader, &mut writer, &OPTIONS) {
+        Err(ReplayFault::Script(refusal)) => {
+            let text = format!(in alloc; "line {}: too many namespaces", MAX_NAMESPACES + 2)?;
+            assert_eq!(rt; refusal.to_string(alloc)?.as_str(), text.as_str());
+        }
+        _ => assert!(rt; false, "accepted"),
+    }
+    Ok(())
+}
+
+/// One line of this length behind `#`, whether a line feed ends it, and what is told.
+const LONG_LINES: [(usize, bool, &str); 4] = [
+    (2_200_000, true, "accepted"),
+    (2_200_001, true, "line 1: too long"),
+    (2_200_000, false, "line 1: cut short"),
+    (2_200_001, false, "line 1: too long"),
+];
+
+/// What is told of a script of one line.
+fn verdict_of(alloc: Global, count: usize, is_ended: bool) -> Result<String, Fail> {
+    let mut script = vec![in alloc; b'#'; count]?;
+    if is_ended {
+        script.push(b'\n')?;
+    }
+    let mut reader = MemoryBytes::new(script.as_slice());
+    let mut writer = Collected::new(alloc);
+    match replay(alloc, &mut reader, &mut writer, &OPTIONS) {
+        Err(fault) => Ok(fault.to_string(alloc)?),
+        Ok(replayed) if replayed.nomem == 0 => Ok(String::from_str(alloc, "accepted")?),
+        Ok(_) => Ok(String::from_str(alloc, "no memory")?),
+    }
+}
+
+#[test]
+fn long_lines(rt: HostRuntime) -> Result<(), Fail> {
+    for (count, is_ended, told) in LONG_LINES {
+        let verdict = verdict_of(rt.alloc(), count, is_ended)?;
+        assert_eq!(rt; verdict.as_str(), told, "{count}");
+    }
+    Ok(())
+}
+
+#[test]
+fn accepted_scripts(rt: HostRuntime) -> Result<(), Fail> {
+    let alloc = rt.alloc();
+    for (script, text) in [
+        ("", ""),
+        ("\n#\n", ""),
+        ("pool 4\n", ""),
+        ("# a\n\npool 4\nspace red_1 4\n", "== red_1\n"),
+    ] {
+        let mut reader = MemoryBytes::new(script.as_bytes());
+        let mut writer = Collected::new(alloc);
+        match replay(alloc, &mut reader, &mut writer, &OPTIONS) {
+            Ok(replayed) => assert_eq!(rt; replayed.nomem, 0),
+            Err(_) => assert!(rt; false, "refused: {script}"),
+        }
+        assert!(rt; writer.as_slice() == text.as_bytes());
+    }
+    Ok(())
+}
+
+#[test]
+fn readers_that_fail(rt: HostRuntime) -> Result<(), Fail> {
+    let alloc = rt.alloc();
+    // the last one would be refused at its end for its first line
+    for (front, fails_at) in [
+        (b"".as_slice(), 1),
+        (b"".as_slice(), 2),
+        (b"".as_slice(), 70_000),
+        (b"foo\n".as_slice(), 5),
+    ] {
+        let mut reader = Breaking {
+            front,
+            fails_at,
+            asked: 0,
+            failures: 0,
+        };
+        let mut writer = Collected::new(alloc);
+        let result = replay(alloc, &mut reader, &mut writer, &OPTIONS);
+        assert!(rt; matches!(result, Err(ReplayFault::ReadFault)));
+        assert_eq!(rt; reader.asked, fails_at);
+        assert!(rt; writer.as_slice().is_empty());
+    }
+    Ok(())
+}
+
+/// What a replay of so many bytes of comment answers, whose first byte is this one, and whose lines end with that one,
+/// and how many it left.
+fn replay_comments(
+    alloc: Global,
+    first: u8,
+    last: u8,
+    left: usize,
+) -> (Result<Replayed, ReplayFault>, usize) {
+    let mut reader = Comments { first, last, left };
+    let mut writer = Collected::new(alloc);
+    let result = replay(alloc, &mut reader, &mut writer, &OPTIONS);
+    (result, reader.left)
+}
+
+#[test]
+fn the_longest_input(rt: HostRuntime) {
+    let (result, left) = replay_comments(rt.alloc(), b'#', b'\n', INPUT_LIMIT);
+    assert!(rt; result.is_ok());
+    assert_eq!(rt; left, 0);
+}
+
+#[test]
+fn a_byte_more_than_the_longest_input(rt: HostRuntime) {
+    let (result, left) = replay_comments(rt.alloc(), b'x', b'\n', INPUT_LIMIT + 1);
+    assert!(rt; matches!(result, Err(ReplayFault::ReadFault)));
+    assert_eq!(rt; left, 0);
+}
+
+/// A line that never ends is no line that is too long.
+#[test]
+fn a_reader_without_end(rt: HostRuntime) {
+    let (result, _) = replay_comments(rt.alloc(), b'#', b'#', usize::MAX);
+    assert!(rt; matches!(result, Err(ReplayFault::ReadFault)));
+}
+
+#[test]
+fn writers_that_fail(rt: HostRuntime) -> Result<(), Fail> {
+    let alloc = rt.alloc();
+    for (room, fails) in [(0, true), (0, false), (3, true), (3, false)] {
+        let mut reader = MemoryBytes::new(b"pool 4\nspace a 1\n");
+        let mut writer = Full::new(b"== a\n", room, fails);
+        let result = replay(alloc, &mut reader, &mut writer, &OPTIONS);
+        assert!(rt; matches!(result, Err(ReplayFault::WriteFault)));
+        assert_eq!(rt; (writer.asked, writer.strays), (room + 1, 0));
+    }
+    Ok(())
+}
+
+#[test]
+fn readers_of_std(rt: HostRuntime) -> Result<(), Fail> {
+    let alloc = rt.alloc();
+    let mut script = String::from_str(alloc, "pool 4\nspace a 1\n")?;
+    let mut whole = String::from_str(alloc, "== a\n")?;
+    for number in 1..=20_000 {
+        script.push_str("a exit 1\n")?;
+        whole.push_str(format!(in alloc; "{number}: err ESRCH\n")?.as_str())?;
+    }
+    for (fails_at, asked) in [(1, 1), (2, 2), (100, 100), (1000, 182)] {
+        let mut stopping = Stopping {
+            rest: script.as_bytes(),
+            fails_at,
+            asked: 0,
+        };
+        let mut text = Vec::new(alloc);
+        let result = replay(
+            alloc,
+            &mut Reading::new(&mut stopping),
+            &mut Writing::new(&mut text),
+            &OPTIONS,
+        );
+        let is_whole = asked < fails_at;
+        assert_eq!(rt; matches!(result, Err(ReplayFault::ReadFault)), !is_whole);
+        assert_eq!(rt; result.is_ok(), is_whole);
+        assert_eq!(rt; stopping.asked, asked);
+        assert!(rt;
+            text.as_slice()
+                == if is_whole {
+                    whole.as_bytes()
+                } else {
+                    b"".as_slice()
+                }
+        );
+    }
+    Ok(())
+}
+
+#[test]
+fn writers_of_std(rt: HostRuntime) -> Result<(), Fail> {
+    let alloc = rt.alloc();
+    for room in 0..6 {
+        let mut text = *b"......";
+        let (front, _) = text.split_at_mut(room);
+        let mut reader = Reading::new(b"pool 4\nspace a 1\n".as_slice());
+        let result = replay(alloc, &mut reader, &mut Writing::new(front), &OPTIONS);
+        assert_eq!(rt; matches!(result, Err(ReplayFault::WriteFault)), room < 5);
+        assert_eq!(rt; result.is_ok(), room == 5);
+        assert!(rt; text[..room] == b"== a\n"[..room]);
+    }
+    Ok(())
+}
+
+#[test]
+fn frames_hold_the_fill(rt: HostRuntime) -> Result<(), Fail> {
+    let alloc = rt.alloc();
+    for fill in [0, 165, 255] {
+        let frames = frames_of(alloc, 3, fill)?;
+        assert_eq!(rt; frames.len(), 3);
+        for frame in &frames {
+            assert!(rt; frame.view(0, 4096).iter().all(|byte| *byte == fill));
+        }
+    }
+    Ok(())
+}
