@@ -70,4 +70,3 @@ pub const DEFAULT_SLOTS: u32 = 16;
 
 /// The slots of a new pipe where a limit makes it smaller (this profile's choice).
 pub const LEAST_SLOTS: u32 = 1;
-
