@@ -5,3 +5,4 @@ pub mod OpeningLemmas
 pub mod RunLemmas
 pub mod Bounding
 pub mod WorkedWorlds
+pub mod Sendable

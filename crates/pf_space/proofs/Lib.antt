@@ -1,3 +1,4 @@
 mod Resuming
+pub mod Sendable
 mod Steps
 mod Waiting

@@ -25,6 +25,7 @@ mod Opening
 pub mod Resizing
 pub mod Resolving
 mod Seating
+pub mod Sendable
 mod Small
 mod Sharing
 pub mod Shown

@@ -8,3 +8,4 @@ pub mod Removes
 pub mod Listing
 pub mod Walking
 pub mod Alone
+pub mod Sendable
