@@ -5,3 +5,4 @@ pub mod Counting
 pub mod Sameness
 pub mod Logging
 pub mod Judging
+pub mod Sendable

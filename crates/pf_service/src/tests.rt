@@ -7,6 +7,8 @@ use std::alloc::{AllocError, Global};
 use std::process::Abort;
 use std::sync::Wait;
 use std::test::Fail;
+use std::thread;
+use std::thread::{Threads, join};
 
 // What the frames hold before anyone writes to them.
 const OLD: u8 = 0xA5;
@@ -121,6 +123,23 @@ fn replies_are<R: Abort>(rt: &R, transcript: &Transcript, replies: &[Reply]) {
     }
 }
 
+// The two tenants' transcripts: no frame shows what was in it before.
+fn told_alone<R: Abort>(rt: &R, alloc: Global, transcripts: &Transcripts) -> Result<(), Fail> {
+    let each = transcripts.as_slice();
+    assert_eq!(rt; each.len(), 2);
+    let red = [
+        Reply::Pid(1),
+        Reply::Fds(0, 1),
+        Reply::Num(65_536),
+        Reply::Num(0),
+    ];
+    replies_are(rt, &each[0], &red);
+    let byte = Reply::Bytes(ByteString::new(Vec::from_elem(alloc, 0x7A, 1)?));
+    let blue = [Reply::Pid(1), Reply::Fds(0, 1), Reply::Num(1), byte];
+    replies_are(rt, &each[1], &blue);
+    Ok(())
+}
+
 #[test]
 fn two_tenants_are_told_what_they_are_told_alone(rt: HostRuntime) -> Result<(), Fail> {
     let alloc = rt.alloc();
@@ -132,20 +151,105 @@ fn two_tenants_are_told_what_they_are_told_alone(rt: HostRuntime) -> Result<(), 
     let mut seats = Vec::with_capacity(alloc, 2)?;
     seats.push(blue)?;
     seats.push(red)?;
-    let transcripts = service.close(seats)?;
-    let each = transcripts.as_slice();
-    assert_eq!(rt; each.len(), 2);
-    let red = [
-        Reply::Pid(1),
-        Reply::Fds(0, 1),
-        Reply::Num(65_536),
-        Reply::Num(0),
-    ];
-    replies_are(&rt, &each[0], &red);
-    let byte = Reply::Bytes(ByteString::new(Vec::from_elem(alloc, 0x7A, 1)?));
-    let blue = [Reply::Pid(1), Reply::Fds(0, 1), Reply::Num(1), byte];
-    replies_are(&rt, &each[1], &blue);
+    told_alone(&rt, alloc, &service.close(seats)?)
+}
+
+// A tenant on a thread each.
+fn on_two_threads<R: Threads + Wait + Sync>(
+    rt: &R,
+    alloc: Global,
+) -> Option<Result<Transcripts, CloseFault>> {
+    let service = service_of(alloc, 2)?;
+    let shared = &service;
+    let (red, blue) = (shared.seat(rt, RED).ok()?, shared.seat(rt, BLUE).ok()?);
+    let (ours, theirs) = (steps_of_red(alloc).ok()?, steps_of_blue(alloc).ok()?);
+    let (first, second) = (ours.as_slice(), theirs.as_slice());
+    let (red, blue) = join(
+        rt,
+        move || make(rt, shared, red, first),
+        move || make(rt, shared, blue, second),
+    );
+    let mut seats = Vec::with_capacity(alloc, 2).ok()?;
+    seats.push(blue?).ok()?;
+    seats.push(red?).ok()?;
+    Some(service.close(seats))
+}
+
+#[test]
+fn two_tenants_on_two_threads_are_told_what_they_are_told_alone(
+    rt: HostRuntime,
+) -> Result<(), Fail> {
+    let alloc = rt.alloc();
+    let transcripts = on_two_threads(&rt, alloc).ok_or("refused")??;
+    told_alone(&rt, alloc, &transcripts)
+}
+
+// Eight threads of 10,000 calls each, two at each of four namespaces.
+fn on_eight_threads<R: Threads + Wait + Sync>(
+    rt: &R,
+    alloc: Global,
+) -> Option<Result<Transcripts, CloseFault>> {
+    let service = service_of(alloc, 4)?;
+    let shared = &service;
+    let mut seats = Vec::with_capacity(alloc, 8).ok()?;
+    for n in 0..8u32 {
+        seats.push(shared.seat(rt, n / 2).ok()?).ok()?;
+    }
+    let owned = steps_of_blue(alloc).ok()?;
+    let steps = owned.as_slice();
+    let back = thread::map_vec(
+        rt,
+        seats,
+        &|seat: Seat| repeat(rt, shared, seat, steps, 2_500),
+    )
+    .ok()?;
+    let mut seats = Vec::with_capacity(alloc, 8).ok()?;
+    for seat in back {
+        seats.push(seat?).ok()?;
+    }
+    Some(service.close(seats))
+}
+
+#[test]
+fn eight_threads_agree_with_four_transcripts(rt: HostRuntime) -> Result<(), Fail> {
+    let transcripts = on_eight_threads(&rt, rt.alloc()).ok_or("refused")??;
+    assert_eq!(rt; transcripts.as_slice().len(), 4);
+    for transcript in transcripts.as_slice() {
+        assert_eq!(rt; transcript.entries().len(), 20_000);
+    }
     Ok(())
+}
+
+// Makes the steps in turn. Where a growth is refused the step is made once more: it is to find all as it was.
+fn make_again<R: Wait>(rt: &R, service: &Plain, mut seat: Seat, steps: &[Step]) -> Option<Seat> {
+    for step in steps {
+        let kept = seat.events().len();
+        let receipt = match service.call(rt, &mut seat, step) {
+            Err(ServiceFault::NoMemory) if seat.events().len() == kept => {
+                service.call(rt, &mut seat, step)
+            }
+            told => told,
+        };
+        receipt.ok()?;
+    }
+    Some(seat)
+}
+
+#[test]
+fn a_refused_growth_changes_nothing(rt: HostRuntime) -> Result<(), Fail> {
+    let alloc = rt.alloc();
+    let service = service_of(alloc, 2).ok_or("refused")?;
+    let red = service.seat(&rt, RED)?;
+    let blue = service.seat(&rt, BLUE)?;
+    let red = make_again(&rt, &service, red, &steps_of_red(alloc)?).ok_or("changed")?;
+    let blue = make_again(&rt, &service, blue, &steps_of_blue(alloc)?).ok_or("changed")?;
+    let mut seats = Vec::with_capacity(alloc, 2)?;
+    seats.push(red)?;
+    seats.push(blue)?;
+    match service.close(seats) {
+        Err(CloseFault::NoMemory) => Ok(()),
+        told => told_alone(&rt, alloc, &told?),
+    }
 }
 
 #[test]
