@@ -1,7 +1,10 @@
 //! Pairs of a write and a read through a hub, whose frames are on loan from a depot, tees and splices between two of its
-//! pipes, and reads that wait; and the same through the plain form, whose frames are one array. With no word, it plays a short fixed
-//! load through both and looks at each byte; with a number, it plays so many of each size, and prints how long one takes.
+//! pipes, and reads that wait; the same through the plain form, whose frames are one array; and pairs through a service.
+//! With no word, it plays a short fixed load through each and looks at each byte; with a number, it plays so many of each
+//! size, and prints how long one takes.
 #![tactic(auto)]
+
+mod served;
 
 use pf_base::{Answer, ByteString, Config, Crossing, Groups, PAGE_SIZE, Reply, Step};
 use pf_frame::Frame;
@@ -9,6 +12,8 @@ use pf_hub::Hub;
 use pf_plain::Plain;
 use std::alloc::{AllocError, Global};
 use std::process::ExitCode;
+use std::sync::Wait;
+use std::thread::Threads;
 use std::time::Instant;
 use std::{env, io};
 
@@ -116,15 +121,15 @@ impl Passage {
 /// A read of the second process, which waits while the first pipe is empty, the write that brings its bytes, and its
 /// resume.
 #[derive(Drop)]
-struct Wait {
+struct WaitingRead {
     pair: Pair,
     read: Step,
     resume: Step,
 }
 
-impl Wait {
-    fn new(alloc: Global, size: usize) -> Result<Wait, AllocError> {
-        Ok(Wait {
+impl WaitingRead {
+    fn new(alloc: Global, size: usize) -> Result<WaitingRead, AllocError> {
+        Ok(WaitingRead {
             pair: Pair::new(alloc, size)?,
             read: Step::Read {
                 pid: 2,
@@ -300,7 +305,7 @@ fn parks<H: Host>(host: &mut H, asked: &Step) -> bool {
 }
 
 /// What a read hands out that waited first, if the write counts as many bytes.
-fn take_after_wait<H: Host>(host: &mut H, waiting: &Wait) -> Option<ByteString> {
+fn take_after_wait<H: Host>(host: &mut H, waiting: &WaitingRead) -> Option<ByteString> {
     let size = waiting.pair.payload.len();
     if !parks(host, &waiting.read) || !counts(host, &waiting.pair.write, size) {
         return None;
@@ -318,7 +323,7 @@ fn play_calls<H: Host>(alloc: Global, host: &mut H, size: usize) -> Result<bool,
             }
         }
     }
-    let waiting = Wait::new(alloc, size)?;
+    let waiting = WaitingRead::new(alloc, size)?;
     for _ in 0..FIXED_CROSSINGS {
         let Some(bytes) = take_after_wait(host, &waiting) else {
             return Ok(false);
@@ -472,7 +477,7 @@ fn time_crossing<H: Host>(
 fn time_waits<H: Host>(
     rt: &HostRuntime,
     host: &mut H,
-    waiting: &Wait,
+    waiting: &WaitingRead,
 ) -> io::Result<Option<(Spent, Spent)>> {
     let size = waiting.pair.payload.len();
     let mut reads = Spent::NOTHING;
@@ -501,7 +506,7 @@ fn time_wait<H: Host>(
     size: usize,
     rounds: u32,
 ) -> io::Result<Option<(u128, u128)>> {
-    let waiting = Wait::new(rt.alloc(), size)?;
+    let waiting = WaitingRead::new(rt.alloc(), size)?;
     let mut read = Spent::ALL;
     let mut resume = Spent::ALL;
     for _ in 0..(rounds / BATCH).max(1) {
@@ -573,8 +578,9 @@ fn time(rt: &HostRuntime, shape: Shape, pairs: u32) -> io::Result<bool> {
     )
 }
 
-/// Plays what the command line asks for, and says whether each answer was right.
-fn run(rt: &HostRuntime) -> io::Result<bool> {
+/// Plays what the command line asks for, and says whether each answer was right. `threads` is the same runtime, as what
+/// may start threads and wait for them.
+fn run<R: Threads + Wait + Sync>(rt: &HostRuntime, threads: &R) -> io::Result<bool> {
     let mut words = env::args(rt)?;
     let _program = words.next();
     let Some(word) = words.next() else {
@@ -584,6 +590,10 @@ fn run(rt: &HostRuntime) -> io::Result<bool> {
         println!(rt;
             "played 5000 pairs, 500 tees, 500 splices and 500 waiting reads through each form"
         )?;
+        if !served::play_fixed(threads, rt.alloc())? {
+            return Ok(false);
+        }
+        println!(rt; "played 1000 pairs through a service, from four threads")?;
         return Ok(true);
     };
     let Ok(pairs) = word.parse::<u32>() else {
@@ -598,11 +608,11 @@ fn run(rt: &HostRuntime) -> io::Result<bool> {
         namespaces: 64,
         frames: 65_536,
     };
-    Ok(time(rt, few, pairs)? && time(rt, many, pairs)?)
+    Ok(time(rt, few, pairs)? && time(rt, many, pairs)? && served::time(rt, threads, pairs)?)
 }
 
 fn main(rt: HostRuntime) -> io::Result<ExitCode> {
-    if run(&rt)? {
+    if run(&rt, &rt)? {
         return Ok(ExitCode::SUCCESS);
     }
     println!(&rt; "wrong answer")?;
