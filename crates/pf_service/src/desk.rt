@@ -14,18 +14,21 @@ use pf_base::Step;
 use std::alloc::{Allocator, Global};
 
 /// What lies behind the service's lock: the hub with its transcripts, and how many seats each namespace gave.
+///
+/// There is a number of seats for each namespace that there may be, so that whoever asks for a seat needn't know how many
+/// there are.
 #[derive(Drop)]
 pub(crate) struct Desk<A: Allocator> {
     alloc: Global,
     logged: LoggedHub<A>,
     given: Vec<u32>,
 
-    pub ghost each: { length given.items ≡ length logged.hub.tenants },
-    pub ghost few: { length given.items ≤ 64 },
+    pub ghost each: { length given.items ≡ 64 },
+    pub ghost few: { length logged.hub.tenants ≤ 64 },
 }
 
 impl<A: Allocator + Clone> Desk<A> {
-    ghost use Rattle.std.specs.Prelude.{◌≢◌, ℕ, ◌+◌, ◌++◌, [], ◌∷◌, if◌then◌else◌, is_ok, slice_index, slice_set, IfOk, IfErr, OnOk, OnErr};
+    ghost use Rattle.std.specs.Prelude.{◌≢◌, ℕ, ◌+◌, ◌++◌, [], ◌∷◌, take, if◌then◌else◌, is_ok, slice_index, slice_set, IfOk, IfErr, OnOk, OnErr};
     ghost use Rattle.pf_hub.specs.Tenants.{limits_at, state_at, tenant_at};
     ghost use Rattle.pf_service.specs.Logs.{entries_at, IsApplyFault};
     ghost use Rattle.pf_service.specs.Seats.{Gains, event_at};
@@ -35,9 +38,10 @@ impl<A: Allocator + Clone> Desk<A> {
 
     /// A desk that gave no seat yet.
     pub(crate) fn new(alloc: Global, logged: LoggedHub<A>, given: Vec<u32>) -> Self
-        requires each { length given.items ≡ length logged.hub.tenants }
-        requires few { length given.items ≤ 64 }
-        ensures { result.logged ≡ logged }
+        requires each { length given.items ≡ 64 }
+        requires few { length logged.hub.tenants ≤ 64 }
+        ensures logged { result.logged ≡ logged }
+        ensures given { result.given.items ≡ given.items }
     {
         Desk {
             alloc,
@@ -48,9 +52,9 @@ impl<A: Allocator + Clone> Desk<A> {
 
     /// How many namespaces there are.
     pub(crate) fn namespaces(&self) -> usize
-        ensures { result ≡ length self.now.given.items }
+        ensures { result ≡ length self.now.logged.hub.tenants }
     {
-        self.given.len()
+        self.logged.namespaces()
     }
 
     /// One more seat of a namespace, with the next number.
@@ -81,7 +85,7 @@ impl<A: Allocator + Clone> Desk<A> {
         seat: &mut Seat,
         step: &Step,
     ) -> Result<Receipt, ServiceFault>
-        requires exists { seat.old.ns < length self.old.given.items }
+        requires exists { seat.old.ns < length self.old.logged.hub.tenants }
         ensures place { IfOk result (λ r. (r.ns ≡ seat.old.ns)
             × (r.place ≡ length (entries_at self.old.logged seat.old.ns))) }
         ensures kept { IfOk result (λ r.
@@ -113,10 +117,10 @@ impl<A: Allocator + Clone> Desk<A> {
         Ok(Receipt { ns, place, reply })
     }
 
-    /// Gives up the hub, and keeps the transcripts and how many seats each namespace gave.
+    /// Gives up the hub, and keeps the transcripts and how many seats each of their namespaces gave.
     pub(crate) fn into_parts(self) -> (Vec<Transcript>, Vec<u32>)
         ensures transcripts { result.0.items ≡ self.logged.transcripts }
-        ensures given { result.1.items ≡ self.given.items }
+        ensures given { result.1.items ≡ take (length result.0.items) self.given.items }
         ensures each { length result.0.items ≡ length result.1.items }
         ensures few { length result.1.items ≤ 64 }
         ensures alone { (n : ℕ) → IsLone (transcript_at result.0.items n) }
@@ -124,8 +128,10 @@ impl<A: Allocator + Clone> Desk<A> {
         let Desk {
             alloc: _,
             logged,
-            given,
+            mut given,
         } = self;
-        (logged.into_transcripts(), given)
+        let transcripts = logged.into_transcripts();
+        given.truncate(transcripts.len());
+        (transcripts, given)
     }
 }

@@ -1,4 +1,4 @@
-ghost use Rattle.std.specs.Prelude.{◌≡◌, IfOk, length, map, replicate};
+ghost use Rattle.std.specs.Prelude.{◌≡◌, ◌≤◌, IfOk, length, map, replicate};
 ghost use Rattle.pf_hub.specs.Opening.{limits_of};
 
 use crate::desk::Desk;
@@ -9,7 +9,7 @@ use crate::logged::LoggedHub;
 use crate::receipt::Receipt;
 use crate::seat::Seat;
 use crate::transcript::Transcripts;
-use pf_base::{Config, Step};
+use pf_base::{Config, MAX_NAMESPACES, Step};
 use pf_frame::{Frame, PoolFault};
 use std::alloc::{AllocError, Allocator, Global};
 use std::marker::Model;
@@ -26,6 +26,8 @@ pub struct Service<A: Allocator, G: Gate> {
     configs: Vec<Config>,
     desk: Mutex<Desk<A>>,
     gate: G,
+
+    pub ghost few: { length configs.items ≤ 64 },
 }
 
 impl<A: Allocator, G: Gate> Model for Service<A, G> {
@@ -48,11 +50,11 @@ fn configs_of<A: Allocator>(
 }
 
 impl<A: Allocator + Clone, G: Gate> Service<A, G> {
-    ghost use Rattle.std.specs.Prelude.{◌≢◌, ℕ, ◌+◌, ◌<◌, ◌≤◌, ◌++◌, [], ◌∷◌, IfErr, IsOk, OnOk, OnErr, Err, None};
+    ghost use Rattle.std.specs.Prelude.{◌≢◌, ℕ, ◌+◌, ◌<◌, ◌++◌, [], ◌∷◌, IfErr, IsOk, OnOk, OnErr, Err, None};
     ghost use Rattle.pf_frame.specs.Faults.{IsFault};
     ghost use Rattle.pf_hub.specs.Opening.{first_fault};
     ghost use Rattle.pf_service.specs.Judged.{IsClosed, IsClosedFault};
-    ghost use Rattle.pf_service.specs.Seats.{Gains, event_at};
+    ghost use Rattle.pf_service.specs.Seats.{Gains, event_at, IsSeatFault};
     ghost use Rattle.pf_service.specs.Told.{Told};
     ghost use Rattle.pf_service.specs.declared.TheConstants.{MAX_SEATS};
 
@@ -73,7 +75,7 @@ impl<A: Allocator + Clone, G: Gate> Service<A, G> {
         ensures fault { IfErr result (IsFault (first_fault (length frames.items) (limits_of configs.items))) }
     {
         let kept = configs_of(alloc, &configs);
-        let given = Vec::from_elem(alloc, 0, configs.len());
+        let given = Vec::from_elem(alloc, 0, MAX_NAMESPACES);
         let logged = LoggedHub::new(alloc, frames, configs)?;
         let (Ok(configs), Ok(given)) = (kept, given) else {
             return Err(PoolFault::NoMemory);
@@ -92,17 +94,12 @@ impl<A: Allocator + Clone, G: Gate> Service<A, G> {
     pub fn seat<R: Wait>(&self, rt: &R, ns: u32) -> Result<Seat, ServiceFault>
         ensures seat { IfOk result (λ s. (s.ns ≡ ns) × (s.number < MAX_SEATS) × (s.events ≡ [])) }
         ensures missing { length self.now ≤ ns → result ≡ Err ServiceFault.NoSuchNamespace }
-        ensures fault { IfErr result (λ e. (e ≢ ServiceFault.NoMemory) × (e ≢ ServiceFault.TranscriptFull)) }
+        ensures fault { IfErr result (IsSeatFault (length self.now) ns) }
     {
         if ns as usize >= self.configs.len() {
             return Err(ServiceFault::NoSuchNamespace);
         }
-        let mut desk = self.desk.lock(rt);
-        // What the lock holds is known by its type alone, and that doesn't say how many namespaces there are.
-        if ns as usize >= desk.namespaces() {
-            return Err(ServiceFault::NoSuchNamespace);
-        }
-        desk.give(ns)
+        self.desk.lock(rt).give(ns)
     }
 
     /// One event of a seat's namespace: the step is made, and the seat keeps it with its place and its reply.
@@ -128,6 +125,7 @@ impl<A: Allocator + Clone, G: Gate> Service<A, G> {
             return Err(ServiceFault::NoSuchNamespace);
         }
         let mut desk = self.desk.lock(rt);
+        // What the lock holds is known by its type alone, and that doesn't say how many namespaces there are.
         if ns >= desk.namespaces() {
             return Err(ServiceFault::NoSuchNamespace);
         }
