@@ -1,6 +1,6 @@
 -- What a run of a whole script promises of the bytes that were read and written.
 
-use Rattle.std.specs.Prelude.{ℕ, ◌≡◌, ◌<◌, ◌⊎◌, List, length, Option, Some, None, Result, Ok, Err}
+use Rattle.std.specs.Prelude.{ℕ, ◌≡◌, ◌⊎◌, List, Option, Some, None, Result, Ok, Err}
 use Rattle.pf_script.specs.declared.refusal.Refusal.{Refusal}
 use Rattle.pf_base.specs.declared.step.Answer.{Answer}
 use Rattle.pf_script.specs.Script.{Draft, place_of, read_script}

@@ -1,9 +1,9 @@
 -- A namespace's transcript, and those that aren't there.
 
 use Rattle.std.proofs.Common.{◌≡◌, ℕ, ◌+◌, ◌<◌, ◌≤◌, List, [], ◌∷◌, length, Bool, true, false, nat_eq, get_or, refl, ap, sym, ◌∙◌, subst, arith, if◌then◌else◌, zero-add}
-use Rattle.std.specs.Prelude.{All, slice_get, slice_index, option_map, Option, Some, None, count_by}
+use Rattle.std.specs.Prelude.{All, slice_get, slice_index, option_map, Some, None, count_by}
 use Rattle.std.specs.List.{flat_map}
-use Rattle.std.proofs.lemmas.Bool.{ne_eqb, and_left, eqb-true, eq-eqb, and_from, le-ltb}
+use Rattle.std.proofs.lemmas.Bool.{ne_eqb, and_left, eq-eqb, and_from, le-ltb}
 use Rattle.std.proofs.lemmas.List.{get_or_past}
 use Rattle.std.proofs.lemmas.List.Elements.{All-nil, All-head, All-tail}
 use Rattle.std.proofs.lemmas.Option.{slice_get_read, slice_get_past, slice_get-get_or, get_or_from_slice_get}

@@ -10,7 +10,7 @@ use Rattle.std.proofs.lemmas.Simd.{map-map}
 use Rattle.pf_frame.specs.Faults.{fault_of}
 use Rattle.pf_base.specs.Limits.{Limits}
 use Rattle.pf_base.specs.Queue.{Queue}
-use Rattle.pf_base.specs.State.{State, Outcome, opening}
+use Rattle.pf_base.specs.State.{State, opening}
 use Rattle.pf_base.specs.Machine.{Answers, step_of}
 use Rattle.pf_base.specs.Runs.{Run, run_of}
 use Rattle.pf_base.proofs.RunLaws.{run_of-push, run_of-answered}
@@ -18,10 +18,10 @@ use Rattle.pf_base.specs.declared.step.Step.{Step}
 use Rattle.pf_base.specs.declared.step.Reply.{Reply}
 use Rattle.pf_base.specs.declared.step.Answer.TheVariants.{Done}
 use Rattle.pf_hub.specs.Opening.{new_hub, new_tenant, limits_of, first_fault}
-use Rattle.pf_hub.specs.Tenants.{Tenant, Tenants, tenant_at, limits_at, state_at, nobody}
+use Rattle.pf_hub.specs.Tenants.{Tenant, Tenants, tenant_at, limits_at, state_at}
 use Rattle.pf_service.specs.Transcripts.{OneTranscript, steps_in, replies_in, transcript_at, no_transcript, new_transcript, IsLone}
 use Rattle.pf_service.specs.Logs.{IsLog, AreLogs}
-use Rattle.pf_service.specs.Told.{Told, ToldBy}
+use Rattle.pf_service.specs.Told.{Told}
 
 -- a transcript with one entry more
 abbrev pub longer : OneTranscript → Step → Reply → OneTranscript

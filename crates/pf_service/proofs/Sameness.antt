@@ -1,6 +1,6 @@
 -- Steps that compare equal are equal, kind by kind.
 
-use Rattle.std.proofs.Common.{rules, ◌≡◌, ◌↔◌, IsTrue, ℕ, Bool, true, false, List, refl, subst, sym, ap, ◌∙◌}
+use Rattle.std.proofs.Common.{rules, ◌≡◌, ℕ, Bool, true, false, List}
 use Rattle.pf_base.specs.declared.open_flags.OpenFlags.{OpenFlags}
 use Rattle.pf_base.specs.declared.step.Step.{Step}
 use Rattle.pf_base.specs.declared.step.Step.TheVariants.{Spawn, Exit, Pipe, Close, Read, Write, Tee, SetSize, GetSize, Fork, Dup, SetNonblock, Splice, Mkdir, Mkfifo, Open, Unlink, Rmdir, Chmod, Stat, List as Names, Resume}

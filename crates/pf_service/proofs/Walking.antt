@@ -1,8 +1,8 @@
 -- One event on, in a list.
 
-use Rattle.std.proofs.Common.{◌≡◌, ℕ, ◌+◌, ◌-◌, ◌<◌, ◌≤◌, ◌++◌, inl, inr, [], ◌∷◌, List, length, map, take, drop, get_or, refl, ap, sym, ◌∙◌, subst, arith}
+use Rattle.std.proofs.Common.{◌≡◌, ℕ, ◌+◌, ◌-◌, ◌<◌, ◌≤◌, ◌++◌, inl, inr, [], ◌∷◌, List, length, map, take, drop, get_or, ap, sym, ◌∙◌, arith}
 use Rattle.std.proofs.lemmas.Bool.{cases_lt}
-use Rattle.std.proofs.lemmas.List.{take_more, drop_more, take-append-drop, append_assoc, get_or-map, length-map}
+use Rattle.std.proofs.lemmas.List.{take_more, drop_more, take-append-drop, append_assoc, get_or-map}
 
 -- the list, as what came before, the element, and what comes after
 pub split_at : {X : Type 0} (done xs rest : List X) (i : ℕ) (x : X) → i < length xs → x ≡ get_or xs i x

@@ -1,6 +1,6 @@
 -- What the end of a service compares.
 
-use Rattle.std.specs.Prelude.{◌≡◌, ℕ, ◌<◌, List, slice_get, Option, Some, option_map}
+use Rattle.std.specs.Prelude.{◌≡◌, ℕ, ◌<◌, List, slice_get, Some, option_map}
 use Rattle.pf_base.specs.Limits.{Limits}
 use Rattle.pf_service.specs.declared.fault.CloseFault.{CloseFault}
 use Rattle.pf_service.specs.declared.fault.CloseFault.TheVariants.{Disagree, SeatsMissing, NoMemory}

@@ -1,6 +1,6 @@
 -- A transcript as a merge of what its seats keep.
 
-use Rattle.std.specs.Prelude.{◌≡◌, ℕ, ◌<◌, Bool, List, [], ◌∷◌, Option, Some, None, All, slice_get, if◌then◌else◌, nat_eq, map, filter}
+use Rattle.std.specs.Prelude.{◌≡◌, ℕ, List, [], ◌∷◌, Option, Some, None, All, slice_get, nat_eq, map, filter}
 use Rattle.std.specs.List.{flat_map}
 use Rattle.std.specs.List.Sorted.{IsStrictlyIncreasing}
 use Rattle.pf_base.specs.declared.step.Step.{Step}

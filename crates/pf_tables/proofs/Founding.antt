@@ -22,7 +22,7 @@ use Rattle.pf_base.specs.State as machine
 use Rattle.pf_base.specs.State.{State, Outcome, ready, told}
 use Rattle.pf_base.specs.declared.TheConstants.{MAX_DESCRIPTORS}
 use Rattle.pf_base.specs.declared.errno.Errno.{Errno}
-use Rattle.pf_base.specs.declared.errno.Errno.TheVariants.{EMFILE, ENXIO, ENFILE, ENOMEM}
+use Rattle.pf_base.specs.declared.errno.Errno.TheVariants.{ENFILE, ENOMEM}
 use Rattle.pf_base.specs.declared.step.Reply.{Reply}
 use Rattle.pf_base.specs.declared.step.Reply.TheVariants.{Num, Parked}
 use Rattle.pf_frame.specs.Live.{Live}
@@ -33,7 +33,7 @@ use Rattle.pf_ring.specs.Table.{Joined, joined_pushed}
 use Rattle.pf_tables.specs.declared.tables.opens.Access.{Access as Stored}
 use Rattle.pf_tables.specs.Meaning.{Namespace, meaning, pipe_meaning, ring_or, rings_of, AreCharged}
 use Rattle.pf_tables.specs.MeaningLaws.{total-meaning}
-use Rattle.pf_tables.specs.Opened.{access_seen, before, counted, end_of, fifo_capacity, lacks_readers, may_open, opening, told_at, waits, HasOpened, Describes, MakesFifo, SameKeys}
+use Rattle.pf_tables.specs.Opened.{access_seen, before, counted, end_of, fifo_capacity, may_open, opening, told_at, waits, HasOpened, Describes, MakesFifo, SameKeys}
 use Rattle.pf_tables.specs.Owns.{Owns}
 use Rattle.pf_tables.specs.OwnsLaws.{slots-rings}
 use Rattle.pf_tables.specs.Rows.{ProcessRows, DescriptionRows, PipeRows, Key, Process, Pipe, Ring, Opens, ready_in, process_of, pipe_of, pipes_of, opens_at, opens_of, state_of, UsedRow, NoMore, AreFifos, Whole, Tied, read_by, written_by}

@@ -1,4 +1,4 @@
-use Rattle.std.proofs.Common.{rules, IsTrue, ◌≡◌, Bool, true, refl, sym, ◌∙◌, ap, subst}
+use Rattle.std.proofs.Common.{IsTrue, ◌≡◌, Bool, true, sym, ◌∙◌, subst}
 use Rattle.pf_base.specs.declared.step.Step.{Step}
 use Rattle.pf_base.specs.contracts.step.StepPartialEq.TheImpl.{ghosts}
 use Rattle.pf_service.proofs.Sameness.{sound, reflexive}

@@ -1,4 +1,4 @@
-use Rattle.std.proofs.Common.{◌≡◌, ℕ, ◌<◌, length, get_or}
+use Rattle.std.proofs.Common.{ℕ, ◌<◌, length, get_or}
 use Rattle.std.specs.Prelude.{slice_index}
 use Rattle.pf_service.specs.Seats.{OneSeat, IsGiven}
 use Rattle.pf_service.proofs.given.are_given.Given as goal

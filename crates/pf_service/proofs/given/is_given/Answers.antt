@@ -1,8 +1,7 @@
-use Rattle.std.proofs.Common.{rules, ◌≡◌, ℕ, ◌+◌, ◌<◌, ◌≤◌, List, length, slice_index_or, take, true, false, Bool, sym, ap, ◌∙◌, subst, arith, refl}
+use Rattle.std.proofs.Common.{◌≡◌, List, length, Bool, sym, ap, ◌∙◌, subst, arith}
 use Rattle.std.proofs.lemmas.List.{take_all}
 use Rattle.std.proofs.lemmas.Grind.{common_steps}
 use Rattle.pf_service.specs.Marks.{IsCounted}
-use Rattle.pf_service.specs.Seats.{OneSeat}
 use Rattle.pf_service.proofs.Counting.{refused_seen, refused_number, given_answers}
 use Rattle.pf_service.proofs.given.is_given.Goals as goal
 use Rattle.pf_service.proofs.given.is_given.Goals.{then-number-len-via-then-number-len, then-number-len-via-else-number-len+then-index}

@@ -1,4 +1,4 @@
-use Rattle.std.proofs.Common.{◌≡◌, ℕ, length, take}
+use Rattle.std.proofs.Common.{◌≡◌, length, take}
 use Rattle.pf_service.specs.Marks.{IsCounted}
 use Rattle.pf_service.proofs.given.is_given.Given as goal
 

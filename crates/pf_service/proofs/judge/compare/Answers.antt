@@ -1,5 +1,5 @@
 -- Past the transcripts there are no seats either.
-use Rattle.std.proofs.Common.{rules, ◌≡◌, ℕ, ◌<◌, ◌≤◌, length, arith, inl, inr}
+use Rattle.std.proofs.Common.{rules, length, arith, inl, inr}
 use Rattle.std.proofs.lemmas.Bool.{cases_lt}
 use Rattle.pf_service.specs.Seats.{AreGiven}
 use Rattle.pf_service.proofs.Judging.{past}

@@ -1,4 +1,4 @@
-use Rattle.std.proofs.Common.{◌≡◌, ℕ, ◌<◌, ◌≤◌, length}
+use Rattle.std.proofs.Common.{ℕ, ◌<◌}
 use Rattle.pf_service.specs.Judged.{Agrees}
 use Rattle.pf_service.proofs.judge.compare.Given as goal
 

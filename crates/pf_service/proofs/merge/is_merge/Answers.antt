@@ -1,11 +1,9 @@
-use Rattle.std.proofs.Common.{rules, ◌≡◌, ℕ, ◌+◌, ◌<◌, ◌≤◌, ◌++◌, [], ◌∷◌, List, length, slice_index_or, take, drop, true, false, Bool, nat_eq, sym, ap, ◌∙◌, subst, arith, refl, Vec, Global}
+use Rattle.std.proofs.Common.{rules, ◌≡◌, ℕ, ◌+◌, ◌++◌, List, length, take, drop, true, false, Bool, nat_eq, sym, ap, ◌∙◌, subst, arith, Vec, Global}
 use Rattle.std.specs.Prelude.{All}
-use Rattle.std.specs.Bool.{MatchBool}
-use Rattle.std.proofs.lemmas.Grind.{common_steps}
 use Rattle.std.proofs.lemmas.List.{take_all}
 use Rattle.std.proofs.lemmas.List.Elements.{All-push}
 use Rattle.pf_service.specs.Marks.{IsMarked}
-use Rattle.pf_service.specs.Merge.{at, stands, Rises, IsMerge}
+use Rattle.pf_service.specs.Merge.{at, stands, Rises}
 use Rattle.pf_service.specs.Seats.{OneSeat, lists_of}
 use Rattle.pf_service.specs.declared.event.Event.{Event}
 use Rattle.pf_service.proofs.Merging.{joined, joined-push, more_mine, more_other, around, seen_from, answers}

@@ -1,4 +1,4 @@
-use Rattle.std.proofs.Common.{rules, ◌≡◌, ℕ, ◌<◌, ◌+◌, ◌≤◌, ◌++◌, ◌∷◌, [], length, List, map, take, get_or, drop, sym, ap, ◌∙◌, arith, subst, refl}
+use Rattle.std.proofs.Common.{rules, ◌≡◌, ℕ, ◌<◌, ◌+◌, ◌++◌, length, List, map, take, get_or, drop, sym, ap, ◌∙◌, arith, subst}
 use Rattle.std.proofs.lemmas.List.{length-map, take_all}
 use Rattle.pf_service.specs.Marks.{IsMarked}
 use Rattle.pf_service.specs.Merge.{at, stands}

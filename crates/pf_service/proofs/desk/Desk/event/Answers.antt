@@ -1,4 +1,4 @@
-use Rattle.std.proofs.Common.{◌≡◌, ℕ, sym, ap, subst}
+use Rattle.std.proofs.Common.{ℕ, sym, ap, subst}
 use Rattle.pf_base.specs.State.{Outcome}
 use Rattle.pf_hub.specs.Tenants.{limits_at, state_at}
 use Rattle.pf_service.specs.Logs.{entries_at}

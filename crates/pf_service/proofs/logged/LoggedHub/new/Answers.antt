@@ -1,5 +1,5 @@
 -- Nothing was asked of a new hub.
-use Rattle.std.proofs.Common.{◌≡◌, length}
+use Rattle.std.proofs.Common.{length}
 use Rattle.pf_hub.specs.Opening.{limits_of}
 use Rattle.pf_service.proofs.Logging.{made, are_opened}
 use Rattle.pf_service.proofs.logged.LoggedHub.new.Goals as goal

@@ -1,5 +1,5 @@
-use Rattle.std.proofs.Common.{◌≡◌, sym, ◌∙◌, subst}
-use Rattle.std.proofs.Common.{ℕ, List}
+use Rattle.std.proofs.Common.{sym, ◌∙◌, subst}
+use Rattle.std.proofs.Common.{List}
 use Rattle.pf_service.specs.Transcripts.{OneTranscript, IsLone, transcript_at}
 use Rattle.pf_service.proofs.Judging.{closed}
 use Rattle.pf_service.proofs.service.Service.close.Goals as goal

@@ -1,5 +1,5 @@
 -- The tests let no more namespaces pass than there may be.
-use Rattle.std.proofs.Common.{rules, ◌≡◌, ◌≤◌, length, arith}
+use Rattle.std.proofs.Common.{rules, ◌≤◌, length, arith}
 use Rattle.std.proofs.lemmas.Grind.{common_steps}
 use Rattle.pf_service.proofs.Logging.{few}
 use Rattle.pf_service.proofs.service.Service.new.Goals as goal
