@@ -236,21 +236,29 @@ impl Shape {
     }
 }
 
-/// Whether a process with two pipes, and another that has them too, are made.
-fn starts<H: Host>(alloc: Global, host: &mut H) -> bool {
-    let spawn = Step::Spawn {
+/// What makes a process.
+fn spawn(alloc: Global) -> Step {
+    Step::Spawn {
         uid: 5,
         gid: 5,
         groups: Groups::new(Vec::new(alloc)),
         umask: 0o022,
-    };
-    let pipe = Step::Pipe {
+    }
+}
+
+/// What makes a pipe of the first process.
+fn pipe() -> Step {
+    Step::Pipe {
         pid: 1,
         nonblock: false,
-    };
-    host.step(&spawn) == Answer::Done(Reply::Pid(1))
-        && host.step(&pipe) == Answer::Done(Reply::Fds(0, 1))
-        && host.step(&pipe) == Answer::Done(Reply::Fds(2, 3))
+    }
+}
+
+/// Whether a process with two pipes, and another that has them too, are made.
+fn starts<H: Host>(alloc: Global, host: &mut H) -> bool {
+    host.step(&spawn(alloc)) == Answer::Done(Reply::Pid(1))
+        && host.step(&pipe()) == Answer::Done(Reply::Fds(0, 1))
+        && host.step(&pipe()) == Answer::Done(Reply::Fds(2, 3))
         && host.step(&Step::Fork { pid: 1 }) == Answer::Done(Reply::Pid(2))
 }
 

@@ -1,7 +1,7 @@
 //! Pairs of a write and a read through a service: by one caller, and by four on threads of their own.
 
-use crate::{BATCH, Pair, Shape};
-use pf_base::{Groups, Reply, Step};
+use crate::{BATCH, Pair, Shape, pipe, spawn};
+use pf_base::Reply;
 use pf_service::{NoGate, Seat, Service};
 use std::alloc::{AllocError, Global};
 use std::io;
@@ -36,20 +36,10 @@ fn service(alloc: Global, shape: Shape) -> Option<Shared> {
 /// A seat at a namespace, whose first process has a pipe.
 fn seat<R: Wait>(rt: &R, alloc: Global, service: &Shared, ns: u32) -> Option<Seat> {
     let mut seat = service.seat(rt, ns).ok()?;
-    let spawn = Step::Spawn {
-        uid: 5,
-        gid: 5,
-        groups: Groups::new(Vec::new(alloc)),
-        umask: 0o022,
-    };
-    let pipe = Step::Pipe {
-        pid: 1,
-        nonblock: false,
-    };
-    if service.call(rt, &mut seat, &spawn).ok()?.reply != Reply::Pid(1) {
+    if service.call(rt, &mut seat, &spawn(alloc)).ok()?.reply != Reply::Pid(1) {
         return None;
     }
-    if service.call(rt, &mut seat, &pipe).ok()?.reply != Reply::Fds(0, 1) {
+    if service.call(rt, &mut seat, &pipe()).ok()?.reply != Reply::Fds(0, 1) {
         return None;
     }
     Some(seat)
