@@ -25,6 +25,8 @@ fn write_ended(progress: Progress) -> Result<Reply, Fault>
     }
 }
 
+// A step and its resume share `write_on`, `read_on` and `cross`. They are inlined in both, or the reply of every step goes
+// through memory at each call above it, and a write and a read of a byte take twice the time.
 impl<A: Allocator + Clone> Space<A> {
     /// Writes bytes into the pipe that a process's descriptor names (write(2)).
     pub(super) fn write<F: Frames>(
@@ -81,6 +83,7 @@ impl<A: Allocator + Clone> Space<A> {
     }
 
     /// Goes on with a write, which waits where it has to.
+    #[inline(always)]
     pub(super) fn write_on<F: Frames>(
         &mut self,
         door: &mut F,
@@ -143,6 +146,7 @@ impl<A: Allocator + Clone> Space<A> {
     }
 
     /// Reads what there is, and waits where it has to; where it isn't tried again, a nonblocking description doesn't wait.
+    #[inline(always)]
     pub(super) fn read_on<F: Frames>(
         &mut self,
         door: &mut F,
@@ -199,6 +203,7 @@ impl<A: Allocator + Clone> Space<A> {
     /// Brings at most n bytes from the pipe that one descriptor of a process names to the pipe that another one names: a copy
     /// of them (tee(2)), or the bytes themselves (splice(2)). It waits where it has to; where it isn't tried again, it
     /// doesn't wait with the flag, or where one of the two descriptions is nonblocking.
+    #[inline(always)]
     pub(super) fn cross<F: Frames>(
         &mut self,
         door: &mut F,
