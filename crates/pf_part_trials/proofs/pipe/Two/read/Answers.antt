@@ -4,11 +4,17 @@ use Rattle.pf_ring.specs.Table.{ring_stands}
 use Rattle.pf_pipe.specs.PipeLaws.{passes_joined}
 use Rattle.pf_part_trials.proofs.pipe.Two.read.Goals as goal
 
-pub read_onto-requires-clause-stands : goal.read_onto-requires-clause-stands
-read_onto-requires-clause-stands c = ring_stands (own_live c.args.self.now.frames) (c.args.self.now.source.ring ∷ c.args.self.now.sink.ring ∷ []) 1 c.args.self.now.joined
+pub read_now-progress-requires-clause-stands : goal.read_now-progress-requires-clause-stands
+read_now-progress-requires-clause-stands c =
+    let self = c.args.self.now in
+    ring_stands (own_live self.frames) (self.source.ring ∷ self.sink.ring ∷ []) 0 self.joined
 
 pub invariant_of-self : goal.invariant_of-self
-invariant_of-self c = record {
-  joined = passes_joined (own_live c.args.self.now.frames) _ (c.args.self.now.source.ring ∷ c.args.self.now.sink.ring ∷ []) 1 c.args.self.now.sink _ _ _ (omega arith) refl c.args.self.now.joined c.read_onto.ensures.passes;
-  few = omega (arith, c.args.self.now.few, c.read_onto.ensures.passes.capacity);
-}
+invariant_of-self c =
+    let self = c.args.self.now in
+    let passes = c.read_now-progress.ensures.passes in
+    record {
+      joined = passes_joined (own_live self.frames) _ (self.source.ring ∷ self.sink.ring ∷ []) 0
+          self.source _ _ _ (omega arith) refl self.joined passes;
+      few = omega (arith, self.few, passes.capacity);
+    }

@@ -1,4 +1,4 @@
-use Rattle.std.proofs.Common.{[], ◌∷◌, arith}
+use Rattle.std.proofs.Common.{arith}
 use Rattle.pf_frame.specs.Own.{own_live}
 use Rattle.pf_part_trials.proofs.RingPairs.{pair_turned}
 use Rattle.pf_part_trials.proofs.ring.Two.turn.Goals as goal

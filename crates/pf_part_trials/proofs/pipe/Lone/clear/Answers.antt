@@ -1,7 +1,0 @@
-use Rattle.std.proofs.Common.{[], ◌∷◌}
-use Rattle.pf_frame.specs.Own.{own_live}
-use Rattle.pf_ring.specs.Table.{ring_stands}
-use Rattle.pf_part_trials.proofs.pipe.Lone.clear.Goals as goal
-
-pub clear-requires-clause-stands : goal.clear-requires-clause-stands
-clear-requires-clause-stands c = ring_stands (own_live c.args.self.now.frames) (c.args.self.now.pipe.ring ∷ []) 0 c.args.self.now.joined
