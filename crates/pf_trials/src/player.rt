@@ -1,6 +1,10 @@
-//! The player of tables. A table is a script, each of whose steps has its answer and the number of frames that its
-//! namespace holds then. It is played step by step over both forms of a hub, and whole by the replayer, whose text is
-//! compared.
+//! The player of tables. A table has a row for each step of a script: the step, its answer, and the number of frames that
+//! its namespace holds then, between bars. It is played step by step over both forms of a hub, and whole by the
+//! replayer, whose text is compared.
+//!
+//! An empty row says nothing, nor does one that begins with `#`. A word `COUNT*HH` of an answer stands for so many
+//! times these two digits, and a `+` in any word joins two parts of it, each digits or of this kind. A step `both`
+//! stands for four in turn: a tee and a splice of its words, each without and with the flag `n`.
 
 use crate::hosts::{Host, frames};
 use pf_base::Answer;
@@ -12,16 +16,6 @@ use std::alloc::Global;
 use std::process::Abort;
 use std::test::Fail;
 
-/// A step without its namespace's name, its answer, and how many frames its namespace holds after it.
-///
-/// A word `COUNT*HH` of an answer stands for so many times these two digits, and a `+` in any word joins two parts of
-/// it, each digits or of this kind. A step `both` stands for four in turn: a tee and a splice of its words, each
-/// without and with the flag `n`.
-pub(crate) type Row = (&'static str, &'static str, u32);
-
-/// A row behind the name of its namespace.
-pub(crate) type Turn = (&'static str, Row);
-
 /// The one namespace of most tables.
 pub(crate) const RED: &str = "red";
 
@@ -29,7 +23,7 @@ pub(crate) const RED: &str = "red";
 pub(crate) const HEADER: &str = "pool 64\nspace red 64\n";
 
 /// What stands before their steps.
-pub(crate) const SPAWN: [Row; 1] = [("spawn 5 5 022", "pid 1", 0)];
+pub(crate) const SPAWN: &str = "spawn 5 5 022 | pid 1 | 0";
 
 /// The bytes that all frames hold at the start, which no answer may depend on.
 const FILLS: [u8; 3] = [0, 165, 255];
@@ -52,6 +46,21 @@ pub(crate) struct Trial {
     alloc: Global,
     lines: String,
     events: Vec<Event>,
+}
+
+/// Whether a row says nothing.
+pub(crate) fn is_silent(row: &str) -> bool {
+    row.is_empty() || row.starts_with('#')
+}
+
+/// What a row says between bars.
+pub(crate) fn columns(row: &str) -> (&str, &str, &str) {
+    let mut columns = row.split('|');
+    (
+        columns.next().unwrap_or("").trim(),
+        columns.next().unwrap_or("").trim(),
+        columns.next().unwrap_or("").trim(),
+    )
 }
 
 /// A word's bytes written out as hexadecimal pairs.
@@ -115,8 +124,9 @@ impl Trial {
     }
 
     /// Has the steps of a row behind the others.
-    pub(crate) fn push_row(&mut self, name: &str, row: Row) -> Result<(), Fail> {
-        let (line, told, held) = row;
+    pub(crate) fn push_row(&mut self, name: &str, row: &str) -> Result<(), Fail> {
+        let (line, told, held) = columns(row);
+        let held = held.parse::<u32>()?;
         match line.strip_prefix("both") {
             Some(words) => {
                 for (verb, flag) in BOTH {
@@ -129,10 +139,12 @@ impl Trial {
         }
     }
 
-    /// Has these steps of `red` behind the others.
-    pub(crate) fn push_rows(&mut self, rows: &[Row]) -> Result<(), Fail> {
-        for row in rows {
-            self.push_row(RED, *row)?;
+    /// Has the steps of a table of `red` behind the others.
+    pub(crate) fn push_rows(&mut self, rows: &str) -> Result<(), Fail> {
+        for row in rows.split('\n') {
+            if !is_silent(row) {
+                self.push_row(RED, row)?;
+            }
         }
         Ok(())
     }
@@ -304,7 +316,7 @@ pub(crate) fn play(
     rt: &impl Abort,
     alloc: Global,
     lines: &str,
-    tables: &[&[Row]],
+    tables: &[&str],
 ) -> Result<(), Fail> {
     let mut trial = Trial::new(alloc, lines)?;
     for rows in tables {
@@ -314,9 +326,9 @@ pub(crate) fn play(
 }
 
 /// Plays tables, each behind a process of its own, in a namespace that has all limits as they are.
-pub(crate) fn play_in_red(rt: &impl Abort, alloc: Global, tables: &[&[Row]]) -> Result<(), Fail> {
+pub(crate) fn play_in_red(rt: &impl Abort, alloc: Global, tables: &[&str]) -> Result<(), Fail> {
     for rows in tables {
-        play(rt, alloc, HEADER, &[SPAWN.as_slice(), rows])?;
+        play(rt, alloc, HEADER, &[SPAWN, *rows])?;
     }
     Ok(())
 }
