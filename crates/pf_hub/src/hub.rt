@@ -100,7 +100,9 @@ fn spaces_of<A: Allocator + Clone>(
     Ok(spaces)
 }
 
-// A step of a namespace, through the door of its loans and of whoever lends them.
+// A step of a namespace, through the door of its loans and of whoever lends them. It and `step_in` are inlined, or each
+// answer is copied once more on its way out.
+#[inline(always)]
 fn step_over<A: Allocator + Clone, D: Lender>(
     space: &mut Space<A>,
     lender: &mut D,
@@ -224,6 +226,7 @@ impl<A: Allocator + Clone> Hub<A> {
     }
 
     // The same, as one fact.
+    #[inline(always)]
     fn step_in(&mut self, ns: u32, step: &Step) -> Answer
         requires exists { ns < length self.old.tenants }
         ensures stepped { Stepped self.old self.new ns step.now result }

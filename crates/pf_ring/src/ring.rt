@@ -114,6 +114,9 @@ impl SlotRing {
 
     /// Puts bytes at the end: first behind the last slot, where it grows, and then in new slots, each on a frame that
     /// is taken for it (pipe(7)).
+    // What a small write or read passes is inlined into the step: this, `take_onto` and `discard`, and in `windows` what
+    // they call for each window.
+    #[inline(always)]
     pub fn append<F: Frames>(&mut self, f: &mut F, bytes: &[u8])
         requires fact { F.fact f.old }
         requires stands { Stands (F.live f.old) self.old.windows }
@@ -165,6 +168,7 @@ impl SlotRing {
 
     /// Moves bytes from the front onto the end of a vector that has room for them, as many as there are but at most so
     /// many, and answers how many. The frame of a slot that is emptied is released.
+    #[inline(always)]
     pub fn take_onto<F: Frames>(&mut self, f: &mut F, most: usize, out: &mut Vec<u8>) -> usize
         requires fact { F.fact f.old }
         requires stands { Stands (F.live f.old) self.old.windows }
@@ -277,6 +281,7 @@ impl SlotRing {
     }
 
     // Drops bytes from the front, of which there are so many.
+    #[inline(always)]
     fn discard<F: Frames>(&mut self, f: &mut F, number: usize)
         requires fact { F.fact f.old }
         requires stands { Stands (F.live f.old) self.old.windows }

@@ -25,6 +25,7 @@ pub fn last_window_room(windows: &VecDeque<Window>) -> usize
 
 /// Puts bytes at the end of at most so many slots: behind the last window, where it grows, and then in pieces of a
 /// page.
+#[inline(always)]
 pub fn append<F: Frames>(windows: &mut VecDeque<Window>, slots: usize, f: &mut F, bytes: &[u8])
     requires fact { F.fact f.old }
     requires stands { Stands (F.live f.old) windows.old.items }
@@ -90,6 +91,7 @@ pub fn top_up<F: Frames>(windows: &mut VecDeque<Window>, f: &mut F, bytes: &[u8]
 }
 
 /// Puts a window at the end that grows, with these bytes at the start of a frame of its own.
+#[inline(always)]
 fn push_piece<F: Frames>(windows: &mut VecDeque<Window>, f: &mut F, bytes: &[u8])
     requires fact { F.fact f.old }
     requires stands { Stands (F.live f.old) windows.old.items }
@@ -137,6 +139,7 @@ pub fn copy_into<F: Frames>(windows: &VecDeque<Window>, f: &F, buffer: &mut [u8]
 }
 
 /// Copies so many of the first bytes of the windows onto the end of a vector that has room for them.
+#[inline(always)]
 pub fn copy_onto<F: Frames>(windows: &VecDeque<Window>, f: &F, number: usize, out: &mut Vec<u8>)
     requires fact { F.fact f.now }
     requires stands { Stands (F.live f.now) windows.now.items }
@@ -166,6 +169,7 @@ fn front<F: Frames>(f: &F, window: Window, most: usize) -> &[u8]
 }
 
 /// Drops so many bytes from the front of the windows. A window that is emptied goes, and its frame is released.
+#[inline(always)]
 pub fn discard<F: Frames>(windows: &mut VecDeque<Window>, f: &mut F, number: usize)
     requires fact { F.fact f.old }
     requires stands { Stands (F.live f.old) windows.old.items }
@@ -183,6 +187,7 @@ pub fn discard<F: Frames>(windows: &mut VecDeque<Window>, f: &mut F, number: usi
 
 /// Drops bytes from the front of the first window: as many as it has, but at most so many. Where these are all, it
 /// goes, and its frame is released.
+#[inline(always)]
 fn cut_front<F: Frames>(windows: &mut VecDeque<Window>, f: &mut F, most: usize) -> usize
     requires fact { F.fact f.old }
     requires stands { Stands (F.live f.old) windows.old.items }

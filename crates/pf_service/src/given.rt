@@ -26,7 +26,8 @@ fn is_given(alloc: Global, seats: &[Seat], ns: u32, given: u32) -> Result<bool, 
 /// Whether these are all seats that were given, each once.
 pub(crate) fn are_given(alloc: Global, seats: &[Seat], given: &[u32]) -> Result<bool, AllocError>
     requires { length given.now ≤ 64 }
-    ensures { IfOk result (λ b. MatchBool b (AreGiven given.now seats.now) (AreGiven given.now seats.now → ⊥)) }
+    ensures { IfOk result (λ b. MatchBool b (AreGiven given.now seats.now)
+        (AreGiven given.now seats.now → ⊥)) }
 {
     for seat in seats {
         if seat.ns() as usize >= given.len() {

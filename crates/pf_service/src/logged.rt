@@ -122,8 +122,8 @@ impl<A: Allocator + Clone> LoggedHub<A> {
     /// A number of bytes that the vector of the reply to a namespace's step is no longer than.
     pub fn reply_bound(&self, ns: u32, step: &Step) -> usize
         requires exists { ns < length self.now.hub.tenants }
-        ensures { let reply = (step_of (limits_at self.now.hub ns) (state_at self.now.hub ns) step.now).reply in
-            reply_length reply ≤ result }
+        ensures { reply_length
+            (step_of (limits_at self.now.hub ns) (state_at self.now.hub ns) step.now).reply ≤ result }
     {
         self.hub.reply_bound(ns, step)
     }

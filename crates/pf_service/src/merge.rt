@@ -60,7 +60,8 @@ fn mark_all(entries: &[(Step, Reply)], marks: &mut Vec<bool>, events: &[Event]) 
 /// Whether all are marked.
 pub(crate) fn all_marked(marks: &[bool]) -> bool
     ensures all { OnTrue result ((i : ℕ) → i < length marks.now → slice_index_or marks.now i false ≡ true) }
-    ensures not { OnFalse result ((i : ℕ) × (i < length marks.now) × (slice_index_or marks.now i false ≡ false)) }
+    ensures not { OnFalse result ((i : ℕ) × (i < length marks.now)
+        × (slice_index_or marks.now i false ≡ false)) }
 {
     for mark in marks {
         if !*mark {

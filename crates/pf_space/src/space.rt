@@ -53,6 +53,8 @@ impl<A: Allocator + Clone> Space<A> {
 
     /// One step: its answer and the state that it leaves are the lone machine's, or it is `NoMemory` and nothing has
     /// changed. The frames that it takes and gives back are those of its door.
+    // It and `call` are inlined, so that a reply is put into the answer where it is made.
+    #[inline(always)]
     pub fn step<F: Frames>(&mut self, f: &mut F, step: &Step) -> Answer
         requires fact { F.fact f.old }
         requires owns { Owns (F.live f.old) self.old }
@@ -82,6 +84,7 @@ impl<A: Allocator + Clone> Space<A> {
     }
 
     // The call of each kind of step.
+    #[inline(always)]
     fn call<F: Frames>(&mut self, door: &mut F, step: &Step) -> Result<Reply, Fault>
         requires fact { F.fact door.old }
         requires owns { Owns (F.live door.old) self.old }

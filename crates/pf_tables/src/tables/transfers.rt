@@ -74,6 +74,8 @@ impl<A: Allocator> Tables<A> {
 
     /// Puts what is left of a write at the end of the pipe that a process's descriptor writes, as many bytes as go in now;
     /// so many went in before.
+    // Kept apart: a write that goes in at once doesn't come here.
+    #[inline(never)]
     pub fn write_now<F: Frames>(
         &mut self,
         door: &mut F,
@@ -109,6 +111,7 @@ impl<A: Allocator> Tables<A> {
 
     /// Takes at most n bytes from the front of the pipe that a process's descriptor reads. Their memory is made first,
     /// at its exact size.
+    #[inline(always)]
     pub fn read_now<F: Frames>(
         &mut self,
         alloc: Global,
