@@ -203,7 +203,7 @@ impl Pipe {
 
     /// Writes what goes in now (write(2)): as many of the bytes as there is room for, or all or none of them where they
     /// are to stay whole. It takes no frame beyond the pipe's free slots.
-    // It and `read_onto` are inlined into the step: a call more costs a small write or read a tenth.
+    // It and `read_onto` are inlined into the step, as what they call is.
     #[inline(always)]
     pub fn write_now<F: Frames>(&mut self, f: &mut F, bytes: &[u8], whole: bool) -> Progress
         requires fact { F.fact f.old }
