@@ -1,8 +1,8 @@
 -- What the loops over a ring's windows keep.
 
-use Rattle.std.proofs.Common.{◌≡◌, ℕ, zero, suc, ◌+◌, ◌-◌, ◌*◌, ◌<◌, ◌≤◌, min, List, [], ◌∷◌, ◌++◌, length, get_or, take, drop, refl, sym, ◌∙◌, ap, subst, inl, inr, append_assoc, arith}
+use Rattle.std.proofs.Common.{◌≡◌, ℕ, zero, suc, ◌+◌, ◌-◌, ◌*◌, ◌<◌, ◌≤◌, min, List, [], ◌∷◌, ◌++◌, length, take, drop, refl, sym, ◌∙◌, ap, subst, inl, inr, append_assoc, arith}
 use Rattle.std.proofs.lemmas.Bool.{cases_lt}
-use Rattle.std.proofs.lemmas.List.{append-nil, get_or-drop, take-append-le, drop_all, take_at, take_min, drop_at, drop_min, drop-drop, length-take, length-drop}
+use Rattle.std.proofs.lemmas.List.{append-nil, take-append-le, take_all, drop_all, take_at, take_min, drop_at, drop_min, drop-drop, length-take, length-drop}
 use Rattle.pf_base.specs.declared.TheConstants.{PAGE_SIZE}
 use Rattle.pf_base.specs.Queue.{Segment, joined, pieces, without_front, after_take}
 use Rattle.pf_frame.specs.Live.{Live, IsSound}
@@ -10,9 +10,9 @@ use Rattle.pf_ring.specs.declared.ring.Window.{Window}
 use Rattle.pf_ring.specs.Ring.{Ring, segment_of, shown, queue_of}
 use Rattle.pf_ring.specs.Steps.{Puts, Cut}
 use Rattle.pf_ring.specs.Windows.{bytes_in, Stands, Drops}
-use Rattle.pf_ring.specs.WindowLaws.{segments_length, window_whole, stands_rest, keeps_stands, keeps_then, behind_then, drops_keep, drops_then, drops_nothing}
-use Rattle.pf_ring.proofs.Changes.{First, is_first}
-use Rattle.pf_ring.proofs.Queues.{without_more, without_rest, pieces_step, pieces_none}
+use Rattle.pf_ring.specs.WindowLaws.{segments_length, window_whole, keeps_stands, keeps_then, behind_then, drops_keep, drops_then, drops_nothing}
+use Rattle.pf_ring.proofs.Changes.{First}
+use Rattle.pf_ring.proofs.Queues.{without_more, without_rest, joined_rest, pieces_step, pieces_none}
 use Rattle.pf_ring.proofs.Segments.{without_none}
 
 nil_take : (n : ℕ) → take n (let e : List ℕ = [] in e) ≡ []
@@ -39,6 +39,42 @@ cut_then f g h old mid new m n c d = record {
 pub drops_stands : (f g : Live) (old new : List Window) → Stands f old → Drops old new f g → Stands g new
 drops_stands f g old new s d = keeps_stands f g [] old new s (drops_keep f g old new s d)
 
+-- bytes of the first window are the first of all
+pub taken_first : (f : Live) (ws : List Window) (w : Window) (most n : ℕ) (part : List ℕ) → IsSound f → First f ws w → n ≡ length part → part ≡ take most (segment_of f w).bytes
+    → (n ≡ min most w.len) × (part ≡ take n (joined (shown f ws)))
+taken_first f ws w most n part sound first is p =
+    let own : List ℕ = (segment_of f w).bytes in
+    let size : length own ≡ w.len = window_whole f w (drop 1 ws) sound first.stands in
+    let number : n ≡ min most (length own) = is ∙ (ap (λ (b : List ℕ). length b) p ∙ length-take most own) in (
+      omega (arith, number, size),
+      p ∙ (sym (take_min most own) ∙ (ap (λ (k : ℕ). take k own) (sym number)
+          ∙ (sym (take-append-le n own (joined (shown f (drop 1 ws))) (omega (arith, number))) ∙ ap (λ (v : List Window). take n (joined (shown f v))) (sym first.split)))),
+    )
+
+-- bytes that were taken, and then more of what was left
+pub taken_then : (f g : Live) (old mid : List Window) (m n : ℕ) (before out after : List ℕ) → Cut old mid m f g → out ≡ before ++ take m (joined (shown f old))
+    → after ≡ out ++ take n (joined (shown g mid)) → after ≡ before ++ take (m + n) (joined (shown f old))
+taken_then f g old mid m n before out after c first then =
+    let all : List ℕ = joined (shown f old) in
+    let left : joined (shown g mid) ≡ drop m all = ap joined c.segments ∙ joined_rest m (shown f old) in
+    then ∙ ((λ i. first i ++ take n (left i)) ∙ (append_assoc before (take m all) (take n (drop m all)) ∙ ap (λ (b : List ℕ). before ++ b) (take_both m n all)))
+
+-- the same into a buffer, whose rest took what came then
+pub filled_then : (f g : Live) (old mid : List Window) (m n : ℕ) (buffer0 buffer part : List ℕ) → IsSound f → Stands f old → Cut old mid m f g
+    → buffer ≡ take m (joined (shown f old)) ++ drop m buffer0 → part ≡ take n (joined (shown g mid)) ++ drop n (take (length buffer - m) (drop m buffer))
+    → take m buffer ++ (part ++ drop (length buffer - m) (drop m buffer)) ≡ take (m + n) (joined (shown f old)) ++ drop (m + n) buffer0
+filled_then f g old mid m n buffer0 buffer part sound s c filled then =
+    let all : List ℕ = joined (shown f old) in
+    let left : joined (shown g mid) ≡ drop m all = ap joined c.segments ∙ joined_rest m (shown f old) in
+    let rest : take (length buffer - m) (drop m buffer) ≡ drop m buffer = take_all (length buffer - m) (drop m buffer) (omega (arith, length-drop m buffer)) in
+    let none : drop (length buffer - m) (drop m buffer) ≡ [] = drop_all (length buffer - m) (drop m buffer) (omega (arith, length-drop m buffer)) in
+    let front : length (take m all) ≡ m = omega (arith, length-take m all, segments_length f old sound s, c.bytes) in
+    let head : take m buffer ≡ take m all = ap (take m) filled ∙ take_at (take m all) (drop m buffer0) m front in
+    let tail : drop n (drop m buffer) ≡ drop (m + n) buffer0 = ap (λ (b : List ℕ). drop n (drop m b)) filled ∙ (ap (drop n) (drop_at (take m all) (drop m buffer0) m front) ∙ drop-drop n m buffer0) in
+    let came : part ≡ take n (drop m all) ++ drop (m + n) buffer0 = then ∙ ((λ i. take n (left i) ++ drop n (rest i)) ∙ ap (λ (b : List ℕ). take n (drop m all) ++ b) tail) in
+    (λ i. head i ++ (came i ++ none i)) ∙ (ap (λ (b : List ℕ). take m all ++ b) (append-nil (take n (drop m all) ++ drop (m + n) buffer0))
+    ∙ (sym (append_assoc (take m all) (take n (drop m all)) (drop (m + n) buffer0)) ∙ ap (λ (b : List ℕ). b ++ drop (m + n) buffer0) (take_both m n all)))
+
 -- the least of what there is and what may go is what goes
 pub taken_all : (f : Live) (ws : List Window) (most n : ℕ) → IsSound f → Stands f ws → n ≡ min (bytes_in ws) most
     → take n (joined (shown f ws)) ≡ take most (joined (shown f ws))
@@ -59,74 +95,6 @@ cut_queue f g old new most n sound s e same c =
       | inr g ↦ c.segments ∙ ap (λ (k : ℕ). without_front k (shown f old.windows)) (omega (arith, e, g))
     ] in
     λ i. record { capacity = same i; segments = left i }
-
--- a copy of the first `number` bytes has come to the window at this place, with so many done
-pub record Copying (f : Live) (ws : List Window) (number place done : ℕ) : Type 0 where
-  pub within : done ≤ number
-  pub stands : Stands f (drop place ws)
-  pub left : done < number → joined (shown f (drop place ws)) ≡ drop done (joined (shown f ws))
-
--- there is such a window
-pub copying_here : (f : Live) (ws : List Window) (number place done : ℕ) → IsSound f → Stands f ws → number ≤ bytes_in ws → Copying f ws number place done
-    → done < number → place < length ws
-copying_here f ws number place done sound s has r l = elim (cases_lt place (length ws)) [
-  | inl h ↦ h
-  | inr g ↦
-      let gone : drop done (joined (shown f ws)) ≡ [] = sym (r.left l) ∙ ap (λ (v : List Window). joined (shown f v)) (drop_all place ws g) in
-      let none : length (drop done (joined (shown f ws))) ≡ 0 = ap (λ (b : List ℕ). length b) gone in
-      absurd (omega (arith, none, length-drop done (joined (shown f ws)), segments_length f ws sound s, has, l))
-]
-
-pub copying_first : (f : Live) (ws : List Window) (number place done : ℕ) (w : Window) → IsSound f → Stands f ws → number ≤ bytes_in ws → Copying f ws number place done
-    → done < number → w ≡ get_or ws place w → First f (drop place ws) w
-copying_first f ws number place done w sound s has r l h =
-    let here : place < length ws = copying_here f ws number place done sound s has r l in
-    let at : get_or ws place w ≡ get_or (drop place ws) 0 w = ap (λ (k : ℕ). get_or ws k w) (omega arith) ∙ sym (get_or-drop place ws 0 w) in
-    is_first f (drop place ws) w sound r.stands (omega (arith, here, length-drop place ws)) (h ∙ at)
-
--- a part of it more: it is what follows in all the bytes
-pub record Copied (f : Live) (ws : List Window) (number place done : ℕ) (part : List ℕ) : Type 0 where
-  pub some : 0 < length part
-  pub most : done + length part ≤ number
-  pub copying : Copying f ws number (place + 1) (done + length part)
-  pub taken : take (done + length part) (joined (shown f ws)) ≡ take done (joined (shown f ws)) ++ part
-
-pub copying_more : (f : Live) (ws : List Window) (number place done : ℕ) (w : Window) (part : List ℕ) → IsSound f → Stands f ws → number ≤ bytes_in ws → Copying f ws number place done
-    → done < number → w ≡ get_or ws place w → part ≡ take (number - done) (segment_of f w).bytes → Copied f ws number place done part
-copying_more f ws number place done w part sound s has r l h p =
-    let first : First f (drop place ws) w = copying_first f ws number place done w sound s has r l h in
-    let rest : List Window = drop 1 (drop place ws) in
-    let own : List ℕ = (segment_of f w).bytes in
-    let all : List ℕ = joined (shown f ws) in
-    let next : rest ≡ drop (place + 1) ws = drop-drop 1 place ws in
-    let size : length own ≡ w.len = window_whole f w rest sound first.stands in
-    let number_is : length part ≡ min (number - done) (length own) = ap (λ (b : List ℕ). length b) p ∙ length-take (number - done) own in
-    let here : own ++ joined (shown f rest) ≡ drop done all = sym (ap (λ (v : List Window). joined (shown f v)) first.split) ∙ r.left l in
-    let piece : part ≡ take (length part) own = p ∙ (sym (take_min (number - done) own) ∙ ap (λ (k : ℕ). take k own) (sym number_is)) in
-    let follows : take (length part) (drop done all) ≡ part = ap (take (length part)) (sym here) ∙ (take-append-le (length part) own (joined (shown f rest)) (omega (arith, number_is)) ∙ sym piece) in
-    record {
-      some = omega (arith, number_is, size, l, first.stands.some.0);
-      most = omega (arith, number_is, l);
-      copying = record {
-        within = omega (arith, number_is, l);
-        stands = subst (λ (v : List Window). Stands f v) next (stands_rest f w rest first.stands);
-        left = λ m.
-            let whole : length part ≡ length own = omega (arith, number_is, m) in
-            ap (λ (v : List Window). joined (shown f v)) (sym next) ∙ (sym (drop_at own (joined (shown f rest)) (length part) (sym whole))
-            ∙ (ap (drop (length part)) here ∙ drop-drop (length part) done all));
-      };
-      taken = sym (take_both done (length part) all) ∙ ap (λ (b : List ℕ). take done all ++ b) follows;
-    }
-
--- the part in its place of a buffer
-pub filled_more : (done n : ℕ) (all buffer0 buffer part : List ℕ) → n ≡ length part → done ≤ length all → take (done + length part) all ≡ take done all ++ part
-    → buffer ≡ take done all ++ drop done buffer0 → take done buffer ++ (part ++ drop n (drop done buffer)) ≡ take (done + length part) all ++ drop (done + length part) buffer0
-filled_more done n all buffer0 buffer part size has t filled =
-    let front : length (take done all) ≡ done = omega (arith, length-take done all, has) in
-    let head : take done buffer ≡ take done all = ap (take done) filled ∙ take_at (take done all) (drop done buffer0) done front in
-    let tail : drop n (drop done buffer) ≡ drop (done + length part) buffer0 = ap (λ (b : List ℕ). drop n (drop done b)) filled
-    ∙ (ap (drop n) (drop_at (take done all) (drop done buffer0) done front) ∙ (drop-drop n done buffer0 ∙ ap (λ (k : ℕ). drop (done + k) buffer0) size)) in
-    (λ i. head i ++ (part ++ tail i)) ∙ (sym (append_assoc (take done all) part (drop (done + length part) buffer0)) ∙ ap (λ (b : List ℕ). b ++ drop (done + length part) buffer0) (sym t))
 
 -- bytes put at the end of windows, and then more in windows of their own
 pub puts_then : (f g h : Live) (behind old mid new : List Window) (m n : ℕ) → Puts behind old mid m f g → Puts [] mid new n g h → Puts behind old new (m + n) f h

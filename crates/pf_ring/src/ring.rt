@@ -114,8 +114,8 @@ impl SlotRing {
 
     /// Puts bytes at the end: first behind the last slot, where it grows, and then in new slots, each on a frame that
     /// is taken for it (pipe(7)).
-    // What a small write or read passes is inlined into the step: this, `take_onto` and `discard`, and in `windows` what
-    // they call for each window.
+    // What a small write or read passes is inlined into the step: this and `take_onto`, and in `windows` what they call for
+    // each window.
     #[inline(always)]
     pub fn append<F: Frames>(&mut self, f: &mut F, bytes: &[u8])
         requires fact { F.fact f.old }
@@ -161,8 +161,8 @@ impl SlotRing {
         ensures bytes_stay { SameBytes (F.live f.old) (F.live f.new) }
     {
         let number = self.len().min(buffer.len());
-        windows::copy_into(&self.windows, f, &mut buffer[..number]);
-        self.discard(f, number);
+        windows::move_into(&mut self.windows, f, &mut buffer[..number]);
+        self.bytes -= number;
         number
     }
 
@@ -186,10 +186,10 @@ impl SlotRing {
         ensures keeps { Keeps [] self.old.windows self.new.windows (F.live f.old) (F.live f.new) }
         ensures bytes_stay { SameBytes (F.live f.old) (F.live f.new) }
     {
-        let number = self.len().min(most);
-        windows::copy_onto(&self.windows, f, number, out);
-        self.discard(f, number);
-        number
+        let taken = self.len().min(most);
+        windows::move_onto(&mut self.windows, f, taken, out);
+        self.bytes -= taken;
+        taken
     }
 
     /// Puts a copy of the first bytes at the end of another ring (tee(2)): at most `n` bytes, and at most as many slots
@@ -278,22 +278,6 @@ impl SlotRing {
         self.windows = windows;
         self.slots = slots;
         Ok(())
-    }
-
-    // Drops bytes from the front, of which there are so many.
-    #[inline(always)]
-    fn discard<F: Frames>(&mut self, f: &mut F, number: usize)
-        requires fact { F.fact f.old }
-        requires stands { Stands (F.live f.old) self.old.windows }
-        requires has { number ≤ bytes_in self.old.windows }
-        ensures fact { F.fact f.new }
-        ensures rest { F.rest f.new ≡ F.rest f.old }
-        ensures capacity { self.new.capacity ≡ self.old.capacity }
-        ensures fits { length self.new.windows ≤ self.new.capacity }
-        ensures cut { Cut self.old.windows self.new.windows number (F.live f.old) (F.live f.new) }
-    {
-        windows::discard(&mut self.windows, f, number);
-        self.bytes -= number;
     }
 
     /// Empties all slots, and releases the frame of each.

@@ -1,4 +1,4 @@
-ghost use Rattle.std.specs.Prelude.{◌≡◌, ◌+◌, ◌-◌, ◌*◌, ◌<◌, ◌≤◌, ◌^◌, [], ◌∷◌, ◌++◌, length, take, drop, min, vec_len, vec_capacity};
+ghost use Rattle.std.specs.Prelude.{◌≡◌, ◌+◌, ◌-◌, ◌*◌, ◌<◌, ◌≤◌, ◌^◌, [], ◌∷◌, ◌++◌, length, take, drop, min, get_or, vec_len, vec_capacity};
 ghost use Rattle.std.specs.VecDeque.{deque_len, deque_capacity};
 ghost use Rattle.pf_base.specs.declared.TheConstants.{PAGE_SIZE};
 ghost use Rattle.pf_base.specs.Queue.{Segment, joined, last_room, topped_up, pieces, copied};
@@ -60,6 +60,7 @@ pub fn append<F: Frames>(windows: &mut VecDeque<Window>, slots: usize, f: &mut F
 }
 
 /// Writes bytes behind the last window, where it grows, as far as its page goes, and answers how many.
+#[inline(always)]
 pub fn top_up<F: Frames>(windows: &mut VecDeque<Window>, f: &mut F, bytes: &[u8]) -> usize
     requires fact { F.fact f.old }
     requires stands { Stands (F.live f.old) windows.old.items }
@@ -120,41 +121,106 @@ fn push_piece<F: Frames>(windows: &mut VecDeque<Window>, f: &mut F, bytes: &[u8]
     });
 }
 
-/// Copies the first bytes of the windows, so many as the buffer is long.
-pub fn copy_into<F: Frames>(windows: &VecDeque<Window>, f: &F, buffer: &mut [u8])
-    requires fact { F.fact f.now }
-    requires stands { Stands (F.live f.now) windows.now.items }
-    requires has { length buffer.old ≤ bytes_in windows.now.items }
-    ensures { buffer.new ≡ take (length buffer.old) (joined (shown (F.live f.now) windows.now.items)) }
+/// Moves the first bytes of the windows into the buffer, so many as it is long. A window that is emptied goes, and its frame
+/// is released.
+pub fn move_into<F: Frames>(windows: &mut VecDeque<Window>, f: &mut F, buffer: &mut [u8])
+    requires fact { F.fact f.old }
+    requires stands { Stands (F.live f.old) windows.old.items }
+    requires has { length buffer.old ≤ bytes_in windows.old.items }
+    ensures fact { F.fact f.new }
+    ensures rest { F.rest f.new ≡ F.rest f.old }
+    ensures space { deque_capacity windows.new ≡ deque_capacity windows.old }
+    ensures cut { Cut windows.old.items windows.new.items (length buffer.old) (F.live f.old) (F.live f.new) }
+    ensures bytes { buffer.new ≡ take (length buffer.old) (joined (shown (F.live f.old) windows.old.items)) }
 {
     let number = buffer.len();
     let mut done = 0;
-    let mut place = 0;
     while done < number {
-        let part = front(f, windows[place], number - done);
-        buffer[done..done + part.len()].copy_from_slice(part);
-        done += part.len();
-        place += 1;
+        done += move_front_into(windows, f, &mut buffer[done..]);
     }
 }
 
-/// Copies so many of the first bytes of the windows onto the end of a vector that has room for them.
+/// Moves bytes from the front of the first window into the buffer: as many as the window has and the buffer has room for.
+/// Where these are all, the window goes, and its frame is released.
+fn move_front_into<F: Frames>(windows: &mut VecDeque<Window>, f: &mut F, buffer: &mut [u8]) -> usize
+    requires fact { F.fact f.old }
+    requires stands { Stands (F.live f.old) windows.old.items }
+    requires some { 0 < deque_len windows.old }
+    requires any { 0 < length buffer.old }
+    ensures fact { F.fact f.new }
+    ensures rest { F.rest f.new ≡ F.rest f.old }
+    ensures space { deque_capacity windows.new ≡ deque_capacity windows.old }
+    ensures any { 0 < result }
+    ensures most { result ≤ length buffer.old }
+    ensures cut { Cut windows.old.items windows.new.items result (F.live f.old) (F.live f.new) }
+    ensures bytes { buffer.new
+        ≡ take result (joined (shown (F.live f.old) windows.old.items)) ++ drop result buffer.old }
+{
+    let first = windows[0];
+    let part = front(f, first, buffer.len());
+    let number = part.len();
+    buffer[..number].copy_from_slice(part);
+    cut_first(windows, f, first, number);
+    number
+}
+
+/// Moves so many bytes from the front of the windows onto the end of a vector that has room for them. A window that is
+/// emptied goes, and its frame is released.
 #[inline(always)]
-pub fn copy_onto<F: Frames>(windows: &VecDeque<Window>, f: &F, number: usize, out: &mut Vec<u8>)
-    requires fact { F.fact f.now }
-    requires stands { Stands (F.live f.now) windows.now.items }
-    requires has { number ≤ bytes_in windows.now.items }
+pub fn move_onto<F: Frames>(
+    windows: &mut VecDeque<Window>,
+    f: &mut F,
+    number: usize,
+    out: &mut Vec<u8>,
+)
+    requires fact { F.fact f.old }
+    requires stands { Stands (F.live f.old) windows.old.items }
+    requires has { number ≤ bytes_in windows.old.items }
     requires room { vec_len out.old + number ≤ vec_capacity out.old }
-    ensures { out.new.items ≡ out.old.items ++ take number (joined (shown (F.live f.now) windows.now.items)) }
+    ensures fact { F.fact f.new }
+    ensures rest { F.rest f.new ≡ F.rest f.old }
+    ensures space { deque_capacity windows.new ≡ deque_capacity windows.old }
+    ensures cut { Cut windows.old.items windows.new.items number (F.live f.old) (F.live f.new) }
+    ensures bytes { out.new.items
+        ≡ out.old.items ++ take number (joined (shown (F.live f.old) windows.old.items)) }
 {
     let mut done = 0;
-    let mut place = 0;
     while done < number {
-        let part = front(f, windows[place], number - done);
-        out.extend_from_slice(part).unwrap();
-        done += part.len();
-        place += 1;
+        done += move_front_onto(windows, f, number - done, out);
     }
+}
+
+/// Moves bytes from the front of the first window onto the end of a vector that has room for them: as many as it has, but
+/// at most so many. Where these are all, it goes, and its frame is released.
+#[inline(always)]
+fn move_front_onto<F: Frames>(
+    windows: &mut VecDeque<Window>,
+    f: &mut F,
+    most: usize,
+    out: &mut Vec<u8>,
+) -> usize
+    requires fact { F.fact f.old }
+    requires stands { Stands (F.live f.old) windows.old.items }
+    requires some { 0 < deque_len windows.old }
+    requires any { 0 < most }
+    requires room { vec_len out.old + most ≤ vec_capacity out.old }
+    ensures fact { F.fact f.new }
+    ensures rest { F.rest f.new ≡ F.rest f.old }
+    ensures space { deque_capacity windows.new ≡ deque_capacity windows.old }
+    ensures any { 0 < result }
+    ensures most { result ≤ most }
+    ensures cut { Cut windows.old.items windows.new.items result (F.live f.old) (F.live f.new) }
+    ensures bytes { out.new.items
+        ≡ out.old.items ++ take result (joined (shown (F.live f.old) windows.old.items)) }
+    ensures length { vec_len out.new ≡ vec_len out.old + result }
+    ensures room { vec_capacity out.old ≤ vec_capacity out.new }
+{
+    let first = windows[0];
+    let part = front(f, first, most);
+    let number = part.len();
+    out.extend_from_slice(part).unwrap();
+    cut_first(windows, f, first, number);
+    number
 }
 
 /// The first bytes of a window: as many as it has, but at most so many.
@@ -168,40 +234,20 @@ fn front<F: Frames>(f: &F, window: Window, most: usize) -> &[u8]
     f.view(window.frame, window.from as usize, number)
 }
 
-/// Drops so many bytes from the front of the windows. A window that is emptied goes, and its frame is released.
+/// Drops so many bytes from the front of the first window, which is this one and has as many. Where these are all, it goes,
+/// and its frame is released.
 #[inline(always)]
-pub fn discard<F: Frames>(windows: &mut VecDeque<Window>, f: &mut F, number: usize)
+fn cut_first<F: Frames>(windows: &mut VecDeque<Window>, f: &mut F, first: Window, number: usize)
     requires fact { F.fact f.old }
     requires stands { Stands (F.live f.old) windows.old.items }
-    requires has { number ≤ bytes_in windows.old.items }
+    requires some { 0 < deque_len windows.old }
+    requires first { first ≡ get_or windows.old.items 0 first }
+    requires has { number ≤ first.len }
     ensures fact { F.fact f.new }
     ensures rest { F.rest f.new ≡ F.rest f.old }
     ensures space { deque_capacity windows.new ≡ deque_capacity windows.old }
     ensures cut { Cut windows.old.items windows.new.items number (F.live f.old) (F.live f.new) }
 {
-    let mut done = 0;
-    while done < number {
-        done += cut_front(windows, f, number - done);
-    }
-}
-
-/// Drops bytes from the front of the first window: as many as it has, but at most so many. Where these are all, it
-/// goes, and its frame is released.
-#[inline(always)]
-fn cut_front<F: Frames>(windows: &mut VecDeque<Window>, f: &mut F, most: usize) -> usize
-    requires fact { F.fact f.old }
-    requires stands { Stands (F.live f.old) windows.old.items }
-    requires some { 0 < deque_len windows.old }
-    requires any { 0 < most }
-    ensures fact { F.fact f.new }
-    ensures rest { F.rest f.new ≡ F.rest f.old }
-    ensures space { deque_capacity windows.new ≡ deque_capacity windows.old }
-    ensures any { 0 < result }
-    ensures most { result ≤ most }
-    ensures cut { Cut windows.old.items windows.new.items result (F.live f.old) (F.live f.new) }
-{
-    let first = windows[0];
-    let number = (first.len as usize).min(most);
     if number < first.len as usize {
         windows[0] = Window {
             from: first.from + number as u32,
@@ -211,7 +257,6 @@ fn cut_front<F: Frames>(windows: &mut VecDeque<Window>, f: &mut F, most: usize) 
     } else {
         drop_front(windows, f);
     }
-    number
 }
 
 /// Drops the first window, and releases its frame.

@@ -1,22 +1,25 @@
-use Rattle.std.proofs.Common.{◌≡◌, ℕ, min, List, ◌++◌, take, ◌∙◌, ap, arith}
+use Rattle.std.proofs.Common.{◌≡◌, ℕ, min, List, ◌++◌, take, ◌∙◌, ap, subst, arith}
 use Rattle.pf_base.specs.Queue.{joined}
 use Rattle.pf_ring.specs.Ring.{Ring, shown}
 use Rattle.pf_ring.specs.Windows.{bytes_in}
+use Rattle.pf_ring.specs.Steps.{Cut}
 use Rattle.pf_ring.proofs.Loops.{taken_all, taken_number, cut_queue}
 use Rattle.pf_ring.proofs.ring.SlotRing.take_onto.Goals as goal
 
 pub returns-clause-number : goal.returns-clause-number
 returns-clause-number g c =
-    let least : c.min-number.result ≡ min (bytes_in c.args.self.now.windows) c.args.most = omega (arith, c.min-number.ensures, c.len.ensures.number) in
+    let least : c.min-taken.result ≡ min (bytes_in c.args.self.now.windows) c.args.most = omega (arith, c.min-taken.ensures, c.len.ensures.number) in
     taken_number _ _ _ _ (g.met.F.Frames.sound _ c.requires.fact) c.requires.stands least
 
 pub returns-clause-bytes : goal.returns-clause-bytes
 returns-clause-bytes g c =
-    let least : c.min-number.result ≡ min (bytes_in c.args.self.now.windows) c.args.most = omega (arith, c.min-number.ensures, c.len.ensures.number) in
-    c.copy_onto.ensures ∙ ap (λ (b : List ℕ). c.args.out.now.items ++ b)
-    (ap (λ (r : Ring). take c.min-number.result (joined (shown (g.F.Frames.live c.args.f.now) r.windows))) c.self.view_is ∙ taken_all _ _ _ _ (g.met.F.Frames.sound _ c.requires.fact) c.requires.stands least)
+    let least : c.min-taken.result ≡ min (bytes_in c.args.self.now.windows) c.args.most = omega (arith, c.min-taken.ensures, c.len.ensures.number) in
+    c.move_onto.ensures.bytes ∙ ap (λ (b : List ℕ). c.args.out.now.items ++ b)
+    (ap (λ (r : Ring). take c.min-taken.result (joined (shown (g.F.Frames.live c.args.f.now) r.windows))) c.self.view_is ∙ taken_all _ _ _ _ (g.met.F.Frames.sound _ c.requires.fact) c.requires.stands least)
 
 pub returns-clause-queue : goal.returns-clause-queue
 returns-clause-queue g c =
-    let least : c.min-number.result ≡ min (bytes_in c.args.self.now.windows) c.args.most = omega (arith, c.min-number.ensures, c.len.ensures.number) in
-    cut_queue _ _ _ _ _ _ (g.met.F.Frames.sound _ c.requires.fact) c.requires.stands least c.discard.ensures.capacity c.discard.ensures.cut
+    let least : c.min-taken.result ≡ min (bytes_in c.args.self.now.windows) c.args.most = omega (arith, c.min-taken.ensures, c.len.ensures.number) in
+    let cut : Cut c.args.self.now.windows c.move_onto.new.windows.items c.min-taken.result (g.F.Frames.live c.args.f.now) (g.F.Frames.live c.move_onto.new.f) =
+    subst (λ (r : Ring). Cut r.windows c.move_onto.new.windows.items c.min-taken.result (g.F.Frames.live c.args.f.now) (g.F.Frames.live c.move_onto.new.f)) c.self.view_is c.move_onto.ensures.cut in
+    cut_queue _ _ _ _ _ _ (g.met.F.Frames.sound _ c.requires.fact) c.requires.stands least (ap (λ (r : Ring). r.capacity) c.self.view_is) cut

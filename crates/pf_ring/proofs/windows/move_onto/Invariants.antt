@@ -1,8 +1,11 @@
-use Rattle.std.proofs.Common.{◌≡◌, ◌≤◌, ◌-◌}
+use Rattle.std.proofs.Common.{◌≡◌, ◌≤◌, ◌++◌, ◌+◌, ◌-◌, take}
+use Rattle.std.specs.Prelude.{vec_len, vec_capacity}
 use Rattle.std.specs.VecDeque.{deque_capacity}
+use Rattle.pf_base.specs.Queue.{joined}
+use Rattle.pf_ring.specs.Ring.{shown}
 use Rattle.pf_ring.specs.Windows.{Stands}
 use Rattle.pf_ring.specs.Steps.{Cut}
-use Rattle.pf_ring.proofs.windows.discard.Given as goal
+use Rattle.pf_ring.proofs.windows.move_onto.Given as goal
 
 abbrev pub invariant-loop-done : goal.invariant-loop-done
 invariant-loop-done g l = record {
@@ -12,6 +15,8 @@ invariant-loop-done g l = record {
   within : l.done ≤ l.number;
   stands : Stands (g.F.Frames.live l.f) l.windows.items;
   cut : Cut l.fn.windows.items l.windows.items l.done (g.F.Frames.live l.fn.f) (g.F.Frames.live l.f);
+  room : vec_len l.out + (l.number - l.done) ≤ vec_capacity l.out;
+  filled : l.out.items ≡ l.fn.out.items ++ take l.done (joined (shown (g.F.Frames.live l.fn.f) l.fn.windows.items));
 }
 
 abbrev pub decreases-loop-done : goal.decreases-loop-done
