@@ -150,6 +150,7 @@ fn move_front_into<F: Frames>(windows: &mut VecDeque<Window>, f: &mut F, buffer:
     ensures fact { F.fact f.new }
     ensures rest { F.rest f.new ≡ F.rest f.old }
     ensures space { deque_capacity windows.new ≡ deque_capacity windows.old }
+    // How many they are, what is left, and the bytes.
     ensures any { 0 < result }
     ensures most { result ≤ length buffer.old }
     ensures cut { Cut windows.old.items windows.new.items result (F.live f.old) (F.live f.new) }
@@ -207,11 +208,13 @@ fn move_front_onto<F: Frames>(
     ensures fact { F.fact f.new }
     ensures rest { F.rest f.new ≡ F.rest f.old }
     ensures space { deque_capacity windows.new ≡ deque_capacity windows.old }
+    // How many they are, what is left, and the bytes.
     ensures any { 0 < result }
     ensures most { result ≤ most }
     ensures cut { Cut windows.old.items windows.new.items result (F.live f.old) (F.live f.new) }
     ensures bytes { out.new.items
         ≡ out.old.items ++ take result (joined (shown (F.live f.old) windows.old.items)) }
+    // The vector still has room for the others.
     ensures length { vec_len out.new ≡ vec_len out.old + result }
     ensures room { vec_capacity out.old ≤ vec_capacity out.new }
 {
