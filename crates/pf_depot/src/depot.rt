@@ -1,4 +1,5 @@
 ghost use Rattle.std.specs.Prelude.{◌≡◌, ℕ, ◌≤◌, length, sum, vec_capacity, IfOk};
+ghost use Rattle.pf_base.specs.declared.TheConstants.{MAX_FRAMES};
 ghost use Rattle.pf_depot.specs.AllLoans.{AreIdle};
 
 use crate::lender::Lender;
@@ -22,12 +23,12 @@ pub struct Depot {
     pub ghost room: { all ≤ vec_capacity free },
 
     /// There are not too many frames.
-    pub ghost few: { all ≤ 65536 },
+    pub ghost few: { all ≤ MAX_FRAMES },
 }
 
 // Loans for each of these reservations, all vacant.
 fn loans_of(alloc: Global, reserves: &[u32]) -> Result<Vec<Loans>, AllocError>
-    requires { sum reserves.now ≤ 65536 }
+    requires { sum reserves.now ≤ MAX_FRAMES }
     ensures { IfOk result (λ loans. AreIdle loans.items reserves.now) }
 {
     let mut loans = Vec::with_capacity(alloc, reserves.len())?;

@@ -36,14 +36,14 @@ fn vacant_places(alloc: Global, count: usize) -> Result<Vec<Option<Frame>>, Allo
 
 impl Loans {
     ghost use Rattle.std.specs.Prelude.{◌≡◌, ℕ, ◌+◌, ◌<◌, ◌≤◌, ◌^◌, length, take, drop, IfOk};
-    ghost use Rattle.pf_base.specs.declared.TheConstants.{PAGE_SIZE};
+    ghost use Rattle.pf_base.specs.declared.TheConstants.{MAX_RESERVE, PAGE_SIZE};
     ghost use Rattle.pf_frame.specs.Live.{Takes, Shares, Releases, Fills, IsIdle};
     ghost use Rattle.pf_frame.specs.Pages.{page_of};
     ghost use Rattle.pf_depot.specs.Loans.{loans_live};
 
     /// So many places, all of them vacant.
     pub(crate) fn new(alloc: Global, reserve: u32) -> Result<Loans, AllocError>
-        requires { reserve ≤ 65536 }
+        requires { reserve ≤ MAX_RESERVE }
         ensures { IfOk result (λ loans. IsIdle reserve (loans_live loans)) }
     {
         let places = vacant_places(alloc, reserve as usize)?;

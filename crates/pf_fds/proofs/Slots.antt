@@ -404,22 +404,22 @@ module _ {T : Type 0} (slab : Slab (Entry T)) (drawn room : ℕ) (out : Option K
             absurd (cc)
 
   -- an entry's value is taken out
-  pub kept-taken : (key : Key) (e : Entry T) → at slab.slots key.place ≡ Some e → e.serial ≡ key.serial → (slab' : Slab (Entry T)) → slab'.slots ≡ set slab.slots key.place None → slab'.vacant_key ≡ key.place
+  pub kept-taken : (key : Key) (e : Entry T) → at slab.slots key.slot ≡ Some e → e.serial ≡ key.serial → (slab' : Slab (Entry T)) → slab'.slots ≡ set slab.slots key.slot None → slab'.vacant_key ≡ key.slot
       → slab'.capacity ≡ slab.capacity → slab_len slab' + 1 ≡ slab_len slab → IsKept slab' drawn (room + 1) (Some key)
   kept-taken key e h s slab' slots next capacity len = record {
-    sound = subst (λ xs. IsSound xs drawn) (sym slots) (sound-removed drawn key.place key.serial slab.slots e kept.sound h s);
+    sound = subst (λ xs. IsSound xs drawn) (sym slots) (sound-removed drawn key.slot key.serial slab.slots e kept.sound h s);
     fits = omega (arith, kept.fits, capacity, len);
     counted = omega (arith, kept.counted, len);
     returns = λ k is. out_is k is;
   }
     where
       below : key.serial < drawn
-      below = omega (arith, kept.sound.below key.place e h, s)
+      below = omega (arith, kept.sound.below key.slot e h, s)
 
       absent : at (by_number drawn slab'.slots) key.serial ≡ None
       absent =
           ap (λ xs. at (by_number drawn xs) key.serial) slots
-          ∙ ap (λ xs. at xs key.serial) (removed drawn key.place key.serial slab.slots e kept.sound h s)
+          ∙ ap (λ xs. at xs key.serial) (removed drawn key.slot key.serial slab.slots e kept.sound h s)
           ∙ at-put_same (by_number drawn slab.slots) key.serial None (omega (arith, length-by_number drawn slab.slots, below))
 
       out_is : (k : Key) → Some key ≡ Some k → IsOut slab' drawn (room + 1) k

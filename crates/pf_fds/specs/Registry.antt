@@ -17,7 +17,7 @@ pub record Registry (T : Type 0) : Type 0 where
 -- a key is stored as the pair of its fields
 abbrev pub key_code : Coded Key
 key_code =
-    code_by (ℕ × ℕ) (coded× coded_ℕ coded_ℕ) (λ k. (k.place, k.serial)) (λ p. record { place = p.0; serial = p.1 })
+    code_by (ℕ × ℕ) (coded× coded_ℕ coded_ℕ) (λ k. (k.slot, k.serial)) (λ p. record { slot = p.0; serial = p.1 })
     (λ _. refl)
 
 -- a registry is stored as the tuple of its fields

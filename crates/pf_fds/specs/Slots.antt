@@ -29,7 +29,7 @@ module _ {T : Type 0} where
 
   -- the key's number was drawn and nothing stands there, its place is the next to be filled, and there is room
   pub record IsOut (slab : Slab (Entry T)) (drawn room : ℕ) (key : Key) : Type 0 where
-    pub next : slab.vacant_key ≡ key.place
+    pub next : slab.vacant_key ≡ key.slot
     pub below : key.serial < drawn
     pub absent : at (by_number drawn slab.slots) key.serial ≡ None
     pub has_room : 0 < room

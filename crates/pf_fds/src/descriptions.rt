@@ -19,7 +19,7 @@ pub struct Named<T> {
 /// Values by number, each with a count of its names, as open file descriptions are named by descriptors. A value goes
 /// with its last name. Each call takes constant time, besides one that takes memory and moves the values there.
 ///
-/// A contract sees what stands at each number that was ever drawn, with its place and its count, and how many more
+/// A contract sees what stands at each number that was ever drawn, with its slot and its count, and how many more
 /// values are sure to fit with no allocation.
 #[derive(Drop)]
 pub struct Descriptions<T> {
@@ -77,7 +77,7 @@ impl<T> Descriptions<T> {
         requires unspent { length self.old.items < 2 ^ 64 - 1 }
         ensures serial { result.serial ≡ length self.old.items }
         ensures items { self.new.items
-            ≡ self.old.items ++ Some (result.place, record { value = value; names = 0 }) ∷ [] }
+            ≡ self.old.items ++ Some (result.slot, record { value = value; names = 0 }) ∷ [] }
         ensures room { self.new.room + 1 ≡ self.old.room }
     {
         self.registry.insert_reserved(Named { value, names: 0 })
@@ -85,7 +85,7 @@ impl<T> Descriptions<T> {
 
     /// The value of a key, if it still has a number.
     pub fn get(&self, key: Key) -> Option<&T>
-        ensures { option_copied result ≡ option_map value_of (find self.now.items key.place key.serial) }
+        ensures { option_copied result ≡ option_map value_of (find self.now.items key.slot key.serial) }
     {
         match self.registry.get(key) {
             Some(named) => Some(&named.value),
@@ -95,9 +95,9 @@ impl<T> Descriptions<T> {
 
     /// The value of a key, for writing. Its count stays.
     pub fn value_mut(&mut self, key: Key) -> &mut T
-        requires stands { IsSome (find self.old.items key.place key.serial) }
+        requires stands { IsSome (find self.old.items key.slot key.serial) }
         ensures* writes_back { sem 𝓛 (lends_description T.row self.entry key.serial result) }
-        ensures value { option_map value_of (find self.old.items key.place key.serial) ≡ Some result.now }
+        ensures value { option_map value_of (find self.old.items key.slot key.serial) ≡ Some result.now }
     {
         let named = self.registry.value_mut(key);
         &mut named.value
@@ -105,7 +105,7 @@ impl<T> Descriptions<T> {
 
     /// How many names the value of a key has, 0 where the key finds nothing.
     pub fn names(&self, key: Key) -> u32
-        ensures { result ≡ names_of (find self.now.items key.place key.serial) }
+        ensures { result ≡ names_of (find self.now.items key.slot key.serial) }
     {
         match self.registry.get(key) {
             Some(named) => named.names,
@@ -115,8 +115,8 @@ impl<T> Descriptions<T> {
 
     /// Gives the value of a key one name more.
     pub fn name(&mut self, key: Key)
-        requires stands { IsSome (find self.old.items key.place key.serial) }
-        requires below { names_of (find self.old.items key.place key.serial) < 2 ^ 32 - 1 }
+        requires stands { IsSome (find self.old.items key.slot key.serial) }
+        requires below { names_of (find self.old.items key.slot key.serial) < 2 ^ 32 - 1 }
         ensures items { self.new.items ≡ change_at one_more self.old.items key.serial }
         ensures room { self.new.room ≡ self.old.room }
     {
@@ -126,16 +126,16 @@ impl<T> Descriptions<T> {
 
     /// Takes one name from the value of a key. The value goes with its last name, and is handed out then.
     pub fn unname(&mut self, key: Key) -> Option<T>
-        requires named { 0 < names_of (find self.old.items key.place key.serial) }
+        requires named { 0 < names_of (find self.old.items key.slot key.serial) }
 
         // That was its last name: its number is free, and there is room for one more.
         ensures last { IfSome result
-            (λ value. at self.old.items key.serial ≡ Some (key.place, record { value = value; names = 1 })) }
+            (λ value. at self.old.items key.serial ≡ Some (key.slot, record { value = value; names = 1 })) }
         ensures gone { OnSome result (self.new.items ≡ clear_at self.old.items key.serial) }
         ensures freed { OnSome result (self.new.room ≡ self.old.room + 1) }
 
         // It has other names, and one less.
-        ensures more { IfNone result (1 < names_of (find self.old.items key.place key.serial)) }
+        ensures more { IfNone result (1 < names_of (find self.old.items key.slot key.serial)) }
         ensures items { IfNone result (self.new.items ≡ change_at one_less self.old.items key.serial) }
         ensures room { IfNone result (self.new.room ≡ self.old.room) }
     {

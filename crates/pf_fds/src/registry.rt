@@ -8,12 +8,12 @@ use slab::Slab;
 use std::alloc::{AllocError, Global};
 use std::marker::Model;
 
-/// A value's number, and the place where the registry keeps it.
+/// A value's number, and the slot where the registry keeps it.
 ///
 /// Only the registry that made a key has anything under it.
 #[derive(Clone, Copy, Debug, PartialEq, Eq)]
 pub struct Key {
-    pub place: usize,
+    pub slot: usize,
     pub serial: u64,
 }
 
@@ -36,7 +36,7 @@ struct Entry<T> {
 /// Values by number. The numbers are drawn in order, from 0 on, and each only once; each call takes constant time,
 /// besides one that takes memory and moves the values there.
 ///
-/// A contract sees what stands at each number that was ever drawn, with its place, how many more values are sure to
+/// A contract sees what stands at each number that was ever drawn, with its slot, how many more values are sure to
 /// fit with no allocation, and the key whose value was taken out and can be put back.
 #[derive(Drop)]
 pub struct Registry<T> {
@@ -44,7 +44,7 @@ pub struct Registry<T> {
     drawn: u64,
     // How many more values are sure to fit.
     room: usize,
-    // The key whose value was taken out, while its place is the slab's next.
+    // The key whose value was taken out, while its slot is the slab's next.
     out: Option<Key>,
 }
 
@@ -108,7 +108,7 @@ impl<T> Registry<T> {
     /// Stores a value under the next number, or hands it back.
     pub fn insert(&mut self, value: T) -> Result<Key, InsertFault<T>>
         ensures serial { IfOk result (λ key. key.serial ≡ length self.old.items) }
-        ensures items { IfOk result (λ key. self.new.items ≡ self.old.items ++ Some (key.place, value) ∷ []) }
+        ensures items { IfOk result (λ key. self.new.items ≡ self.old.items ++ Some (key.slot, value) ∷ []) }
         ensures room { OnOk result (0 < self.old.room → self.new.room + 1 ≡ self.old.room) }
         ensures out { OnOk result (self.new.out ≡ None) }
         ensures unspent { OnOk result (length self.old.items < 2 ^ 64 - 1) }
@@ -131,23 +131,23 @@ impl<T> Registry<T> {
         requires room { 0 < self.old.room }
         requires unspent { length self.old.items < 2 ^ 64 - 1 }
         ensures serial { result.serial ≡ length self.old.items }
-        ensures items { self.new.items ≡ self.old.items ++ Some (result.place, value) ∷ [] }
+        ensures items { self.new.items ≡ self.old.items ++ Some (result.slot, value) ∷ [] }
         ensures room { self.new.room + 1 ≡ self.old.room }
         ensures out { self.new.out ≡ None }
     {
         let serial = self.drawn;
-        let place = self.slab.insert_reserved(Entry { serial, value });
+        let slot = self.slab.insert_reserved(Entry { serial, value });
         self.drawn += 1;
         self.room -= 1;
         self.out = None;
-        Key { place, serial }
+        Key { slot, serial }
     }
 
     /// The value of a key, if it was not removed.
     pub fn get(&self, key: Key) -> Option<&T>
-        ensures { option_copied result ≡ find self.now.items key.place key.serial }
+        ensures { option_copied result ≡ find self.now.items key.slot key.serial }
     {
-        let Some(entry) = self.slab.get(key.place) else {
+        let Some(entry) = self.slab.get(key.slot) else {
             return None;
         };
         if entry.serial != key.serial {
@@ -158,8 +158,8 @@ impl<T> Registry<T> {
 
     /// The value of a key, if it was not removed, for writing.
     pub fn get_mut(&mut self, key: Key) -> Option<&mut T>
-        ensures* writes_back { sem 𝓛 (lends_found T.row self.entry key.place key.serial result) }
-        ensures value { option_copied_mut result ≡ find self.old.items key.place key.serial }
+        ensures* writes_back { sem 𝓛 (lends_found T.row self.entry key.slot key.serial result) }
+        ensures value { option_copied_mut result ≡ find self.old.items key.slot key.serial }
     {
         if self.get(key).is_some() {
             Some(self.value_mut(key))
@@ -170,18 +170,18 @@ impl<T> Registry<T> {
 
     /// The value of a key, for writing.
     pub fn value_mut(&mut self, key: Key) -> &mut T
-        requires stands { IsSome (find self.old.items key.place key.serial) }
-        ensures* writes_back { sem 𝓛 (lends_value T.row self.entry key.place key.serial result) }
-        ensures value { find self.old.items key.place key.serial ≡ Some result.now }
+        requires stands { IsSome (find self.old.items key.slot key.serial) }
+        ensures* writes_back { sem 𝓛 (lends_value T.row self.entry key.slot key.serial result) }
+        ensures value { find self.old.items key.slot key.serial ≡ Some result.now }
     {
-        let entry = &mut self.slab[key.place];
+        let entry = &mut self.slab[key.slot];
         &mut entry.value
     }
 
     /// Removes the value of a key. Its number is never drawn again.
     pub fn remove(&mut self, key: Key) -> T
-        requires stands { IsSome (find self.old.items key.place key.serial) }
-        ensures value { find self.old.items key.place key.serial ≡ Some result }
+        requires stands { IsSome (find self.old.items key.slot key.serial) }
+        ensures value { find self.old.items key.slot key.serial ≡ Some result }
         ensures items { self.new.items ≡ clear_at self.old.items key.serial }
         ensures room { self.new.room ≡ self.old.room + 1 }
         ensures out { self.new.out ≡ None }
@@ -194,26 +194,26 @@ impl<T> Registry<T> {
     /// Takes the value of a key out, to be worked on beside another value of the registry: `put_back` puts it under
     /// the same key again, if there were only calls of `get`, `get_mut` and `value_mut` in between.
     pub fn take_out(&mut self, key: Key) -> T
-        requires stands { IsSome (find self.old.items key.place key.serial) }
-        ensures value { find self.old.items key.place key.serial ≡ Some result }
+        requires stands { IsSome (find self.old.items key.slot key.serial) }
+        ensures value { find self.old.items key.slot key.serial ≡ Some result }
         ensures items { self.new.items ≡ clear_at self.old.items key.serial }
         ensures room { self.new.room ≡ self.old.room + 1 }
         ensures out { self.new.out ≡ Some key }
     {
-        let Entry { serial: _, value } = self.slab.remove(key.place);
+        let Entry { serial: _, value } = self.slab.remove(key.slot);
         self.room += 1;
         self.out = Some(key);
         value
     }
 
-    /// Puts a value under the key whose value was taken out, at the same place. It takes no memory.
+    /// Puts a value under the key whose value was taken out, in the same slot. It takes no memory.
     pub fn put_back(&mut self, key: Key, value: T)
         requires out { self.old.out ≡ Some key }
-        ensures items { self.new.items ≡ put_at self.old.items key.serial (key.place, value) }
+        ensures items { self.new.items ≡ put_at self.old.items key.serial (key.slot, value) }
         ensures room { self.new.room + 1 ≡ self.old.room }
         ensures out { self.new.out ≡ None }
     {
-        let Key { place: _, serial } = key;
+        let Key { slot: _, serial } = key;
         self.slab.insert_reserved(Entry { serial, value });
         self.room -= 1;
         self.out = None;

@@ -1,6 +1,7 @@
 -- Frames by their numbers, as a list of counts, and the stack of the vacant ones.
 
 use Rattle.std.specs.Prelude.{◌≡◌, ℕ, ◌+◌, ◌<◌, ◌≤◌, List, [], ◌∷◌, length, sum, slice_index, slice_index_or, ◌==◌, if◌then◌else◌}
+use Rattle.pf_base.specs.declared.TheConstants.{MAX_FRAMES}
 use Rattle.pf_frame.specs.Live.{Live}
 
 -- how many of the counts are above 0
@@ -22,7 +23,7 @@ pub record IsTable (counts vacant : List ℕ) (frames capacity : ℕ) : Type 0 w
   pub idle : (q : ℕ) → 0 < occurs q vacant → slice_index counts q ≡ 0
   pub number : length vacant + positives counts ≡ length counts
   pub room : length counts ≤ capacity
-  pub few : length counts ≤ 65536
+  pub few : length counts ≤ MAX_FRAMES
 
 -- the live frames that these counts and pages are: those whose count is above 0
 abbrev pub live_by : ℕ → List ℕ → List (List ℕ) → Live

@@ -1,8 +1,7 @@
 ghost use Rattle.std.specs.Prelude.{◌≡◌, ◌≤◌, length, sum};
 ghost use Rattle.pf_frame.specs.Faults.{fault_of};
 
-use crate::table::FrameTable;
-use pf_base::MAX_NAMESPACES;
+use pf_base::{MAX_FRAMES, MAX_NAMESPACES};
 use thiserror::Error;
 
 /// Why frames can't be shared out under some reservations. The first that applies is given, in this order.
@@ -43,7 +42,7 @@ impl PoolFault {
         if reserves.len() > MAX_NAMESPACES {
             return Some(PoolFault::TooManyNamespaces);
         }
-        if frames > FrameTable::MOST {
+        if frames > MAX_FRAMES {
             return Some(PoolFault::TooManyFrames);
         }
         let sum = sum_of(reserves);

@@ -1,4 +1,5 @@
 ghost use Rattle.std.specs.Prelude.{◌≡◌, ℕ, ◌≤◌, length, IfOk};
+ghost use Rattle.pf_base.specs.declared.TheConstants.{MAX_FRAMES};
 ghost use Rattle.pf_frame.specs.Live.{IsIdle};
 
 use crate::frame::Frame;
@@ -17,7 +18,7 @@ impl OwnFrames {
 
     /// These frames, none of them live.
     pub fn new(alloc: Global, frames: Vec<Frame>) -> Result<OwnFrames, AllocError>
-        requires { length frames.items ≤ 65536 }
+        requires { length frames.items ≤ MAX_FRAMES }
         ensures { IfOk result (λ own. IsIdle (length frames.items) (own_live own)) }
     {
         let table = FrameTable::new(alloc, frames)?;

@@ -1,5 +1,5 @@
 ghost use Rattle.std.specs.Prelude.{◌≡◌, ℕ, ◌+◌, ◌<◌, ◌≤◌, ◌^◌, length, take, drop, replicate, map, sum, slice_index, slice_index_or, slice_set, [], ◌-◌, IfOk, vec_capacity, vec_len};
-ghost use Rattle.pf_base.specs.declared.TheConstants.{PAGE_SIZE};
+ghost use Rattle.pf_base.specs.declared.TheConstants.{MAX_FRAMES, PAGE_SIZE};
 ghost use Rattle.pf_frame.specs.Bytes.{filled};
 ghost use Rattle.pf_frame.specs.Pages.{page_of};
 ghost use Rattle.pf_frame.specs.Counted.{positives, IsTable};
@@ -22,12 +22,9 @@ pub struct FrameTable {
 }
 
 impl FrameTable {
-    /// The most frames of one table.
-    pub const MOST: usize = 65_536;
-
     /// These frames, each with the count 0.
     pub fn new(alloc: Global, frames: Vec<Frame>) -> Result<FrameTable, AllocError>
-        requires { length frames.items ≤ 65536 }
+        requires { length frames.items ≤ MAX_FRAMES }
         ensures frames { IfOk result (λ table. table.frames.items ≡ frames.items) }
         ensures counts { IfOk result (λ table. table.counts.items ≡ replicate (length frames.items) 0) }
     {

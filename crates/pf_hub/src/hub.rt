@@ -5,9 +5,9 @@ ghost use Rattle.pf_depot.specs.Loans.{loans_live};
 ghost use Rattle.pf_hub.specs.Stepped.{Moved};
 ghost use Rattle.pf_tables.specs.Owns.{Owns};
 
-use pf_base::{Answer, Config, MAX_NAMESPACES, Step};
+use pf_base::{Answer, Config, MAX_FRAMES, MAX_NAMESPACES, Step};
 use pf_depot::{Depot, Lender, LoanDoor, Loans};
-use pf_frame::{Frame, FrameTable, PoolFault};
+use pf_frame::{Frame, PoolFault};
 use pf_space::Space;
 use std::alloc::{AllocError, Allocator, Global};
 use std::marker::Model;
@@ -64,7 +64,7 @@ fn first_fault<A: Allocator>(frames: usize, configs: &[(Config, A)]) -> Option<P
     if configs.len() > MAX_NAMESPACES {
         return Some(PoolFault::TooManyNamespaces);
     }
-    if frames > FrameTable::MOST {
+    if frames > MAX_FRAMES {
         return Some(PoolFault::TooManyFrames);
     }
     let sum = sum_of(configs);

@@ -10,7 +10,7 @@ fn a_key_that_outlives_its_value_finds_nothing(rt: HostRuntime) -> Result<(), Fa
     assert_eq!(rt; registry.remove(first), 10);
     registry.reserve(1)?;
     let second = registry.insert_reserved(20_u32);
-    assert_eq!(rt; second.place, first.place);
+    assert_eq!(rt; second.slot, first.slot);
     assert_eq!(rt; registry.get(first).copied(), None);
     assert!(rt; registry.get_mut(first).is_none());
     assert_eq!(rt; registry.get(second).copied(), Some(20));
@@ -34,7 +34,7 @@ fn two_values_are_in_hand_at_once(rt: HostRuntime) -> Result<(), Fail> {
     assert_eq!(rt; registry.get(left).copied(), Some(31));
     assert_eq!(rt; registry.get(right).copied(), Some(21));
     let next = registry.insert_reserved(50);
-    assert_eq!(rt; (next.serial, next.place), (2, 2));
+    assert_eq!(rt; (next.serial, next.slot), (2, 2));
     Ok(())
 }
 
@@ -86,7 +86,7 @@ fn a_description_goes_with_its_last_name(rt: HostRuntime) -> Result<(), Fail> {
         (0, None)
     );
     let next = descriptions.insert_reserved(12);
-    assert_eq!(rt; (next.serial, next.place), (1, key.place));
+    assert_eq!(rt; (next.serial, next.slot), (1, key.slot));
     assert_eq!(rt; (descriptions.drawn(), descriptions.names(key)), (2, 0));
     Ok(())
 }
@@ -94,7 +94,7 @@ fn a_description_goes_with_its_last_name(rt: HostRuntime) -> Result<(), Fail> {
 #[test]
 fn a_copied_table_is_a_table_of_its_own(rt: HostRuntime) -> Result<(), Fail> {
     let key = Key {
-        place: 3,
+        slot: 3,
         serial: 70,
     };
     let mut table = FdTable::new(rt.alloc())?;

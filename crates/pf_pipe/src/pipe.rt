@@ -205,23 +205,24 @@ impl Pipe {
     /// are to stay whole. It takes no frame beyond the pipe's free slots.
     // It and `read_onto` are inlined into the step, as what they call is.
     #[inline(always)]
-    pub fn write_now<F: Frames>(&mut self, f: &mut F, bytes: &[u8], whole: bool) -> Progress
-        requires fact { F.fact f.old }
-        requires stands { Stands (F.live f.old) self.old.ring.windows }
+    pub fn write_now<F: Frames>(&mut self, door: &mut F, bytes: &[u8], whole: bool) -> Progress
+        requires fact { F.fact door.old }
+        requires stands { Stands (F.live door.old) self.old.ring.windows }
         // A credit for each free slot: nothing can fail.
         requires credits { let free = self.old.ring.capacity - length self.old.ring.windows in
-            (F.live f.old).held + free ≤ (F.live f.old).reserved }
-        ensures fact { F.fact f.new }
-        ensures rest { F.rest f.new ≡ F.rest f.old }
-        ensures passes { Passes self.old self.new (F.live f.old) (F.live f.new) result
-            (write_now (queue_of (F.live f.old) self.old.ring) self.old.readers whole bytes.now) }
+            (F.live door.old).held + free ≤ (F.live door.old).reserved }
+        ensures fact { F.fact door.new }
+        ensures rest { F.rest door.new ≡ F.rest door.old }
+        ensures passes { Passes self.old self.new (F.live door.old) (F.live door.new) result
+            (write_now (queue_of (F.live door.old) self.old.ring) self.old.readers whole bytes.now) }
         // As many frames are taken as slots.
-        ensures takes { (F.live f.new).held + length self.old.ring.windows
-            ≡ (F.live f.old).held + length self.new.ring.windows }
+        ensures takes { (F.live door.new).held + length self.old.ring.windows
+            ≡ (F.live door.old).held + length self.new.ring.windows }
         // A frame that was live is written to behind the last slot's end alone, and where no byte goes nothing is
         // touched.
-        ensures puts_behind { PutsBehind self.old.ring.windows (moved result) (F.live f.old) (F.live f.new) }
-        ensures untouched { moved result ≡ 0 → (self.new ≡ self.old) × (f.new ≡ f.old) }
+        ensures puts_behind { PutsBehind self.old.ring.windows (moved result)
+            (F.live door.old) (F.live door.new) }
+        ensures untouched { moved result ≡ 0 → (self.new ≡ self.old) × (door.new ≡ door.old) }
     {
         if bytes.is_empty() {
             return Progress::Moved(0);
@@ -233,23 +234,23 @@ impl Pipe {
         if number == 0 {
             return Progress::WouldBlock;
         }
-        self.ring.append(f, &bytes[..number]);
+        self.ring.append(door, &bytes[..number]);
         Progress::Moved(number as u64)
     }
 
     /// Reads what there is now into a buffer (read(2)), as many bytes as it has room for.
-    pub fn read_now<F: Frames>(&mut self, f: &mut F, buffer: &mut [u8]) -> Progress
-        requires fact { F.fact f.old }
-        requires stands { Stands (F.live f.old) self.old.ring.windows }
-        ensures fact { F.fact f.new }
-        ensures rest { F.rest f.new ≡ F.rest f.old }
-        ensures passes { Passes self.old self.new (F.live f.old) (F.live f.new) result
-            (read_now (queue_of (F.live f.old) self.old.ring) self.old.writers (length buffer.old)) }
+    pub fn read_now<F: Frames>(&mut self, door: &mut F, buffer: &mut [u8]) -> Progress
+        requires fact { F.fact door.old }
+        requires stands { Stands (F.live door.old) self.old.ring.windows }
+        ensures fact { F.fact door.new }
+        ensures rest { F.rest door.new ≡ F.rest door.old }
+        ensures passes { Passes self.old self.new (F.live door.old) (F.live door.new) result
+            (read_now (queue_of (F.live door.old) self.old.ring) self.old.writers (length buffer.old)) }
         ensures bytes { let number = moved result in
-            buffer.new ≡ taken (queue_of (F.live f.old) self.old.ring) number ++ drop number buffer.old }
+            buffer.new ≡ taken (queue_of (F.live door.old) self.old.ring) number ++ drop number buffer.old }
         // Nothing is written, and where no byte comes out nothing is touched.
-        ensures bytes_stay { SameBytes (F.live f.old) (F.live f.new) }
-        ensures untouched { moved result ≡ 0 → (self.new ≡ self.old) × (f.new ≡ f.old) }
+        ensures bytes_stay { SameBytes (F.live door.old) (F.live door.new) }
+        ensures untouched { moved result ≡ 0 → (self.new ≡ self.old) × (door.new ≡ door.old) }
     {
         if buffer.is_empty() {
             return Progress::Moved(0);
@@ -257,25 +258,26 @@ impl Pipe {
         if self.len() == 0 {
             return self.empty_told();
         }
-        let number = self.ring.take_into(f, buffer);
+        let number = self.ring.take_into(door, buffer);
         Progress::Moved(number as u64)
     }
 
     /// Reads what there is now onto the end of a vector that has room for it (read(2)), but at most so many bytes.
     #[inline(always)]
-    pub fn read_onto<F: Frames>(&mut self, f: &mut F, most: usize, out: &mut Vec<u8>) -> Progress
-        requires fact { F.fact f.old }
-        requires stands { Stands (F.live f.old) self.old.ring.windows }
+    pub fn read_onto<F: Frames>(&mut self, door: &mut F, most: usize, out: &mut Vec<u8>) -> Progress
+        requires fact { F.fact door.old }
+        requires stands { Stands (F.live door.old) self.old.ring.windows }
         requires room { vec_len out.old + min most (bytes_in self.old.ring.windows) ≤ vec_capacity out.old }
-        ensures fact { F.fact f.new }
-        ensures rest { F.rest f.new ≡ F.rest f.old }
-        ensures passes { Passes self.old self.new (F.live f.old) (F.live f.new) result
-            (read_now (queue_of (F.live f.old) self.old.ring) self.old.writers most) }
+        ensures fact { F.fact door.new }
+        ensures rest { F.rest door.new ≡ F.rest door.old }
+        ensures passes { Passes self.old self.new (F.live door.old) (F.live door.new) result
+            (read_now (queue_of (F.live door.old) self.old.ring) self.old.writers most) }
         ensures bytes { out.new.items
-            ≡ out.old.items ++ taken (queue_of (F.live f.old) self.old.ring) (moved result) }
+            ≡ out.old.items ++ taken (queue_of (F.live door.old) self.old.ring) (moved result) }
         // Nothing is written, and where no byte comes out nothing is touched.
-        ensures bytes_stay { SameBytes (F.live f.old) (F.live f.new) }
-        ensures untouched { moved result ≡ 0 → (self.new ≡ self.old) × (f.new ≡ f.old) × (out.new ≡ out.old) }
+        ensures bytes_stay { SameBytes (F.live door.old) (F.live door.new) }
+        ensures untouched { moved result ≡ 0
+            → (self.new ≡ self.old) × (door.new ≡ door.old) × (out.new ≡ out.old) }
     {
         if most == 0 {
             return Progress::Moved(0);
@@ -283,88 +285,88 @@ impl Pipe {
         if self.len() == 0 {
             return self.empty_told();
         }
-        let number = self.ring.take_onto(f, most, out);
+        let number = self.ring.take_onto(door, most, out);
         Progress::Moved(number as u64)
     }
 
     /// Puts a copy of the first bytes into another pipe (tee(2)): at most `n`, and at most as many slots as are free
     /// there, at least a byte where it moves any. No byte is copied: each slot that is put names a frame once more.
-    pub fn tee_now<F: Frames>(&self, f: &mut F, sink: &mut Pipe, n: usize) -> Progress
-        requires fact { F.fact f.old }
+    pub fn tee_now<F: Frames>(&self, door: &mut F, sink: &mut Pipe, n: usize) -> Progress
+        requires fact { F.fact door.old }
         // The two pipes are two in the same frames, and no count can pass the end of its type.
-        requires stands { Stands (F.live f.old) (self.now.ring.windows ++ sink.old.ring.windows) }
-        requires few { (F.live f.old).shares + sink.old.ring.capacity < 2 ^ 32 }
-        ensures fact { F.fact f.new }
-        ensures rest { F.rest f.new ≡ F.rest f.old }
-        ensures crosses { let source = queue_of (F.live f.old) self.now.ring in
-            let queue = queue_of (F.live f.old) sink.old.ring in
-            Crosses self.now self.now sink.old sink.new (F.live f.old) (F.live f.new) result
+        requires stands { Stands (F.live door.old) (self.now.ring.windows ++ sink.old.ring.windows) }
+        requires few { (F.live door.old).shares + sink.old.ring.capacity < 2 ^ 32 }
+        ensures fact { F.fact door.new }
+        ensures rest { F.rest door.new ≡ F.rest door.old }
+        ensures crosses { let source = queue_of (F.live door.old) self.now.ring in
+            let queue = queue_of (F.live door.old) sink.old.ring in
+            Crosses self.now self.now sink.old sink.new (F.live door.old) (F.live door.new) result
             (cross_now Tee source queue self.now.writers sink.old.readers n) }
         // No frame is taken or freed, nothing is written, and where no byte goes nothing is touched.
-        ensures takes { (F.live f.new).held ≡ (F.live f.old).held }
-        ensures bytes_stay { SameBytes (F.live f.old) (F.live f.new) }
-        ensures untouched { moved result ≡ 0 → (sink.new ≡ sink.old) × (f.new ≡ f.old) }
+        ensures takes { (F.live door.new).held ≡ (F.live door.old).held }
+        ensures bytes_stay { SameBytes (F.live door.old) (F.live door.new) }
+        ensures untouched { moved result ≡ 0 → (sink.new ≡ sink.old) × (door.new ≡ door.old) }
     {
         if let Some(progress) = self.stopped(sink, n) {
             return progress;
         }
-        let number = self.ring.tee_into(f, &mut sink.ring, n);
+        let number = self.ring.tee_into(door, &mut sink.ring, n);
         Progress::Moved(number as u64)
     }
 
     /// Moves the first bytes into another pipe (splice(2)): as many as `tee_now` puts there. No byte is copied: each
     /// slot whose bytes all go goes itself, and one that is cut has its frame named once more.
-    pub fn splice_now<F: Frames>(&mut self, f: &mut F, sink: &mut Pipe, n: usize) -> Progress
-        requires fact { F.fact f.old }
+    pub fn splice_now<F: Frames>(&mut self, door: &mut F, sink: &mut Pipe, n: usize) -> Progress
+        requires fact { F.fact door.old }
         // The two pipes are two in the same frames, and no count can pass the end of its type.
-        requires stands { Stands (F.live f.old) (self.old.ring.windows ++ sink.old.ring.windows) }
-        requires few { (F.live f.old).shares + sink.old.ring.capacity < 2 ^ 32 }
-        ensures fact { F.fact f.new }
-        ensures rest { F.rest f.new ≡ F.rest f.old }
-        ensures crosses { let source = queue_of (F.live f.old) self.old.ring in
-            let queue = queue_of (F.live f.old) sink.old.ring in
-            Crosses self.old self.new sink.old sink.new (F.live f.old) (F.live f.new) result
+        requires stands { Stands (F.live door.old) (self.old.ring.windows ++ sink.old.ring.windows) }
+        requires few { (F.live door.old).shares + sink.old.ring.capacity < 2 ^ 32 }
+        ensures fact { F.fact door.new }
+        ensures rest { F.rest door.new ≡ F.rest door.old }
+        ensures crosses { let source = queue_of (F.live door.old) self.old.ring in
+            let queue = queue_of (F.live door.old) sink.old.ring in
+            Crosses self.old self.new sink.old sink.new (F.live door.old) (F.live door.new) result
             (cross_now Splice source queue self.old.writers sink.old.readers n) }
         // No frame is taken or freed, nothing is written, and where no byte goes nothing is touched.
-        ensures takes { (F.live f.new).held ≡ (F.live f.old).held }
-        ensures bytes_stay { SameBytes (F.live f.old) (F.live f.new) }
+        ensures takes { (F.live door.new).held ≡ (F.live door.old).held }
+        ensures bytes_stay { SameBytes (F.live door.old) (F.live door.new) }
         ensures untouched { moved result ≡ 0
-            → (self.new ≡ self.old) × (sink.new ≡ sink.old) × (f.new ≡ f.old) }
+            → (self.new ≡ self.old) × (sink.new ≡ sink.old) × (door.new ≡ door.old) }
     {
         if let Some(progress) = self.stopped(sink, n) {
             return progress;
         }
-        let number = self.ring.splice_into(f, &mut sink.ring, n);
+        let number = self.ring.splice_into(door, &mut sink.ring, n);
         Progress::Moved(number as u64)
     }
 
     /// Brings the first bytes into another pipe, by `tee_now` or by `splice_now`.
     pub fn cross_now<F: Frames>(
         &mut self,
-        f: &mut F,
+        door: &mut F,
         crossing: Crossing,
         sink: &mut Pipe,
         n: usize,
     ) -> Progress
-        requires fact { F.fact f.old }
+        requires fact { F.fact door.old }
         // The two pipes are two in the same frames, and no count can pass the end of its type.
-        requires stands { Stands (F.live f.old) (self.old.ring.windows ++ sink.old.ring.windows) }
-        requires few { (F.live f.old).shares + sink.old.ring.capacity < 2 ^ 32 }
-        ensures fact { F.fact f.new }
-        ensures rest { F.rest f.new ≡ F.rest f.old }
-        ensures crosses { let source = queue_of (F.live f.old) self.old.ring in
-            let queue = queue_of (F.live f.old) sink.old.ring in
-            Crosses self.old self.new sink.old sink.new (F.live f.old) (F.live f.new) result
+        requires stands { Stands (F.live door.old) (self.old.ring.windows ++ sink.old.ring.windows) }
+        requires few { (F.live door.old).shares + sink.old.ring.capacity < 2 ^ 32 }
+        ensures fact { F.fact door.new }
+        ensures rest { F.rest door.new ≡ F.rest door.old }
+        ensures crosses { let source = queue_of (F.live door.old) self.old.ring in
+            let queue = queue_of (F.live door.old) sink.old.ring in
+            Crosses self.old self.new sink.old sink.new (F.live door.old) (F.live door.new) result
             (cross_now crossing source queue self.old.writers sink.old.readers n) }
         // No frame is taken or freed, nothing is written, and where no byte goes nothing is touched.
-        ensures takes { (F.live f.new).held ≡ (F.live f.old).held }
-        ensures bytes_stay { SameBytes (F.live f.old) (F.live f.new) }
+        ensures takes { (F.live door.new).held ≡ (F.live door.old).held }
+        ensures bytes_stay { SameBytes (F.live door.old) (F.live door.new) }
         ensures untouched { moved result ≡ 0
-            → (self.new ≡ self.old) × (sink.new ≡ sink.old) × (f.new ≡ f.old) }
+            → (self.new ≡ self.old) × (sink.new ≡ sink.old) × (door.new ≡ door.old) }
     {
         match crossing {
-            Crossing::Tee => self.tee_now(f, sink, n),
-            Crossing::Splice => self.splice_now(f, sink, n),
+            Crossing::Tee => self.tee_now(door, sink, n),
+            Crossing::Splice => self.splice_now(door, sink, n),
         }
     }
 
@@ -400,18 +402,18 @@ impl Pipe {
     }
 
     /// Empties all slots, and releases the frame of each. The ends stay counted.
-    pub fn clear<F: Frames>(&mut self, f: &mut F)
-        requires fact { F.fact f.old }
-        requires stands { Stands (F.live f.old) self.old.ring.windows }
-        ensures fact { F.fact f.new }
-        ensures rest { F.rest f.new ≡ F.rest f.old }
+    pub fn clear<F: Frames>(&mut self, door: &mut F)
+        requires fact { F.fact door.old }
+        requires stands { Stands (F.live door.old) self.old.ring.windows }
+        ensures fact { F.fact door.new }
+        ensures rest { F.rest door.new ≡ F.rest door.old }
         ensures pipe { self.new
             ≡ record self.old { ring = record { capacity = self.old.ring.capacity; windows = [] } } }
         // Other rings show what they showed, and nothing is written.
-        ensures keeps { Keeps [] self.old.ring.windows [] (F.live f.old) (F.live f.new) }
-        ensures bytes_stay { SameBytes (F.live f.old) (F.live f.new) }
+        ensures keeps { Keeps [] self.old.ring.windows [] (F.live door.old) (F.live door.new) }
+        ensures bytes_stay { SameBytes (F.live door.old) (F.live door.new) }
     {
-        self.ring.clear(f);
+        self.ring.clear(door);
     }
 }
 

@@ -1,4 +1,5 @@
 ghost use Rattle.std.specs.Prelude.{◌≡◌, ◌<◌, ◌≤◌, length, map, slice_get, Some, [], ◌∷◌, IfOk};
+ghost use Rattle.pf_base.specs.declared.TheConstants.{MAX_FRAMES};
 ghost use Rattle.pf_hub.specs.Opening.{new_hub};
 ghost use Rattle.pf_play.specs.Filled.{AreFilled};
 ghost use Rattle.pf_play.specs.Played.{IsPlayed, IsPlayedAlone, IsPlayedFor, IsChosen, nomem_of};
@@ -57,7 +58,7 @@ fn hub_of(alloc: Global, script: &Script, frames: Vec<Frame>) -> Result<Hub<Glob
 
 /// A hub of one namespace of these limits over these frames, which are enough for it.
 fn lone_hub(alloc: Global, config: Config, frames: Vec<Frame>) -> Result<Hub<Global>, AllocError>
-    requires small { length frames.items ≤ 65536 }
+    requires small { length frames.items ≤ MAX_FRAMES }
     requires fits { config.reserve ≤ length frames.items }
     ensures { IfOk result (λ hub. hub ≡ new_hub (config ∷ []) (length frames.items)) }
 {

@@ -25,7 +25,7 @@ pub struct FramePool {
 
 impl FramePool {
     ghost use Rattle.std.specs.Prelude.{MatchResult, take, drop, IfOk};
-    ghost use Rattle.pf_base.specs.declared.TheConstants.{PAGE_SIZE};
+    ghost use Rattle.pf_base.specs.declared.TheConstants.{MAX_FRAMES, PAGE_SIZE};
     ghost use Rattle.pf_frame.specs.Live.{Takes, Shares, Releases, Fills};
     ghost use Rattle.pf_frame.specs.Faults.{fault_of, IsFault};
     ghost use Rattle.pf_pool.specs.Pool.{pool_live, pool_rest, IsFresh, frames_of, namespaces_of, all_held};
@@ -56,7 +56,7 @@ impl FramePool {
         frames: Vec<Frame>,
         reserves: Vec<u32>,
     ) -> Result<FramePool, AllocError>
-        requires frames { length frames.items ≤ 65536 }
+        requires frames { length frames.items ≤ MAX_FRAMES }
         requires reserved { sum reserves.items ≤ length frames.items }
         ensures { IfOk result (λ pool. IsFresh pool (length frames.items) reserves.items) }
     {

@@ -117,51 +117,53 @@ impl SlotRing {
     // What a small write or read passes is inlined into the step: this and `take_onto`, and in `windows` what they call for
     // each window.
     #[inline(always)]
-    pub fn append<F: Frames>(&mut self, f: &mut F, bytes: &[u8])
-        requires fact { F.fact f.old }
-        requires stands { Stands (F.live f.old) self.old.windows }
+    pub fn append<F: Frames>(&mut self, door: &mut F, bytes: &[u8])
+        requires fact { F.fact door.old }
+        requires stands { Stands (F.live door.old) self.old.windows }
         // There is room for all the bytes, and a credit for each free slot: nothing can fail.
-        requires room { length bytes.now ≤ room_of (queue_of (F.live f.old) self.old) }
-        requires credits { (F.live f.old).held + (self.old.capacity - length self.old.windows)
-            ≤ (F.live f.old).reserved }
-        ensures fact { F.fact f.new }
-        ensures rest { F.rest f.new ≡ F.rest f.old }
+        requires room { length bytes.now ≤ room_of (queue_of (F.live door.old) self.old) }
+        requires credits { (F.live door.old).held + (self.old.capacity - length self.old.windows)
+            ≤ (F.live door.old).reserved }
+        ensures fact { F.fact door.new }
+        ensures rest { F.rest door.new ≡ F.rest door.old }
         ensures capacity { self.new.capacity ≡ self.old.capacity }
         ensures fits { length self.new.windows ≤ self.new.capacity }
-        ensures queue { queue_of (F.live f.new) self.new ≡ put (queue_of (F.live f.old) self.old) bytes.now }
+        ensures queue { queue_of (F.live door.new) self.new
+            ≡ put (queue_of (F.live door.old) self.old) bytes.now }
         // As many frames are taken as slots.
-        ensures takes { (F.live f.new).held + length self.old.windows
-            ≡ (F.live f.old).held + length self.new.windows }
+        ensures takes { (F.live door.new).held + length self.old.windows
+            ≡ (F.live door.old).held + length self.new.windows }
         // Other rings show what they showed, and a frame that was live is written to behind the last slot's
         // end alone.
-        ensures keeps { Keeps [] self.old.windows self.new.windows (F.live f.old) (F.live f.new) }
-        ensures puts_behind { PutsBehind self.old.windows (length bytes.now) (F.live f.old) (F.live f.new) }
+        ensures keeps { Keeps [] self.old.windows self.new.windows (F.live door.old) (F.live door.new) }
+        ensures puts_behind { PutsBehind self.old.windows (length bytes.now)
+            (F.live door.old) (F.live door.new) }
     {
-        windows::append(&mut self.windows, self.slots, f, bytes);
+        windows::append(&mut self.windows, self.slots, door, bytes);
         self.bytes += bytes.len();
     }
 
     /// Moves bytes from the front into the buffer, as many as there are and as it has room for, and answers how many.
     /// The frame of a slot that is emptied is released.
-    pub fn take_into<F: Frames>(&mut self, f: &mut F, buffer: &mut [u8]) -> usize
-        requires fact { F.fact f.old }
-        requires stands { Stands (F.live f.old) self.old.windows }
-        ensures fact { F.fact f.new }
-        ensures rest { F.rest f.new ≡ F.rest f.old }
+    pub fn take_into<F: Frames>(&mut self, door: &mut F, buffer: &mut [u8]) -> usize
+        requires fact { F.fact door.old }
+        requires stands { Stands (F.live door.old) self.old.windows }
+        ensures fact { F.fact door.new }
+        ensures rest { F.rest door.new ≡ F.rest door.old }
         ensures capacity { self.new.capacity ≡ self.old.capacity }
         ensures fits { length self.new.windows ≤ self.new.capacity }
         // What is moved, and what is left.
-        ensures number { result ≡ length (taken (queue_of (F.live f.old) self.old) (length buffer.old)) }
+        ensures number { result ≡ length (taken (queue_of (F.live door.old) self.old) (length buffer.old)) }
         ensures bytes { buffer.new
-            ≡ taken (queue_of (F.live f.old) self.old) (length buffer.old) ++ drop result buffer.old }
-        ensures queue { queue_of (F.live f.new) self.new
-            ≡ after_take (queue_of (F.live f.old) self.old) (length buffer.old) }
+            ≡ taken (queue_of (F.live door.old) self.old) (length buffer.old) ++ drop result buffer.old }
+        ensures queue { queue_of (F.live door.new) self.new
+            ≡ after_take (queue_of (F.live door.old) self.old) (length buffer.old) }
         // Other rings show what they showed, and nothing is written.
-        ensures keeps { Keeps [] self.old.windows self.new.windows (F.live f.old) (F.live f.new) }
-        ensures bytes_stay { SameBytes (F.live f.old) (F.live f.new) }
+        ensures keeps { Keeps [] self.old.windows self.new.windows (F.live door.old) (F.live door.new) }
+        ensures bytes_stay { SameBytes (F.live door.old) (F.live door.new) }
     {
         let number = self.len().min(buffer.len());
-        windows::move_into(&mut self.windows, f, &mut buffer[..number]);
+        windows::move_into(&mut self.windows, door, &mut buffer[..number]);
         self.bytes -= number;
         number
     }
@@ -169,25 +171,25 @@ impl SlotRing {
     /// Moves bytes from the front onto the end of a vector that has room for them, as many as there are but at most so
     /// many, and answers how many. The frame of a slot that is emptied is released.
     #[inline(always)]
-    pub fn take_onto<F: Frames>(&mut self, f: &mut F, most: usize, out: &mut Vec<u8>) -> usize
-        requires fact { F.fact f.old }
-        requires stands { Stands (F.live f.old) self.old.windows }
+    pub fn take_onto<F: Frames>(&mut self, door: &mut F, most: usize, out: &mut Vec<u8>) -> usize
+        requires fact { F.fact door.old }
+        requires stands { Stands (F.live door.old) self.old.windows }
         requires room { vec_len out.old + min most (bytes_in self.old.windows) ≤ vec_capacity out.old }
-        ensures fact { F.fact f.new }
-        ensures rest { F.rest f.new ≡ F.rest f.old }
+        ensures fact { F.fact door.new }
+        ensures rest { F.rest door.new ≡ F.rest door.old }
         ensures capacity { self.new.capacity ≡ self.old.capacity }
         ensures fits { length self.new.windows ≤ self.new.capacity }
         // What is moved, and what is left.
-        ensures number { result ≡ length (taken (queue_of (F.live f.old) self.old) most) }
-        ensures bytes { out.new.items ≡ out.old.items ++ taken (queue_of (F.live f.old) self.old) most }
-        ensures queue { queue_of (F.live f.new) self.new
-            ≡ after_take (queue_of (F.live f.old) self.old) most }
+        ensures number { result ≡ length (taken (queue_of (F.live door.old) self.old) most) }
+        ensures bytes { out.new.items ≡ out.old.items ++ taken (queue_of (F.live door.old) self.old) most }
+        ensures queue { queue_of (F.live door.new) self.new
+            ≡ after_take (queue_of (F.live door.old) self.old) most }
         // Other rings show what they showed, and nothing is written.
-        ensures keeps { Keeps [] self.old.windows self.new.windows (F.live f.old) (F.live f.new) }
-        ensures bytes_stay { SameBytes (F.live f.old) (F.live f.new) }
+        ensures keeps { Keeps [] self.old.windows self.new.windows (F.live door.old) (F.live door.new) }
+        ensures bytes_stay { SameBytes (F.live door.old) (F.live door.new) }
     {
         let taken = self.len().min(most);
-        windows::move_onto(&mut self.windows, f, taken, out);
+        windows::move_onto(&mut self.windows, door, taken, out);
         self.bytes -= taken;
         taken
     }
@@ -197,28 +199,28 @@ impl SlotRing {
     ///
     /// No byte is copied or looked at, and no frame is taken: each slot that is put names a frame of this ring once
     /// more, and never grows. It takes constant time for each.
-    pub fn tee_into<F: Frames>(&self, f: &mut F, sink: &mut SlotRing, n: usize) -> usize
-        requires fact { F.fact f.old }
+    pub fn tee_into<F: Frames>(&self, door: &mut F, sink: &mut SlotRing, n: usize) -> usize
+        requires fact { F.fact door.old }
         // The two rings are two in the same frames, and no count can pass the end of its type.
-        requires stands { Stands (F.live f.old) (self.now.windows ++ sink.old.windows) }
-        requires few { (F.live f.old).shares + sink.old.capacity < 2 ^ 32 }
-        ensures fact { F.fact f.new }
-        ensures rest { F.rest f.new ≡ F.rest f.old }
+        requires stands { Stands (F.live door.old) (self.now.windows ++ sink.old.windows) }
+        requires few { (F.live door.old).shares + sink.old.capacity < 2 ^ 32 }
+        ensures fact { F.fact door.new }
+        ensures rest { F.rest door.new ≡ F.rest door.old }
         ensures capacity { sink.new.capacity ≡ sink.old.capacity }
         ensures fits { length sink.new.windows ≤ sink.new.capacity }
         // What is put, and what this ring has then: what it had.
         ensures number { result
-            ≡ tee_number (queue_of (F.live f.old) self.now) (queue_of (F.live f.old) sink.old) n }
-        ensures queue { queue_of (F.live f.new) sink.new
-            ≡ after_tee (queue_of (F.live f.old) self.now) (queue_of (F.live f.old) sink.old) n }
-        ensures source { queue_of (F.live f.new) self.now ≡ queue_of (F.live f.old) self.now }
+            ≡ tee_number (queue_of (F.live door.old) self.now) (queue_of (F.live door.old) sink.old) n }
+        ensures queue { queue_of (F.live door.new) sink.new
+            ≡ after_tee (queue_of (F.live door.old) self.now) (queue_of (F.live door.old) sink.old) n }
+        ensures source { queue_of (F.live door.new) self.now ≡ queue_of (F.live door.old) self.now }
         // No frame is taken. Other rings show what they showed, and nothing is written.
-        ensures takes { (F.live f.new).held ≡ (F.live f.old).held }
+        ensures takes { (F.live door.new).held ≡ (F.live door.old).held }
         ensures keeps { Keeps self.now.windows sink.old.windows sink.new.windows
-            (F.live f.old) (F.live f.new) }
-        ensures bytes_stay { SameBytes (F.live f.old) (F.live f.new) }
+            (F.live door.old) (F.live door.new) }
+        ensures bytes_stay { SameBytes (F.live door.old) (F.live door.new) }
     {
-        let number = windows::share(&self.windows, &mut sink.windows, sink.slots, f, n);
+        let number = windows::share(&self.windows, &mut sink.windows, sink.slots, door, n);
         sink.bytes += number;
         number
     }
@@ -228,31 +230,31 @@ impl SlotRing {
     ///
     /// No byte is copied or looked at, and no frame is taken or freed. A slot whose bytes all go goes itself, without its
     /// room; one that is cut keeps its room, and its frame is named once more. It takes constant time for each slot.
-    pub fn splice_into<F: Frames>(&mut self, f: &mut F, sink: &mut SlotRing, n: usize) -> usize
-        requires fact { F.fact f.old }
+    pub fn splice_into<F: Frames>(&mut self, door: &mut F, sink: &mut SlotRing, n: usize) -> usize
+        requires fact { F.fact door.old }
         // The two rings are two in the same frames, and no count can pass the end of its type.
-        requires stands { Stands (F.live f.old) (self.old.windows ++ sink.old.windows) }
-        requires few { (F.live f.old).shares + sink.old.capacity < 2 ^ 32 }
-        ensures fact { F.fact f.new }
-        ensures rest { F.rest f.new ≡ F.rest f.old }
+        requires stands { Stands (F.live door.old) (self.old.windows ++ sink.old.windows) }
+        requires few { (F.live door.old).shares + sink.old.capacity < 2 ^ 32 }
+        ensures fact { F.fact door.new }
+        ensures rest { F.rest door.new ≡ F.rest door.old }
         ensures capacity { self.new.capacity ≡ self.old.capacity }
         ensures fits { length self.new.windows ≤ self.new.capacity }
         ensures sink_capacity { sink.new.capacity ≡ sink.old.capacity }
         ensures sink_fits { length sink.new.windows ≤ sink.new.capacity }
         // What is put, and what is left.
         ensures number { result
-            ≡ tee_number (queue_of (F.live f.old) self.old) (queue_of (F.live f.old) sink.old) n }
-        ensures queue { queue_of (F.live f.new) sink.new
-            ≡ after_tee (queue_of (F.live f.old) self.old) (queue_of (F.live f.old) sink.old) n }
-        ensures source { queue_of (F.live f.new) self.new
-            ≡ after_splice (queue_of (F.live f.old) self.old) (queue_of (F.live f.old) sink.old) n }
+            ≡ tee_number (queue_of (F.live door.old) self.old) (queue_of (F.live door.old) sink.old) n }
+        ensures queue { queue_of (F.live door.new) sink.new
+            ≡ after_tee (queue_of (F.live door.old) self.old) (queue_of (F.live door.old) sink.old) n }
+        ensures source { queue_of (F.live door.new) self.new
+            ≡ after_splice (queue_of (F.live door.old) self.old) (queue_of (F.live door.old) sink.old) n }
         // No frame is taken or freed. Other rings show what they showed, and nothing is written.
-        ensures takes { (F.live f.new).held ≡ (F.live f.old).held }
+        ensures takes { (F.live door.new).held ≡ (F.live door.old).held }
         ensures moves { Moves self.old.windows self.new.windows sink.old.windows sink.new.windows
-            (F.live f.old) (F.live f.new) }
-        ensures bytes_stay { SameBytes (F.live f.old) (F.live f.new) }
+            (F.live door.old) (F.live door.new) }
+        ensures bytes_stay { SameBytes (F.live door.old) (F.live door.new) }
     {
-        let moved = windows::shift(&mut self.windows, &mut sink.windows, sink.slots, f, n);
+        let moved = windows::shift(&mut self.windows, &mut sink.windows, sink.slots, door, n);
         self.bytes -= moved;
         sink.bytes += moved;
         moved
@@ -281,17 +283,17 @@ impl SlotRing {
     }
 
     /// Empties all slots, and releases the frame of each.
-    pub fn clear<F: Frames>(&mut self, f: &mut F)
-        requires fact { F.fact f.old }
-        requires stands { Stands (F.live f.old) self.old.windows }
-        ensures fact { F.fact f.new }
-        ensures rest { F.rest f.new ≡ F.rest f.old }
+    pub fn clear<F: Frames>(&mut self, door: &mut F)
+        requires fact { F.fact door.old }
+        requires stands { Stands (F.live door.old) self.old.windows }
+        ensures fact { F.fact door.new }
+        ensures rest { F.rest door.new ≡ F.rest door.old }
         ensures ring { self.new ≡ record { capacity = self.old.capacity; windows = [] } }
         // Other rings show what they showed, and nothing is written.
-        ensures keeps { Keeps [] self.old.windows [] (F.live f.old) (F.live f.new) }
-        ensures bytes_stay { SameBytes (F.live f.old) (F.live f.new) }
+        ensures keeps { Keeps [] self.old.windows [] (F.live door.old) (F.live door.new) }
+        ensures bytes_stay { SameBytes (F.live door.old) (F.live door.new) }
     {
-        windows::clear(&mut self.windows, f);
+        windows::clear(&mut self.windows, door);
         self.bytes = 0;
     }
 }

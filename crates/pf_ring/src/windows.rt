@@ -26,59 +26,59 @@ pub fn last_window_room(windows: &VecDeque<Window>) -> usize
 /// Puts bytes at the end of at most so many slots: behind the last window, where it grows, and then in pieces of a
 /// page.
 #[inline(always)]
-pub fn append<F: Frames>(windows: &mut VecDeque<Window>, slots: usize, f: &mut F, bytes: &[u8])
-    requires fact { F.fact f.old }
-    requires stands { Stands (F.live f.old) windows.old.items }
+pub fn append<F: Frames>(windows: &mut VecDeque<Window>, slots: usize, door: &mut F, bytes: &[u8])
+    requires fact { F.fact door.old }
+    requires stands { Stands (F.live door.old) windows.old.items }
     // There is room for all the bytes, and a place and a credit for each free slot.
     requires fits { deque_len windows.old ≤ slots }
     requires room { let free = slots - deque_len windows.old in
-        length bytes.now ≤ last_room (shown (F.live f.old) windows.old.items) + PAGE_SIZE * free }
+        length bytes.now ≤ last_room (shown (F.live door.old) windows.old.items) + PAGE_SIZE * free }
     requires space { slots ≤ deque_capacity windows.old }
-    requires credits { (F.live f.old).held + (slots - deque_len windows.old) ≤ (F.live f.old).reserved }
-    ensures fact { F.fact f.new }
-    ensures rest { F.rest f.new ≡ F.rest f.old }
+    requires credits { (F.live door.old).held + (slots - deque_len windows.old) ≤ (F.live door.old).reserved }
+    ensures fact { F.fact door.new }
+    ensures rest { F.rest door.new ≡ F.rest door.old }
     ensures space { deque_capacity windows.new ≡ deque_capacity windows.old }
     ensures fits { deque_len windows.new ≤ slots }
     ensures most { bytes_in windows.new.items ≤ PAGE_SIZE * deque_len windows.new }
-    ensures segments { let before = shown (F.live f.old) windows.old.items in
+    ensures segments { let before = shown (F.live door.old) windows.old.items in
         let free = slots - deque_len windows.old in
-        shown (F.live f.new) windows.new.items
+        shown (F.live door.new) windows.new.items
         ≡ topped_up before bytes.now ++ pieces free (drop (last_room before) bytes.now) }
     ensures puts { let before = windows.old.items in
-        Puts before before windows.new.items (length bytes.now) (F.live f.old) (F.live f.new) }
+        Puts before before windows.new.items (length bytes.now) (F.live door.old) (F.live door.new) }
 {
-    let topped = top_up(windows, f, bytes);
+    let topped = top_up(windows, door, bytes);
     let mut rest = &bytes[topped..];
     for _ in windows.len()..slots {
         if rest.is_empty() {
             break;
         }
         let (piece, more) = rest.split_at(rest.len().min(PAGE_SIZE));
-        push_piece(windows, f, piece);
+        push_piece(windows, door, piece);
         rest = more;
     }
 }
 
 /// Writes bytes behind the last window, where it grows, as far as its page goes, and answers how many.
 #[inline(always)]
-pub fn top_up<F: Frames>(windows: &mut VecDeque<Window>, f: &mut F, bytes: &[u8]) -> usize
-    requires fact { F.fact f.old }
-    requires stands { Stands (F.live f.old) windows.old.items }
-    ensures fact { F.fact f.new }
-    ensures rest { F.rest f.new ≡ F.rest f.old }
+pub fn top_up<F: Frames>(windows: &mut VecDeque<Window>, door: &mut F, bytes: &[u8]) -> usize
+    requires fact { F.fact door.old }
+    requires stands { Stands (F.live door.old) windows.old.items }
+    ensures fact { F.fact door.new }
+    ensures rest { F.rest door.new ≡ F.rest door.old }
     ensures space { deque_capacity windows.new ≡ deque_capacity windows.old }
     ensures used { deque_len windows.new ≡ deque_len windows.old }
-    ensures number { result ≡ min (last_room (shown (F.live f.old) windows.old.items)) (length bytes.now) }
-    ensures segments { shown (F.live f.new) windows.new.items
-        ≡ topped_up (shown (F.live f.old) windows.old.items) bytes.now }
+    ensures number { result ≡ min (last_room (shown (F.live door.old) windows.old.items)) (length bytes.now) }
+    ensures segments { shown (F.live door.new) windows.new.items
+        ≡ topped_up (shown (F.live door.old) windows.old.items) bytes.now }
     ensures puts { let before = windows.old.items in
-        Puts before before windows.new.items result (F.live f.old) (F.live f.new) }
+        Puts before before windows.new.items result (F.live door.old) (F.live door.new) }
 {
     let number = last_window_room(windows).min(bytes.len());
     if number > 0 {
         let last = windows.len() - 1;
         let window = windows[last];
-        f.fill(
+        door.fill(
             window.frame,
             (window.from + window.len) as usize,
             &bytes[..number],
@@ -93,26 +93,26 @@ pub fn top_up<F: Frames>(windows: &mut VecDeque<Window>, f: &mut F, bytes: &[u8]
 
 /// Puts a window at the end that grows, with these bytes at the start of a frame of its own.
 #[inline(always)]
-fn push_piece<F: Frames>(windows: &mut VecDeque<Window>, f: &mut F, bytes: &[u8])
-    requires fact { F.fact f.old }
-    requires stands { Stands (F.live f.old) windows.old.items }
+fn push_piece<F: Frames>(windows: &mut VecDeque<Window>, door: &mut F, bytes: &[u8])
+    requires fact { F.fact door.old }
+    requires stands { Stands (F.live door.old) windows.old.items }
     requires some { 0 < length bytes.now }
     requires fits { length bytes.now ≤ PAGE_SIZE }
     requires space { deque_len windows.old < deque_capacity windows.old }
-    requires credit { (F.live f.old).held < (F.live f.old).reserved }
-    ensures fact { F.fact f.new }
-    ensures rest { F.rest f.new ≡ F.rest f.old }
+    requires credit { (F.live door.old).held < (F.live door.old).reserved }
+    ensures fact { F.fact door.new }
+    ensures rest { F.rest door.new ≡ F.rest door.old }
     ensures space { deque_capacity windows.new ≡ deque_capacity windows.old }
     ensures used { deque_len windows.new ≡ deque_len windows.old + 1 }
     ensures segments { let piece : Segment =
         record { bytes = bytes.now; room = PAGE_SIZE - length bytes.now } in
-        shown (F.live f.new) windows.new.items ≡ shown (F.live f.old) windows.old.items ++ piece ∷ [] }
+        shown (F.live door.new) windows.new.items ≡ shown (F.live door.old) windows.old.items ++ piece ∷ [] }
     // Behind no window: no byte of a frame that was live changes.
     ensures puts { Puts [] windows.old.items windows.new.items (length bytes.now)
-        (F.live f.old) (F.live f.new) }
+        (F.live door.old) (F.live door.new) }
 {
-    let frame = f.take();
-    f.fill(frame, 0, bytes);
+    let frame = door.take();
+    door.fill(frame, 0, bytes);
     windows.push_back_reserved(Window {
         frame,
         from: 0,
@@ -123,45 +123,51 @@ fn push_piece<F: Frames>(windows: &mut VecDeque<Window>, f: &mut F, bytes: &[u8]
 
 /// Moves the first bytes of the windows into the buffer, so many as it is long. A window that is emptied goes, and its frame
 /// is released.
-pub fn move_into<F: Frames>(windows: &mut VecDeque<Window>, f: &mut F, buffer: &mut [u8])
-    requires fact { F.fact f.old }
-    requires stands { Stands (F.live f.old) windows.old.items }
+pub fn move_into<F: Frames>(windows: &mut VecDeque<Window>, door: &mut F, buffer: &mut [u8])
+    requires fact { F.fact door.old }
+    requires stands { Stands (F.live door.old) windows.old.items }
     requires has { length buffer.old ≤ bytes_in windows.old.items }
-    ensures fact { F.fact f.new }
-    ensures rest { F.rest f.new ≡ F.rest f.old }
+    ensures fact { F.fact door.new }
+    ensures rest { F.rest door.new ≡ F.rest door.old }
     ensures space { deque_capacity windows.new ≡ deque_capacity windows.old }
-    ensures cut { Cut windows.old.items windows.new.items (length buffer.old) (F.live f.old) (F.live f.new) }
-    ensures bytes { buffer.new ≡ take (length buffer.old) (joined (shown (F.live f.old) windows.old.items)) }
+    ensures cut { Cut windows.old.items windows.new.items (length buffer.old)
+        (F.live door.old) (F.live door.new) }
+    ensures bytes { buffer.new
+        ≡ take (length buffer.old) (joined (shown (F.live door.old) windows.old.items)) }
 {
     let number = buffer.len();
     let mut done = 0;
     while done < number {
-        done += move_front_into(windows, f, &mut buffer[done..]);
+        done += move_front_into(windows, door, &mut buffer[done..]);
     }
 }
 
 /// Moves bytes from the front of the first window into the buffer: as many as the window has and the buffer has room for.
 /// Where these are all, the window goes, and its frame is released.
-fn move_front_into<F: Frames>(windows: &mut VecDeque<Window>, f: &mut F, buffer: &mut [u8]) -> usize
-    requires fact { F.fact f.old }
-    requires stands { Stands (F.live f.old) windows.old.items }
+fn move_front_into<F: Frames>(
+    windows: &mut VecDeque<Window>,
+    door: &mut F,
+    buffer: &mut [u8],
+) -> usize
+    requires fact { F.fact door.old }
+    requires stands { Stands (F.live door.old) windows.old.items }
     requires some { 0 < deque_len windows.old }
     requires any { 0 < length buffer.old }
-    ensures fact { F.fact f.new }
-    ensures rest { F.rest f.new ≡ F.rest f.old }
+    ensures fact { F.fact door.new }
+    ensures rest { F.rest door.new ≡ F.rest door.old }
     ensures space { deque_capacity windows.new ≡ deque_capacity windows.old }
     // How many they are, what is left, and the bytes.
     ensures any { 0 < result }
     ensures most { result ≤ length buffer.old }
-    ensures cut { Cut windows.old.items windows.new.items result (F.live f.old) (F.live f.new) }
+    ensures cut { Cut windows.old.items windows.new.items result (F.live door.old) (F.live door.new) }
     ensures bytes { buffer.new
-        ≡ take result (joined (shown (F.live f.old) windows.old.items)) ++ drop result buffer.old }
+        ≡ take result (joined (shown (F.live door.old) windows.old.items)) ++ drop result buffer.old }
 {
     let first = windows[0];
-    let part = front(f, first, buffer.len());
+    let part = front(door, first, buffer.len());
     let number = part.len();
     buffer[..number].copy_from_slice(part);
-    cut_first(windows, f, first, number);
+    cut_first(windows, door, first, number);
     number
 }
 
@@ -170,24 +176,24 @@ fn move_front_into<F: Frames>(windows: &mut VecDeque<Window>, f: &mut F, buffer:
 #[inline(always)]
 pub fn move_onto<F: Frames>(
     windows: &mut VecDeque<Window>,
-    f: &mut F,
+    door: &mut F,
     number: usize,
     out: &mut Vec<u8>,
 )
-    requires fact { F.fact f.old }
-    requires stands { Stands (F.live f.old) windows.old.items }
+    requires fact { F.fact door.old }
+    requires stands { Stands (F.live door.old) windows.old.items }
     requires has { number ≤ bytes_in windows.old.items }
     requires room { vec_len out.old + number ≤ vec_capacity out.old }
-    ensures fact { F.fact f.new }
-    ensures rest { F.rest f.new ≡ F.rest f.old }
+    ensures fact { F.fact door.new }
+    ensures rest { F.rest door.new ≡ F.rest door.old }
     ensures space { deque_capacity windows.new ≡ deque_capacity windows.old }
-    ensures cut { Cut windows.old.items windows.new.items number (F.live f.old) (F.live f.new) }
+    ensures cut { Cut windows.old.items windows.new.items number (F.live door.old) (F.live door.new) }
     ensures bytes { out.new.items
-        ≡ out.old.items ++ take number (joined (shown (F.live f.old) windows.old.items)) }
+        ≡ out.old.items ++ take number (joined (shown (F.live door.old) windows.old.items)) }
 {
     let mut done = 0;
     while done < number {
-        done += move_front_onto(windows, f, number - done, out);
+        done += move_front_onto(windows, door, number - done, out);
     }
 }
 
@@ -196,60 +202,60 @@ pub fn move_onto<F: Frames>(
 #[inline(always)]
 fn move_front_onto<F: Frames>(
     windows: &mut VecDeque<Window>,
-    f: &mut F,
+    door: &mut F,
     most: usize,
     out: &mut Vec<u8>,
 ) -> usize
-    requires fact { F.fact f.old }
-    requires stands { Stands (F.live f.old) windows.old.items }
+    requires fact { F.fact door.old }
+    requires stands { Stands (F.live door.old) windows.old.items }
     requires some { 0 < deque_len windows.old }
     requires any { 0 < most }
     requires room { vec_len out.old + most ≤ vec_capacity out.old }
-    ensures fact { F.fact f.new }
-    ensures rest { F.rest f.new ≡ F.rest f.old }
+    ensures fact { F.fact door.new }
+    ensures rest { F.rest door.new ≡ F.rest door.old }
     ensures space { deque_capacity windows.new ≡ deque_capacity windows.old }
     // How many they are, what is left, and the bytes.
     ensures any { 0 < result }
     ensures most { result ≤ most }
-    ensures cut { Cut windows.old.items windows.new.items result (F.live f.old) (F.live f.new) }
+    ensures cut { Cut windows.old.items windows.new.items result (F.live door.old) (F.live door.new) }
     ensures bytes { out.new.items
-        ≡ out.old.items ++ take result (joined (shown (F.live f.old) windows.old.items)) }
+        ≡ out.old.items ++ take result (joined (shown (F.live door.old) windows.old.items)) }
     // The vector still has room for the others.
     ensures length { vec_len out.new ≡ vec_len out.old + result }
     ensures room { vec_capacity out.old ≤ vec_capacity out.new }
 {
     let first = windows[0];
-    let part = front(f, first, most);
+    let part = front(door, first, most);
     let number = part.len();
     out.extend_from_slice(part).unwrap();
-    cut_first(windows, f, first, number);
+    cut_first(windows, door, first, number);
     number
 }
 
 /// The first bytes of a window: as many as it has, but at most so many.
-fn front<F: Frames>(f: &F, window: Window, most: usize) -> &[u8]
-    requires fact { F.fact f.now }
-    requires is_live { 0 < (F.live f.now).count window.frame }
+fn front<F: Frames>(door: &F, window: Window, most: usize) -> &[u8]
+    requires fact { F.fact door.now }
+    requires is_live { 0 < (F.live door.now).count window.frame }
     requires within { window.from + window.len ≤ PAGE_SIZE }
-    ensures { result.now ≡ take most (segment_of (F.live f.now) window).bytes }
+    ensures { result.now ≡ take most (segment_of (F.live door.now) window).bytes }
 {
     let number = (window.len as usize).min(most);
-    f.view(window.frame, window.from as usize, number)
+    door.view(window.frame, window.from as usize, number)
 }
 
 /// Drops so many bytes from the front of the first window, which is this one and has as many. Where these are all, it goes,
 /// and its frame is released.
 #[inline(always)]
-fn cut_first<F: Frames>(windows: &mut VecDeque<Window>, f: &mut F, first: Window, number: usize)
-    requires fact { F.fact f.old }
-    requires stands { Stands (F.live f.old) windows.old.items }
+fn cut_first<F: Frames>(windows: &mut VecDeque<Window>, door: &mut F, first: Window, number: usize)
+    requires fact { F.fact door.old }
+    requires stands { Stands (F.live door.old) windows.old.items }
     requires some { 0 < deque_len windows.old }
     requires first { first ≡ get_or windows.old.items 0 first }
     requires has { number ≤ first.len }
-    ensures fact { F.fact f.new }
-    ensures rest { F.rest f.new ≡ F.rest f.old }
+    ensures fact { F.fact door.new }
+    ensures rest { F.rest door.new ≡ F.rest door.old }
     ensures space { deque_capacity windows.new ≡ deque_capacity windows.old }
-    ensures cut { Cut windows.old.items windows.new.items number (F.live f.old) (F.live f.new) }
+    ensures cut { Cut windows.old.items windows.new.items number (F.live door.old) (F.live door.new) }
 {
     if number < first.len as usize {
         windows[0] = Window {
@@ -258,38 +264,38 @@ fn cut_first<F: Frames>(windows: &mut VecDeque<Window>, f: &mut F, first: Window
             ..first
         };
     } else {
-        drop_front(windows, f);
+        drop_front(windows, door);
     }
 }
 
 /// Drops the first window, and releases its frame.
-fn drop_front<F: Frames>(windows: &mut VecDeque<Window>, f: &mut F)
-    requires fact { F.fact f.old }
-    requires stands { Stands (F.live f.old) windows.old.items }
+fn drop_front<F: Frames>(windows: &mut VecDeque<Window>, door: &mut F)
+    requires fact { F.fact door.old }
+    requires stands { Stands (F.live door.old) windows.old.items }
     requires some { 0 < deque_len windows.old }
-    ensures fact { F.fact f.new }
-    ensures rest { F.rest f.new ≡ F.rest f.old }
+    ensures fact { F.fact door.new }
+    ensures rest { F.rest door.new ≡ F.rest door.old }
     ensures space { deque_capacity windows.new ≡ deque_capacity windows.old }
     ensures windows { windows.new.items ≡ drop 1 windows.old.items }
-    ensures drops { Drops windows.old.items windows.new.items (F.live f.old) (F.live f.new) }
+    ensures drops { Drops windows.old.items windows.new.items (F.live door.old) (F.live door.new) }
 {
     if let Some(window) = windows.pop_front() {
-        f.release(window.frame);
+        door.release(window.frame);
     }
 }
 
 /// Drops all windows, and releases the frame of each.
-pub fn clear<F: Frames>(windows: &mut VecDeque<Window>, f: &mut F)
-    requires fact { F.fact f.old }
-    requires stands { Stands (F.live f.old) windows.old.items }
-    ensures fact { F.fact f.new }
-    ensures rest { F.rest f.new ≡ F.rest f.old }
+pub fn clear<F: Frames>(windows: &mut VecDeque<Window>, door: &mut F)
+    requires fact { F.fact door.old }
+    requires stands { Stands (F.live door.old) windows.old.items }
+    ensures fact { F.fact door.new }
+    ensures rest { F.rest door.new ≡ F.rest door.old }
     ensures space { deque_capacity windows.new ≡ deque_capacity windows.old }
     ensures empty { windows.new.items ≡ [] }
-    ensures drops { Drops windows.old.items windows.new.items (F.live f.old) (F.live f.new) }
+    ensures drops { Drops windows.old.items windows.new.items (F.live door.old) (F.live door.new) }
 {
     while !windows.is_empty() {
-        drop_front(windows, f);
+        drop_front(windows, door);
     }
 }
 
@@ -301,23 +307,23 @@ pub fn share<F: Frames>(
     source: &VecDeque<Window>,
     sink: &mut VecDeque<Window>,
     slots: usize,
-    f: &mut F,
+    door: &mut F,
     n: usize,
 ) -> usize
-    requires fact { F.fact f.old }
-    requires stands { Stands (F.live f.old) (source.now.items ++ sink.old.items) }
+    requires fact { F.fact door.old }
+    requires stands { Stands (F.live door.old) (source.now.items ++ sink.old.items) }
     requires fits { deque_len sink.old ≤ slots }
     requires space { slots ≤ deque_capacity sink.old }
-    requires few { (F.live f.old).shares + slots < 2 ^ 32 }
-    ensures fact { F.fact f.new }
-    ensures rest { F.rest f.new ≡ F.rest f.old }
+    requires few { (F.live door.old).shares + slots < 2 ^ 32 }
+    ensures fact { F.fact door.new }
+    ensures rest { F.rest door.new ≡ F.rest door.old }
     ensures space { deque_capacity sink.new ≡ deque_capacity sink.old }
     ensures fits { deque_len sink.new ≤ slots }
     ensures segments { let free = slots - deque_len sink.old in
-        shown (F.live f.new) sink.new.items
-        ≡ shown (F.live f.old) sink.old.items ++ copied free n (shown (F.live f.old) source.now.items) }
+        shown (F.live door.new) sink.new.items
+        ≡ shown (F.live door.old) sink.old.items ++ copied free n (shown (F.live door.old) source.now.items) }
     ensures copies { Copies source.now.items sink.old.items sink.new.items result
-        (F.live f.old) (F.live f.new) }
+        (F.live door.old) (F.live door.new) }
 {
     let mut done = 0;
     let most = source.len().min(slots - sink.len());
@@ -327,7 +333,7 @@ pub fn share<F: Frames>(
         }
         let window = source[place];
         let number = (window.len as usize).min(n - done);
-        f.share(window.frame);
+        door.share(window.frame);
         sink.push_back_reserved(Window {
             len: number as u32,
             grows: false,
@@ -347,24 +353,24 @@ pub fn shift<F: Frames>(
     source: &mut VecDeque<Window>,
     sink: &mut VecDeque<Window>,
     slots: usize,
-    f: &mut F,
+    door: &mut F,
     n: usize,
 ) -> usize
-    requires fact { F.fact f.old }
-    requires stands { Stands (F.live f.old) (source.old.items ++ sink.old.items) }
+    requires fact { F.fact door.old }
+    requires stands { Stands (F.live door.old) (source.old.items ++ sink.old.items) }
     requires fits { deque_len sink.old ≤ slots }
     requires space { slots ≤ deque_capacity sink.old }
-    requires few { (F.live f.old).shares + slots < 2 ^ 32 }
-    ensures fact { F.fact f.new }
-    ensures rest { F.rest f.new ≡ F.rest f.old }
+    requires few { (F.live door.old).shares + slots < 2 ^ 32 }
+    ensures fact { F.fact door.new }
+    ensures rest { F.rest door.new ≡ F.rest door.old }
     ensures space { deque_capacity sink.new ≡ deque_capacity sink.old }
     ensures source_space { deque_capacity source.new ≡ deque_capacity source.old }
     ensures fits { deque_len sink.new ≤ slots }
     ensures segments { let free = slots - deque_len sink.old in
-        shown (F.live f.new) sink.new.items
-        ≡ shown (F.live f.old) sink.old.items ++ copied free n (shown (F.live f.old) source.old.items) }
+        shown (F.live door.new) sink.new.items
+        ≡ shown (F.live door.old) sink.old.items ++ copied free n (shown (F.live door.old) source.old.items) }
     ensures shifts { Shifts source.old.items source.new.items sink.old.items sink.new.items result
-        (F.live f.old) (F.live f.new) }
+        (F.live door.old) (F.live door.new) }
 {
     let mut done = 0;
     let places = source.len().min(slots - sink.len());
@@ -375,7 +381,7 @@ pub fn shift<F: Frames>(
         let first = source[0];
         let part = (first.len as usize).min(n - done);
         if (first.len as usize) > part {
-            f.share(first.frame);
+            door.share(first.frame);
             source[0] = Window {
                 from: first.from + part as u32,
                 len: first.len - part as u32,

@@ -2,6 +2,7 @@
 
 use Rattle.std.specs.Prelude.{ℕ, ◌≡◌, ◌≤◌, List, length, nat_le, Option, None}
 use Rattle.std.specs.List.{position_from}
+use Rattle.pf_base.specs.declared.TheConstants.{MAX_FRAMES, MAX_NAMESPACES}
 use Rattle.pf_base.specs.declared.step.Step.{Step}
 use Rattle.pf_script.specs.Script.{Draft, reserved}
 
@@ -11,7 +12,7 @@ first_stray number steps = position_from (λ e. nat_le number e.0) 0 steps
 
 -- few namespaces, a pool of few frames, no more reserved than there is, and a namespace for each step
 pub record IsSound (script : Draft) : Type 0 where
-  pub few : length script.spaces ≤ 64
-  pub small : script.frames ≤ 65536
+  pub few : length script.spaces ≤ MAX_NAMESPACES
+  pub small : script.frames ≤ MAX_FRAMES
   pub fits : reserved script.spaces ≤ script.frames
   pub exist : ◌≡◌ {A = Option ℕ} (first_stray (length script.spaces) script.steps) None

@@ -1,5 +1,6 @@
 ghost use Rattle.std.specs.Prelude.{◌≡◌, ◌≤◌, ◌<◌, map, length, slice_get, IfOk, IfSome, Some, None, option_copied};
 ghost use Rattle.std.specs.List.{list_any};
+ghost use Rattle.pf_base.specs.declared.TheConstants.{MAX_FRAMES};
 ghost use Rattle.pf_script.specs.Script as grammar;
 ghost use Rattle.pf_script.specs.Script.{blank, place_of, reserved, number_or};
 ghost use Rattle.pf_script.specs.Places.{places_of};
@@ -14,7 +15,7 @@ use crate::steps::Steps;
 use crate::verbs::step_of;
 use crate::words::is_name_word;
 use indexmap::IndexMap;
-use pf_base::{Config, MAX_NAMESPACES, MAX_RESERVE, Step};
+use pf_base::{Config, MAX_FRAMES, MAX_NAMESPACES, MAX_RESERVE, Step};
 use std::alloc::{AllocError, Global};
 use std::marker::Model;
 
@@ -136,7 +137,7 @@ impl Script {
     pub fn configs(&self, alloc: Global) -> Result<Vec<Config>, AllocError>
         ensures limits { IfOk result (λ configs. configs.items ≡ map (λ s. s.1) self.now.spaces) }
         ensures most { IfOk result (λ configs. length configs.items ≤ 64) }
-        ensures small { self.now.frames ≤ 65536 }
+        ensures small { self.now.frames ≤ MAX_FRAMES }
         ensures fits { reserved self.now.spaces ≤ self.now.frames }
     {
         self.spaces.values().copied().collect(alloc)
@@ -162,7 +163,7 @@ impl Script {
     pub fn config(&self, ns: usize) -> Config
         requires { ns < length self.now.spaces }
         ensures limits { slice_get (map (λ s. s.1) self.now.spaces) ns ≡ Some result }
-        ensures small { self.now.frames ≤ 65536 }
+        ensures small { self.now.frames ≤ MAX_FRAMES }
         ensures fits { result.reserve ≤ self.now.frames }
     {
         let (_, config) = self.spaces.get_index(ns).unwrap();
@@ -173,7 +174,7 @@ impl Script {
     #[tactic(auto, using(crate::proofs::Naming::reserved_is))]
     fn reserved_frames(&self) -> u64
         ensures sum { result ≡ reserved self.now.spaces }
-        ensures most { result ≤ 65536 }
+        ensures most { result ≤ MAX_FRAMES }
     {
         self.spaces
             .values()
@@ -198,7 +199,7 @@ impl Script {
         requires { self.old.frames ≡ 0 }
         ensures { Moves result self.new (grammar.pool_with self.old frames.now) }
     {
-        let frames = small_number(65_536, frames)?;
+        let frames = small_number(MAX_FRAMES as u32, frames)?;
         if frames == 0 {
             return Err(LineFault::Refused(Cause::BadNumber));
         }

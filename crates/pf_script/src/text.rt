@@ -1,6 +1,7 @@
 ghost use Rattle.std.specs.Prelude.{◌≡◌, ◌≤◌, [], decimal, length};
 ghost use Rattle.pf_script.specs.Text.{hex_text, octal_text, kind_text, number_of_names, names_text, meta_text, reply_text, answer_text, line_text, header};
 ghost use Rattle.pf_script.specs.Puts.{Puts};
+ghost use Rattle.pf_script.specs.declared.text.TheConstants.{PIECE};
 ghost use Rattle.hex.specs.Hex.{encode_lower};
 
 use crate::cut::cut_at;
@@ -13,9 +14,9 @@ use pf_base::{Answer, Kind, Meta, Mode, Reply};
 /// How many bytes are turned into digits at once.
 const PIECE: usize = 256;
 
-/// Puts the digits of at most 256 bytes.
+/// Puts the digits of at most `PIECE` bytes.
 fn put_piece<W: Sink>(out: &mut Printer, writer: &mut W, bytes: &[u8])
-    requires { length bytes.now ≤ 256 }
+    requires { length bytes.now ≤ PIECE }
     ensures { Puts (W.output writer.old) out.old (W.output writer.new) out.new (encode_lower bytes.now) }
 {
     let mut digits = [0u8; 2 * PIECE];

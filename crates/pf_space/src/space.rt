@@ -55,28 +55,28 @@ impl<A: Allocator + Clone> Space<A> {
     /// changed. The frames that it takes and gives back are those of its door.
     // It and `call` are inlined, so that a reply is put into the answer where it is made.
     #[inline(always)]
-    pub fn step<F: Frames>(&mut self, f: &mut F, step: &Step) -> Answer
-        requires fact { F.fact f.old }
-        requires owns { Owns (F.live f.old) self.old }
+    pub fn step<F: Frames>(&mut self, door: &mut F, step: &Step) -> Answer
+        requires fact { F.fact door.old }
+        requires owns { Owns (F.live door.old) self.old }
         // The door is left as it is to be, and the live frames are those of this namespace.
-        ensures fact { F.fact f.new }
-        ensures rest { F.rest f.new ≡ F.rest f.old }
-        ensures owns { Owns (F.live f.new) self.new }
+        ensures fact { F.fact door.new }
+        ensures rest { F.rest door.new ≡ F.rest door.old }
+        ensures owns { Owns (F.live door.new) self.new }
 
         // The step is the lone machine's, or want of memory, which has changed nothing.
         ensures limits { self.new.limits ≡ self.old.limits }
-        ensures answers { Answers self.old.limits result (meaning (F.live f.old) self.old.state) step.now
-            (meaning (F.live f.new) self.new.state) }
-        ensures unchanged { result ≡ Answer.NoMemory → (self.new ≡ self.old) × (f.new ≡ f.old) }
-        ensures succeeds { may_want_memory self.old.limits (meaning (F.live f.old) self.old.state) step.now
+        ensures answers { Answers self.old.limits result (meaning (F.live door.old) self.old.state) step.now
+            (meaning (F.live door.new) self.new.state) }
+        ensures unchanged { result ≡ Answer.NoMemory → (self.new ≡ self.old) × (door.new ≡ door.old) }
+        ensures succeeds { may_want_memory self.old.limits (meaning (F.live door.old) self.old.state) step.now
             ≡ false → IsDone result }
 
         // No more frames are live than slots in use, and none only where no pipe has a byte.
-        ensures spread { (F.live f.new).held ≤ occupied self.new.state }
-        ensures none { (F.live f.new).held ≡ 0 → AreEmpty (F.live f.new) self.new.state }
+        ensures spread { (F.live door.new).held ≤ occupied self.new.state }
+        ensures none { (F.live door.new).held ≡ 0 → AreEmpty (F.live door.new) self.new.state }
     {
         self.tables.settled();
-        match self.call(f, step) {
+        match self.call(door, step) {
             Ok(reply) => Answer::Done(reply),
             Err(Fault::Errno(errno)) => Answer::Done(Reply::Err(errno)),
             Err(Fault::NoMemory) => Answer::NoMemory,

@@ -106,11 +106,11 @@ module _ {files : Files} {files_made : ℕ} (f : Live) {charges : UserPages} {li
         by_row None h g = absurd (cc)
         by_row (Some p) h g = (p, ap (or_refuse ESRCH) h, g)
 
-    pub row : (e : Named Description) × (at ds d.serial ≡ Some (d.place, e))
+    pub row : (e : Named Description) × (at ds d.serial ≡ Some (d.slot, e))
     row = finds ds d (kept.tied.finds (pid - 1) 0 sleeper.0 d (place_of ps pid sleeper.0 sleeper.1) (ap made_by sleeper.2))
 
-    pub pipe_row : (r : Pipe) × (at pipes row.0.value.pipe.serial ≡ Some (row.0.value.pipe.place, r))
-    pipe_row = finds pipes row.0.value.pipe (kept.tied.is_end d.serial (d.place, row.0) row.1).0
+    pub pipe_row : (r : Pipe) × (at pipes row.0.value.pipe.serial ≡ Some (row.0.value.pipe.slot, r))
+    pipe_row = finds pipes row.0.value.pipe (kept.tied.is_end d.serial (d.slot, row.0) row.1).0
 
     over_in_state : IsOver (meaning f (state_of ps ds pipes files files_made)) pid (nat_lt before (other_opens row.0.value.reads pipe_row.0))
     over_in_state = record {
@@ -127,23 +127,23 @@ module _ {files : Files} {files_made : ℕ} (f : Live) {charges : UserPages} {li
     over_is = subst (λ (m : Namespace). IsOver (meaning f m.state) pid (nat_lt before (other_opens row.0.value.reads pipe_row.0))) view over_in_state
 
     -- the code finds its description, and the pipe
-    row_found : option_map value_of (find ds d.place d.serial) ≡ Some row.0.value
-    row_found = ap (option_map value_of) (find_at ds d.place d.serial row.0 row.1)
+    row_found : option_map value_of (find ds d.slot d.serial) ≡ Some row.0.value
+    row_found = ap (option_map value_of) (find_at ds d.slot d.serial row.0 row.1)
 
-    pub not_gone : None ≡ option_map value_of (find ds d.place d.serial) → ⊥
+    pub not_gone : None ≡ option_map value_of (find ds d.slot d.serial) → ⊥
     not_gone e = let there = row_found in absurd (cc)
 
-    module _ (end : Description) (is : Some end ≡ option_map value_of (find ds d.place d.serial)) where
+    module _ (end : Description) (is : Some end ≡ option_map value_of (find ds d.slot d.serial)) where
       same_end : row.0.value ≡ end
       same_end = let both : ◌≡◌ {A = Option Description} (Some row.0.value) (Some end) = sym row_found ∙ sym is in cc
 
-      pipe_found : find pipes end.pipe.place end.pipe.serial ≡ Some pipe_row.0
-      pipe_found = subst (λ (x : Description). find pipes x.pipe.place x.pipe.serial ≡ Some pipe_row.0) same_end (find_at pipes row.0.value.pipe.place row.0.value.pipe.serial pipe_row.0 pipe_row.1)
+      pipe_found : find pipes end.pipe.slot end.pipe.serial ≡ Some pipe_row.0
+      pipe_found = subst (λ (x : Description). find pipes x.pipe.slot x.pipe.serial ≡ Some pipe_row.0) same_end (find_at pipes row.0.value.pipe.slot row.0.value.pipe.serial pipe_row.0 pipe_row.1)
 
-      pub pipe_not_gone : None ≡ find pipes end.pipe.place end.pipe.serial → ⊥
+      pub pipe_not_gone : None ≡ find pipes end.pipe.slot end.pipe.serial → ⊥
       pipe_not_gone e = let there = pipe_found in absurd (cc)
 
-      pub over_told : (p : Pipe) → Some p ≡ find pipes end.pipe.place end.pipe.serial → (x : ℕ) → x ≡ other_opens end.reads p → IsOver (meaning f n.state) pid (nat_lt before x)
+      pub over_told : (p : Pipe) → Some p ≡ find pipes end.pipe.slot end.pipe.serial → (x : ℕ) → x ≡ other_opens end.reads p → IsOver (meaning f n.state) pid (nat_lt before x)
       over_told p there x x_is =
           let both : ◌≡◌ {A = Option Pipe} (Some pipe_row.0) (Some p) = sym pipe_found ∙ sym there in
           let same : pipe_row.0 ≡ p = cc in

@@ -81,19 +81,19 @@ module _ {files : Files} {files_made : ℕ} (limits : Limits) (charges : UserPag
 
   module _ (d : Description) (h : end_in (Some sides.Read) ps ds pid fd ≡ Ok d) where
     -- it has a pipe
-    pub no_pipe : find pipes d.pipe.place d.pipe.serial ≡ None → Covers n (steps.Read pid fd count) 0
+    pub no_pipe : find pipes d.pipe.slot d.pipe.serial ≡ None → Covers n (steps.Read pid fd count) 0
     no_pipe none f sound owns =
         let e = found f (Some sides.Read) ps ds pipes files files_made k.tied pid fd d h in
-        let there = find_at pipes d.pipe.place d.pipe.serial e.pipe e.stands in
+        let there = find_at pipes d.pipe.slot d.pipe.serial e.pipe e.stands in
         let both : ◌≡◌ {A = Option Pipe} None (Some e.pipe) = sym none ∙ there in
         absurd (cc)
 
     -- what the pipe holds, up to what is asked for
-    pub reads : (r : Pipe) → find pipes d.pipe.place d.pipe.serial ≡ Some r → (held : ℕ) → ((f : Live) → IsSound f → Stands f r.ring.windows → held ≡ length (bytes_of (queue_of f r.ring)))
+    pub reads : (r : Pipe) → find pipes d.pipe.slot d.pipe.serial ≡ Some r → (held : ℕ) → ((f : Live) → IsSound f → Stands f r.ring.windows → held ≡ length (bytes_of (queue_of f r.ring)))
         → Covers n (steps.Read pid fd count) (min held count)
     reads r handed held holds f sound owns =
         let e = found f (Some sides.Read) ps ds pipes files files_made k.tied pid fd d h in
-        let rows : ◌≡◌ {A = Option Pipe} (Some e.pipe) (Some r) = sym (find_at pipes d.pipe.place d.pipe.serial e.pipe e.stands) ∙ handed in
+        let rows : ◌≡◌ {A = Option Pipe} (Some e.pipe) (Some r) = sym (find_at pipes d.pipe.slot d.pipe.serial e.pipe e.stands) ∙ handed in
         let same : e.pipe ≡ r = cc in
         let stands : Stands f r.ring.windows = transfers.stands_in f limits charges ps ds pipes k n view owns d r handed in
         let number : held ≡ length (bytes_of (queue_of f r.ring)) = holds f sound stands in

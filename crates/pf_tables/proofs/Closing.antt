@@ -61,83 +61,83 @@ module _ (ps : ProcessRows) (ds : DescriptionRows) (pipes : PipeRows) (t : Tied 
         by_place None h g = absurd (cc)
         by_place (Some p) h g = taken [] [] ps ds pipes i fd p h (omega (arith, at_within p.descriptors fd key g, t.wide i p h)) key g t
 
-    row : (d : Named Description) × (at ds key.serial ≡ Some (key.place, d))
+    row : (d : Named Description) × (at ds key.serial ≡ Some (key.slot, d))
     row = finds ds key key_held.in_hand.0
 
-    row_found : find ds key.place key.serial ≡ Some row.0
-    row_found = find_at ds key.place key.serial row.0 row.1
+    row_found : find ds key.slot key.serial ≡ Some row.0
+    row_found = find_at ds key.slot key.serial row.0 row.1
 
-    pub has_names : 0 < names_of (find ds key.place key.serial)
+    pub has_names : 0 < names_of (find ds key.slot key.serial)
     has_names = let r = names_row [] [] ps' ds pipes key row.0 row.1 key_held in rw row_found (omega (arith, r.0, r.1))
 
     -- others name the description
-    pub still_named : (ds' : DescriptionRows) → 1 < names_of (find ds key.place key.serial) → ds' ≡ change_at one_less ds key.serial → Left ps ds pipes ps' ds' pipes i fd
+    pub still_named : (ds' : DescriptionRows) → 1 < names_of (find ds key.slot key.serial) → ds' ≡ change_at one_less ds key.serial → Left ps ds pipes ps' ds' pipes i fd
     still_named ds' more less =
-        let at_row : ds' ≡ put_at ds key.serial (key.place, record row.0 { names = row.0.names - 1 }) = less ∙ ap (λ (o : Option (ℕ × Named Description)). set ds key.serial (option_map one_less o)) row.1 in
+        let at_row : ds' ≡ put_at ds key.serial (key.slot, record row.0 { names = row.0.names - 1 }) = less ∙ ap (λ (o : Option (ℕ × Named Description)). set ds key.serial (option_map one_less o)) row.1 in
         let several : 1 < row.0.names = subst (λ (o : Option (Named Description)). 1 < names_of o) row_found more in
         subst (λ x. Left ps ds pipes ps' x pipes i fd) (sym at_row)
         (leaves _ pipes (unnamed [] [] ps' ds pipes key row.0 row.1 key_held (λ one. omega (arith, one, several)))
-        (within_row description_of ds key.serial (key.place, row.0) _ row.1 (λ z h. let it : ◌≡◌ {A = ℕ × Named Description} (key.place, record row.0 { names = row.0.names - 1 }) z = cc in ap description_of (sym it))) (within_same (pipes_of pipes)))
+        (within_row description_of ds key.serial (key.slot, row.0) _ row.1 (λ z h. let it : ◌≡◌ {A = ℕ × Named Description} (key.slot, record row.0 { names = row.0.names - 1 }) z = cc in ap description_of (sym it))) (within_same (pipes_of pipes)))
 
     -- it was the last name: the description is in the hand
-    module _ (d : Description) (last : at ds key.serial ≡ Some (key.place, once d)) (ds' : DescriptionRows) (cleared : ds' ≡ clear_at ds key.serial) where
+    module _ (d : Description) (last : at ds key.serial ≡ Some (key.slot, once d)) (ds' : DescriptionRows) (cleared : ds' ≡ clear_at ds key.serial) where
       end_held : TiedWith [] (d ∷ []) ps' ds' pipes
       end_held = subst (λ x. TiedWith [] (d ∷ []) ps' x pipes) (sym cleared) (unnamed_last [] [] ps' ds pipes key (once d) last key_held refl)
 
-      pipe : (p : Pipe) × (at pipes d.pipe.serial ≡ Some (d.pipe.place, p))
+      pipe : (p : Pipe) × (at pipes d.pipe.serial ≡ Some (d.pipe.slot, p))
       pipe = finds pipes d.pipe end_held.ends_in_hand.0.0
 
-      pipe_found : find pipes d.pipe.place d.pipe.serial ≡ Some pipe.0
-      pipe_found = find_at pipes d.pipe.place d.pipe.serial pipe.0 pipe.1
+      pipe_found : find pipes d.pipe.slot d.pipe.serial ≡ Some pipe.0
+      pipe_found = find_at pipes d.pipe.slot d.pipe.serial pipe.0 pipe.1
 
-      pub pipe_stands : IsSome (find pipes d.pipe.place d.pipe.serial)
+      pub pipe_stands : IsSome (find pipes d.pipe.slot d.pipe.serial)
       pipe_stands = ap is_some pipe_found
 
-      pub pipe_counts : IfSome (find pipes d.pipe.place d.pipe.serial) (λ p. (one_if d.reads ≤ p.readers) × (one_if d.writes ≤ p.writers))
+      pub pipe_counts : IfSome (find pipes d.pipe.slot d.pipe.serial) (λ p. (one_if d.reads ≤ p.readers) × (one_if d.writes ≤ p.writers))
       pipe_counts = rw pipe_found (enough [] [] ps' ds' pipes d pipe.0 pipe.1 end_held)
 
-      module _ (pipes' : PipeRows) (items : IfSome (find pipes d.pipe.place d.pipe.serial) (λ p. pipes' ≡ set pipes d.pipe.serial (left d p))) where
+      module _ (pipes' : PipeRows) (items : IfSome (find pipes d.pipe.slot d.pipe.serial) (λ p. pipes' ≡ set pipes d.pipe.serial (left d p))) where
         items_are : pipes' ≡ set pipes d.pipe.serial (left d pipe.0)
         items_are = subst (λ o. IfSome o (λ (p : Pipe). pipes' ≡ set pipes d.pipe.serial (left d p))) pipe_found items
 
         pub ended : Left ps ds pipes ps' ds' pipes' i fd
         ended =
             leaves ds' pipes' (subst (λ x. Tied ps' ds' x) (sym items_are) (end_gone [] [] ps' ds' pipes d pipe.0 pipe.1 end_held))
-            (subst (λ x. Within (descriptions_of x) (descriptions_of ds)) (sym cleared) (within_row description_of ds key.serial (key.place, once d) None last (λ z h. absurd (cc))))
-            (subst (λ x. Within (pipes_of x) (pipes_of pipes)) (sym items_are) (within_row pipe_of pipes d.pipe.serial (d.pipe.place, pipe.0) _ pipe.1 (same (is_used (with_fewer d pipe.0)))))
+            (subst (λ x. Within (descriptions_of x) (descriptions_of ds)) (sym cleared) (within_row description_of ds key.serial (key.slot, once d) None last (λ z h. absurd (cc))))
+            (subst (λ x. Within (pipes_of x) (pipes_of pipes)) (sym items_are) (within_row pipe_of pipes d.pipe.serial (d.pipe.slot, pipe.0) _ pipe.1 (same (is_used (with_fewer d pipe.0)))))
           where
-            same : (b : Bool) (z : ℕ × Pipe) → (if b then Some (d.pipe.place, with_fewer d pipe.0) else None) ≡ Some z → pipe_of z ≡ pipe_of (d.pipe.place, pipe.0)
-            same true z h = let it : ◌≡◌ {A = ℕ × Pipe} (d.pipe.place, with_fewer d pipe.0) z = cc in ap pipe_of (sym it)
+            same : (b : Bool) (z : ℕ × Pipe) → (if b then Some (d.pipe.slot, with_fewer d pipe.0) else None) ≡ Some z → pipe_of z ≡ pipe_of (d.pipe.slot, pipe.0)
+            same true z h = let it : ◌≡◌ {A = ℕ × Pipe} (d.pipe.slot, with_fewer d pipe.0) z = cc in ap pipe_of (sym it)
             same false z h = absurd (cc)
 
         -- the pipe goes where nobody uses it any more
-        pub went : (r : Option Pipe) → IfSome (find pipes d.pipe.place d.pipe.serial) (λ p. r ≡ gone d p) → LetsGo (pipes_of pipes) (pipes_of pipes') r
+        pub went : (r : Option Pipe) → IfSome (find pipes d.pipe.slot d.pipe.serial) (λ p. r ≡ gone d p) → LetsGo (pipes_of pipes) (pipes_of pipes') r
         went r is_gone =
             subst (LetsGo (pipes_of pipes) (pipes_of pipes')) (sym (subst (λ o. IfSome o (λ (p : Pipe). r ≡ gone d p)) pipe_found is_gone)) (by_use (is_used (with_fewer d pipe.0)) refl)
           where
             by_use : (b : Bool) → is_used (with_fewer d pipe.0) ≡ b → LetsGo (pipes_of pipes) (pipes_of pipes') (if b then None else Some (with_fewer d pipe.0))
             by_use true u =
-                ap pipes_of (items_are ∙ ap (λ b. set pipes d.pipe.serial (if b then Some (d.pipe.place, with_fewer d pipe.0) else None)) u)
-                ∙ map-set (option_map pipe_of) pipes d.pipe.serial (Some (d.pipe.place, with_fewer d pipe.0))
-                ∙ set_same (pipes_of pipes) d.pipe.serial (Some (pipe_of (d.pipe.place, with_fewer d pipe.0))) (sym (shown pipe_of pipes d.pipe.serial (d.pipe.place, pipe.0) pipe.1))
+                ap pipes_of (items_are ∙ ap (λ b. set pipes d.pipe.serial (if b then Some (d.pipe.slot, with_fewer d pipe.0) else None)) u)
+                ∙ map-set (option_map pipe_of) pipes d.pipe.serial (Some (d.pipe.slot, with_fewer d pipe.0))
+                ∙ set_same (pipes_of pipes) d.pipe.serial (Some (pipe_of (d.pipe.slot, with_fewer d pipe.0))) (sym (shown pipe_of pipes d.pipe.serial (d.pipe.slot, pipe.0) pipe.1))
             by_use false u = (
               d.pipe.serial,
-              shown pipe_of pipes d.pipe.serial (d.pipe.place, pipe.0) pipe.1,
-              ap pipes_of (items_are ∙ ap (λ b. set pipes d.pipe.serial (if b then Some (d.pipe.place, with_fewer d pipe.0) else None)) u) ∙ map-set (option_map pipe_of) pipes d.pipe.serial None,
+              shown pipe_of pipes d.pipe.serial (d.pipe.slot, pipe.0) pipe.1,
+              ap pipes_of (items_are ∙ ap (λ b. set pipes d.pipe.serial (if b then Some (d.pipe.slot, with_fewer d pipe.0) else None)) u) ∙ map-set (option_map pipe_of) pipes d.pipe.serial None,
             )
 
         -- and its opens with it
-        pub went_opens : (r : Option Pipe) → IfSome (find pipes d.pipe.place d.pipe.serial) (λ p. r ≡ gone d p) → LetsGoOpens (opens_of pipes) (opens_of pipes') r
+        pub went_opens : (r : Option Pipe) → IfSome (find pipes d.pipe.slot d.pipe.serial) (λ p. r ≡ gone d p) → LetsGoOpens (opens_of pipes) (opens_of pipes') r
         went_opens r is_gone =
             subst (LetsGoOpens (opens_of pipes) (opens_of pipes')) (sym (subst (λ o. IfSome o (λ (p : Pipe). r ≡ gone d p)) pipe_found is_gone)) (by_use (is_used (with_fewer d pipe.0)) refl)
           where
             by_use : (b : Bool) → is_used (with_fewer d pipe.0) ≡ b → LetsGoOpens (opens_of pipes) (opens_of pipes') (if b then None else Some (with_fewer d pipe.0))
             by_use true u =
-                ap opens_of (items_are ∙ ap (λ b. set pipes d.pipe.serial (if b then Some (d.pipe.place, with_fewer d pipe.0) else None)) u)
-                ∙ opens_stay pipes d.pipe.serial d.pipe.place pipe.0 (with_fewer d pipe.0) pipe.1 refl
+                ap opens_of (items_are ∙ ap (λ b. set pipes d.pipe.serial (if b then Some (d.pipe.slot, with_fewer d pipe.0) else None)) u)
+                ∙ opens_stay pipes d.pipe.serial d.pipe.slot pipe.0 (with_fewer d pipe.0) pipe.1 refl
             by_use false u = (
               d.pipe.serial,
-              d.pipe.place,
-              shown opens_at pipes d.pipe.serial (d.pipe.place, pipe.0) pipe.1,
-              ap opens_of (items_are ∙ ap (λ b. set pipes d.pipe.serial (if b then Some (d.pipe.place, with_fewer d pipe.0) else None)) u) ∙ map-set (option_map opens_at) pipes d.pipe.serial None,
+              d.pipe.slot,
+              shown opens_at pipes d.pipe.serial (d.pipe.slot, pipe.0) pipe.1,
+              ap opens_of (items_are ∙ ap (λ b. set pipes d.pipe.serial (if b then Some (d.pipe.slot, with_fewer d pipe.0) else None)) u) ∙ map-set (option_map opens_at) pipes d.pipe.serial None,
             )

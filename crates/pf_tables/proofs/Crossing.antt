@@ -73,25 +73,25 @@ module _ {files : Files} {files_made : ℕ} (f : Live) (limits : Limits) (charge
   -- The two pipes that were found, where one is taken out and the other handed out
   module _ (i o : Description) (differ : i.pipe.serial ≢ o.pipe.serial) where
     -- the source is found though the sink is taken out
-    pub source_found : IsSome (find pipes i.pipe.place i.pipe.serial) → IsSome (find (clear_at pipes o.pipe.serial) i.pipe.place i.pipe.serial)
-    source_found h = subst (λ x. IsSome (if_placed i.pipe.place x)) (sym (get_or-set_other pipes o.pipe.serial i.pipe.serial None None differ)) h
+    pub source_found : IsSome (find pipes i.pipe.slot i.pipe.serial) → IsSome (find (clear_at pipes o.pipe.serial) i.pipe.slot i.pipe.serial)
+    source_found h = subst (λ x. IsSome (if_placed i.pipe.slot x)) (sym (get_or-set_other pipes o.pipe.serial i.pipe.serial None None differ)) h
 
     -- and is what was there
-    pub source_was : (r : Pipe) → find (clear_at pipes o.pipe.serial) i.pipe.place i.pipe.serial ≡ Some r → find pipes i.pipe.place i.pipe.serial ≡ Some r
-    source_was r h = subst (λ x. if_placed i.pipe.place x ≡ Some r) (get_or-set_other pipes o.pipe.serial i.pipe.serial None None differ) h
+    pub source_was : (r : Pipe) → find (clear_at pipes o.pipe.serial) i.pipe.slot i.pipe.serial ≡ Some r → find pipes i.pipe.slot i.pipe.serial ≡ Some r
+    source_was r h = subst (λ x. if_placed i.pipe.slot x ≡ Some r) (get_or-set_other pipes o.pipe.serial i.pipe.serial None None differ) h
 
-    module _ (r s : Pipe) (from : find pipes i.pipe.place i.pipe.serial ≡ Some r) (to : find pipes o.pipe.place o.pipe.serial ≡ Some s) where
-      source_there : at (pipes_of pipes) i.pipe.serial ≡ Some (pipe_of (i.pipe.place, r))
+    module _ (r s : Pipe) (from : find pipes i.pipe.slot i.pipe.serial ≡ Some r) (to : find pipes o.pipe.slot o.pipe.serial ≡ Some s) where
+      source_there : at (pipes_of pipes) i.pipe.serial ≡ Some (pipe_of (i.pipe.slot, r))
       source_there = there f limits charges ps ds pipes k n view owns i r from
 
-      sink_there : at (pipes_of pipes) o.pipe.serial ≡ Some (pipe_of (o.pipe.place, s))
+      sink_there : at (pipes_of pipes) o.pipe.serial ≡ Some (pipe_of (o.pipe.slot, s))
       sink_there = there f limits charges ps ds pipes k n view owns o s to
 
       source_ring : ring_at (rings_of (state_of ps ds pipes files files_made)) i.pipe.serial ≡ r.ring
-      source_ring = ring_at-pipe (pipes_of pipes) i.pipe.serial (pipe_of (i.pipe.place, r)) source_there
+      source_ring = ring_at-pipe (pipes_of pipes) i.pipe.serial (pipe_of (i.pipe.slot, r)) source_there
 
       sink_ring : ring_at (rings_of (state_of ps ds pipes files files_made)) o.pipe.serial ≡ s.ring
-      sink_ring = ring_at-pipe (pipes_of pipes) o.pipe.serial (pipe_of (o.pipe.place, s)) sink_there
+      sink_ring = ring_at-pipe (pipes_of pipes) o.pipe.serial (pipe_of (o.pipe.slot, s)) sink_there
 
       pub stand_together : Stands f (r.ring.windows ++ s.ring.windows)
       stand_together =
@@ -102,20 +102,20 @@ module _ {files : Files} {files_made : ℕ} (f : Live) (limits : Limits) (charge
       -- what was found is put back as it was, or with other windows
       module _ (r' s' : Pipe) where
         abbrev back : PipeRows
-        back = put_at (put_at (clear_at pipes o.pipe.serial) i.pipe.serial (i.pipe.place, r')) o.pipe.serial (o.pipe.place, s')
+        back = put_at (put_at (clear_at pipes o.pipe.serial) i.pipe.serial (i.pipe.slot, r')) o.pipe.serial (o.pipe.slot, s')
 
         abbrev pipes' : PipeRows
-        pipes' = put_at (put_at pipes o.pipe.serial (o.pipe.place, s')) i.pipe.serial (i.pipe.place, r')
+        pipes' = put_at (put_at pipes o.pipe.serial (o.pipe.slot, s')) i.pipe.serial (i.pipe.slot, r')
 
         in_turn : back ≡ pipes'
-        in_turn = set_around pipes i.pipe.serial o.pipe.serial (Some (i.pipe.place, r')) (Some (o.pipe.place, s')) None differ
+        in_turn = set_around pipes i.pipe.serial o.pipe.serial (Some (i.pipe.slot, r')) (Some (o.pipe.slot, s')) None differ
 
         pub same_back : r' ≡ r → s' ≡ s → back ≡ pipes
         same_back e d =
             in_turn
-            ∙ ap (λ (xs : PipeRows). put_at xs i.pipe.serial (i.pipe.place, r'))
-            (set_same pipes o.pipe.serial (Some (o.pipe.place, s')) (ap (λ x. Some (o.pipe.place, x)) d ∙ sym (stands f limits charges ps ds pipes k n view owns o s to)))
-            ∙ set_same pipes i.pipe.serial (Some (i.pipe.place, r')) (ap (λ x. Some (i.pipe.place, x)) e ∙ sym (stands f limits charges ps ds pipes k n view owns i r from))
+            ∙ ap (λ (xs : PipeRows). put_at xs i.pipe.serial (i.pipe.slot, r'))
+            (set_same pipes o.pipe.serial (Some (o.pipe.slot, s')) (ap (λ x. Some (o.pipe.slot, x)) d ∙ sym (stands f limits charges ps ds pipes k n view owns o s to)))
+            ∙ set_same pipes i.pipe.serial (Some (i.pipe.slot, r')) (ap (λ x. Some (i.pipe.slot, x)) e ∙ sym (stands f limits charges ps ds pipes k n view owns i r from))
 
         pub same_view : r' ≡ r → s' ≡ s → record { limits = limits; state = state_of ps ds back files files_made } ≡ n
         same_view e d = ap (λ x. record { limits = limits; state = state_of ps ds x files files_made }) (same_back e d) ∙ view
@@ -123,22 +123,22 @@ module _ {files : Files} {files_made : ℕ} (f : Live) (limits : Limits) (charge
         -- A transfer went from one to the other
         module _ (g : Live) (progress : Progress) (m : Crossed) (c : Crosses r r' s s' f g progress m) where
           abbrev mid : PipeRows
-          mid = put_at pipes o.pipe.serial (o.pipe.place, s')
+          mid = put_at pipes o.pipe.serial (o.pipe.slot, s')
 
           -- one pipe with other windows
-          rewritten : (rows : PipeRows) (d : Description) (p p' : Pipe) → at (pipes_of rows) d.pipe.serial ≡ Some (pipe_of (d.pipe.place, p)) → SameButWindows p p'
-              → state_of ps ds (put_at rows d.pipe.serial (d.pipe.place, p')) files files_made ≡ with_queue (state_of ps ds rows files files_made) d.pipe.serial p'.ring
+          rewritten : (rows : PipeRows) (d : Description) (p p' : Pipe) → at (pipes_of rows) d.pipe.serial ≡ Some (pipe_of (d.pipe.slot, p)) → SameButWindows p p'
+              → state_of ps ds (put_at rows d.pipe.serial (d.pipe.slot, p')) files files_made ≡ with_queue (state_of ps ds rows files files_made) d.pipe.serial p'.ring
           rewritten rows d p p' is same =
               ap (λ xs. record { processes = processes_of ps; descriptions = descriptions_of ds; pipes = xs; files = files; files_made = files_made })
-              (map-set (option_map pipe_of) rows d.pipe.serial (Some (d.pipe.place, p'))
+              (map-set (option_map pipe_of) rows d.pipe.serial (Some (d.pipe.slot, p'))
               ∙ (λ i. set (pipes_of rows) d.pipe.serial (Some (pipe_with p'.ring (same.owner i) (same.opens i))))
               ∙ ap (λ x. set (pipes_of rows) d.pipe.serial (option_map (holding p'.ring) x)) (sym is))
 
-          source_still : at mid i.pipe.serial ≡ Some (i.pipe.place, r)
-          source_still = get_or-set_other pipes o.pipe.serial i.pipe.serial (Some (o.pipe.place, s')) None differ ∙ stands f limits charges ps ds pipes k n view owns i r from
+          source_still : at mid i.pipe.serial ≡ Some (i.pipe.slot, r)
+          source_still = get_or-set_other pipes o.pipe.serial i.pipe.serial (Some (o.pipe.slot, s')) None differ ∙ stands f limits charges ps ds pipes k n view owns i r from
 
-          source_shown : at (pipes_of mid) i.pipe.serial ≡ Some (pipe_of (i.pipe.place, r))
-          source_shown = shown pipe_of mid i.pipe.serial (i.pipe.place, r) source_still
+          source_shown : at (pipes_of mid) i.pipe.serial ≡ Some (pipe_of (i.pipe.slot, r))
+          source_shown = shown pipe_of mid i.pipe.serial (i.pipe.slot, r) source_still
 
           sink_written : state_of ps ds mid files files_made ≡ with_queue (state_of ps ds pipes files files_made) o.pipe.serial s'.ring
           sink_written = rewritten pipes o s s' sink_there c.sink_is
@@ -156,8 +156,8 @@ module _ {files : Files} {files_made : ℕ} (f : Live) (limits : Limits) (charge
             tied = crossed-tied;
             charged =
                 subst (Charged charges) (sym source_written)
-                (charged-with_queue charges (state_of ps ds mid files files_made) i.pipe.serial (pipe_of (i.pipe.place, r)) r'.ring source_shown c.source_is.capacity
-                (subst (Charged charges) (sym sink_written) (charged-with_queue charges (state_of ps ds pipes files files_made) o.pipe.serial (pipe_of (o.pipe.place, s)) s'.ring sink_there c.sink_is.capacity k.charged)));
+                (charged-with_queue charges (state_of ps ds mid files files_made) i.pipe.serial (pipe_of (i.pipe.slot, r)) r'.ring source_shown c.source_is.capacity
+                (subst (Charged charges) (sym sink_written) (charged-with_queue charges (state_of ps ds pipes files files_made) o.pipe.serial (pipe_of (o.pipe.slot, s)) s'.ring sink_there c.sink_is.capacity k.charged)));
           }
 
           pub crossed-kept : Kept charges ps ds back
@@ -179,12 +179,12 @@ module _ {files : Files} {files_made : ℕ} (f : Live) (limits : Limits) (charge
           joined_between : Joined between (rings_of (state_of ps ds mid files files_made))
           joined_between =
               subst (λ (x : State Ring). Joined between (rings_of x)) (sym sink_written)
-              (joined_written f between (state_of ps ds pipes files files_made) o.pipe.serial (pipe_of (o.pipe.place, s)) s'.ring r.ring.windows source_bound own.joined sink_there c.moves.copied c.sink_is.capacity sink_fits)
+              (joined_written f between (state_of ps ds pipes files files_made) o.pipe.serial (pipe_of (o.pipe.slot, s)) s'.ring r.ring.windows source_bound own.joined sink_there c.moves.copied c.sink_is.capacity sink_fits)
 
           joined_in_turn : Joined g (rings_of (state_of ps ds pipes' files files_made))
           joined_in_turn =
               subst (λ (x : State Ring). Joined g (rings_of x)) (sym source_written)
-              (joined_written between g (state_of ps ds mid files files_made) i.pipe.serial (pipe_of (i.pipe.place, r)) r'.ring [] (no_source (rings_of (state_of ps ds mid files files_made))) joined_between source_shown c.moves.dropped c.source_is.capacity source_fits)
+              (joined_written between g (state_of ps ds mid files files_made) i.pipe.serial (pipe_of (i.pipe.slot, r)) r'.ring [] (no_source (rings_of (state_of ps ds mid files files_made))) joined_between source_shown c.moves.dropped c.source_is.capacity source_fits)
 
           pub crossed-owns : Owns g (record { limits = limits; state = state_of ps ds back files files_made })
           crossed-owns = record {
@@ -195,8 +195,8 @@ module _ {files : Files} {files_made : ℕ} (f : Live) (limits : Limits) (charge
           -- what was put shows the same once the source has lost it
           sink_at_mid : ring_at (rings_of (state_of ps ds mid files files_made)) o.pipe.serial ≡ s'.ring
           sink_at_mid =
-              ring_at-pipe (pipes_of mid) o.pipe.serial (pipe_of (o.pipe.place, s'))
-              (shown pipe_of mid o.pipe.serial (o.pipe.place, s') (put_there pipes o.pipe.serial (o.pipe.place, s) (o.pipe.place, s') (stands f limits charges ps ds pipes k n view owns o s to)))
+              ring_at-pipe (pipes_of mid) o.pipe.serial (pipe_of (o.pipe.slot, s'))
+              (shown pipe_of mid o.pipe.serial (o.pipe.slot, s') (put_there pipes o.pipe.serial (o.pipe.slot, s) (o.pipe.slot, s') (stands f limits charges ps ds pipes k n view owns o s to)))
             where
               put_there : {X : Type 0} (xs : List (Option X)) (j : ℕ) (x y : X) → at xs j ≡ Some x → at (put_at xs j y) j ≡ Some y
               put_there [] j x y h = absurd (cc)
@@ -204,7 +204,7 @@ module _ {files : Files} {files_made : ℕ} (f : Live) (limits : Limits) (charge
               put_there (z ∷ xs) (suc j) x y h = put_there xs j x y h
 
           source_at_mid : ring_at (rings_of (state_of ps ds mid files files_made)) i.pipe.serial ≡ r.ring
-          source_at_mid = ring_at-pipe (pipes_of mid) i.pipe.serial (pipe_of (i.pipe.place, r)) source_shown
+          source_at_mid = ring_at-pipe (pipes_of mid) i.pipe.serial (pipe_of (i.pipe.slot, r)) source_shown
 
           sink_stays : queue_of between s'.ring ≡ queue_of g s'.ring
           sink_stays =
@@ -218,18 +218,18 @@ module _ {files : Files} {files_made : ℕ} (f : Live) (limits : Limits) (charge
               ∙ settled-meaning g (state_of ps ds pipes' files files_made) (settled ps ds pipes' files files_made crossed-tied)
               ∙ ap sweep
               (ap (meaning g) source_written
-              ∙ meaning-with_queue between g (state_of ps ds mid files files_made) i.pipe.serial r'.ring (others_written between g (state_of ps ds mid files files_made) i.pipe.serial (pipe_of (i.pipe.place, r)) r'.ring [] (no_source (rings_of (state_of ps ds mid files files_made))) joined_between source_shown c.moves.dropped)
+              ∙ meaning-with_queue between g (state_of ps ds mid files files_made) i.pipe.serial r'.ring (others_written between g (state_of ps ds mid files files_made) i.pipe.serial (pipe_of (i.pipe.slot, r)) r'.ring [] (no_source (rings_of (state_of ps ds mid files files_made))) joined_between source_shown c.moves.dropped)
               ∙ ap (λ x. with_queue x i.pipe.serial (queue_of g r'.ring))
               (ap (meaning between) sink_written
-              ∙ meaning-with_queue f between (state_of ps ds pipes files files_made) o.pipe.serial s'.ring (others_written f between (state_of ps ds pipes files files_made) o.pipe.serial (pipe_of (o.pipe.place, s)) s'.ring r.ring.windows source_bound own.joined sink_there c.moves.copied)
+              ∙ meaning-with_queue f between (state_of ps ds pipes files files_made) o.pipe.serial s'.ring (others_written f between (state_of ps ds pipes files files_made) o.pipe.serial (pipe_of (o.pipe.slot, s)) s'.ring r.ring.windows source_bound own.joined sink_there c.moves.copied)
               ∙ ap (with_queue (meaning f (state_of ps ds pipes files files_made)) o.pipe.serial) sink_stays)
               ∙ ap (λ (x : Crossed). with_queue (with_queue (meaning f (state_of ps ds pipes files files_made)) o.pipe.serial x.sink) i.pipe.serial x.source) (sym c.told))
 
   -- No count comes near the end of its type: all slots together are within the reservation
-  pub few : (o : Description) (s : Pipe) → find pipes o.pipe.place o.pipe.serial ≡ Some s → limits.reserve ≤ MAX_RESERVE → f.shares + s.ring.capacity < 2 ^ 32
+  pub few : (o : Description) (s : Pipe) → find pipes o.pipe.slot o.pipe.serial ≡ Some s → limits.reserve ≤ MAX_RESERVE → f.shares + s.ring.capacity < 2 ^ 32
   few o s to most =
       let st : State Ring = state_of ps ds pipes files files_made in
-      let one : s.ring.capacity ≤ pages st = pages_at (pipes_of pipes) o.pipe.serial (pipe_of (o.pipe.place, s)) (there f limits charges ps ds pipes k n view owns o s to) in
+      let one : s.ring.capacity ≤ pages st = pages_at (pipes_of pipes) o.pipe.serial (pipe_of (o.pipe.slot, s)) (there f limits charges ps ds pipes k n view owns o s to) in
       let all : sum_by slots_used (rings_of st) ≡ occupied st = used-rings (pipes_of pipes) in
       omega (arith, own.joined.total, all, one, most, occupied_pages f (record { limits = limits; state = st }) own, pages_within f (record { limits = limits; state = st }) own)
     where
@@ -266,15 +266,15 @@ module _ {files : Files} {files_made : ℕ} (f : Live) (limits : Limits) (charge
       no_sink_end e h =
           in_view (Err e) (goes_on (Err e) (second_err (λ p. reading_end s p source) (λ p. writing_end s p sink) test (ready s pid) (end_of_rows f i at_source.pipe) e at_source.is (refused f (Some sides.Write) ps ds pipes files files_made k.tied pid sink e h)))
 
-      pub source_stands : IsSome (find pipes i.pipe.place i.pipe.serial)
-      source_stands = ap is_some (find_at pipes i.pipe.place i.pipe.serial at_source.pipe at_source.stands)
+      pub source_stands : IsSome (find pipes i.pipe.slot i.pipe.serial)
+      source_stands = ap is_some (find_at pipes i.pipe.slot i.pipe.serial at_source.pipe at_source.stands)
 
       module _ (o : Description) (writes : end_in (Some sides.Write) ps ds pid sink ≡ Ok o) where
         at_sink : Found f (Some sides.Write) ps ds pipes files files_made pid sink o
         at_sink = found f (Some sides.Write) ps ds pipes files files_made k.tied pid sink o writes
 
-        pub sink_stands : IsSome (find pipes o.pipe.place o.pipe.serial)
-        sink_stands = ap is_some (find_at pipes o.pipe.place o.pipe.serial at_sink.pipe at_sink.stands)
+        pub sink_stands : IsSome (find pipes o.pipe.slot o.pipe.serial)
+        sink_stands = ap is_some (find_at pipes o.pipe.slot o.pipe.serial at_sink.pipe at_sink.stands)
 
         two_found : (b : Bool) → nat_eq i.pipe.serial o.pipe.serial ≡ b → (ready s pid >>= (λ p. two_ends s p source sink)) ≡ (refuse_if b EINVAL >> Ok (record { source = end_of_rows f i at_source.pipe; sink = end_of_rows f o at_sink.pipe }))
         two_found b h =
@@ -284,15 +284,15 @@ module _ {files : Files} {files_made : ℕ} (f : Live) (limits : Limits) (charge
         pub one_pipe : i.pipe.serial ≡ o.pipe.serial → attempted (meaning f n.state) pid (Bringing c source sink m) ≡ Err EINVAL
         one_pipe e = in_view (Err EINVAL) (goes_on _ (two_found true (eq-eqb i.pipe.serial o.pipe.serial e)))
 
-        module _ (differ : i.pipe.serial ≢ o.pipe.serial) (r t : Pipe) (from : find pipes i.pipe.place i.pipe.serial ≡ Some r) (to : find pipes o.pipe.place o.pipe.serial ≡ Some t)
+        module _ (differ : i.pipe.serial ≢ o.pipe.serial) (r t : Pipe) (from : find pipes i.pipe.slot i.pipe.serial ≡ Some r) (to : find pipes o.pipe.slot o.pipe.serial ≡ Some t)
             (g : Live) (r' t' : Pipe) (progress : Progress) (crosses : Crosses r r' t t' f g progress (cross_now c (queue_of f r.ring) (queue_of f t.ring) r.writers t.readers m)) where
           abbrev ends : Ends
           ends = record { source = end_of_rows f i r; sink = end_of_rows f o t }
 
-          same_row : (d : Description) (x y : Pipe) → at pipes d.pipe.serial ≡ Some (d.pipe.place, x) → find pipes d.pipe.place d.pipe.serial ≡ Some y → x ≡ y
+          same_row : (d : Description) (x y : Pipe) → at pipes d.pipe.serial ≡ Some (d.pipe.slot, x) → find pipes d.pipe.slot d.pipe.serial ≡ Some y → x ≡ y
           same_row d x y h g =
-              let one : ◌≡◌ {A = Option (ℕ × Pipe)} (Some (d.pipe.place, x)) (Some (d.pipe.place, y)) = sym h ∙ find_was pipes d.pipe.place d.pipe.serial y g in
-              let pair : ◌≡◌ {A = ℕ × Pipe} (d.pipe.place, x) (d.pipe.place, y) = cc in
+              let one : ◌≡◌ {A = Option (ℕ × Pipe)} (Some (d.pipe.slot, x)) (Some (d.pipe.slot, y)) = sym h ∙ find_was pipes d.pipe.slot d.pipe.serial y g in
+              let pair : ◌≡◌ {A = ℕ × Pipe} (d.pipe.slot, x) (d.pipe.slot, y) = cc in
               ap (λ (z : ℕ × Pipe). z.1) pair
 
           is_tried : attempted (meaning f n.state) pid (Bringing c source sink m) ≡ Ok (try_cross c s ends m)
@@ -301,10 +301,10 @@ module _ {files : Files} {files_made : ℕ} (f : Live) (limits : Limits) (charge
               ∙ (λ j. Ok (try_cross c s (record { source = end_of_rows f i (same_row i at_source.pipe r at_source.stands from j); sink = end_of_rows f o (same_row o at_sink.pipe t at_sink.stands to j) }) m)))
 
           source_counts : (readers s i.pipe.serial ≡ r.readers) × (writers s i.pipe.serial ≡ r.writers)
-          source_counts = counted f (Some sides.Read) ps ds pipes files files_made k.tied pid source i.pipe.serial i.pipe.place r (find_was pipes i.pipe.place i.pipe.serial r from)
+          source_counts = counted f (Some sides.Read) ps ds pipes files files_made k.tied pid source i.pipe.serial i.pipe.slot r (find_was pipes i.pipe.slot i.pipe.serial r from)
 
           sink_counts : (readers s o.pipe.serial ≡ t.readers) × (writers s o.pipe.serial ≡ t.writers)
-          sink_counts = counted f (Some sides.Write) ps ds pipes files files_made k.tied pid sink o.pipe.serial o.pipe.place t (find_was pipes o.pipe.place o.pipe.serial t to)
+          sink_counts = counted f (Some sides.Write) ps ds pipes files files_made k.tied pid sink o.pipe.serial o.pipe.slot t (find_was pipes o.pipe.slot o.pipe.serial t to)
 
           abbrev result : Crossed
           result = cross_now c (queue_of f r.ring) (queue_of f t.ring) (writers s i.pipe.serial) (readers s o.pipe.serial) m

@@ -37,12 +37,12 @@ module _ (f : Live) {charges : UserPages} {limits : Limits} {ps : ProcessRows} {
   abbrev w : Has ps pid fd k
   w = has_by ps pid fd caller key
 
-  row : (e : Named Description) × (at ds k.serial ≡ Some (k.place, e))
+  row : (e : Named Description) × (at ds k.serial ≡ Some (k.slot, e))
   row = key_row f kept.tied view pid fd w
 
   -- its description has fewer names than can be counted
-  pub has_few : names_of (find ds k.place k.serial) < 2 ^ 32 - 1
-  has_few = let few = few_names [] ps ds pipes kept.tied k.serial (k.place, row.0) row.1 in omega (arith, few, names_are ds k row.0 row.1)
+  pub has_few : names_of (find ds k.slot k.serial) < 2 ^ 32 - 1
+  has_few = let few = few_names [] ps ds pipes kept.tied k.serial (k.slot, row.0) row.1 in omega (arith, few, names_are ds k row.0 row.1)
 
   abbrev s : State Queue
   s = meaning f n.state
@@ -64,7 +64,7 @@ module _ (f : Live) {charges : UserPages} {limits : Limits} {ps : ProcessRows} {
     p' = record p { descriptors = put_at p.descriptors to k }
 
     abbrev ds' : DescriptionRows
-    ds' = put_at ds k.serial (k.place, record row.0 { names = row.0.names + 1 })
+    ds' = put_at ds k.serial (k.slot, record row.0 { names = row.0.names + 1 })
 
     now_tied : Tied (put_at ps (pid - 1) p') ds' pipes
     now_tied = put [] [] ps ds' pipes (pid - 1) to p (place_is ps pid p caller) to_in k (ap (at p.descriptors) lowest ∙ at-first_free p.descriptors) (named_again [] [] ps ds pipes k row.0 row.1 kept.tied)

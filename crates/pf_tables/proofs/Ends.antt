@@ -38,7 +38,7 @@ end_of_rows f d r = record {
 -- what is known of an end that the tables found: its pipe, and that the machine finds the same
 pub record Found (f : Live) (side : Option Side) (ps : ProcessRows) (ds : DescriptionRows) (pipes : PipeRows) (files : Files) (files_made : ℕ) (pid fd : ℕ) (d : Description) : Type 0 where
   pub pipe : Pipe
-  pub stands : at pipes d.pipe.serial ≡ Some (d.pipe.place, pipe)
+  pub stands : at pipes d.pipe.serial ≡ Some (d.pipe.slot, pipe)
   pub is : (ready (meaning f (state_of ps ds pipes files files_made)) pid >>= (λ p. side_end side (meaning f (state_of ps ds pipes files files_made)) p fd)) ≡ Ok (end_of_rows f d pipe)
   pub caller : IsOk (ready_in ps pid)
 
@@ -71,16 +71,16 @@ module _ (f : Live) (side : Option Side) (ps : ProcessRows) (ds : DescriptionRow
   shown_key p o g = at-map (λ (k : Key). k.serial) p.descriptors fd ∙ ap (option_map (λ (k : Key). k.serial)) g
 
   -- a description's end of its pipe
-  pub end_shown : (k : Key) (e : Named Description) (r : Pipe) → at ds k.serial ≡ Some (k.place, e) → at pipes e.value.pipe.serial ≡ Some (e.value.pipe.place, r) → end_at s k.serial ≡ Some (end_of_rows f e.value r)
+  pub end_shown : (k : Key) (e : Named Description) (r : Pipe) → at ds k.serial ≡ Some (k.slot, e) → at pipes e.value.pipe.serial ≡ Some (e.value.pipe.slot, r) → end_at s k.serial ≡ Some (end_of_rows f e.value r)
   end_shown k e r h g =
-      ap (option_and_then (λ (d : machine.Description). option_map (λ (pipe : machine.Pipe Queue). record { description = d; pipe = pipe }) (at s.pipes d.pipe))) (shown description_of ds k.serial (k.place, e) h)
-      ∙ ap (option_map (λ (pipe : machine.Pipe Queue). record { description = description_of (k.place, e); pipe = pipe }))
-      (at-map (pipe_meaning f) (pipes_of pipes) e.value.pipe.serial ∙ ap (option_map (pipe_meaning f)) (shown pipe_of pipes e.value.pipe.serial (e.value.pipe.place, r) g))
+      ap (option_and_then (λ (d : machine.Description). option_map (λ (pipe : machine.Pipe Queue). record { description = d; pipe = pipe }) (at s.pipes d.pipe))) (shown description_of ds k.serial (k.slot, e) h)
+      ∙ ap (option_map (λ (pipe : machine.Pipe Queue). record { description = description_of (k.slot, e); pipe = pipe }))
+      (at-map (pipe_meaning f) (pipes_of pipes) e.value.pipe.serial ∙ ap (option_map (pipe_meaning f)) (shown pipe_of pipes e.value.pipe.serial (e.value.pipe.slot, r) g))
 
   -- what the tables find and what the machine finds: one refusal, or the end that the rows show
   abbrev Agrees : Result Description Errno → Result (End Queue) Errno → Type 0
   Agrees (Err e) machine = machine ≡ Err e
-  Agrees (Ok d) machine = (r : Pipe) × (at pipes d.pipe.serial ≡ Some (d.pipe.place, r)) × (machine ≡ Ok (end_of_rows f d r))
+  Agrees (Ok d) machine = (r : Pipe) × (at pipes d.pipe.serial ≡ Some (d.pipe.slot, r)) × (machine ≡ Ok (end_of_rows f d r))
 
   abbrev if_sided : Description → Result Description Errno
   if_sided d = refuse_if (not (has side d)) EBADF >> Ok d
@@ -88,7 +88,7 @@ module _ (f : Live) (side : Option Side) (ps : ProcessRows) (ds : DescriptionRow
   abbrev of_key : Option Key → Result Description Errno
   of_key o = or_refuse EBADF o >>= (λ k. or_refuse EBADF (description_in ds k) >>= if_sided)
 
-  by_sides : (b : Bool) (d : Description) (r : Pipe) → at pipes d.pipe.serial ≡ Some (d.pipe.place, r) → Agrees (refuse_if (not b) EBADF >> Ok d) (sided b (end_of_rows f d r))
+  by_sides : (b : Bool) (d : Description) (r : Pipe) → at pipes d.pipe.serial ≡ Some (d.pipe.slot, r) → Agrees (refuse_if (not b) EBADF >> Ok d) (sided b (end_of_rows f d r))
   by_sides true d r h = (r, h, refl)
   by_sides false d r h = refl
 
@@ -96,8 +96,8 @@ module _ (f : Live) (side : Option Side) (ps : ProcessRows) (ds : DescriptionRow
   by_key i p h None g = no_side (process_of p) (shown_key p None g)
   by_key i p h (Some k) g =
       let e = finds ds k (t.finds i (suc fd) p k h g) in
-      let r = finds pipes e.0.value.pipe (t.is_end k.serial (k.place, e.0) e.1).0 in
-      let row = ap (option_map (λ (n : Named Description). n.value)) (find_at ds k.place k.serial e.0 e.1) in
+      let r = finds pipes e.0.value.pipe (t.is_end k.serial (k.slot, e.0) e.1).0 in
+      let row = ap (option_map (λ (n : Named Description). n.value)) (find_at ds k.slot k.serial e.0 e.1) in
       let machine = by_side (process_of p) e.0.value r.0 (ap (option_and_then (end_at s)) (shown_key p (Some k) g) ∙ end_shown k e.0 r.0 e.1 r.1) in
       subst (λ o. Agrees (or_refuse EBADF o >>= if_sided) (side_end side s (process_of p) fd)) (sym row) (subst (Agrees (if_sided e.0.value)) (sym machine) (by_sides (has side e.0.value) e.0.value r.0 r.1))
 

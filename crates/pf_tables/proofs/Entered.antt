@@ -44,7 +44,7 @@ goes c s pid p a file lives may =
     by_tests false false true rest h = absurd (cc)
     by_tests false false false rest h = refl
 
-module _ (files : Files) (files_made : ℕ) (f : Live) (a : Stored) (k : Key) (p : Pipe) (ps : ProcessRows) (ds : DescriptionRows) (pipes : PipeRows) (stands : at pipes k.serial ≡ Some (k.place, p))
+module _ (files : Files) (files_made : ℕ) (f : Live) (a : Stored) (k : Key) (p : Pipe) (ps : ProcessRows) (ds : DescriptionRows) (pipes : PipeRows) (stands : at pipes k.serial ≡ Some (k.slot, p))
     (pid : ℕ) (q : Process) (opener : at ps (pid - 1) ≡ Some q) (j : Key) (j_is : j.serial ≡ length ds) where
   abbrev s : State Queue
   s = meaning f (state_of ps ds pipes files files_made)
@@ -64,16 +64,16 @@ module _ (files : Files) (files_made : ℕ) (f : Live) (a : Stored) (k : Key) (p
   once_more true n = refl
   once_more false n = omega arith
 
-  counted_shown : pipe_meaning f (pipe_of (k.place, counted a p)) ≡ opens.counted (access_seen a) (pipe_meaning f (pipe_of (k.place, p)))
-  counted_shown = λ i. record { queue = (pipe_meaning f (pipe_of (k.place, p))).queue; owner = p.owner; file = p.opens.file; read_opens = once_more a.reads p.opens.read i; write_opens = once_more a.writes p.opens.write i }
+  counted_shown : pipe_meaning f (pipe_of (k.slot, counted a p)) ≡ opens.counted (access_seen a) (pipe_meaning f (pipe_of (k.slot, p)))
+  counted_shown = λ i. record { queue = (pipe_meaning f (pipe_of (k.slot, p))).queue; owner = p.owner; file = p.opens.file; read_opens = once_more a.reads p.opens.read i; write_opens = once_more a.writes p.opens.write i }
 
-  pub there : at s.pipes k.serial ≡ Some (pipe_meaning f (pipe_of (k.place, p)))
-  there = at-map (pipe_meaning f) (pipes_of pipes) k.serial ∙ ap (option_map (pipe_meaning f)) (shown pipe_of pipes k.serial (k.place, p) stands)
+  pub there : at s.pipes k.serial ≡ Some (pipe_meaning f (pipe_of (k.slot, p)))
+  there = at-map (pipe_meaning f) (pipes_of pipes) k.serial ∙ ap (option_map (pipe_meaning f)) (shown pipe_of pipes k.serial (k.slot, p) stands)
 
-  pipes_shown : map (option_map (pipe_meaning f)) (pipes_of (put_at pipes k.serial (k.place, counted a p))) ≡ made.pipes
+  pipes_shown : map (option_map (pipe_meaning f)) (pipes_of (put_at pipes k.serial (k.slot, counted a p))) ≡ made.pipes
   pipes_shown =
-      ap (map (option_map (pipe_meaning f))) (map-set (option_map pipe_of) pipes k.serial (Some (k.place, counted a p)))
-      ∙ map-set (option_map (pipe_meaning f)) (pipes_of pipes) k.serial (Some (pipe_of (k.place, counted a p)))
+      ap (map (option_map (pipe_meaning f))) (map-set (option_map pipe_of) pipes k.serial (Some (k.slot, counted a p)))
+      ∙ map-set (option_map (pipe_meaning f)) (pipes_of pipes) k.serial (Some (pipe_of (k.slot, counted a p)))
       ∙ ap (λ x. set s.pipes k.serial (Some x)) counted_shown
       ∙ ap (λ o. set s.pipes k.serial (option_map (opens.counted (access_seen a)) o)) (sym there)
 
@@ -90,9 +90,9 @@ module _ (files : Files) (files_made : ℕ) (f : Live) (a : Stored) (k : Key) (p
       ∙ ap (λ o. set (processes_of ps) (pid - 1) (option_map (waiting (Some (Opening (length s.descriptions) n))) o)) (sym (shown process_of ps (pid - 1) q opener))
 
   pub entered-shown : (before : Option ℕ)
-      → meaning f (state_of (put_at ps (pid - 1) (taking before j q)) (ds ++ Some (j.place, once (end_of a k)) ∷ []) (put_at pipes k.serial (k.place, counted a p)) files files_made) ≡ outcome before
-  entered-shown None = λ i. record { processes = processes_shown None i; descriptions = map_push (option_map description_of) ds (Some (j.place, once (end_of a k))) i; pipes = pipes_shown i; files = files; files_made = files_made }
-  entered-shown (Some n) = λ i. record { processes = processes_shown (Some n) i; descriptions = map_push (option_map description_of) ds (Some (j.place, once (end_of a k))) i; pipes = pipes_shown i; files = files; files_made = files_made }
+      → meaning f (state_of (put_at ps (pid - 1) (taking before j q)) (ds ++ Some (j.slot, once (end_of a k)) ∷ []) (put_at pipes k.serial (k.slot, counted a p)) files files_made) ≡ outcome before
+  entered-shown None = λ i. record { processes = processes_shown None i; descriptions = map_push (option_map description_of) ds (Some (j.slot, once (end_of a k))) i; pipes = pipes_shown i; files = files; files_made = files_made }
+  entered-shown (Some n) = λ i. record { processes = processes_shown (Some n) i; descriptions = map_push (option_map description_of) ds (Some (j.slot, once (end_of a k))) i; pipes = pipes_shown i; files = files; files_made = files_made }
 
   -- what the machine's open comes to, by whether it waits
   abbrev pub reply : Option ℕ → Reply

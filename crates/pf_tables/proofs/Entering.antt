@@ -34,17 +34,17 @@ module _ (a : Stored) (sided : IsSided a) (k : Key) where
 
   module _ (ps : ProcessRows) (ds : DescriptionRows) (pipes : PipeRows) (t : Tied ps ds pipes) where
     -- A pipe that stands gets its ends, and its description is in the hand
-    pub entered : (p : Pipe) → at pipes k.serial ≡ Some (k.place, p) → TiedWith [] (end_of a k ∷ []) ps ds (put_at pipes k.serial (k.place, counted a p))
+    pub entered : (p : Pipe) → at pipes k.serial ≡ Some (k.slot, p) → TiedWith [] (end_of a k ∷ []) ps ds (put_at pipes k.serial (k.slot, counted a p))
     entered p stands =
         let s = sides (end_of a k) in
         let r = pipe_row [] [] ps ds pipes k p stands t in
-        repiped [] [] ps ds pipes t k.serial (k.place, p) stands (Some (k.place, counted a p)) (end_of a k ∷ [])
-        (λ e h. let it : ◌≡◌ {A = ℕ × Pipe} (k.place, counted a p) e = cc in ap (λ (x : ℕ × Pipe). x.0) (sym it))
+        repiped [] [] ps ds pipes t k.serial (k.slot, p) stands (Some (k.slot, counted a p)) (end_of a k ∷ [])
+        (λ e h. let it : ◌≡◌ {A = ℕ × Pipe} (k.slot, counted a p) e = cc in ap (λ (x : ℕ × Pipe). x.0) (sym it))
         ((found pipes k p stands, sided), tt) apart
         (omega (arith, r.0, s.0), omega (arith, r.1, s.1), omega (arith, s.0, s.1, sided))
 
     -- A pipe is made with its ends
-    pub founded : (p : Pipe) → k.serial ≡ length pipes → p.readers ≡ 0 → p.writers ≡ 0 → TiedWith [] (end_of a k ∷ []) ps ds (pipes ++ Some (k.place, counted a p) ∷ [])
+    pub founded : (p : Pipe) → k.serial ≡ length pipes → p.readers ≡ 0 → p.writers ≡ 0 → TiedWith [] (end_of a k ∷ []) ps ds (pipes ++ Some (k.slot, counted a p) ∷ [])
     founded p k_is none nobody =
         let s = sides (end_of a k) in
         piped [] [] ps ds pipes k (counted a p) (end_of a k ∷ []) k_is ((finds-new pipes (counted a p) k k_is, sided), tt) apart
@@ -54,7 +54,7 @@ module _ (a : Stored) (sided : IsSided a) (k : Key) where
 module _ {ps ps' : ProcessRows} {ds ds' : DescriptionRows} (pipes : PipeRows) {pid : ℕ} {d : Description} {before fd : Option ℕ} (z : Describes ps ps' ds ds' pid d before fd)
     (awake : z.p.parked ≡ None) (within : first_free z.p.descriptors < MAX_DESCRIPTORS) (t : TiedWith [] (d ∷ []) ps ds pipes) where
   abbrev after : DescriptionRows
-  after = ds ++ Some (z.k.place, once d) ∷ []
+  after = ds ++ Some (z.k.slot, once d) ∷ []
 
   pub opener : at ps (pid - 1) ≡ Some z.p
   opener = place_of ps pid z.p z.is
@@ -75,36 +75,36 @@ module _ {ps ps' : ProcessRows} {ds ds' : DescriptionRows} (pipes : PipeRows) {p
   admitted = subst (λ x. Tied x ds' pipes) (sym seated_is) (subst (λ y. Tied (put_at ps (pid - 1) (taking before z.k z.p)) y pipes) (sym z.described) (by_waiting before))
 
 -- The counters of pages stay the sums, as no ring changes
-pub entered-charged : (charges : UserPages) (a : Stored) (pipes : PipeRows) (k : Key) (p : Pipe) → at pipes k.serial ≡ Some (k.place, p) → AreCharged charges (pipes_of pipes) → AreCharged charges (pipes_of (put_at pipes k.serial (k.place, counted a p)))
+pub entered-charged : (charges : UserPages) (a : Stored) (pipes : PipeRows) (k : Key) (p : Pipe) → at pipes k.serial ≡ Some (k.slot, p) → AreCharged charges (pipes_of pipes) → AreCharged charges (pipes_of (put_at pipes k.serial (k.slot, counted a p)))
 entered-charged charges a pipes k p stands is =
-    subst (AreCharged charges) (sym (map-set (option_map pipe_of) pipes k.serial (Some (k.place, counted a p))))
-    (kept (λ (q : machine.Pipe Ring). q.owner) (λ (q : machine.Pipe Ring). q.queue.capacity) charges (pipes_of pipes) k.serial (pipe_of (k.place, p)) (pipe_of (k.place, counted a p)) is (shown pipe_of pipes k.serial (k.place, p) stands) refl refl)
+    subst (AreCharged charges) (sym (map-set (option_map pipe_of) pipes k.serial (Some (k.slot, counted a p))))
+    (kept (λ (q : machine.Pipe Ring). q.owner) (λ (q : machine.Pipe Ring). q.queue.capacity) charges (pipes_of pipes) k.serial (pipe_of (k.slot, p)) (pipe_of (k.slot, counted a p)) is (shown pipe_of pipes k.serial (k.slot, p) stands) refl refl)
 
 -- There are no more opens than descriptions, as one more is drawn
-pub entered-fifos : (es : List (ℕ × Key)) {drawn more : ℕ} (a : Stored) (pipes : PipeRows) (k : Key) (p : Pipe) → at pipes k.serial ≡ Some (k.place, p) → more ≡ drawn + 1 → AreFifos es drawn (opens_of pipes) → AreFifos es more (opens_of (put_at pipes k.serial (k.place, counted a p)))
+pub entered-fifos : (es : List (ℕ × Key)) {drawn more : ℕ} (a : Stored) (pipes : PipeRows) (k : Key) (p : Pipe) → at pipes k.serial ≡ Some (k.slot, p) → more ≡ drawn + 1 → AreFifos es drawn (opens_of pipes) → AreFifos es more (opens_of (put_at pipes k.serial (k.slot, counted a p)))
 entered-fifos es {drawn} {more} a pipes k p stands more_is f =
-    subst (AreFifos es more) (sym (map-set (option_map opens_at) pipes k.serial (Some (k.place, counted a p)))) changed
+    subst (AreFifos es more) (sym (map-set (option_map opens_at) pipes k.serial (Some (k.slot, counted a p)))) changed
   where
-    was : at (opens_of pipes) k.serial ≡ Some (k.place, p.opens)
-    was = shown opens_at pipes k.serial (k.place, p) stands
+    was : at (opens_of pipes) k.serial ≡ Some (k.slot, p.opens)
+    was = shown opens_at pipes k.serial (k.slot, p) stands
 
     once_more : (b : Bool) (n : ℕ) → n ≤ drawn → n + one_if b ≤ more
     once_more true n le = omega (arith, le, more_is)
     once_more false n le = omega (arith, le, more_is)
 
-    changed : AreFifos es more (put_at (opens_of pipes) k.serial (opens_at (k.place, counted a p)))
+    changed : AreFifos es more (put_at (opens_of pipes) k.serial (opens_at (k.slot, counted a p)))
     changed =
-        let l = at_within (opens_of pipes) k.serial (k.place, p.opens) was in
-        let few = f.few k.serial (k.place, p.opens) was in record {
+        let l = at_within (opens_of pipes) k.serial (k.slot, p.opens) was in
+        let few = f.few k.serial (k.slot, p.opens) was in record {
           finds = λ file j h.
               let w = f.finds file j h in
-              by_set (λ m y. j.serial ≡ m → (o : Opens) × (y ≡ Some (j.place, o)) × (o.file ≡ Some file)) (opens_of pipes) k.serial (Some (opens_at (k.place, counted a p))) l
-              (λ e. let both : ◌≡◌ {A = Option (ℕ × Opens)} (Some (k.place, p.opens)) (Some (j.place, w.0)) = sym was ∙ sym (ap (at (opens_of pipes)) e) ∙ w.1 in
+              by_set (λ m y. j.serial ≡ m → (o : Opens) × (y ≡ Some (j.slot, o)) × (o.file ≡ Some file)) (opens_of pipes) k.serial (Some (opens_at (k.slot, counted a p))) l
+              (λ e. let both : ◌≡◌ {A = Option (ℕ × Opens)} (Some (k.slot, p.opens)) (Some (j.slot, w.0)) = sym was ∙ sym (ap (at (opens_of pipes)) e) ∙ w.1 in
               ((counted a p).opens, ap (λ q. Some (q, (counted a p).opens)) (same_place both), same_file both ∙ w.2))
               (λ m _ e. (w.0, sym (ap (at (opens_of pipes)) e) ∙ w.1, w.2)) j.serial refl;
-          there = λ m o file. by_set (λ j y. y ≡ Some o → o.1.file ≡ Some file → lookup (nat_eq file) es ≡ Some (record { place = o.0; serial = j })) (opens_of pipes) k.serial (Some (opens_at (k.place, counted a p))) l
-              (λ h g. let place : k.place ≡ o.0 = same_place h in f.there k.serial (k.place, p.opens) file was (same_file h ∙ g) ∙ ap (λ q. Some (record { place = q; serial = k.serial })) place) (λ j _ h g. f.there j o file h g) m;
-          few = λ m o. by_set (λ _ y. y ≡ Some o → NoMore more o) (opens_of pipes) k.serial (Some (opens_at (k.place, counted a p))) l
-              (λ h. let it : ◌≡◌ {A = ℕ × Opens} (opens_at (k.place, counted a p)) o = cc in subst (NoMore more) it (once_more a.reads p.opens.read few.0, once_more a.writes p.opens.write few.1))
+          there = λ m o file. by_set (λ j y. y ≡ Some o → o.1.file ≡ Some file → lookup (nat_eq file) es ≡ Some (record { slot = o.0; serial = j })) (opens_of pipes) k.serial (Some (opens_at (k.slot, counted a p))) l
+              (λ h g. let place : k.slot ≡ o.0 = same_place h in f.there k.serial (k.slot, p.opens) file was (same_file h ∙ g) ∙ ap (λ q. Some (record { slot = q; serial = k.serial })) place) (λ j _ h g. f.there j o file h g) m;
+          few = λ m o. by_set (λ _ y. y ≡ Some o → NoMore more o) (opens_of pipes) k.serial (Some (opens_at (k.slot, counted a p))) l
+              (λ h. let it : ◌≡◌ {A = ℕ × Opens} (opens_at (k.slot, counted a p)) o = cc in subst (NoMore more) it (once_more a.reads p.opens.read few.0, once_more a.writes p.opens.write few.1))
               (λ j _ h. let old = f.few j o h in (omega (arith, old.0, more_is), omega (arith, old.1, more_is))) m;
         }

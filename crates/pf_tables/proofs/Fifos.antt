@@ -46,16 +46,16 @@ opens_stay pipes n place p w stands same =
     ∙ set_same (opens_of pipes) n (Some (place, w.opens)) (ap (λ (o : Opens). Some (place, o)) same ∙ sym (shown opens_at pipes n (place, p) stands))
 
 -- a pipe that was found is put back with other windows
-pub fifos-put : (es : List (ℕ × Key)) {drawn : ℕ} (pipes : PipeRows) (k : Key) (r w : Pipe) → find pipes k.place k.serial ≡ Some r → w.opens ≡ r.opens → AreFifos es drawn (opens_of pipes) → AreFifos es drawn (opens_of (put_at pipes k.serial (k.place, w)))
-fifos-put es pipes k r w handed same a = fifos-same es (omega arith) (opens_stay pipes k.serial k.place r w (find_was pipes k.place k.serial r handed) same) a
+pub fifos-put : (es : List (ℕ × Key)) {drawn : ℕ} (pipes : PipeRows) (k : Key) (r w : Pipe) → find pipes k.slot k.serial ≡ Some r → w.opens ≡ r.opens → AreFifos es drawn (opens_of pipes) → AreFifos es drawn (opens_of (put_at pipes k.serial (k.slot, w)))
+fifos-put es pipes k r w handed same a = fifos-same es (omega arith) (opens_stay pipes k.serial k.slot r w (find_was pipes k.slot k.serial r handed) same) a
 
 -- and two, one of which was taken out
-pub fifos-crossed : (es : List (ℕ × Key)) {drawn : ℕ} (pipes : PipeRows) (i o : Key) (r r' s s' : Pipe) → i.serial ≢ o.serial → find pipes i.place i.serial ≡ Some r → find pipes o.place o.serial ≡ Some s → r'.opens ≡ r.opens → s'.opens ≡ s.opens
-    → AreFifos es drawn (opens_of pipes) → AreFifos es drawn (opens_of (put_at (put_at (clear_at pipes o.serial) i.serial (i.place, r')) o.serial (o.place, s')))
+pub fifos-crossed : (es : List (ℕ × Key)) {drawn : ℕ} (pipes : PipeRows) (i o : Key) (r r' s s' : Pipe) → i.serial ≢ o.serial → find pipes i.slot i.serial ≡ Some r → find pipes o.slot o.serial ≡ Some s → r'.opens ≡ r.opens → s'.opens ≡ s.opens
+    → AreFifos es drawn (opens_of pipes) → AreFifos es drawn (opens_of (put_at (put_at (clear_at pipes o.serial) i.serial (i.slot, r')) o.serial (o.slot, s')))
 fifos-crossed es {drawn} pipes i o r r' s s' differ from to same also a =
-    let still : at (put_at pipes o.serial (o.place, s')) i.serial ≡ Some (i.place, r) = at-put_other pipes o.serial i.serial (Some (o.place, s')) differ ∙ find_was pipes i.place i.serial r from in
-    subst (λ (xs : PipeRows). AreFifos es drawn (opens_of xs)) (sym (set_around pipes i.serial o.serial (Some (i.place, r')) (Some (o.place, s')) None differ))
-    (fifos-same es (omega arith) (opens_stay (put_at pipes o.serial (o.place, s')) i.serial i.place r r' still same) (fifos-put es pipes o s s' to also a))
+    let still : at (put_at pipes o.serial (o.slot, s')) i.serial ≡ Some (i.slot, r) = at-put_other pipes o.serial i.serial (Some (o.slot, s')) differ ∙ find_was pipes i.slot i.serial r from in
+    subst (λ (xs : PipeRows). AreFifos es drawn (opens_of xs)) (sym (set_around pipes i.serial o.serial (Some (i.slot, r')) (Some (o.slot, s')) None differ))
+    (fifos-same es (omega arith) (opens_stay (put_at pipes o.serial (o.slot, s')) i.serial i.slot r r' still same) (fifos-put es pipes o s s' to also a))
 
 -- some descriptions change, and none is drawn
 pub fifos-changed : (es : List (ℕ × Key)) {opens : List (Option (ℕ × Opens))} (ds ds' : DescriptionRows) → length ds' ≡ length ds → AreFifos es (length ds) opens → AreFifos es (length ds') opens
@@ -65,8 +65,8 @@ fifos-changed es ds ds' same a = fifos-same es (omega (arith, same)) refl a
 pub fifos-pushed : (es : List (ℕ × Key)) {drawn more : ℕ} (opens : List (Option (ℕ × Opens))) (place : ℕ) (o : Opens) → drawn ≤ more → o.file ≡ None → NoMore more (place, o) → AreFifos es drawn opens → AreFifos es more (opens ++ Some (place, o) ∷ [])
 fifos-pushed es {drawn} {more} opens place o le none few a =
     let b : AreFifos es more opens = fifos-same es le refl a in record {
-      finds = λ file k h. let w = b.finds file k h in (w.0, at-push_old opens (Some (place, o)) k.serial (at_within opens k.serial (k.place, w.0) w.1) ∙ w.1, w.2);
-      there = λ k x file. by_push (λ j y. y ≡ Some x → x.1.file ≡ Some file → lookup (nat_eq file) es ≡ Some (record { place = x.0; serial = j })) opens (Some (place, o)) (λ h g. let gap = sym (same_file h ∙ g) ∙ none in absurd (cc)) (λ j _ h g. b.there j x file h g) k;
+      finds = λ file k h. let w = b.finds file k h in (w.0, at-push_old opens (Some (place, o)) k.serial (at_within opens k.serial (k.slot, w.0) w.1) ∙ w.1, w.2);
+      there = λ k x file. by_push (λ j y. y ≡ Some x → x.1.file ≡ Some file → lookup (nat_eq file) es ≡ Some (record { slot = x.0; serial = j })) opens (Some (place, o)) (λ h g. let gap = sym (same_file h ∙ g) ∙ none in absurd (cc)) (λ j _ h g. b.there j x file h g) k;
       few = λ k x. by_push (λ _ y. y ≡ Some x → NoMore more x) opens (Some (place, o)) (λ h. let it : ◌≡◌ {A = ℕ × Opens} (place, o) x = cc in subst (NoMore more) it few) (λ j _ h. b.few j x h) k;
     }
 
@@ -74,10 +74,10 @@ fifos-pushed es {drawn} {more} opens place o le none few a =
 pub more_opens : (es : List (ℕ × Key)) (ds : DescriptionRows) (pipes : PipeRows) {ps ps' : ProcessRows} {ds' : DescriptionRows} {pipes' : PipeRows} {pid slots owner : ℕ} {free : ℕ × ℕ} {nonblocking : Bool}
     → Makes ps ds pipes pid free nonblocking slots owner ps' ds' pipes' → AreFifos es (length ds) (opens_of pipes) → AreFifos es (length ds') (opens_of pipes')
 more_opens es ds pipes {ds' = ds'} {slots = slots} {owner = owner} {nonblocking = nonblocking} m a =
-    let one = length_push ds (Some (m.j.place, once (reading m.r nonblocking))) in
-    let two = length_push (ds ++ Some (m.j.place, once (reading m.r nonblocking)) ∷ []) (Some (m.k.place, once (writing m.r nonblocking))) in
-    subst (AreFifos es (length ds')) (sym (ap opens_of m.piped_to ∙ map_push (option_map opens_at) pipes (Some (m.r.place, two_ended slots owner))))
-    (fifos-pushed es (opens_of pipes) m.r.place (unopened None) (omega (arith, one, two, ap length m.named_to)) refl (omega arith, omega arith) a)
+    let one = length_push ds (Some (m.j.slot, once (reading m.r nonblocking))) in
+    let two = length_push (ds ++ Some (m.j.slot, once (reading m.r nonblocking)) ∷ []) (Some (m.k.slot, once (writing m.r nonblocking))) in
+    subst (AreFifos es (length ds')) (sym (ap opens_of m.piped_to ∙ map_push (option_map opens_at) pipes (Some (m.r.slot, two_ended slots owner))))
+    (fifos-pushed es (opens_of pipes) m.r.slot (unopened None) (omega (arith, one, two, ap length m.named_to)) refl (omega arith, omega arith) a)
 
 -- A pipe goes, which is of a FIFO or of none
 module _ (es fs : List (ℕ × Key)) (drawn : ℕ) (opens : List (Option (ℕ × Opens))) (n place : ℕ) (o : Opens) (stands : at opens n ≡ Some (place, o)) (a : AreFifos es drawn opens) where
@@ -91,18 +91,18 @@ module _ (es fs : List (ℕ × Key)) (drawn : ℕ) (opens : List (Option (ℕ ×
   pub fifos-stay : o.file ≡ None → AreFifos es drawn (clear_at opens n)
   fifos-stay none = record {
     finds = λ file k h. let w = a.finds file k h in (w.0, at-put_other opens n k.serial None (other file k w.0 w.1 w.2) ∙ w.1, w.2);
-    there = λ k x file. by_set (λ j y. y ≡ Some x → x.1.file ≡ Some file → lookup (nat_eq file) es ≡ Some (record { place = x.0; serial = j })) opens n None within (λ h g. absurd (cc)) (λ j _ h g. a.there j x file h g) k;
+    there = λ k x file. by_set (λ j y. y ≡ Some x → x.1.file ≡ Some file → lookup (nat_eq file) es ≡ Some (record { slot = x.0; serial = j })) opens n None within (λ h g. absurd (cc)) (λ j _ h g. a.there j x file h g) k;
     few = few_left;
   }
     where
-      other : (file : ℕ) (k : Key) (x : Opens) → at opens k.serial ≡ Some (k.place, x) → x.file ≡ Some file → k.serial ≢ n
+      other : (file : ℕ) (k : Key) (x : Opens) → at opens k.serial ≡ Some (k.slot, x) → x.file ≡ Some file → k.serial ≢ n
       other file k x h g e = let gap = sym (same_file (sym stands ∙ sym (ap (at opens) e) ∙ h) ∙ g) ∙ none in absurd (cc)
 
   -- one of a FIFO, whose key goes too
   pub fifos-go : (file : ℕ) → o.file ≡ Some file → ((q : ℕ) → lookup (nat_eq q) fs ≡ (if nat_eq file q then None else lookup (nat_eq q) es)) → AreFifos fs drawn (clear_at opens n)
   fifos-go file is updates = record {
     finds = λ other k h. by_file other k h;
-    there = λ k x f. by_set (λ j y. y ≡ Some x → x.1.file ≡ Some f → lookup (nat_eq f) fs ≡ Some (record { place = x.0; serial = j })) opens n None within (λ h g. absurd (cc)) (λ j ne h g. still j ne x f h g) k;
+    there = λ k x f. by_set (λ j y. y ≡ Some x → x.1.file ≡ Some f → lookup (nat_eq f) fs ≡ Some (record { slot = x.0; serial = j })) opens n None within (λ h g. absurd (cc)) (λ j ne h g. still j ne x f h g) k;
     few = few_left;
   }
     where
@@ -112,7 +112,7 @@ module _ (es fs : List (ℕ × Key)) (drawn : ℕ) (opens : List (Option (ℕ ×
       gone : lookup (nat_eq file) fs ≡ None
       gone = updates file ∙ ap (λ b. if b then None else lookup (nat_eq file) es) (eq-eqb file file refl)
 
-      by_file : (f : ℕ) (k : Key) → lookup (nat_eq f) fs ≡ Some k → (x : Opens) × (at (clear_at opens n) k.serial ≡ Some (k.place, x)) × (x.file ≡ Some f)
+      by_file : (f : ℕ) (k : Key) → lookup (nat_eq f) fs ≡ Some k → (x : Opens) × (at (clear_at opens n) k.serial ≡ Some (k.slot, x)) × (x.file ≡ Some f)
       by_file f k h =
           elim (cases_eq f file) [
             | inl same ↦ let none = ap (λ q. lookup (nat_eq q) fs) same ∙ gone in absurd (cc)
@@ -121,7 +121,7 @@ module _ (es fs : List (ℕ × Key)) (drawn : ℕ) (opens : List (Option (ℕ ×
                 (w.0, at-put_other opens n k.serial None (λ e. let both : ◌≡◌ {A = Option ℕ} (Some f) (Some file) = sym w.2 ∙ same_file (sym w.1 ∙ ap (at opens) e ∙ stands) ∙ is in let same : f ≡ file = cc in ne same) ∙ w.1, w.2)
           ]
 
-      still : (j : ℕ) → j ≢ n → (x : ℕ × Opens) (f : ℕ) → at opens j ≡ Some x → x.1.file ≡ Some f → lookup (nat_eq f) fs ≡ Some (record { place = x.0; serial = j })
+      still : (j : ℕ) → j ≢ n → (x : ℕ × Opens) (f : ℕ) → at opens j ≡ Some x → x.1.file ≡ Some f → lookup (nat_eq f) fs ≡ Some (record { slot = x.0; serial = j })
       still j ne x f h g = apart f (λ e. ne (same_serial (sym (a.there j x f h g) ∙ ap (λ q. lookup (nat_eq q) es) e ∙ a.there n (place, o) file stands is))) ∙ a.there j x f h g
 
 pub fifos-gone : (es fs : List (ℕ × Key)) {drawn more : ℕ} {opens after : List (Option (ℕ × Opens))} (p : Pipe) → more ≡ drawn → LetsGoOpens opens after (Some p) → Forgets p.opens.file es fs → AreFifos es drawn opens → AreFifos fs more after

@@ -69,24 +69,24 @@ module _ (es : List (ℕ × Key)) {drawn : ℕ} (pipes : PipeRows) (a : AreFifos
       (λ n o g. not_of_file file o.1.file (λ e. let key = sym h ∙ a.there n o file g e in absurd (cc)))
   by_key (Some k) h =
       let w = a.finds file k h in
-      first_is test (opens_of pipes) k.serial (k.place, w.0) w.1 (ap (is_of_file file) w.2 ∙ eq-eqb file file refl)
-      (λ n o g t. let both : ◌≡◌ {A = Option Key} (Some (record { place = o.0; serial = n })) (Some k) = sym (a.there n o file g (of_file file o.1.file t)) ∙ h in
-      let same : record { place = o.0; serial = n } ≡ k = cc in ap (λ (x : Key). x.serial) same)
+      first_is test (opens_of pipes) k.serial (k.slot, w.0) w.1 (ap (is_of_file file) w.2 ∙ eq-eqb file file refl)
+      (λ n o g t. let both : ◌≡◌ {A = Option Key} (Some (record { slot = o.0; serial = n })) (Some k) = sym (a.there n o file g (of_file file o.1.file t)) ∙ h in
+      let same : record { slot = o.0; serial = n } ≡ k = cc in ap (λ (x : Key). x.serial) same)
 
   -- it finds the pipe
-  pub key_finds : (k : Key) → lookup (nat_eq file) es ≡ Some k → (p : Pipe) × (at pipes k.serial ≡ Some (k.place, p)) × (p.opens.file ≡ Some file)
+  pub key_finds : (k : Key) → lookup (nat_eq file) es ≡ Some k → (p : Pipe) × (at pipes k.serial ≡ Some (k.slot, p)) × (p.opens.file ≡ Some file)
   key_finds k h =
       let w = a.finds file k h in
       by_row (at pipes k.serial) refl (sym (at-map opens_at pipes k.serial) ∙ w.1) w.2
     where
-      by_row : (o : Option (ℕ × Pipe)) → at pipes k.serial ≡ o → {x : Opens} → option_map opens_at o ≡ Some (k.place, x) → x.file ≡ Some file → (p : Pipe) × (at pipes k.serial ≡ Some (k.place, p)) × (p.opens.file ≡ Some file)
+      by_row : (o : Option (ℕ × Pipe)) → at pipes k.serial ≡ o → {x : Opens} → option_map opens_at o ≡ Some (k.slot, x) → x.file ≡ Some file → (p : Pipe) × (at pipes k.serial ≡ Some (k.slot, p)) × (p.opens.file ≡ Some file)
       by_row None h g e = absurd (cc)
       by_row (Some r) h {x} g e =
-          let it : ◌≡◌ {A = ℕ × Opens} (r.0, r.1.opens) (k.place, x) = cc in
+          let it : ◌≡◌ {A = ℕ × Opens} (r.0, r.1.opens) (k.slot, x) = cc in
           (r.1, h ∙ ap (λ (y : ℕ × Opens). Some (y.0, r.1)) it, ap (λ (y : ℕ × Opens). y.1.file) it ∙ e)
 
-  pub key_stands : (k : Key) → lookup (nat_eq file) es ≡ Some k → IsSome (find pipes k.place k.serial)
-  key_stands k h = let w = key_finds k h in ap is_some (find_at pipes k.place k.serial w.0 w.1)
+  pub key_stands : (k : Key) → lookup (nat_eq file) es ≡ Some k → IsSome (find pipes k.slot k.serial)
+  key_stands k h = let w = key_finds k h in ap is_some (find_at pipes k.slot k.serial w.0 w.1)
 
   -- the machine finds it too
   pub fifo_is : (f : Live) (ps : ProcessRows) (ds : DescriptionRows) (files : Files) (files_made : ℕ) (found : Option Key) → lookup (nat_eq file) es ≡ found
@@ -112,14 +112,14 @@ module _ (f : Live) {limits : Limits} {charges : UserPages} {es : List (ℕ × K
   pub no_readers : lookup (nat_eq file) es ≡ None → fifo_readers (meaning f n.state) (fifo_pipe (meaning f n.state) file) ≡ 0
   no_readers h = ap (fifo_readers (meaning f n.state)) (fifo_shown None h)
 
-  pub readers_are : (k : Key) (p : Pipe) → lookup (nat_eq file) es ≡ Some k → find pipes k.place k.serial ≡ Some p → fifo_readers (meaning f n.state) (fifo_pipe (meaning f n.state) file) ≡ p.readers
+  pub readers_are : (k : Key) (p : Pipe) → lookup (nat_eq file) es ≡ Some k → find pipes k.slot k.serial ≡ Some p → fifo_readers (meaning f n.state) (fifo_pipe (meaning f n.state) file) ≡ p.readers
   readers_are k p h g =
       let x = key_finds es pipes w.filed file k h in
-      let same : ◌≡◌ {A = Option Pipe} (Some x.0) (Some p) = sym (find_at pipes k.place k.serial x.0 x.1) ∙ g in
+      let same : ◌≡◌ {A = Option Pipe} (Some x.0) (Some p) = sym (find_at pipes k.slot k.serial x.0 x.1) ∙ g in
       let it : x.0 ≡ p = cc in
       ap (fifo_readers (meaning f n.state)) (fifo_shown (Some k) h)
-      ∙ subst (λ (m : Namespace). fifo_readers (meaning f m.state) (Some k.serial) ≡ x.0.readers) view (counted f None ps ds pipes files files_made w.kept.tied 0 0 k.serial k.place x.0 x.1).0
+      ∙ subst (λ (m : Namespace). fifo_readers (meaning f m.state) (Some k.serial) ≡ x.0.readers) view (counted f None ps ds pipes files files_made w.kept.tied 0 0 k.serial k.slot x.0 x.1).0
       ∙ ap (λ (q : Pipe). q.readers) it
 
-  pub not_lost : (k : Key) → lookup (nat_eq file) es ≡ Some k → find pipes k.place k.serial ≢ None
+  pub not_lost : (k : Key) → lookup (nat_eq file) es ≡ Some k → find pipes k.slot k.serial ≢ None
   not_lost k h e = let there = key_stands es pipes w.filed file k h in let none = ap is_some e in absurd (cc)

@@ -29,28 +29,28 @@ flag on d = record d { nonblocking = on }
 
 module _ (f : Live) {charges : UserPages} {limits : Limits} {ps : ProcessRows} {ds : DescriptionRows} {pipes : PipeRows} {files : Files} {files_made : ℕ} (kept : Kept charges ps ds pipes)
     {n : Namespace} (view : record { limits = limits; state = state_of ps ds pipes files files_made } ≡ n) {pid fd : ℕ} {k : Key} (w : Has ps pid fd k)
-    (d : Description) (handed : option_map (λ (e : Named Description). e.value) (find ds k.place k.serial) ≡ Some d) (on : Bool) where
-  row : (e : Named Description) × (at ds k.serial ≡ Some (k.place, e))
+    (d : Description) (handed : option_map (λ (e : Named Description). e.value) (find ds k.slot k.serial) ≡ Some d) (on : Bool) where
+  row : (e : Named Description) × (at ds k.serial ≡ Some (k.slot, e))
   row = key_row f kept.tied view pid fd w
 
   same : row.0.value ≡ d
-  same = let one : ◌≡◌ {A = Option Description} (Some row.0.value) (Some d) = sym (ap (option_map (λ (e : Named Description). e.value)) (find_at ds k.place k.serial row.0 row.1)) ∙ handed in cc
+  same = let one : ◌≡◌ {A = Option Description} (Some row.0.value) (Some d) = sym (ap (option_map (λ (e : Named Description). e.value)) (find_at ds k.slot k.serial row.0 row.1)) ∙ handed in cc
 
   abbrev after : DescriptionRows
   after = change_at (revalued (flag on d)) ds k.serial
 
   abbrev row' : ℕ × Named Description
-  row' = (k.place, record row.0 { value = flag on row.0.value })
+  row' = (k.slot, record row.0 { value = flag on row.0.value })
 
   after_is : after ≡ put_at ds k.serial row'
-  after_is = ap (λ (o : Option (ℕ × Named Description)). set ds k.serial (option_map (revalued (flag on d)) o)) row.1 ∙ ap (λ (x : Description). put_at ds k.serial (k.place, record row.0 { value = flag on x })) (sym same)
+  after_is = ap (λ (o : Option (ℕ × Named Description)). set ds k.serial (option_map (revalued (flag on d)) o)) row.1 ∙ ap (λ (x : Description). put_at ds k.serial (k.slot, record row.0 { value = flag on x })) (sym same)
 
   pub flagged-kept : Kept charges ps after pipes
   flagged-kept = record {
     tied = subst (λ x. TiedWith [] [] ps x pipes) (sym after_is)
-        (redescribed [] [] ps ds pipes kept.tied k.serial (k.place, row.0) row.1 (Some row') [] []
+        (redescribed [] [] ps ds pipes kept.tied k.serial (k.slot, row.0) row.1 (Some row') [] []
         (λ e h. let it : ◌≡◌ {A = ℕ × Named Description} row' e = cc in
-        (ap (λ (x : ℕ × Named Description). x.0) (sym it), subst (λ (x : ℕ × Named Description). IsEnd pipes x.1.value) it (kept.tied.is_end k.serial (k.place, row.0) row.1)))
+        (ap (λ (x : ℕ × Named Description). x.0) (sym it), subst (λ (x : ℕ × Named Description). IsEnd pipes x.1.value) it (kept.tied.is_end k.serial (k.slot, row.0) row.1)))
         tt (λ m ne. refl) (names_row [] [] ps ds pipes k row.0 row.1 kept.tied) tt (λ m. refl) (λ m. refl));
     charged = kept.charged;
   }
@@ -58,7 +58,7 @@ module _ (f : Live) {charges : UserPages} {limits : Limits} {ps : ProcessRows} {
   pub flagged-shown : descriptions_of after ≡ change_at (with_nonblocking on) (descriptions_of ds) k.serial
   flagged-shown =
       ap descriptions_of after_is ∙ map-set (option_map description_of) ds k.serial (Some row')
-      ∙ ap (λ o. set (descriptions_of ds) k.serial (option_map (with_nonblocking on) o)) (sym (shown description_of ds k.serial (k.place, row.0) row.1))
+      ∙ ap (λ o. set (descriptions_of ds) k.serial (option_map (with_nonblocking on) o)) (sym (shown description_of ds k.serial (k.slot, row.0) row.1))
 
   pub flagged-becomes : Owns f n → Becomes f f n (record { limits = limits; state = state_of ps after pipes files files_made }) (with_flag (meaning f n.state) k.serial on)
   flagged-becomes owns =

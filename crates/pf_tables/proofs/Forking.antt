@@ -78,23 +78,23 @@ module _ (ks : List (Option Key)) (ds : DescriptionRows) (all : AllFind ks ds) (
       by_key None g so_far = λ m e h. omega (arith, so_far m e h)
       by_key (Some k) g so_far =
           let r = finds (with_first_names n ks ds) k (still_finds n ks ds k (all n k g)) in
-          λ m e h. by_set (λ _ x. x ≡ Some e → e.1.names ≤ 65792 + suc n) (with_first_names n ks ds) k.serial (Some (k.place, record r.0 { names = r.0.names + 1 })) (at_within (with_first_names n ks ds) k.serial (k.place, r.0) r.1)
-          (λ i. let it : ◌≡◌ {A = Row} (k.place, record r.0 { names = r.0.names + 1 }) e = cc in
-          omega (arith, ap (λ (x : Row). x.1.names) it, so_far k.serial (k.place, r.0) r.1))
+          λ m e h. by_set (λ _ x. x ≡ Some e → e.1.names ≤ 65792 + suc n) (with_first_names n ks ds) k.serial (Some (k.slot, record r.0 { names = r.0.names + 1 })) (at_within (with_first_names n ks ds) k.serial (k.slot, r.0) r.1)
+          (λ i. let it : ◌≡◌ {A = Row} (k.slot, record r.0 { names = r.0.names + 1 }) e = cc in
+          omega (arith, ap (λ (x : Row). x.1.names) it, so_far k.serial (k.slot, r.0) r.1))
           (λ j _ i. omega (arith, so_far j e i)) m (sym (ap (λ xs. at xs m) (named_row (with_first_names n ks ds) k r.0 r.1)) ∙ h)
 
   module _ (n : ℕ) (k : Key) (is : at ks n ≡ Some k) where
-    row : (e : Named Description) × (at (with_first_names n ks ds) k.serial ≡ Some (k.place, e))
+    row : (e : Named Description) × (at (with_first_names n ks ds) k.serial ≡ Some (k.slot, e))
     row = finds (with_first_names n ks ds) k (still_finds n ks ds k (all n k is))
 
-    found : find (with_first_names n ks ds) k.place k.serial ≡ Some row.0
-    found = find_at (with_first_names n ks ds) k.place k.serial row.0 row.1
+    found : find (with_first_names n ks ds) k.slot k.serial ≡ Some row.0
+    found = find_at (with_first_names n ks ds) k.slot k.serial row.0 row.1
 
-    pub stands : IsSome (find (with_first_names n ks ds) k.place k.serial)
+    pub stands : IsSome (find (with_first_names n ks ds) k.slot k.serial)
     stands = ap is_some found
 
-    pub below : n < 256 → names_of (find (with_first_names n ks ds) k.place k.serial) < 2 ^ 32 - 1
-    below l = omega (arith, ap names_of found, few_first n k.serial (k.place, row.0) row.1, l)
+    pub below : n < 256 → names_of (find (with_first_names n ks ds) k.slot k.serial) < 2 ^ 32 - 1
+    below l = omega (arith, ap names_of found, few_first n k.serial (k.slot, row.0) row.1, l)
 
 -- The keys that the child is to have are in the hand, the last one on top
 

@@ -65,13 +65,13 @@ whole-alike {charges} {es = es} {fs = fs} {ps = ps} {ds = ds} {ds' = ds'} {pipes
 
 -- a FIFO that had none gets one with its pipe
 pub fifos-founded : (es fs : List (ℕ × Key)) {drawn : ℕ} (opens : List (Option (ℕ × Opens))) (k : Key) (file : ℕ) → k.serial ≡ length opens → lookup (nat_eq file) es ≡ None
-    → ((n : ℕ) → lookup (nat_eq n) fs ≡ (if nat_eq file n then Some k else lookup (nat_eq n) es)) → AreFifos es drawn opens → AreFifos fs drawn (opens ++ Some (k.place, unopened (Some file)) ∷ [])
+    → ((n : ℕ) → lookup (nat_eq n) fs ≡ (if nat_eq file n then Some k else lookup (nat_eq n) es)) → AreFifos es drawn opens → AreFifos fs drawn (opens ++ Some (k.slot, unopened (Some file)) ∷ [])
 fifos-founded es fs {drawn} opens k file k_is none keys a = record {
   finds = λ f j h. by_file f j h (cases_eq f file);
-  there = λ n o f. by_push (λ j y. y ≡ Some o → o.1.file ≡ Some f → lookup (nat_eq f) fs ≡ Some (record { place = o.0; serial = j })) opens (Some (k.place, unopened (Some file)))
+  there = λ n o f. by_push (λ j y. y ≡ Some o → o.1.file ≡ Some f → lookup (nat_eq f) fs ≡ Some (record { slot = o.0; serial = j })) opens (Some (k.slot, unopened (Some file)))
       (λ h g. new o f h g) (λ j _ h g. old j o f h g (cases_eq f file)) n;
-  few = λ n o. by_push (λ _ y. y ≡ Some o → NoMore drawn o) opens (Some (k.place, unopened (Some file)))
-      (λ h. let it : ◌≡◌ {A = ℕ × Opens} (k.place, unopened (Some file)) o = cc in subst (NoMore drawn) it (omega arith, omega arith)) (λ j _ h. a.few j o h) n;
+  few = λ n o. by_push (λ _ y. y ≡ Some o → NoMore drawn o) opens (Some (k.slot, unopened (Some file)))
+      (λ h. let it : ◌≡◌ {A = ℕ × Opens} (k.slot, unopened (Some file)) o = cc in subst (NoMore drawn) it (omega arith, omega arith)) (λ j _ h. a.few j o h) n;
 }
   where
     mine : lookup (nat_eq file) fs ≡ Some k
@@ -80,23 +80,23 @@ fifos-founded es fs {drawn} opens k file k_is none keys a = record {
     others : (f : ℕ) → f ≢ file → lookup (nat_eq f) fs ≡ lookup (nat_eq f) es
     others f ne = keys f ∙ ap (λ b. if b then Some k else lookup (nat_eq f) es) (ne_eqb file f (λ e. ne (sym e)))
 
-    by_file : (f : ℕ) (j : Key) → lookup (nat_eq f) fs ≡ Some j → (f ≡ file) ⊎ (f ≢ file) → (o : Opens) × (at (opens ++ Some (k.place, unopened (Some file)) ∷ []) j.serial ≡ Some (j.place, o)) × (o.file ≡ Some f)
+    by_file : (f : ℕ) (j : Key) → lookup (nat_eq f) fs ≡ Some j → (f ≡ file) ⊎ (f ≢ file) → (o : Opens) × (at (opens ++ Some (k.slot, unopened (Some file)) ∷ []) j.serial ≡ Some (j.slot, o)) × (o.file ≡ Some f)
     by_file f j h (inl same) =
         let both : ◌≡◌ {A = Option Key} (Some k) (Some j) = sym mine ∙ ap (λ q. lookup (nat_eq q) fs) (sym same) ∙ h in
         let it : k ≡ j = cc in
-        (unopened (Some file), ap (at (opens ++ Some (k.place, unopened (Some file)) ∷ [])) (ap (λ (x : Key). x.serial) (sym it) ∙ k_is) ∙ at-push_new opens (Some (k.place, unopened (Some file))) ∙ ap (λ (x : Key). Some (x.place, unopened (Some file))) it, ap Some (sym same))
+        (unopened (Some file), ap (at (opens ++ Some (k.slot, unopened (Some file)) ∷ [])) (ap (λ (x : Key). x.serial) (sym it) ∙ k_is) ∙ at-push_new opens (Some (k.slot, unopened (Some file))) ∙ ap (λ (x : Key). Some (x.slot, unopened (Some file))) it, ap Some (sym same))
     by_file f j h (inr ne) =
         let w = a.finds f j (sym (others f ne) ∙ h) in
-        (w.0, at-push_old opens (Some (k.place, unopened (Some file))) j.serial (at_within opens j.serial (j.place, w.0) w.1) ∙ w.1, w.2)
+        (w.0, at-push_old opens (Some (k.slot, unopened (Some file))) j.serial (at_within opens j.serial (j.slot, w.0) w.1) ∙ w.1, w.2)
 
-    new : (o : ℕ × Opens) (f : ℕ) → ◌≡◌ {A = Option (ℕ × Opens)} (Some (k.place, unopened (Some file))) (Some o) → o.1.file ≡ Some f → lookup (nat_eq f) fs ≡ Some (record { place = o.0; serial = length opens })
+    new : (o : ℕ × Opens) (f : ℕ) → ◌≡◌ {A = Option (ℕ × Opens)} (Some (k.slot, unopened (Some file))) (Some o) → o.1.file ≡ Some f → lookup (nat_eq f) fs ≡ Some (record { slot = o.0; serial = length opens })
     new o f h g =
-        let it : ◌≡◌ {A = ℕ × Opens} (k.place, unopened (Some file)) o = cc in
+        let it : ◌≡◌ {A = ℕ × Opens} (k.slot, unopened (Some file)) o = cc in
         let named : ◌≡◌ {A = Option ℕ} (Some file) (Some f) = ap (λ (x : ℕ × Opens). x.1.file) it ∙ g in
         let same : file ≡ f = cc in
-        ap (λ q. lookup (nat_eq q) fs) (sym same) ∙ mine ∙ (λ i. Some (record { place = (it i).0; serial = k_is i }))
+        ap (λ q. lookup (nat_eq q) fs) (sym same) ∙ mine ∙ (λ i. Some (record { slot = (it i).0; serial = k_is i }))
 
-    old : (j : ℕ) (o : ℕ × Opens) (f : ℕ) → at opens j ≡ Some o → o.1.file ≡ Some f → (f ≡ file) ⊎ (f ≢ file) → lookup (nat_eq f) fs ≡ Some (record { place = o.0; serial = j })
+    old : (j : ℕ) (o : ℕ × Opens) (f : ℕ) → at opens j ≡ Some o → o.1.file ≡ Some f → (f ≡ file) ⊎ (f ≢ file) → lookup (nat_eq f) fs ≡ Some (record { slot = o.0; serial = j })
     old j o f h g (inl same) = let gone = sym none ∙ ap (λ q. lookup (nat_eq q) es) (sym same) ∙ a.there j o f h g in absurd (cc)
     old j o f h g (inr ne) = others f ne ∙ a.there j o f h g
 
@@ -176,16 +176,16 @@ module _ {files : Files} {files_made : ℕ} (f : Live) (limits : Limits) (charge
 
     module _ (k : Key) (k_is : k.serial ≡ length pipes) where
       abbrev with_fresh : PipeRows
-      with_fresh = pipes ++ Some (k.place, fresh) ∷ []
+      with_fresh = pipes ++ Some (k.slot, fresh) ∷ []
 
       abbrev with_counted : PipeRows
-      with_counted = pipes ++ Some (k.place, counted a fresh) ∷ []
+      with_counted = pipes ++ Some (k.slot, counted a fresh) ∷ []
 
-      stands : at with_fresh k.serial ≡ Some (k.place, fresh)
-      stands = ap (at with_fresh) k_is ∙ at-push_new pipes (Some (k.place, fresh))
+      stands : at with_fresh k.serial ≡ Some (k.slot, fresh)
+      stands = ap (at with_fresh) k_is ∙ at-push_new pipes (Some (k.slot, fresh))
 
-      counted_is : put_at with_fresh k.serial (k.place, counted a fresh) ≡ with_counted
-      counted_is = ap (λ m. put_at with_fresh m (k.place, counted a fresh)) k_is ∙ set-append_seam pipes (Some (k.place, fresh)) [] (Some (k.place, counted a fresh))
+      counted_is : put_at with_fresh k.serial (k.slot, counted a fresh) ≡ with_counted
+      counted_is = ap (λ m. put_at with_fresh m (k.slot, counted a fresh)) k_is ∙ set-append_seam pipes (Some (k.slot, fresh)) [] (Some (k.slot, counted a fresh))
 
       -- nothing is an end of it yet
       nobody : (read_by ds k.serial ≡ 0) × (written_by ds k.serial ≡ 0)
@@ -216,14 +216,14 @@ module _ {files : Files} {files_made : ℕ} (f : Live) (limits : Limits) (charge
 
           now_charged : AreCharged charges' (pipes_of with_counted)
           now_charged =
-              subst (AreCharged charges') (sym (map_push (option_map pipe_of) pipes (Some (k.place, counted a fresh))))
-              (made (λ (x : machine.Pipe Ring). x.owner) (λ (x : machine.Pipe Ring). x.queue.capacity) charges charges' (pipes_of pipes) w.kept.charged (pipe_of (k.place, counted a fresh)) more)
+              subst (AreCharged charges') (sym (map_push (option_map pipe_of) pipes (Some (k.slot, counted a fresh))))
+              (made (λ (x : machine.Pipe Ring). x.owner) (λ (x : machine.Pipe Ring). x.queue.capacity) charges charges' (pipes_of pipes) w.kept.charged (pipe_of (k.slot, counted a fresh)) more)
 
           now_filed : AreFifos es' (length ds') (opens_of with_counted)
           now_filed =
               let base = fifos-founded es es' (opens_of pipes) k file (k_is ∙ sym (length-map pipes (option_map opens_at))) no_key m.keys w.filed in
               subst (λ xs. AreFifos es' (length ds') (opens_of xs)) counted_is
-              (entered-fifos es' a with_fresh k fresh stands (ap length z.described ∙ length_push ds _) (subst (AreFifos es' (length ds)) (sym (map_push (option_map opens_at) pipes (Some (k.place, fresh)))) base))
+              (entered-fifos es' a with_fresh k fresh stands (ap length z.described ∙ length_push ds _) (subst (AreFifos es' (length ds)) (sym (map_push (option_map opens_at) pipes (Some (k.slot, fresh)))) base))
 
           pub founded-whole : Whole charges' es' ps' ds' pipes'
           founded-whole = subst (Whole charges' es' ps' ds') (sym m.stored) (record { kept = record { tied = now_tied; charged = now_charged }; filed = now_filed })
@@ -249,7 +249,7 @@ module _ {files : Files} {files_made : ℕ} (f : Live) (limits : Limits) (charge
 
           joined : Joined f (rings_of now.state)
           joined =
-              subst (Joined f) (sym (ap (map ring_or) (map_push (option_map pipe_of) pipes (Some (k.place, counted a fresh))) ∙ map_push ring_or (pipes_of pipes) (Some (pipe_of (k.place, counted a fresh)))))
+              subst (Joined f) (sym (ap (map ring_or) (map_push (option_map pipe_of) pipes (Some (k.slot, counted a fresh))) ∙ map_push ring_or (pipes_of pipes) (Some (pipe_of (k.slot, counted a fresh)))))
               (joined_pushed f (rings_of old.state) slots owned.joined (omega (arith, slots-rings (pipes_of pipes), total-meaning f old.state, room_here, owned.reserve)))
 
           comes : Becomes f f n now (outcome (before a fresh))
@@ -271,8 +271,8 @@ module _ {files : Files} {files_made : ℕ} (f : Live) (limits : Limits) (charge
 
           found_is : record { state = with_pipe limits s pid slots (process_of z.p) lives given_now file; pipe = length s.pipes } ≡ found
           found_is =
-              let pushed = map_push (option_map (pipe_meaning f)) (pipes_of pipes) (Some (pipe_of (k.place, fresh))) in
-              let rows = map_push (option_map pipe_of) pipes (Some (k.place, fresh)) in
+              let pushed = map_push (option_map (pipe_meaning f)) (pipes_of pipes) (Some (pipe_of (k.slot, fresh))) in
+              let rows = map_push (option_map pipe_of) pipes (Some (k.slot, fresh)) in
               let uid = ap (λ (x : Process). x.cred.uid) (sym same_opener) in
               let number : length s.pipes ≡ k.serial = length-map (pipes_of pipes) (option_map (pipe_meaning f)) ∙ length-map pipes (option_map pipe_of) ∙ sym k_is in
               λ i. record {

@@ -34,25 +34,25 @@ by_push P xs y new old k =
 
 -- Keys that find something
 
-pub finds : {T : Type 0} (rows : List (Option (ℕ × T))) (k : Key) → Finds rows k → (x : T) × (at rows k.serial ≡ Some (k.place, x))
+pub finds : {T : Type 0} (rows : List (Option (ℕ × T))) (k : Key) → Finds rows k → (x : T) × (at rows k.serial ≡ Some (k.slot, x))
 finds {T} rows k f = by_row (at rows k.serial) refl f
   where
-    by_row : (o : Option (ℕ × T)) → at rows k.serial ≡ o → option_map (λ (e : ℕ × T). e.0) o ≡ Some k.place → (x : T) × (at rows k.serial ≡ Some (k.place, x))
+    by_row : (o : Option (ℕ × T)) → at rows k.serial ≡ o → option_map (λ (e : ℕ × T). e.0) o ≡ Some k.slot → (x : T) × (at rows k.serial ≡ Some (k.slot, x))
     by_row None h g = absurd (cc)
-    by_row (Some e) h g = let place : e.0 ≡ k.place = cc in (e.1, h ∙ ap (λ m. Some (m, e.1)) place)
+    by_row (Some e) h g = let place : e.0 ≡ k.slot = cc in (e.1, h ∙ ap (λ m. Some (m, e.1)) place)
 
-pub found : {T : Type 0} (rows : List (Option (ℕ × T))) (k : Key) (x : T) → at rows k.serial ≡ Some (k.place, x) → Finds rows k
+pub found : {T : Type 0} (rows : List (Option (ℕ × T))) (k : Key) (x : T) → at rows k.serial ≡ Some (k.slot, x) → Finds rows k
 found {T} rows k x h = ap (option_map (λ (e : ℕ × T). e.0)) h
 
-finds-set : {T : Type 0} (rows : List (Option (ℕ × T))) (n : ℕ) (y : Option (ℕ × T)) → n < length rows → (k : Key) → (k.serial ≡ n → option_map (λ (e : ℕ × T). e.0) y ≡ Some k.place) → Finds rows k → Finds (set rows n y) k
+finds-set : {T : Type 0} (rows : List (Option (ℕ × T))) (n : ℕ) (y : Option (ℕ × T)) → n < length rows → (k : Key) → (k.serial ≡ n → option_map (λ (e : ℕ × T). e.0) y ≡ Some k.slot) → Finds rows k → Finds (set rows n y) k
 finds-set {T} rows n y l k new f =
-    by_set (λ m o. k.serial ≡ m → option_map (λ (e : ℕ × T). e.0) o ≡ Some k.place) rows n y l new (λ m other e. subst (λ s. option_map (λ (e : ℕ × T). e.0) (at rows s) ≡ Some k.place) e f) k.serial refl
+    by_set (λ m o. k.serial ≡ m → option_map (λ (e : ℕ × T). e.0) o ≡ Some k.slot) rows n y l new (λ m other e. subst (λ s. option_map (λ (e : ℕ × T). e.0) (at rows s) ≡ Some k.slot) e f) k.serial refl
 
 finds-push : {T : Type 0} (rows : List (Option (ℕ × T))) (y : Option (ℕ × T)) (k : Key) → Finds rows k → Finds (rows ++ y ∷ []) k
-finds-push {T} rows y k f = let x = finds rows k f in ap (option_map (λ (e : ℕ × T). e.0)) (at-push_old rows y k.serial (at_within rows k.serial (k.place, x.0) x.1)) ∙ f
+finds-push {T} rows y k f = let x = finds rows k f in ap (option_map (λ (e : ℕ × T). e.0)) (at-push_old rows y k.serial (at_within rows k.serial (k.slot, x.0) x.1)) ∙ f
 
-pub finds-new : {T : Type 0} (rows : List (Option (ℕ × T))) (x : T) (k : Key) → k.serial ≡ length rows → Finds (rows ++ Some (k.place, x) ∷ []) k
-finds-new rows x k e = found (rows ++ Some (k.place, x) ∷ []) k x (ap (at (rows ++ Some (k.place, x) ∷ [])) e ∙ at-push_new rows (Some (k.place, x)))
+pub finds-new : {T : Type 0} (rows : List (Option (ℕ × T))) (x : T) (k : Key) → k.serial ≡ length rows → Finds (rows ++ Some (k.slot, x) ∷ []) k
+finds-new rows x k e = found (rows ++ Some (k.slot, x) ∷ []) k x (ap (at (rows ++ Some (k.slot, x) ∷ [])) e ∙ at-push_new rows (Some (k.slot, x)))
 
 -- What is counted
 
@@ -154,7 +154,7 @@ module _ (K : List Key) (E : List Description) (ps : ProcessRows) (ds : Descript
     still_finds : (k : Key) → (k.serial ≡ s → 0 < named ps s + held (names_it s) K') → Finds ds k → Finds (set ds s y) k
     still_finds k some f = finds-set ds s y row_within k (λ e. by_row y refl is (some e) e) f
       where
-        by_row : (o : Option (ℕ × Named Description)) → y ≡ o → NamedRow (named ps s + held (names_it s) K') o → 0 < named ps s + held (names_it s) K' → k.serial ≡ s → option_map (λ (e : ℕ × Named Description). e.0) o ≡ Some k.place
+        by_row : (o : Option (ℕ × Named Description)) → y ≡ o → NamedRow (named ps s + held (names_it s) K') o → 0 < named ps s + held (names_it s) K' → k.serial ≡ s → option_map (λ (e : ℕ × Named Description). e.0) o ≡ Some k.slot
         by_row None h none l e = absurd (omega (arith, none, l))
         by_row (Some x) h c l e = ap Some ((same_place x h).0) ∙ (sym (ap (option_map (λ (e : ℕ × Named Description). e.0)) (ap (at ds) e ∙ stands)) ∙ f)
 
@@ -184,7 +184,7 @@ module _ (K : List Key) (E : List Description) (ps : ProcessRows) (ds : Descript
     still_end : (d : Description) → (reads_it d.pipe.serial d ≤ read_by ds d.pipe.serial + held (reads_it d.pipe.serial) E') → (writes_it d.pipe.serial d ≤ written_by ds d.pipe.serial + held (writes_it d.pipe.serial) E') → IsEnd pipes d → IsEnd (set pipes s y) d
     still_end d r w f = (finds-set pipes s y pipe_within d.pipe (λ e. by_row y refl is e) f.0, f.1)
       where
-        by_row : (o : Option (ℕ × Pipe)) → y ≡ o → UsedRow (read_by ds s + held (reads_it s) E') (written_by ds s + held (writes_it s) E') o → d.pipe.serial ≡ s → option_map (λ (e : ℕ × Pipe). e.0) o ≡ Some d.pipe.place
+        by_row : (o : Option (ℕ × Pipe)) → y ≡ o → UsedRow (read_by ds s + held (reads_it s) E') (written_by ds s + held (writes_it s) E') o → d.pipe.serial ≡ s → option_map (λ (e : ℕ × Pipe). e.0) o ≡ Some d.pipe.slot
         by_row None h none e =
             let none' : ((read_by ds d.pipe.serial + held (reads_it d.pipe.serial) E') ≡ 0) × ((written_by ds d.pipe.serial + held (writes_it d.pipe.serial) E') ≡ 0) = subst (λ m. ((read_by ds m + held (reads_it m) E') ≡ 0) × ((written_by ds m + held (writes_it m) E') ≡ 0)) (sym e) none in
             absurd (omega (arith, none'.0, none'.1, r, w, (sides d).0, (sides d).1, f.1))
@@ -207,27 +207,27 @@ module _ (K : List Key) (E : List Description) (ps : ProcessRows) (ds : Descript
     }
 
   -- 4. A description that was in the hand is made, and its one name is in the hand
-  pub described : (k : Key) (d : Description) → k.serial ≡ length ds → TiedWith K (d ∷ E) ps ds pipes → TiedWith (k ∷ K) E ps (ds ++ Some (k.place, once d) ∷ []) pipes
+  pub described : (k : Key) (d : Description) → k.serial ≡ length ds → TiedWith K (d ∷ E) ps ds pipes → TiedWith (k ∷ K) E ps (ds ++ Some (k.slot, once d) ∷ []) pipes
   described k d k_is t =
       let none : named ps (length ds) + held (names_it (length ds)) K ≡ 0 = subst (NamedRow (named ps (length ds) + held (names_it (length ds)) K)) (at_past ds (length ds) (omega arith)) (t.names (length ds)) in record {
         places = t.places;
         wide = t.wide;
-        finds = λ i fd p j h g. finds-push ds (Some (k.place, once d)) j (t.finds i fd p j h g);
-        in_hand = (finds-new ds (once d) k k_is, each-map names_it names_it (Finds ds) (Finds (ds ++ Some (k.place, once d) ∷ [])) K (λ j _ _. finds-push ds (Some (k.place, once d)) j) t.in_hand);
-        names = by_push (λ n x. NamedRow (named ps n + held (names_it n) (k ∷ K)) x) ds (Some (k.place, once d))
+        finds = λ i fd p j h g. finds-push ds (Some (k.slot, once d)) j (t.finds i fd p j h g);
+        in_hand = (finds-new ds (once d) k k_is, each-map names_it names_it (Finds ds) (Finds (ds ++ Some (k.slot, once d) ∷ [])) K (λ j _ _. finds-push ds (Some (k.slot, once d)) j) t.in_hand);
+        names = by_push (λ n x. NamedRow (named ps n + held (names_it n) (k ∷ K)) x) ds (Some (k.slot, once d))
             (let mine = names_one k in let at_it = ap (λ n. names_it n k) k_is in (omega (arith, none, mine, at_it), omega (arith, none, mine, at_it)))
             (λ n ne. subst (λ c. NamedRow (named ps n + c) (at ds n)) (let zero = names_none n k (λ e. ne (sym e ∙ k_is)) in omega (arith, zero)) (t.names n));
-        is_end = λ n e. by_push (λ _ x. x ≡ Some e → IsEnd pipes e.1.value) ds (Some (k.place, once d)) (λ h. let it : ◌≡◌ {A = ℕ × Named Description} (k.place, once d) e = cc in subst (λ (x : ℕ × Named Description). IsEnd pipes x.1.value) it t.ends_in_hand.0) (λ m _. t.is_end m e) n;
+        is_end = λ n e. by_push (λ _ x. x ≡ Some e → IsEnd pipes e.1.value) ds (Some (k.slot, once d)) (λ h. let it : ◌≡◌ {A = ℕ × Named Description} (k.slot, once d) e = cc in subst (λ (x : ℕ × Named Description). IsEnd pipes x.1.value) it t.ends_in_hand.0) (λ m _. t.is_end m e) n;
         ends_in_hand = t.ends_in_hand.1;
         uses = λ n. used_as (at pipes n) _ _ _ _ (t.uses n)
-            (omega (arith, sum_of-push (λ (e : ℕ × Named Description). reads_it n e.1.value) ds (Some (k.place, once d))))
-            (omega (arith, sum_of-push (λ (e : ℕ × Named Description). writes_it n e.1.value) ds (Some (k.place, once d))));
+            (omega (arith, sum_of-push (λ (e : ℕ × Named Description). reads_it n e.1.value) ds (Some (k.slot, once d))))
+            (omega (arith, sum_of-push (λ (e : ℕ × Named Description). writes_it n e.1.value) ds (Some (k.slot, once d))));
       }
 
   -- 5. A pipe is made, and its ends are in the hand
-  pub piped : (r : Key) (p : Pipe) (E' : List Description) → r.serial ≡ length pipes → Each (IsEnd (pipes ++ Some (r.place, p) ∷ [])) E'
+  pub piped : (r : Key) (p : Pipe) (E' : List Description) → r.serial ≡ length pipes → Each (IsEnd (pipes ++ Some (r.slot, p) ∷ [])) E'
       → ((n : ℕ) → n ≢ r.serial → (held (reads_it n) E ≡ held (reads_it n) E') × (held (writes_it n) E ≡ held (writes_it n) E'))
-      → p.readers ≡ held (reads_it r.serial) E' → p.writers ≡ held (writes_it r.serial) E' → 0 < p.readers + p.writers → TiedWith K E ps ds pipes → TiedWith K E' ps ds (pipes ++ Some (r.place, p) ∷ [])
+      → p.readers ≡ held (reads_it r.serial) E' → p.writers ≡ held (writes_it r.serial) E' → 0 < p.readers + p.writers → TiedWith K E ps ds pipes → TiedWith K E' ps ds (pipes ++ Some (r.slot, p) ∷ [])
   piped r p E' r_is ends_in_hand others readers writers some t =
       let none = subst (UsedRow (read_by ds r.serial + held (reads_it r.serial) E) (written_by ds r.serial + held (writes_it r.serial) E)) (at_past pipes r.serial (omega (arith, r_is))) (t.uses r.serial) in record {
         places = t.places;
@@ -235,10 +235,10 @@ module _ (K : List Key) (E : List Description) (ps : ProcessRows) (ds : Descript
         finds = t.finds;
         in_hand = t.in_hand;
         names = t.names;
-        is_end = λ n e h. let end = t.is_end n e h in (finds-push pipes (Some (r.place, p)) e.1.value.pipe end.0, end.1);
+        is_end = λ n e h. let end = t.is_end n e h in (finds-push pipes (Some (r.slot, p)) e.1.value.pipe end.0, end.1);
         ends_in_hand = ends_in_hand;
-        uses = by_push (λ n x. UsedRow (read_by ds n + held (reads_it n) E') (written_by ds n + held (writes_it n) E') x) pipes (Some (r.place, p))
-            (subst (λ n. UsedRow (read_by ds n + held (reads_it n) E') (written_by ds n + held (writes_it n) E') (Some (r.place, p))) r_is (omega (arith, none.0, readers), omega (arith, none.1, writers), omega (arith, none.0, none.1, readers, writers, some)))
+        uses = by_push (λ n x. UsedRow (read_by ds n + held (reads_it n) E') (written_by ds n + held (writes_it n) E') x) pipes (Some (r.slot, p))
+            (subst (λ n. UsedRow (read_by ds n + held (reads_it n) E') (written_by ds n + held (writes_it n) E') (Some (r.slot, p))) r_is (omega (arith, none.0, readers), omega (arith, none.1, writers), omega (arith, none.0, none.1, readers, writers, some)))
             (λ n ne. let o = others n (λ e. ne (e ∙ r_is)) in used_as (at pipes n) _ _ _ _ (t.uses n) (ap (λ c. read_by ds n + c) o.0) (ap (λ c. written_by ds n + c) o.1));
       }
 

@@ -115,9 +115,9 @@ module _ {files : Files} {files_made : ℕ} (f : Live) (limits : Limits) (charge
   pub unspent : length ds < 2 ^ 64 - 1
   unspent = let under = ltb-false _ _ (ready_is (meaning f old.state) pid (access_seen a) file may_here).3 in let same = length-map ds (option_map description_of) in omega (arith, under, same)
 
-  module _ (k : Key) (p : Pipe) (handed : find pipes k.place k.serial ≡ Some p) where
-    stands : at pipes k.serial ≡ Some (k.place, p)
-    stands = find_was pipes k.place k.serial p handed
+  module _ (k : Key) (p : Pipe) (handed : find pipes k.slot k.serial ≡ Some p) where
+    stands : at pipes k.serial ≡ Some (k.slot, p)
+    stands = find_was pipes k.slot k.serial p handed
 
     pub few_readers : p.readers < 2 ^ 64 - 1
     few_readers =
@@ -132,7 +132,7 @@ module _ {files : Files} {files_made : ℕ} (f : Live) (limits : Limits) (charge
         omega (arith, row.1, all, unspent)
 
     few : (p.opens.read ≤ length ds) × (p.opens.write ≤ length ds)
-    few = w.filed.few k.serial (k.place, p.opens) (shown opens_at pipes k.serial (k.place, p) stands)
+    few = w.filed.few k.serial (k.slot, p.opens) (shown opens_at pipes k.serial (k.slot, p) stands)
 
     pub few_read_opens : p.opens.read < 2 ^ 64 - 1
     few_read_opens = omega (arith, few.0, unspent)
@@ -143,7 +143,7 @@ module _ {files : Files} {files_made : ℕ} (f : Live) (limits : Limits) (charge
     -- after it
     module _ (sided : IsSided a) (ps' : ProcessRows) (ds' : DescriptionRows) (fd : Option ℕ) (z : Describes ps ps' ds ds' pid (end_of a k) (before a p) fd) where
       abbrev pipes' : PipeRows
-      pipes' = put_at pipes k.serial (k.place, counted a p)
+      pipes' = put_at pipes k.serial (k.slot, counted a p)
 
       awake : z.p.parked ≡ None
       awake = sym (ap (λ (x : Process). x.parked) (same_caller z.p z.is)) ∙ is_awake ps pid caller.0 caller.1
@@ -172,8 +172,8 @@ module _ {files : Files} {files_made : ℕ} (f : Live) (limits : Limits) (charge
 
         rings_same : map ring_or (pipes_of pipes') ≡ map ring_or (pipes_of pipes)
         rings_same =
-            ap (map ring_or) (map-set (option_map pipe_of) pipes k.serial (Some (k.place, counted a p)))
-            ∙ ring_stays (pipes_of pipes) k.serial (pipe_of (k.place, p)) (pipe_of (k.place, counted a p)) (shown pipe_of pipes k.serial (k.place, p) stands) refl
+            ap (map ring_or) (map-set (option_map pipe_of) pipes k.serial (Some (k.slot, counted a p)))
+            ∙ ring_stays (pipes_of pipes) k.serial (pipe_of (k.slot, p)) (pipe_of (k.slot, counted a p)) (shown pipe_of pipes k.serial (k.slot, p) stands) refl
 
         owned : Owns f old
         owned = subst (Owns f) (sym view) owns
@@ -188,7 +188,7 @@ module _ {files : Files} {files_made : ℕ} (f : Live) (limits : Limits) (charge
         machine_is : opening limits (meaning f old.state) pid (access_seen a) file ≡ Ok (told (outcome (before a p)) (reply (before a p)))
         machine_is =
             let s = meaning f old.state in
-            let numbers = ends_counted f None ps ds pipes files files_made w.kept.tied pid 0 k.serial k.place p stands in
+            let numbers = ends_counted f None ps ds pipes files files_made w.kept.tied pid 0 k.serial k.slot p stands in
             let others = ap (opens.kept_by (access_seen a)) (entered.there files files_made f a k p ps ds pipes stands pid z.p opener z.k z.k_is) in
             entered.goes limits s pid (process_of z.p) (access_seen a) file (readies f ps ds pipes files files_made pid z.p (caller.1 ∙ ap Ok (same_caller z.p z.is))) may_here
             ∙ ap (λ o. opens.pipe_of limits s (process_of z.p) file o >>= (λ at_pipe. first pid false (opens.open_pipe at_pipe.state pid (process_of z.p) (access_seen a) at_pipe.pipe))) (fifo_is es pipes w.filed file f ps ds files files_made (Some k) found)

@@ -59,11 +59,11 @@ has_by ps pid fd {p = p} caller is = record { p = p; caller = caller; names = ha
 module _ (f : Live) {limits : Limits} {ps : ProcessRows} {ds : DescriptionRows} {pipes : PipeRows} {files : Files} {files_made : ℕ} (t : Tied ps ds pipes)
     {n : Namespace} (view : record { limits = limits; state = state_of ps ds pipes files files_made } ≡ n) (pid fd : ℕ) where
   -- its description stands
-  pub key_row : {k : Key} → Has ps pid fd k → (d : Named Description) × (at ds k.serial ≡ Some (k.place, d))
+  pub key_row : {k : Key} → Has ps pid fd k → (d : Named Description) × (at ds k.serial ≡ Some (k.slot, d))
   key_row {k} w = finds ds k (t.finds (pid - 1) (suc fd) w.p k (place_is ps pid w.p w.caller) w.names)
 
-  pub key_stands : {k : Key} → Has ps pid fd k → IsSome (find ds k.place k.serial)
-  key_stands {k} w = let row = key_row w in ap is_some (find_at ds k.place k.serial row.0 row.1)
+  pub key_stands : {k : Key} → Has ps pid fd k → IsSome (find ds k.slot k.serial)
+  key_stands {k} w = let row = key_row w in ap is_some (find_at ds k.slot k.serial row.0 row.1)
 
   module _ {A : Type 0} (go : machine.Process → ℕ → Result A Errno) where
     -- the machine finds what the tables find

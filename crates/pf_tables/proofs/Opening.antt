@@ -62,11 +62,11 @@ second_shown p k =
 -- The calls that make a pipe
 
 -- a description that is stored with no name, and then named
-pub named_once : (ds xs ys : DescriptionRows) (k : Key) (d : Description) → k.serial ≡ length ds → xs ≡ ds ++ Some (k.place, record { value = d; names = 0 }) ∷ [] → ys ≡ change_at one_more xs k.serial
-    → ys ≡ ds ++ Some (k.place, once d) ∷ []
+pub named_once : (ds xs ys : DescriptionRows) (k : Key) (d : Description) → k.serial ≡ length ds → xs ≡ ds ++ Some (k.slot, record { value = d; names = 0 }) ∷ [] → ys ≡ change_at one_more xs k.serial
+    → ys ≡ ds ++ Some (k.slot, once d) ∷ []
 named_once ds xs ys k d serial stored named =
-    let new : Option (ℕ × Named Description) = Some (k.place, record { value = d; names = 0 }) in
-    named ∙ (λ i. change_at one_more (stored i) (serial i)) ∙ ap (λ o. set (ds ++ new ∷ []) (length ds) (option_map one_more o)) (at-push_new ds new) ∙ set-append_seam ds new [] (Some (k.place, once d))
+    let new : Option (ℕ × Named Description) = Some (k.slot, record { value = d; names = 0 }) in
+    named ∙ (λ i. change_at one_more (stored i) (serial i)) ∙ ap (λ o. set (ds ++ new ∷ []) (length ds) (option_map one_more o)) (at-push_new ds new) ∙ set-append_seam ds new [] (Some (k.slot, once d))
 
 abbrev pub reading : Key → Bool → Description
 reading r nonblocking = record { pipe = r; reads = true; writes = false; nonblocking = nonblocking }
@@ -87,10 +87,10 @@ pub record Makes (ps : ProcessRows) (ds : DescriptionRows) (pipes : PipeRows) (p
   pub j : Key
   pub k : Key
   pub r_is : r.serial ≡ length pipes
-  pub piped_to : pipes' ≡ pipes ++ Some (r.place, two_ended slots owner) ∷ []
+  pub piped_to : pipes' ≡ pipes ++ Some (r.slot, two_ended slots owner) ∷ []
   pub j_is : j.serial ≡ length ds
-  pub k_is : k.serial ≡ length (ds ++ Some (j.place, once (reading r nonblocking)) ∷ [])
-  pub named_to : ds' ≡ (ds ++ Some (j.place, once (reading r nonblocking)) ∷ []) ++ Some (k.place, once (writing r nonblocking)) ∷ []
+  pub k_is : k.serial ≡ length (ds ++ Some (j.slot, once (reading r nonblocking)) ∷ [])
+  pub named_to : ds' ≡ (ds ++ Some (j.slot, once (reading r nonblocking)) ∷ []) ++ Some (k.slot, once (writing r nonblocking)) ∷ []
   pub set_to : ps' ≡ set ps (pid - 1) (with_keys free.0 j free.1 k (at ps (pid - 1)))
 
 -- The reservation has room for a new pipe's slots
@@ -142,7 +142,7 @@ module _ {files : Files} {files_made : ℕ} (f : Live) {charges : UserPages} {li
     module _ (a : ℕ) (lowest : a ≡ first_free p.descriptors) where
       pub has_no_second : (b : ℕ) → ((k : Key) → b ≡ first_free (put_at p.descriptors a k)) → MAX_DESCRIPTORS ≤ b → FindsTwo (meaning f n.state) pid (Err EMFILE)
       has_no_second b next none =
-          let zero : Key = record { place = 0; serial = 0 } in
+          let zero : Key = record { slot = 0; serial = 0 } in
           let second : second_descriptor (process_of p) ≡ b = second_shown p zero ∙ ap (λ m. first_free (put_at p.descriptors m zero)) (sym lowest) ∙ sym (next zero) in
           let full : nat_le MAX_DESCRIPTORS (second_descriptor (process_of p)) ≡ true = grind (arith, nat_tests) in
           ap (λ x. x >>= (λ q. refuse_if (nat_le MAX_DESCRIPTORS (second_descriptor q)) EMFILE)) opener ∙ ap (λ x. refuse_if x EMFILE) full
@@ -153,7 +153,7 @@ module _ {files : Files} {files_made : ℕ} (f : Live) {charges : UserPages} {li
       -- or which they are
       pub has_two : (b : ℕ) → ((k : Key) → b ≡ first_free (put_at p.descriptors a k)) → b < MAX_DESCRIPTORS → HasTwo (meaning f n.state) pid (a, b)
       has_two b next within =
-          let zero : Key = record { place = 0; serial = 0 } in
+          let zero : Key = record { slot = 0; serial = 0 } in
           record {
             p = process_of p;
             lives = opener;
@@ -176,7 +176,7 @@ module _ {files : Files} {files_made : ℕ} (f : Live) {charges : UserPages} {li
       first_in =
           elim (cases_lt free.0 256) [
             | inl below ↦ below
-            | inr past ↦ let zero : Key = record { place = 0; serial = 0 } in absurd (omega (arith, two.within, second_is zero, no_second zero free.0 first_is past))
+            | inr past ↦ let zero : Key = record { slot = 0; serial = 0 } in absurd (omega (arith, two.within, second_is zero, no_second zero free.0 first_is past))
           ]
 
       module _ {nonblocking : Bool} {slots : ℕ} {ps' : ProcessRows} {ds' : DescriptionRows} {pipes' : PipeRows} (m : Makes ps ds pipes pid free nonblocking slots p.cred.uid ps' ds' pipes') where
@@ -187,13 +187,13 @@ module _ {files : Files} {files_made : ℕ} (f : Live) {charges : UserPages} {li
         both = record p { descriptors = put_at (put_at p.descriptors free.0 m.j) free.1 m.k }
 
         abbrev pipes1 : PipeRows
-        pipes1 = pipes ++ Some (m.r.place, two_ended slots p.cred.uid) ∷ []
+        pipes1 = pipes ++ Some (m.r.slot, two_ended slots p.cred.uid) ∷ []
 
         abbrev ds1 : DescriptionRows
-        ds1 = ds ++ Some (m.j.place, once (reading m.r nonblocking)) ∷ []
+        ds1 = ds ++ Some (m.j.slot, once (reading m.r nonblocking)) ∷ []
 
         abbrev ds2 : DescriptionRows
-        ds2 = ds1 ++ Some (m.k.place, once (writing m.r nonblocking)) ∷ []
+        ds2 = ds1 ++ Some (m.k.slot, once (writing m.r nonblocking)) ∷ []
 
         processes_are : ps' ≡ put_at ps (pid - 1) both
         processes_are = m.set_to ∙ ap (λ o. set ps (pid - 1) (with_keys free.0 m.j free.1 m.k o)) stands
@@ -216,8 +216,8 @@ module _ {files : Files} {files_made : ℕ} (f : Live) {charges : UserPages} {li
         pub opened-kept : (charges' : UserPages) → Charges charges charges' p.cred.uid slots → Kept charges' ps' ds' pipes'
         opened-kept charges' more =
             let now_charged : AreSumsOf (λ (q : machine.Pipe Ring). q.owner) (λ (q : machine.Pipe Ring). q.queue.capacity) charges' (pipes_of pipes1) =
-            subst (λ xs. AreSumsOf (λ (q : machine.Pipe Ring). q.owner) (λ (q : machine.Pipe Ring). q.queue.capacity) charges' xs) (sym (map_push (option_map pipe_of) pipes (Some (m.r.place, two_ended slots p.cred.uid))))
-            (made (λ (q : machine.Pipe Ring). q.owner) (λ (q : machine.Pipe Ring). q.queue.capacity) charges charges' (pipes_of pipes) kept.charged (pipe_of (m.r.place, two_ended slots p.cred.uid)) more) in
+            subst (λ xs. AreSumsOf (λ (q : machine.Pipe Ring). q.owner) (λ (q : machine.Pipe Ring). q.queue.capacity) charges' xs) (sym (map_push (option_map pipe_of) pipes (Some (m.r.slot, two_ended slots p.cred.uid))))
+            (made (λ (q : machine.Pipe Ring). q.owner) (λ (q : machine.Pipe Ring). q.queue.capacity) charges charges' (pipes_of pipes) kept.charged (pipe_of (m.r.slot, two_ended slots p.cred.uid)) more) in
             subst (λ x. Kept charges' x ds' pipes') (sym processes_are) (subst (λ y. Kept charges' (put_at ps (pid - 1) both) y pipes') (sym m.named_to)
             (subst (λ z. Kept charges' (put_at ps (pid - 1) both) ds2 z) (sym m.piped_to) (record { tied = now_tied; charged = now_charged })))
 
@@ -235,17 +235,17 @@ module _ {files : Files} {files_made : ℕ} (f : Live) {charges : UserPages} {li
             let a : free.0 ≡ first_descriptor (process_of p) = two.first ∙ ap first_descriptor same in
             let b : free.1 ≡ second_descriptor (process_of p) = two.second ∙ ap second_descriptor same in
             let number : m.j.serial ≡ length (descriptions_of ds) = m.j_is ∙ sym drawn in
-            let next : m.k.serial ≡ length (descriptions_of ds) + 1 = omega (arith, m.k_is, length_push ds (Some (m.j.place, once (reading m.r nonblocking))), drawn) in
+            let next : m.k.serial ≡ length (descriptions_of ds) + 1 = omega (arith, m.k_is, length_push ds (Some (m.j.slot, once (reading m.r nonblocking))), drawn) in
             cc
 
         now_shown : state_of (put_at ps (pid - 1) both) ds2 pipes1 files files_made ≡ opened (state_of ps ds pipes files files_made) pid nonblocking (record { capacity = slots; windows = [] }) (process_of p)
         now_shown =
             let two_more =
-            map_push (option_map description_of) ds1 (Some (m.k.place, once (writing m.r nonblocking)))
-            ∙ ap (λ xs. xs ++ Some (machine_writing m.r.serial nonblocking) ∷ []) (map_push (option_map description_of) ds (Some (m.j.place, once (reading m.r nonblocking))))
+            map_push (option_map description_of) ds1 (Some (m.k.slot, once (writing m.r nonblocking)))
+            ∙ ap (λ xs. xs ++ Some (machine_writing m.r.serial nonblocking) ∷ []) (map_push (option_map description_of) ds (Some (m.j.slot, once (reading m.r nonblocking))))
             ∙ append_assoc (descriptions_of ds) (Some (machine_reading m.r.serial nonblocking) ∷ []) (Some (machine_writing m.r.serial nonblocking) ∷ []) in
             let number : m.r.serial ≡ length (pipes_of pipes) = m.r_is ∙ sym (length-map pipes (option_map pipe_of)) in
-            let one_more_pipe = map_push (option_map pipe_of) pipes (Some (m.r.place, two_ended slots p.cred.uid)) in
+            let one_more_pipe = map_push (option_map pipe_of) pipes (Some (m.r.slot, two_ended slots p.cred.uid)) in
             λ x. record {
               processes = (map-set (option_map process_of) ps (pid - 1) (Some both) ∙ ap (λ q. put_at (processes_of ps) (pid - 1) q) keys_shown) x;
               descriptions = (two_more ∙ ap (λ r. descriptions_of ds ++ Some (machine_reading r nonblocking) ∷ Some (machine_writing r nonblocking) ∷ []) number) x;

@@ -88,31 +88,31 @@ module _ {files : Files} {files_made : ℕ} (f : Live) (limits : Limits) (charge
       at_end : Found f None ps ds pipes files files_made pid fd d
       at_end = found f None ps ds pipes files files_made k.tied pid fd d h
 
-      pub pipe_there : IsSome (find pipes d.pipe.place d.pipe.serial)
-      pipe_there = ap is_some (find_at pipes d.pipe.place d.pipe.serial at_end.pipe at_end.stands)
+      pub pipe_there : IsSome (find pipes d.pipe.slot d.pipe.serial)
+      pipe_there = ap is_some (find_at pipes d.pipe.slot d.pipe.serial at_end.pipe at_end.stands)
 
       -- its pages are among its owner's
-      pub covered : (r : Pipe) → find pipes d.pipe.place d.pipe.serial ≡ Some r → r.ring.capacity ≤ charged_to charges r.owner
+      pub covered : (r : Pipe) → find pipes d.pipe.slot d.pipe.serial ≡ Some r → r.ring.capacity ≤ charged_to charges r.owner
       covered r handed =
-          covers (λ (q : machine.Pipe Ring). q.owner) (λ (q : machine.Pipe Ring). q.queue.capacity) charges (pipes_of pipes) d.pipe.serial (pipe_of (d.pipe.place, r)) k.charged
-          (shown pipe_of pipes d.pipe.serial (d.pipe.place, r) (find_was pipes d.pipe.place d.pipe.serial r handed))
+          covers (λ (q : machine.Pipe Ring). q.owner) (λ (q : machine.Pipe Ring). q.queue.capacity) charges (pipes_of pipes) d.pipe.serial (pipe_of (d.pipe.slot, r)) k.charged
+          (shown pipe_of pipes d.pipe.serial (d.pipe.slot, r) (find_was pipes d.pipe.slot d.pipe.serial r handed))
 
       -- where it is as it was, and nobody is charged otherwise
-      module _ (r r' : Pipe) (handed : find pipes d.pipe.place d.pipe.serial ≡ Some r) (charges' : UserPages) (z : Refuses charges charges' r r') where
-        pub same_rows : put_at pipes d.pipe.serial (d.pipe.place, r') ≡ pipes
-        same_rows = set_same pipes d.pipe.serial (Some (d.pipe.place, r')) (ap (λ x. Some (d.pipe.place, x)) z.pipe ∙ sym (find_was pipes d.pipe.place d.pipe.serial r handed))
+      module _ (r r' : Pipe) (handed : find pipes d.pipe.slot d.pipe.serial ≡ Some r) (charges' : UserPages) (z : Refuses charges charges' r r') where
+        pub same_rows : put_at pipes d.pipe.serial (d.pipe.slot, r') ≡ pipes
+        same_rows = set_same pipes d.pipe.serial (Some (d.pipe.slot, r')) (ap (λ x. Some (d.pipe.slot, x)) z.pipe ∙ sym (find_was pipes d.pipe.slot d.pipe.serial r handed))
 
-        pub same_kept : Kept charges' ps ds (put_at pipes d.pipe.serial (d.pipe.place, r'))
+        pub same_kept : Kept charges' ps ds (put_at pipes d.pipe.serial (d.pipe.slot, r'))
         same_kept = subst (Kept charges' ps ds) (sym same_rows) (record { tied = k.tied; charged = charged-same charges charges' r.owner (state_of ps ds pipes files files_made) z.charges k.charged })
 
-        pub same_view : limits ≡ charges.limits → record { limits = charges'.limits; state = state_of ps ds (put_at pipes d.pipe.serial (d.pipe.place, r')) files files_made } ≡ n
+        pub same_view : limits ≡ charges.limits → record { limits = charges'.limits; state = state_of ps ds (put_at pipes d.pipe.serial (d.pipe.slot, r')) files files_made } ≡ n
         same_view same = (λ j. record { limits = (z.charges.limits ∙ sym same) j; state = state_of ps ds (same_rows j) files files_made }) ∙ view
 
-      module _ (r : Pipe) (handed : find pipes d.pipe.place d.pipe.serial ≡ Some r) where
+      module _ (r : Pipe) (handed : find pipes d.pipe.slot d.pipe.serial ≡ Some r) where
         same_row : at_end.pipe ≡ r
         same_row =
-            let one : ◌≡◌ {A = Option (ℕ × Pipe)} (Some (d.pipe.place, at_end.pipe)) (Some (d.pipe.place, r)) = sym at_end.stands ∙ find_was pipes d.pipe.place d.pipe.serial r handed in
-            let pair : ◌≡◌ {A = ℕ × Pipe} (d.pipe.place, at_end.pipe) (d.pipe.place, r) = cc in
+            let one : ◌≡◌ {A = Option (ℕ × Pipe)} (Some (d.pipe.slot, at_end.pipe)) (Some (d.pipe.slot, r)) = sym at_end.stands ∙ find_was pipes d.pipe.slot d.pipe.serial r handed in
+            let pair : ◌≡◌ {A = ℕ × Pipe} (d.pipe.slot, at_end.pipe) (d.pipe.slot, r) = cc in
             ap (λ (x : ℕ × Pipe). x.1) pair
 
         end_is : (ready s pid >>= (λ q. end_of s q fd)) ≡ Ok (end_of_rows f d r)
@@ -123,7 +123,7 @@ module _ {files : Files} {files_made : ℕ} (f : Live) (limits : Limits) (charge
             subst (λ (v : Namespace). size_of_end (meaning f v.state) pid fd ≡ Ok (PAGE_SIZE * r.ring.capacity)) view
             (after (λ q. end_of s q fd) (λ x. Ok (PAGE_SIZE * x.pipe.queue.capacity)) (ready s pid) (end_of_rows f d r) end_is)
 
-      module _ (p : Process) (is : ready_in ps pid ≡ Ok p) (r : Pipe) (handed : find pipes d.pipe.place d.pipe.serial ≡ Some r) where
+      module _ (p : Process) (is : ready_in ps pid ≡ Ok p) (r : Pipe) (handed : find pipes d.pipe.slot d.pipe.serial ≡ Some r) where
         caller_is : ready s pid ≡ Ok (process_of p)
         caller_is = readies f ps ds pipes files files_made pid p is
 
@@ -171,28 +171,28 @@ module _ {files : Files} {files_made : ℕ} (f : Live) (limits : Limits) (charge
         -- It has other slots
         module _ (charges' : UserPages) (r' : Pipe) (to : ℕ) (owns : Owns f n) (same : limits ≡ charges.limits) (z : Resizes charges charges' r r' (is_privileged p.cred) to) where
           abbrev pipes' : PipeRows
-          pipes' = put_at pipes d.pipe.serial (d.pipe.place, r')
+          pipes' = put_at pipes d.pipe.serial (d.pipe.slot, r')
 
           abbrev ring' : Ring
           ring' = record { capacity = to; windows = r.ring.windows }
 
-          there : at (pipes_of pipes) d.pipe.serial ≡ Some (pipe_of (d.pipe.place, r))
-          there = shown pipe_of pipes d.pipe.serial (d.pipe.place, r) (find_was pipes d.pipe.place d.pipe.serial r handed)
+          there : at (pipes_of pipes) d.pipe.serial ≡ Some (pipe_of (d.pipe.slot, r))
+          there = shown pipe_of pipes d.pipe.serial (d.pipe.slot, r) (find_was pipes d.pipe.slot d.pipe.serial r handed)
 
           shows : state_of ps ds pipes' files files_made ≡ with_queue (state_of ps ds pipes files files_made) d.pipe.serial ring'
           shows =
               ap (λ xs. record { processes = processes_of ps; descriptions = descriptions_of ds; pipes = xs; files = files; files_made = files_made })
-              (map-set (option_map pipe_of) pipes d.pipe.serial (Some (d.pipe.place, r'))
-              ∙ ap (λ (q : Pipe). set (pipes_of pipes) d.pipe.serial (Some (pipe_of (d.pipe.place, q)))) z.pipe
+              (map-set (option_map pipe_of) pipes d.pipe.serial (Some (d.pipe.slot, r'))
+              ∙ ap (λ (q : Pipe). set (pipes_of pipes) d.pipe.serial (Some (pipe_of (d.pipe.slot, q)))) z.pipe
               ∙ ap (λ x. set (pipes_of pipes) d.pipe.serial (option_map (holding ring') x)) (sym there))
 
           tied' : Tied ps ds pipes'
-          tied' = requeued [] [] ps ds pipes d.pipe r (find_was pipes d.pipe.place d.pipe.serial r handed) r' (ap (λ (q : Pipe). q.readers) z.pipe) (ap (λ (q : Pipe). q.writers) z.pipe) k.tied
+          tied' = requeued [] [] ps ds pipes d.pipe r (find_was pipes d.pipe.slot d.pipe.serial r handed) r' (ap (λ (q : Pipe). q.readers) z.pipe) (ap (λ (q : Pipe). q.writers) z.pipe) k.tied
 
           pub resized-kept : Kept charges' ps ds pipes'
           resized-kept = record {
             tied = tied';
-            charged = subst (Charged charges') (sym shows) (recharged charges charges' (state_of ps ds pipes files files_made) d.pipe.serial (pipe_of (d.pipe.place, r)) ring' there z.charges k.charged);
+            charged = subst (Charged charges') (sym shows) (recharged charges charges' (state_of ps ds pipes files files_made) d.pipe.serial (pipe_of (d.pipe.slot, r)) ring' there z.charges k.charged);
           }
 
           owned : Owns f (record { limits = limits; state = state_of ps ds pipes files files_made })
@@ -215,7 +215,7 @@ module _ {files : Files} {files_made : ℕ} (f : Live) (limits : Limits) (charge
           reserve_kept : sum_by slots_of (rings_of (state_of ps ds pipes files files_made)) + to ≤ f.reserved + r.ring.capacity
           reserve_kept =
               let all : sum_by slots_of (rings_of (state_of ps ds pipes files files_made)) ≡ charges.total = slots-rings (pipes_of pipes) ∙ sym k.charged.total in
-              let own : r.ring.capacity ≤ charges.total = omega (arith, k.charged.total, pages-without (pipes_of pipes) d.pipe.serial (pipe_of (d.pipe.place, r)) there) in
+              let own : r.ring.capacity ≤ charges.total = omega (arith, k.charged.total, pages-without (pipes_of pipes) d.pipe.serial (pipe_of (d.pipe.slot, r)) there) in
               elim (cases_lt r.ring.capacity to) [
                 | inl more ↦ omega (arith, all, own, grown more, owned.reserve)
                 | inr less ↦ omega (arith, less, owned.joined.reserve)
@@ -223,8 +223,8 @@ module _ {files : Files} {files_made : ℕ} (f : Live) (limits : Limits) (charge
 
           resized-joined : Joined f (rings_of (state_of ps ds pipes' files files_made))
           resized-joined =
-              let here : ring_at (rings_of (state_of ps ds pipes files files_made)) d.pipe.serial ≡ r.ring = ring_at-pipe (pipes_of pipes) d.pipe.serial (pipe_of (d.pipe.place, r)) there in
-              let within : d.pipe.serial < length (rings_of (state_of ps ds pipes files files_made)) = subst (λ m. d.pipe.serial < m) (sym (length-map (pipes_of pipes) ring_or)) (at_within (pipes_of pipes) d.pipe.serial (pipe_of (d.pipe.place, r)) there) in
+              let here : ring_at (rings_of (state_of ps ds pipes files files_made)) d.pipe.serial ≡ r.ring = ring_at-pipe (pipes_of pipes) d.pipe.serial (pipe_of (d.pipe.slot, r)) there in
+              let within : d.pipe.serial < length (rings_of (state_of ps ds pipes files files_made)) = subst (λ m. d.pipe.serial < m) (sym (length-map (pipes_of pipes) ring_or)) (at_within (pipes_of pipes) d.pipe.serial (pipe_of (d.pipe.slot, r)) there) in
               let joined : Joined f (set (rings_of (state_of ps ds pipes files files_made)) d.pipe.serial ring') =
               subst (λ (x : Ring). Joined f (set (rings_of (state_of ps ds pipes files files_made)) d.pipe.serial (record { capacity = to; windows = x.windows }))) here
               (joined_resized f (rings_of (state_of ps ds pipes files files_made)) d.pipe.serial to within owned.joined (subst (λ (x : Ring). slots_used x ≤ to) (sym here) z.fits) (omega (arith, reserve_kept, ap slots_of here))) in
@@ -256,8 +256,8 @@ module _ {files : Files} {files_made : ℕ} (f : Live) (limits : Limits) (charge
         abbrev over : Bool
         over = not (is_privileged p.cred) && nat_lt limits.max (PAGE_SIZE * pages_for bytes)
 
-        here : find pipes d.pipe.place d.pipe.serial ≡ Some at_end.pipe
-        here = find_at pipes d.pipe.place d.pipe.serial at_end.pipe at_end.stands
+        here : find pipes d.pipe.slot d.pipe.serial ≡ Some at_end.pipe
+        here = find_at pipes d.pipe.slot d.pipe.serial at_end.pipe at_end.stands
 
         pub too_many : MAX_SIZE < bytes → sized n.limits (meaning f n.state) pid fd bytes ≡ Err EINVAL
         too_many long = sized_is p is at_end.pipe here bytes ∙ ap (λ b. tests p is at_end.pipe here b over (may_resize limits s p.cred (end_of_rows f d at_end.pipe).pipe (pages_for bytes)) bytes) (lt-ltb MAX_SIZE bytes long)

@@ -37,14 +37,14 @@ module _ (K : List Key) (ps : ProcessRows) (ds : DescriptionRows) (pipes : PipeR
 
 -- its row, counted once more, and what is shown of it
 
-module _ (ds : DescriptionRows) (k : Key) (e : Named Description) (stands : at ds k.serial ≡ Some (k.place, e)) where
-  pub named_row : change_at one_more ds k.serial ≡ put_at ds k.serial (k.place, record e { names = e.names + 1 })
+module _ (ds : DescriptionRows) (k : Key) (e : Named Description) (stands : at ds k.serial ≡ Some (k.slot, e)) where
+  pub named_row : change_at one_more ds k.serial ≡ put_at ds k.serial (k.slot, record e { names = e.names + 1 })
   named_row = ap (λ (o : Option (ℕ × Named Description)). set ds k.serial (option_map one_more o)) stands
 
-  pub recounted_shown : (m : ℕ) → descriptions_of (put_at ds k.serial (k.place, record e { names = m })) ≡ descriptions_of ds
+  pub recounted_shown : (m : ℕ) → descriptions_of (put_at ds k.serial (k.slot, record e { names = m })) ≡ descriptions_of ds
   recounted_shown m =
-      map-set (option_map description_of) ds k.serial (Some (k.place, record e { names = m }))
-      ∙ set_same (descriptions_of ds) k.serial (Some (description_of (k.place, e))) (sym (shown description_of ds k.serial (k.place, e) stands))
+      map-set (option_map description_of) ds k.serial (Some (k.slot, record e { names = m }))
+      ∙ set_same (descriptions_of ds) k.serial (Some (description_of (k.slot, e))) (sym (shown description_of ds k.serial (k.slot, e) stands))
 
-  pub names_are : names_of (find ds k.place k.serial) ≡ e.names
-  names_are = ap names_of (find_at ds k.place k.serial e stands)
+  pub names_are : names_of (find ds k.slot k.serial) ≡ e.names
+  names_are = ap names_of (find_at ds k.slot k.serial e stands)

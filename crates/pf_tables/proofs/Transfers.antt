@@ -56,52 +56,52 @@ module _ {files : Files} {files_made : ℕ} (f : Live) (limits : Limits) (charge
   owned = subst (Owns f) (sym view) owns
 
   -- The pipe that was found, where it is handed out
-  module _ (d : Description) (r : Pipe) (handed : find pipes d.pipe.place d.pipe.serial ≡ Some r) where
-    pub stands : at pipes d.pipe.serial ≡ Some (d.pipe.place, r)
-    stands = find_was pipes d.pipe.place d.pipe.serial r handed
+  module _ (d : Description) (r : Pipe) (handed : find pipes d.pipe.slot d.pipe.serial ≡ Some r) where
+    pub stands : at pipes d.pipe.serial ≡ Some (d.pipe.slot, r)
+    stands = find_was pipes d.pipe.slot d.pipe.serial r handed
 
-    pub there : at (pipes_of pipes) d.pipe.serial ≡ Some (pipe_of (d.pipe.place, r))
-    there = shown pipe_of pipes d.pipe.serial (d.pipe.place, r) stands
+    pub there : at (pipes_of pipes) d.pipe.serial ≡ Some (pipe_of (d.pipe.slot, r))
+    there = shown pipe_of pipes d.pipe.serial (d.pipe.slot, r) stands
 
     pub stands_in : Stands f r.ring.windows
-    stands_in = stands_at f (state_of ps ds pipes files files_made) d.pipe.serial (pipe_of (d.pipe.place, r)) owned.joined there
+    stands_in = stands_at f (state_of ps ds pipes files files_made) d.pipe.serial (pipe_of (d.pipe.slot, r)) owned.joined there
 
     pub credits : IsSound f → f.held + (r.ring.capacity - length r.ring.windows) ≤ f.reserved
-    credits sound = credits_at f (state_of ps ds pipes files files_made) d.pipe.serial (pipe_of (d.pipe.place, r)) sound owned.joined there
+    credits sound = credits_at f (state_of ps ds pipes files files_made) d.pipe.serial (pipe_of (d.pipe.slot, r)) sound owned.joined there
 
-    pub same_pipes : (r' : Pipe) → r' ≡ r → put_at pipes d.pipe.serial (d.pipe.place, r') ≡ pipes
-    same_pipes r' e = set_same pipes d.pipe.serial (Some (d.pipe.place, r')) (ap (λ x. Some (d.pipe.place, x)) e ∙ sym stands)
+    pub same_pipes : (r' : Pipe) → r' ≡ r → put_at pipes d.pipe.serial (d.pipe.slot, r') ≡ pipes
+    same_pipes r' e = set_same pipes d.pipe.serial (Some (d.pipe.slot, r')) (ap (λ x. Some (d.pipe.slot, x)) e ∙ sym stands)
 
-    pub same_kept : (r' : Pipe) → r' ≡ r → Kept charges ps ds (put_at pipes d.pipe.serial (d.pipe.place, r'))
+    pub same_kept : (r' : Pipe) → r' ≡ r → Kept charges ps ds (put_at pipes d.pipe.serial (d.pipe.slot, r'))
     same_kept r' e = subst (Kept charges ps ds) (sym (same_pipes r' e)) k
 
-    pub same_view : (r' : Pipe) → r' ≡ r → record { limits = limits; state = state_of ps ds (put_at pipes d.pipe.serial (d.pipe.place, r')) files files_made } ≡ n
+    pub same_view : (r' : Pipe) → r' ≡ r → record { limits = limits; state = state_of ps ds (put_at pipes d.pipe.serial (d.pipe.slot, r')) files files_made } ≡ n
     same_view r' e = ap (λ x. record { limits = limits; state = state_of ps ds x files files_made }) (same_pipes r' e) ∙ view
 
     -- A transfer went through it
     module _ (g : Live) (r' : Pipe) (progress : Progress) (m : Passed) (passes : Passes r r' f g progress m) where
       abbrev pipes' : PipeRows
-      pipes' = put_at pipes d.pipe.serial (d.pipe.place, r')
+      pipes' = put_at pipes d.pipe.serial (d.pipe.slot, r')
 
       fits : length r'.ring.windows ≤ r'.ring.capacity
-      fits = passes.fits (subst (λ (x : Ring). slots_used x ≤ slots_of x) (ring_at-pipe (pipes_of pipes) d.pipe.serial (pipe_of (d.pipe.place, r)) there) (owned.joined.fits d.pipe.serial))
+      fits = passes.fits (subst (λ (x : Ring). slots_used x ≤ slots_of x) (ring_at-pipe (pipes_of pipes) d.pipe.serial (pipe_of (d.pipe.slot, r)) there) (owned.joined.fits d.pipe.serial))
 
       shows : state_of ps ds pipes' files files_made ≡ with_queue (state_of ps ds pipes files files_made) d.pipe.serial r'.ring
       shows =
           ap (λ xs. record { processes = processes_of ps; descriptions = descriptions_of ds; pipes = xs; files = files; files_made = files_made })
-          (map-set (option_map pipe_of) pipes d.pipe.serial (Some (d.pipe.place, r'))
+          (map-set (option_map pipe_of) pipes d.pipe.serial (Some (d.pipe.slot, r'))
           ∙ (λ i. set (pipes_of pipes) d.pipe.serial (Some (pipe_with r'.ring (passes.owner i) (passes.opens i))))
           ∙ ap (λ o. set (pipes_of pipes) d.pipe.serial (option_map (holding r'.ring) o)) (sym there))
 
       pub passed-kept : Kept charges ps ds pipes'
       passed-kept = record {
         tied = requeued [] [] ps ds pipes d.pipe r stands r' passes.readers passes.writers k.tied;
-        charged = subst (Charged charges) (sym shows) (charged-with_queue charges (state_of ps ds pipes files files_made) d.pipe.serial (pipe_of (d.pipe.place, r)) r'.ring there passes.capacity k.charged);
+        charged = subst (Charged charges) (sym shows) (charged-with_queue charges (state_of ps ds pipes files files_made) d.pipe.serial (pipe_of (d.pipe.slot, r)) r'.ring there passes.capacity k.charged);
       }
 
       pub passed-owns : Owns g (record { limits = limits; state = state_of ps ds pipes' files files_made })
       passed-owns = record {
-        joined = subst (λ (s : State Ring). Joined g (rings_of s)) (sym shows) (joined_written f g (state_of ps ds pipes files files_made) d.pipe.serial (pipe_of (d.pipe.place, r)) r'.ring [] (no_source (rings_of (state_of ps ds pipes files files_made))) owned.joined there passes.keeps passes.capacity fits);
+        joined = subst (λ (s : State Ring). Joined g (rings_of s)) (sym shows) (joined_written f g (state_of ps ds pipes files files_made) d.pipe.serial (pipe_of (d.pipe.slot, r)) r'.ring [] (no_source (rings_of (state_of ps ds pipes files files_made))) owned.joined there passes.keeps passes.capacity fits);
         reserve = owned.reserve ∙ sym passes.keeps.reservation;
       }
 
@@ -110,7 +110,7 @@ module _ {files : Files} {files_made : ℕ} (f : Live) (limits : Limits) (charge
           settled-meaning g (state_of ps ds pipes' files files_made) (settled ps ds pipes' files files_made passed-kept.tied)
           ∙ ap sweep
           (ap (meaning g) shows
-          ∙ meaning-with_queue f g (state_of ps ds pipes files files_made) d.pipe.serial r'.ring (others_written f g (state_of ps ds pipes files files_made) d.pipe.serial (pipe_of (d.pipe.place, r)) r'.ring [] (no_source (rings_of (state_of ps ds pipes files files_made))) owned.joined there passes.keeps)
+          ∙ meaning-with_queue f g (state_of ps ds pipes files files_made) d.pipe.serial r'.ring (others_written f g (state_of ps ds pipes files files_made) d.pipe.serial (pipe_of (d.pipe.slot, r)) r'.ring [] (no_source (rings_of (state_of ps ds pipes files files_made))) owned.joined there passes.keeps)
           ∙ ap (with_queue (meaning f (state_of ps ds pipes files files_made)) d.pipe.serial) (sym (ap (λ (p : Passed). p.queue) passes.told)))
 
   -- What the machine does, from what the tables find
@@ -130,8 +130,8 @@ module _ {files : Files} {files_made : ℕ} (f : Live) (limits : Limits) (charge
         (bind-bind (ready s pid) (λ p. reading_end s p fd) _ ∙ ap (λ r. r >>= (λ e. Ok (try_read s e m))) (refused f (Some sides.Read) ps ds pipes files files_made k.tied pid fd e h))
 
     module _ (d : Description) where
-      pub pipe_there : (side : Option Side) → end_in side ps ds pid fd ≡ Ok d → IsSome (find pipes d.pipe.place d.pipe.serial)
-      pipe_there side h = let w = found f side ps ds pipes files files_made k.tied pid fd d h in ap is_some (find_at pipes d.pipe.place d.pipe.serial w.pipe w.stands)
+      pub pipe_there : (side : Option Side) → end_in side ps ds pid fd ≡ Ok d → IsSome (find pipes d.pipe.slot d.pipe.serial)
+      pipe_there side h = let w = found f side ps ds pipes files files_made k.tied pid fd d h in ap is_some (find_at pipes d.pipe.slot d.pipe.serial w.pipe w.stands)
 
       pub caller : (side : Option Side) → end_in side ps ds pid fd ≡ Ok d → IsOk (ready (meaning f n.state) pid)
       caller side h =
@@ -143,12 +143,12 @@ module _ {files : Files} {files_made : ℕ} (f : Live) (limits : Limits) (charge
           shown_ok (Err e) g = g
 
       -- how a transfer through the pipe that was found goes on
-      through : (side : Option Side) {B : Type 0} (go : End Queue → Result B Errno) (r : Pipe) → end_in side ps ds pid fd ≡ Ok d → find pipes d.pipe.place d.pipe.serial ≡ Some r
+      through : (side : Option Side) {B : Type 0} (go : End Queue → Result B Errno) (r : Pipe) → end_in side ps ds pid fd ≡ Ok d → find pipes d.pipe.slot d.pipe.serial ≡ Some r
           → (ready s pid >>= (λ p. side_end side s p fd >>= go)) ≡ go (end_of_rows f d r)
       through side go r h handed =
           let w = found f side ps ds pipes files files_made k.tied pid fd d h in
-          let one : ◌≡◌ {A = Option (ℕ × Pipe)} (Some (d.pipe.place, w.pipe)) (Some (d.pipe.place, r)) = sym w.stands ∙ find_was pipes d.pipe.place d.pipe.serial r handed in
-          let pair : ◌≡◌ {A = ℕ × Pipe} (d.pipe.place, w.pipe) (d.pipe.place, r) = cc in
+          let one : ◌≡◌ {A = Option (ℕ × Pipe)} (Some (d.pipe.slot, w.pipe)) (Some (d.pipe.slot, r)) = sym w.stands ∙ find_was pipes d.pipe.slot d.pipe.serial r handed in
+          let pair : ◌≡◌ {A = ℕ × Pipe} (d.pipe.slot, w.pipe) (d.pipe.slot, r) = cc in
           let same : w.pipe ≡ r = ap (λ (x : ℕ × Pipe). x.1) pair in
           bind-bind (ready s pid) (λ p. side_end side s p fd) go ∙ ap (λ x. x >>= go) w.is ∙ ap (λ x. go (end_of_rows f d x)) same
 
@@ -157,16 +157,16 @@ module _ {files : Files} {files_made : ℕ} (f : Live) (limits : Limits) (charge
           let w = found f (Some sides.Write) ps ds pipes files files_made k.tied pid fd d h in
           let go : Bool → Result Tried Errno = λ b. refuse_if b EINVAL >> Ok (try_write s (end_of_rows f d w.pipe) x written) in
           subst (λ (v : Namespace). attempted (meaning f v.state) pid (Writing fd x written) ≡ Err EINVAL) view
-          (through (Some sides.Write) (λ e. refuse_if (nat_lt MAX_WRITE (length x)) EINVAL >> Ok (try_write s e x written)) w.pipe h (find_at pipes d.pipe.place d.pipe.serial w.pipe w.stands)
+          (through (Some sides.Write) (λ e. refuse_if (nat_lt MAX_WRITE (length x)) EINVAL >> Ok (try_write s e x written)) w.pipe h (find_at pipes d.pipe.slot d.pipe.serial w.pipe w.stands)
           ∙ ap go (lt-ltb MAX_WRITE (length x) long))
 
       -- what a transfer through the pipe that was found left
-      module _ (r : Pipe) (handed : find pipes d.pipe.place d.pipe.serial ≡ Some r) (g : Live) (r' : Pipe) (progress : Progress) where
+      module _ (r : Pipe) (handed : find pipes d.pipe.slot d.pipe.serial ≡ Some r) (g : Live) (r' : Pipe) (progress : Progress) where
         counts : (readers s d.pipe.serial ≡ r.readers) × (writers s d.pipe.serial ≡ r.writers)
-        counts = counted f (Some sides.Read) ps ds pipes files files_made k.tied pid fd d.pipe.serial d.pipe.place r (find_was pipes d.pipe.place d.pipe.serial r handed)
+        counts = counted f (Some sides.Read) ps ds pipes files files_made k.tied pid fd d.pipe.serial d.pipe.slot r (find_was pipes d.pipe.slot d.pipe.serial r handed)
 
         abbrev after : Namespace
-        after = record { limits = limits; state = state_of ps ds (put_at pipes d.pipe.serial (d.pipe.place, r')) files files_made }
+        after = record { limits = limits; state = state_of ps ds (put_at pipes d.pipe.serial (d.pipe.slot, r')) files files_made }
 
         pub wrote : (x : List ℕ) (written : ℕ) (whole : Bool) → end_in (Some sides.Write) ps ds pid fd ≡ Ok d → length x ≤ MAX_WRITE → whole ≡ nat_le (length x) PIPE_BUF
             → Passes r r' f g progress (write_now (queue_of f r.ring) r.readers whole (drop written x)) → Came g after (attempted (meaning f n.state) pid (Writing fd x written)) progress (take (moved progress) (drop written x))

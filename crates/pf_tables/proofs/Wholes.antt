@@ -101,14 +101,14 @@ module _ {files : Files} {files_made : ℕ} (f : Live) (limits : Limits) (charge
       (sym (flag_found s fd (ready s pid) ∙ ap flagged (refused f None ps ds pipes files files_made kept.tied pid fd e h)))
 
   -- a write into a pipe that was found, which has readers and no room for all bytes, stops short of its end
-  pub stops_at : (d : Description) (r : Pipe) (x : List ℕ) → end_in (Some Write) ps ds pid fd ≡ Ok d → find pipes d.pipe.place d.pipe.serial ≡ Some r → length x ≤ MAX_WRITE
+  pub stops_at : (d : Description) (r : Pipe) (x : List ℕ) → end_in (Some Write) ps ds pid fd ≡ Ok d → find pipes d.pipe.slot d.pipe.serial ≡ Some r → length x ≤ MAX_WRITE
       → 0 < r.readers → room_of (queue_of f r.ring) < length x → Stops (attempted (meaning f n.state) pid (Writing fd x 0)) (length x)
   stops_at d r x h handed fits some short =
       let w = found f (Some Write) ps ds pipes files files_made kept.tied pid fd d h in
-      let one : ◌≡◌ {A = Option (ℕ × Pipe)} (Some (d.pipe.place, w.pipe)) (Some (d.pipe.place, r)) = sym w.stands ∙ find_was pipes d.pipe.place d.pipe.serial r handed in
-      let pair : ◌≡◌ {A = ℕ × Pipe} (d.pipe.place, w.pipe) (d.pipe.place, r) = cc in
+      let one : ◌≡◌ {A = Option (ℕ × Pipe)} (Some (d.pipe.slot, w.pipe)) (Some (d.pipe.slot, r)) = sym w.stands ∙ find_was pipes d.pipe.slot d.pipe.serial r handed in
+      let pair : ◌≡◌ {A = ℕ × Pipe} (d.pipe.slot, w.pipe) (d.pipe.slot, r) = cc in
       let same : w.pipe ≡ r = ap (λ (p : ℕ × Pipe). p.1) pair in
-      let counts = counted f (Some Write) ps ds pipes files files_made kept.tied pid fd d.pipe.serial d.pipe.place w.pipe w.stands in
+      let counts = counted f (Some Write) ps ds pipes files files_made kept.tied pid fd d.pipe.serial d.pipe.slot w.pipe w.stands in
       let go : Bool → Result Tried Errno = λ b. refuse_if b EINVAL >> Ok (try_write s (end_of_rows f d w.pipe) x 0) in
       subst (λ (v : Namespace). Stops (attempted (meaning f v.state) pid (Writing fd x 0)) (length x)) view
       (record {

@@ -112,7 +112,7 @@ HasFree ps pid = (p : Process) → process_in ps pid ≡ Ok p → first_free p.d
 pub record Describes (ps ps' : ProcessRows) (ds ds' : DescriptionRows) (pid : ℕ) (end : Description) (kept fd : Option ℕ) : Type 0 where
   pub k : Key
   pub k_is : k.serial ≡ length ds
-  pub described : ds' ≡ ds ++ Some (k.place, record { value = end; names = 1 }) ∷ []
+  pub described : ds' ≡ ds ++ Some (k.slot, record { value = end; names = 1 }) ∷ []
   pub seated : ps' ≡ change_at (taking kept k) ps (pid - 1)
   pub p : Process
   pub is : process_in ps pid ≡ Ok p
@@ -125,7 +125,7 @@ SameKeys es fs = (n : ℕ) → lookup (nat_eq n) fs ≡ lookup (nat_eq n) es
 -- one pipe more, and its FIFO's key
 pub record MakesFifo (pipes pipes' : PipeRows) (es fs : List (ℕ × Key)) (pipe : Pipe) (file : ℕ) (k : Key) : Type 0 where
   pub k_is : k.serial ≡ length pipes
-  pub stored : pipes' ≡ pipes ++ Some (k.place, pipe) ∷ []
+  pub stored : pipes' ≡ pipes ++ Some (k.slot, pipe) ∷ []
   pub keys : (n : ℕ) → lookup (nat_eq n) fs ≡ (if nat_eq file n then Some k else lookup (nat_eq n) es)
 
 -- Whether the open in which a process waits is over: the other side was opened after it parked

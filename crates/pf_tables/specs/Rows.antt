@@ -160,7 +160,7 @@ has (Some sides.Write) d = d.writes
 
 -- the description of a key
 abbrev pub description_in : DescriptionRows → Key → Option Description
-description_in ds k = option_map (λ n. n.value) (find ds k.place k.serial)
+description_in ds k = option_map (λ n. n.value) (find ds k.slot k.serial)
 
 -- the description of the end that a process's descriptor names, of a side where one is asked for
 abbrev pub end_in : Option Side → ProcessRows → DescriptionRows → ℕ → ℕ → Result Description Errno
@@ -181,7 +181,7 @@ is_used p = nat_lt 0 (p.readers + p.writers)
 
 -- what is left of a pipe, and the pipe that is gone
 abbrev pub left : Description → Pipe → Option (ℕ × Pipe)
-left d p = if is_used (with_fewer d p) then Some (d.pipe.place, with_fewer d p) else None
+left d p = if is_used (with_fewer d p) then Some (d.pipe.slot, with_fewer d p) else None
 
 abbrev pub gone : Description → Pipe → Option Pipe
 gone d p = if is_used (with_fewer d p) then None else Some (with_fewer d p)
@@ -296,7 +296,7 @@ holding (Some x) xs = x ∷ xs
 
 -- a key finds something: what stands at its number stands in its place
 abbrev pub Finds : {T : Type 0} → List (Option (ℕ × T)) → Key → Type 0
-Finds rows k = option_map (λ e. e.0) (at rows k.serial) ≡ Some k.place
+Finds rows k = option_map (λ e. e.0) (at rows k.serial) ≡ Some k.slot
 
 -- each of a process's keys finds a description
 abbrev pub AllFind : List (Option Key) → DescriptionRows → Type 0
@@ -366,9 +366,9 @@ NoMore drawn o = (o.1.read ≤ drawn) × (o.1.write ≤ drawn)
 -- descriptions were drawn
 pub record AreFifos (fifos : List (ℕ × Key)) (drawn : ℕ) (opens : List (Option (ℕ × Opens))) : Type 0 where
   pub finds : (file : ℕ) (k : Key) → lookup (nat_eq file) fifos ≡ Some k
-      → (o : Opens) × (at opens k.serial ≡ Some (k.place, o)) × (o.file ≡ Some file)
+      → (o : Opens) × (at opens k.serial ≡ Some (k.slot, o)) × (o.file ≡ Some file)
   pub there : (n : ℕ) (o : ℕ × Opens) (file : ℕ) → at opens n ≡ Some o → o.1.file ≡ Some file
-      → lookup (nat_eq file) fifos ≡ Some (record { place = o.0; serial = n })
+      → lookup (nat_eq file) fifos ≡ Some (record { slot = o.0; serial = n })
   pub few : (n : ℕ) (o : ℕ × Opens) → at opens n ≡ Some o → NoMore drawn o
 
 -- the counters are tied, and those of pages are the sums over all pipes

@@ -3,7 +3,7 @@
 ghost use Rattle.std.specs.Prelude.{◌≡◌, ◌-◌, ◌<◌, ◌≤◌, None, Some, Ok, Err, IfOk, IsOk, MatchResult, option_copied, slice_set};
 ghost use Rattle.pf_base.specs.Numbered.{at, put_at, clear_at, change_at, first_free};
 ghost use Rattle.pf_base.specs.State.{vacant};
-ghost use Rattle.pf_base.specs.declared.TheConstants.{MAX_PROCESSES};
+ghost use Rattle.pf_base.specs.declared.TheConstants.{MAX_DESCRIPTORS, MAX_PROCESSES};
 ghost use Rattle.pf_tables.specs.Rows.{process_at, process_in, ready_in, call_in, idle, woken, Lives, IsAwake, HasSpare, HasLowest, MayWait, key_at, with_key, with_keys, without_key, with_call};
 
 use pf_base::{Cred, Errno};
@@ -85,11 +85,11 @@ impl ProcessTable {
         self.calls.get(pid)
     }
 
-    /// The lowest free descriptor of a process, also where it waits in a call; 256 where it has none.
+    /// The lowest free descriptor of a process, also where it waits in a call; `MAX_DESCRIPTORS` where it has none.
     pub fn lowest_descriptor(&self, pid: u32) -> usize
         requires { IsOk (process_in self.now pid) }
         ensures lowest { HasLowest self.now pid result }
-        ensures most { result ≤ 256 }
+        ensures most { result ≤ MAX_DESCRIPTORS }
     {
         match self.places.get(pid as usize - 1) {
             Some(process) => process.descriptors.lowest(),
@@ -128,7 +128,7 @@ impl ProcessTable {
         Some(call)
     }
 
-    /// The lowest place where no process is, 256 where there is one in each.
+    /// The lowest place where no process is, `MAX_PROCESSES` where there is one in each.
     pub fn lowest(&self) -> usize
         ensures lowest { result ≡ first_free self.now }
         ensures most { result ≤ MAX_PROCESSES }
@@ -168,7 +168,7 @@ impl ProcessTable {
     /// Puts a key at a descriptor of the process in a place, which waits in no call.
     pub fn give_key(&mut self, i: usize, fd: usize, key: Key)
         requires there { IsAwake (at self.old i) }
-        requires fd_in { fd < 256 }
+        requires fd_in { fd < MAX_DESCRIPTORS }
         ensures { self.new ≡ slice_set self.old i (with_key fd key (at self.old i)) }
     {
         self.places.value_mut(i).descriptors.set(fd, key);
@@ -184,8 +184,8 @@ impl ProcessTable {
         second_key: Key,
     )
         requires there { IsAwake (at self.old i) }
-        requires first_in { first < 256 }
-        requires second_in { second < 256 }
+        requires first_in { first < MAX_DESCRIPTORS }
+        requires second_in { second < MAX_DESCRIPTORS }
         ensures { self.new
             ≡ slice_set self.old i (with_keys first first_key second second_key (at self.old i)) }
     {

@@ -3,6 +3,7 @@
 //! are released, and its pages are charged no more.
 
 ghost use Rattle.std.specs.Prelude.{◌≡◌, ℕ, ◌+◌, ◌<◌, ◌≤◌, None, IsSome, IfSome, OnErr, length, slice_set};
+ghost use Rattle.pf_base.specs.declared.TheConstants.{MAX_PROCESSES};
 ghost use Rattle.pf_base.specs.Machine.{call_of};
 ghost use Rattle.pf_base.specs.Numbered.{at, one_if};
 ghost use Rattle.pf_fds.specs.Registry.{find};
@@ -38,12 +39,12 @@ fn uncount(pipe: &mut Pipe, end: Description)
 
 // Takes an end from its pipe. The pipe goes where that was its last, and is given out.
 fn drop_end(pipes: &mut Registry<Pipe>, end: Description) -> Option<Pipe>
-    requires stands { IsSome (find pipes.old.items end.pipe.place end.pipe.serial) }
-    requires counted { IfSome (find pipes.old.items end.pipe.place end.pipe.serial)
+    requires stands { IsSome (find pipes.old.items end.pipe.slot end.pipe.serial) }
+    requires counted { IfSome (find pipes.old.items end.pipe.slot end.pipe.serial)
         (λ p. (one_if end.reads ≤ p.readers) × (one_if end.writes ≤ p.writers)) }
-    ensures items { IfSome (find pipes.old.items end.pipe.place end.pipe.serial)
+    ensures items { IfSome (find pipes.old.items end.pipe.slot end.pipe.serial)
         (λ p. pipes.new.items ≡ slice_set pipes.old.items end.pipe.serial (left end p)) }
-    ensures pipe { IfSome (find pipes.old.items end.pipe.place end.pipe.serial) (λ p. result ≡ gone end p) }
+    ensures pipe { IfSome (find pipes.old.items end.pipe.slot end.pipe.serial) (λ p. result ≡ gone end p) }
 {
     let pipe = pipes.value_mut(end.pipe);
     uncount(pipe, end);
@@ -169,7 +170,7 @@ impl<A: Allocator> Tables<A> {
 
     // Takes a process away that has no descriptors, and waits in no call.
     pub(super) fn take_process<F: Frames>(&mut self, door: &F, i: usize)
-        requires i_in { i < 256 }
+        requires i_in { i < MAX_PROCESSES }
         requires owns { Owns (F.live door.now) self.old }
         requires bare { (fd : ℕ) → descriptor self.old.state i fd ≡ None }
         requires awake { call_of self.old.state (i + 1) ≡ None }

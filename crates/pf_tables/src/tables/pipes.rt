@@ -24,7 +24,7 @@ pub(super) fn insert_named(descriptions: &mut Descriptions<Description>, end: De
     requires unspent { length descriptions.old.items < 2 ^ 64 - 1 }
     ensures serial { result.serial ≡ length descriptions.old.items }
     ensures items { descriptions.new.items
-        ≡ descriptions.old.items ++ Some (result.place, record { value = end; names = 1 }) ∷ [] }
+        ≡ descriptions.old.items ++ Some (result.slot, record { value = end; names = 1 }) ∷ [] }
     ensures room { descriptions.new.room + 1 ≡ descriptions.old.room }
 {
     let key = descriptions.insert_reserved(end);

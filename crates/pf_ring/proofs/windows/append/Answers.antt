@@ -16,7 +16,7 @@ loop-preserved g c = record {
   appending =
       let some : length c.loop.rest.now ≡ 0 → ⊥ = λ e. not_empty c.is_empty.result (length c.loop.rest.now) c.is_empty.ensures c.if-is_empty.false e in
       let used : length c.push_piece.new.windows.items ≡ c.loop.counter + 1 = omega arith in
-      appending_more (g.F.Frames.live c.args.f.now) (g.F.Frames.live c.loop.f) (g.F.Frames.live c.push_piece.new.f) c.args.windows.now.items c.loop.windows.items c.push_piece.new.windows.items c.args.slots c.loop.counter c.min.result
+      appending_more (g.F.Frames.live c.args.door.now) (g.F.Frames.live c.loop.door) (g.F.Frames.live c.push_piece.new.door) c.args.windows.now.items c.loop.windows.items c.push_piece.new.windows.items c.args.slots c.loop.counter c.min.result
       _ c.args.bytes.now c.loop.rest.now c.split_at.result.0.now c.split_at.result.1.now c.loop.invariant.appending c.loop-test.true (omega arith) c.min.ensures c.split_at.ensures.front c.split_at.ensures.back used
       c.push_piece.ensures.segments c.push_piece.ensures.puts;
 }

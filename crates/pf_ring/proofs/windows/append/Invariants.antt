@@ -7,11 +7,11 @@ use Rattle.pf_ring.proofs.windows.append.Given as goal
 
 abbrev pub invariant-loop : goal.invariant-loop
 invariant-loop g l = record {
-  fact : g.F.Frames.fact l.f;
-  rest : g.F.Frames.rest l.f ≡ g.F.Frames.rest l.fn.f;
+  fact : g.F.Frames.fact l.door;
+  rest : g.F.Frames.rest l.door ≡ g.F.Frames.rest l.fn.door;
   number : deque_len l.windows ≡ l.counter;
   space : deque_capacity l.windows ≡ deque_capacity l.fn.windows;
-  appending : Appending (g.F.Frames.live l.fn.f) (g.F.Frames.live l.f) l.fn.windows.items l.windows.items l.slots l.counter
-      (topped_up (shown (g.F.Frames.live l.fn.f) l.fn.windows.items) l.bytes ++ pieces (l.slots - deque_len l.fn.windows) (drop (last_room (shown (g.F.Frames.live l.fn.f) l.fn.windows.items)) l.bytes))
+  appending : Appending (g.F.Frames.live l.fn.door) (g.F.Frames.live l.door) l.fn.windows.items l.windows.items l.slots l.counter
+      (topped_up (shown (g.F.Frames.live l.fn.door) l.fn.windows.items) l.bytes ++ pieces (l.slots - deque_len l.fn.windows) (drop (last_room (shown (g.F.Frames.live l.fn.door) l.fn.windows.items)) l.bytes))
       l.bytes l.rest;
 }

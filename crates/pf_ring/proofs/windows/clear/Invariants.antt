@@ -5,11 +5,11 @@ use Rattle.pf_ring.proofs.windows.clear.Given as goal
 
 abbrev pub invariant-loop-windows : goal.invariant-loop-windows
 invariant-loop-windows g l = record {
-  fact : g.F.Frames.fact l.f;
-  rest : g.F.Frames.rest l.f ≡ g.F.Frames.rest l.fn.f;
+  fact : g.F.Frames.fact l.door;
+  rest : g.F.Frames.rest l.door ≡ g.F.Frames.rest l.fn.door;
   space : deque_capacity l.windows ≡ deque_capacity l.fn.windows;
-  stands : Stands (g.F.Frames.live l.f) l.windows.items;
-  drops : Drops l.fn.windows.items l.windows.items (g.F.Frames.live l.fn.f) (g.F.Frames.live l.f);
+  stands : Stands (g.F.Frames.live l.door) l.windows.items;
+  drops : Drops l.fn.windows.items l.windows.items (g.F.Frames.live l.fn.door) (g.F.Frames.live l.door);
 }
 
 abbrev pub decreases-loop-windows : goal.decreases-loop-windows

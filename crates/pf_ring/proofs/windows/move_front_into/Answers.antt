@@ -6,14 +6,14 @@ use Rattle.pf_ring.proofs.windows.move_front_into.Goals as goal
 
 pub front-part-requires-clause-within : goal.front-part-requires-clause-within
 front-part-requires-clause-within g c =
-    let f : Live = g.F.Frames.live c.args.f.now in
+    let f : Live = g.F.Frames.live c.args.door.now in
     let sound : IsSound f = g.met.F.Frames.sound _ c.requires.fact in
     let first : First f c.args.windows.now.items c.index-first.result.now = is_first f _ c.index-first.result.now sound c.requires.stands (omega arith) c.index-first.ensures in
     first.ends
 
 pub returns-clause-any : goal.returns-clause-any
 returns-clause-any g c =
-    let f : Live = g.F.Frames.live c.args.f.now in
+    let f : Live = g.F.Frames.live c.args.door.now in
     let sound : IsSound f = g.met.F.Frames.sound _ c.requires.fact in
     let first : First f c.args.windows.now.items c.index-first.result.now = is_first f _ c.index-first.result.now sound c.requires.stands (omega arith) c.index-first.ensures in
     let taken = taken_first f c.args.windows.now.items c.index-first.result.now (length c.args.buffer.now) _ c.front-part.result.now sound first refl c.front-part.ensures in

@@ -8,13 +8,13 @@ use Rattle.pf_ring.proofs.windows.move_into.Given as goal
 
 abbrev pub invariant-loop-done : goal.invariant-loop-done
 invariant-loop-done g l = record {
-  fact : g.F.Frames.fact l.f;
-  rest : g.F.Frames.rest l.f ≡ g.F.Frames.rest l.fn.f;
+  fact : g.F.Frames.fact l.door;
+  rest : g.F.Frames.rest l.door ≡ g.F.Frames.rest l.fn.door;
   space : deque_capacity l.windows ≡ deque_capacity l.fn.windows;
   within : l.done ≤ length l.fn.buffer;
-  stands : Stands (g.F.Frames.live l.f) l.windows.items;
-  cut : Cut l.fn.windows.items l.windows.items l.done (g.F.Frames.live l.fn.f) (g.F.Frames.live l.f);
-  filled : l.buffer ≡ take l.done (joined (shown (g.F.Frames.live l.fn.f) l.fn.windows.items)) ++ drop l.done l.fn.buffer;
+  stands : Stands (g.F.Frames.live l.door) l.windows.items;
+  cut : Cut l.fn.windows.items l.windows.items l.done (g.F.Frames.live l.fn.door) (g.F.Frames.live l.door);
+  filled : l.buffer ≡ take l.done (joined (shown (g.F.Frames.live l.fn.door) l.fn.windows.items)) ++ drop l.done l.fn.buffer;
 }
 
 abbrev pub decreases-loop-done : goal.decreases-loop-done

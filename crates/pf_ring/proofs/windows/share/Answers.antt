@@ -11,12 +11,12 @@ loop-place-init g c = record {
   fact = c.requires.fact;
   rest = refl;
   space = refl;
-  sharing = sharing_none (g.F.Frames.live c.args.f.now) c.args.source.now.items c.args.sink.now.items c.args.slots c.args.n _ c.requires.stands (omega arith);
+  sharing = sharing_none (g.F.Frames.live c.args.door.now) c.args.source.now.items c.args.sink.now.items c.args.slots c.args.n _ c.requires.stands (omega arith);
 }
 
 pub share-requires-clause-is_live : goal.share-requires-clause-is_live
 share-requires-clause-is_live g c =
-    let f : Live = g.F.Frames.live c.args.f.now in
+    let f : Live = g.F.Frames.live c.args.door.now in
     let src : List Window = c.args.source.now.items in
     let stands : Stands f src = stands_first f src c.args.sink.now.items c.requires.stands in
     let at : Source f src c.loop-place.place c.index-window.result.now = is_source f src _ _ (g.met.F.Frames.sound _ c.requires.fact) stands (omega arith) c.index-window.ensures in
@@ -28,10 +28,10 @@ loop-place-preserved g c = record {
   rest = c.share.ensures.rest ∙ c.loop-place.invariant.rest;
   space = c.push_back_reserved.ensures.capacity ∙ c.loop-place.invariant.space;
   sharing =
-      let f : Live = g.F.Frames.live c.args.f.now in
+      let f : Live = g.F.Frames.live c.args.door.now in
       let src : List Window = c.args.source.now.items in
       let stands : Stands f src = stands_first f src c.args.sink.now.items c.requires.stands in
-      sharing_more f (g.F.Frames.live c.loop-place.f) (g.F.Frames.live c.share.new.self) src c.args.sink.now.items c.loop-place.sink.items c.push_back_reserved.new.self.items c.args.slots c.args.n c.loop-place.place c.loop-place.done c.min-number.result _ c.index-window.result.now
+      sharing_more f (g.F.Frames.live c.loop-place.door) (g.F.Frames.live c.share.new.self) src c.args.sink.now.items c.loop-place.sink.items c.push_back_reserved.new.self.items c.args.slots c.args.n c.loop-place.place c.loop-place.done c.min-number.result _ c.index-window.result.now
       (g.met.F.Frames.sound _ c.requires.fact) stands c.loop-place.invariant.sharing (omega arith) (omega (arith, c.loop-place.invariant.sharing.number)) (omega (arith, c.loop-place.invariant.sharing.within)) c.index-window.ensures c.min-number.ensures c.share.ensures.shares c.push_back_reserved.ensures.items;
 }
 

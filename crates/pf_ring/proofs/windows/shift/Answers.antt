@@ -13,45 +13,45 @@ loop-init g c = record {
   rest = refl;
   space = refl;
   source_space = refl;
-  shifting = shifting_none (g.F.Frames.live c.args.f.now) c.args.source.now.items c.args.sink.now.items c.args.slots c.args.n _ (g.met.F.Frames.sound _ c.requires.fact) c.requires.stands (omega arith);
+  shifting = shifting_none (g.F.Frames.live c.args.door.now) c.args.source.now.items c.args.sink.now.items c.args.slots c.args.n _ (g.met.F.Frames.sound _ c.requires.fact) c.requires.stands (omega arith);
 }
 
 pub share-requires-clause-is_live : goal.share-requires-clause-is_live
 share-requires-clause-is_live g c =
-    live_now (g.F.Frames.live c.args.f.now) _ _ _ _ _ _ _ _ _ _ c.index-first.result.now (g.met.F.Frames.sound _ c.requires.fact) c.requires.stands c.loop.invariant.shifting (omega arith) c.index-first.ensures
+    live_now (g.F.Frames.live c.args.door.now) _ _ _ _ _ _ _ _ _ _ c.index-first.result.now (g.met.F.Frames.sound _ c.requires.fact) c.requires.stands c.loop.invariant.shifting (omega arith) c.index-first.ensures
 
 pub overflow_add-first : goal.overflow_add-first
 overflow_add-first g c =
-    let at : First (g.F.Frames.live c.args.f.now) c.loop.source.items c.index-first.result.now =
-    first (g.F.Frames.live c.args.f.now) _ _ _ _ _ _ _ _ _ _ c.index-first.result.now (g.met.F.Frames.sound _ c.requires.fact) c.requires.stands c.loop.invariant.shifting (omega arith) c.index-first.ensures in
+    let at : First (g.F.Frames.live c.args.door.now) c.loop.source.items c.index-first.result.now =
+    first (g.F.Frames.live c.args.door.now) _ _ _ _ _ _ _ _ _ _ c.index-first.result.now (g.met.F.Frames.sound _ c.requires.fact) c.requires.stands c.loop.invariant.shifting (omega arith) c.index-first.ensures in
     omega (arith, at.ends)
 
 pub loop-preserved : goal.loop-preserved
 loop-preserved g c =
-    let f : Live = g.F.Frames.live c.args.f.now in
+    let f : Live = g.F.Frames.live c.args.door.now in
     let w : Window = c.index-first.result.now in
     let at : First f c.loop.source.items w =
     first f _ _ _ _ _ _ _ _ _ _ w (g.met.F.Frames.sound _ c.requires.fact) c.requires.stands c.loop.invariant.shifting (omega arith) c.index-first.ensures in
     elim c.if-first-part.branch [
       | then-first-part b ↦ record {
-        fact = rw b.f-is b.share.ensures.fact;
-        rest = rw b.f-is (b.share.ensures.rest ∙ c.loop.invariant.rest);
+        fact = rw b.door-is b.share.ensures.fact;
+        rest = rw b.door-is (b.share.ensures.rest ∙ c.loop.invariant.rest);
         space = c.push_back_reserved.ensures.capacity ∙ c.loop.invariant.space;
         source_space = ap deque_capacity b.source-is ∙ c.loop.invariant.source_space;
         shifting =
-            rw b.f-is
-            (shifting_cut f (g.F.Frames.live c.loop.f) c.args.source.now.items c.loop.source.items c.args.sink.now.items c.loop.sink.items c.args.slots c.args.n c.loop.counter c.loop.done _ w (g.met.F.Frames.sound _ c.requires.fact) c.requires.stands c.loop.invariant.shifting (omega arith) c.index-first.ensures
+            rw b.door-is
+            (shifting_cut f (g.F.Frames.live c.loop.door) c.args.source.now.items c.loop.source.items c.args.sink.now.items c.loop.sink.items c.args.slots c.args.n c.loop.counter c.loop.done _ w (g.met.F.Frames.sound _ c.requires.fact) c.requires.stands c.loop.invariant.shifting (omega arith) c.index-first.ensures
             (g.F.Frames.live b.share.new.self) c.min-part.result _ _ c.min-part.ensures b.if-first-part.true (omega (arith, c.loop.invariant.shifting.number)) (omega (arith, c.loop.invariant.shifting.within)) b.share.ensures.shares
             (ap (λ d. d.items) b.source-is ∙ set_first f c.loop.source.items w _ at) c.push_back_reserved.ensures.items);
       }
       | else-first-part b ↦ record {
-        fact = rw b.f-is c.loop.invariant.fact;
-        rest = rw b.f-is c.loop.invariant.rest;
+        fact = rw b.door-is c.loop.invariant.fact;
+        rest = rw b.door-is c.loop.invariant.rest;
         space = c.push_back_reserved.ensures.capacity ∙ c.loop.invariant.space;
         source_space = ap deque_capacity b.source-is ∙ (b.pop_front.ensures.capacity ∙ c.loop.invariant.source_space);
         shifting =
-            rw b.f-is
-            (shifting_whole f (g.F.Frames.live c.loop.f) c.args.source.now.items c.loop.source.items c.args.sink.now.items c.loop.sink.items c.args.slots c.args.n c.loop.counter c.loop.done _ w (g.met.F.Frames.sound _ c.requires.fact) c.requires.stands c.loop.invariant.shifting (omega arith) c.index-first.ensures
+            rw b.door-is
+            (shifting_whole f (g.F.Frames.live c.loop.door) c.args.source.now.items c.loop.source.items c.args.sink.now.items c.loop.sink.items c.args.slots c.args.n c.loop.counter c.loop.done _ w (g.met.F.Frames.sound _ c.requires.fact) c.requires.stands c.loop.invariant.shifting (omega arith) c.index-first.ensures
             c.min-part.result _ _ c.min-part.ensures (omega (arith, b.if-first-part.false)) (omega (arith, c.loop.invariant.shifting.number)) (omega (arith, c.loop.invariant.shifting.within))
             (ap (λ d. d.items) b.source-is ∙ b.pop_front.ensures.rest) c.push_back_reserved.ensures.items);
       }

@@ -7,10 +7,10 @@ use Rattle.pf_ring.proofs.windows.shift.Given as goal
 
 abbrev pub invariant-loop : goal.invariant-loop
 invariant-loop g l = record {
-  fact : g.F.Frames.fact l.f;
-  rest : g.F.Frames.rest l.f ≡ g.F.Frames.rest l.fn.f;
+  fact : g.F.Frames.fact l.door;
+  rest : g.F.Frames.rest l.door ≡ g.F.Frames.rest l.fn.door;
   space : deque_capacity l.sink ≡ deque_capacity l.fn.sink;
   source_space : deque_capacity l.source ≡ deque_capacity l.fn.source;
-  shifting : Shifting (g.F.Frames.live l.fn.f) (g.F.Frames.live l.f) l.fn.source.items l.source.items l.fn.sink.items l.sink.items l.slots l.n l.counter l.done
-      (shown (g.F.Frames.live l.fn.f) l.fn.sink.items ++ copied (l.slots - deque_len l.fn.sink) l.n (shown (g.F.Frames.live l.fn.f) l.fn.source.items));
+  shifting : Shifting (g.F.Frames.live l.fn.door) (g.F.Frames.live l.door) l.fn.source.items l.source.items l.fn.sink.items l.sink.items l.slots l.n l.counter l.done
+      (shown (g.F.Frames.live l.fn.door) l.fn.sink.items ++ copied (l.slots - deque_len l.fn.sink) l.n (shown (g.F.Frames.live l.fn.door) l.fn.source.items));
 }

@@ -12,17 +12,17 @@ use Rattle.pf_ring.proofs.windows.top_up.Goals as goal
 
 pub overflow_sub-last : goal.overflow_sub-last
 overflow_sub-last g c =
-    let f : Live = g.F.Frames.live c.args.f.now in
+    let f : Live = g.F.Frames.live c.args.door.now in
     omega (arith, c.last_window_room.ensures.room f, room_some f c.args.windows.now.items)
 
 pub index-window-requires : goal.index-window-requires
 index-window-requires g c =
-    let f : Live = g.F.Frames.live c.args.f.now in
+    let f : Live = g.F.Frames.live c.args.door.now in
     omega (arith, c.last_window_room.ensures.room f, room_some f c.args.windows.now.items)
 
 pub overflow_add-window : goal.overflow_add-window
 overflow_add-window g c =
-    let f : Live = g.F.Frames.live c.args.f.now in
+    let f : Live = g.F.Frames.live c.args.door.now in
     let w : Window = c.index-window.result.now in
     let top : Top f c.args.windows.now.items (c.len-last.result - 1) w c.min-number.result =
     is_top f c.args.windows.now.items c.len-last.result c.min-number.result w c.args.bytes.now (g.met.F.Frames.sound _ c.requires.fact) c.requires.stands (omega arith)
@@ -31,7 +31,7 @@ overflow_add-window g c =
 
 pub fill-requires-clause-is_live : goal.fill-requires-clause-is_live
 fill-requires-clause-is_live g c =
-    let f : Live = g.F.Frames.live c.args.f.now in
+    let f : Live = g.F.Frames.live c.args.door.now in
     let w : Window = c.index-window.result.now in
     let top : Top f c.args.windows.now.items (c.len-last.result - 1) w c.min-number.result =
     is_top f c.args.windows.now.items c.len-last.result c.min-number.result w c.args.bytes.now (g.met.F.Frames.sound _ c.requires.fact) c.requires.stands (omega arith)
@@ -40,7 +40,7 @@ fill-requires-clause-is_live g c =
 
 pub fill-requires-clause-within : goal.fill-requires-clause-within
 fill-requires-clause-within g c =
-    let f : Live = g.F.Frames.live c.args.f.now in
+    let f : Live = g.F.Frames.live c.args.door.now in
     let w : Window = c.index-window.result.now in
     let top : Top f c.args.windows.now.items (c.len-last.result - 1) w c.min-number.result =
     is_top f c.args.windows.now.items c.len-last.result c.min-number.result w c.args.bytes.now (g.met.F.Frames.sound _ c.requires.fact) c.requires.stands (omega arith)
@@ -49,7 +49,7 @@ fill-requires-clause-within g c =
 
 pub overflow_add-window-then-number-gt0 : goal.overflow_add-window-then-number-gt0
 overflow_add-window-then-number-gt0 g c =
-    let f : Live = g.F.Frames.live c.args.f.now in
+    let f : Live = g.F.Frames.live c.args.door.now in
     let w : Window = c.index-window.result.now in
     let top : Top f c.args.windows.now.items (c.len-last.result - 1) w c.min-number.result =
     is_top f c.args.windows.now.items c.len-last.result c.min-number.result w c.args.bytes.now (g.met.F.Frames.sound _ c.requires.fact) c.requires.stands (omega arith)
@@ -58,12 +58,12 @@ overflow_add-window-then-number-gt0 g c =
 
 pub index_mut-requires : goal.index_mut-requires
 index_mut-requires g c =
-    let f : Live = g.F.Frames.live c.args.f.now in
+    let f : Live = g.F.Frames.live c.args.door.now in
     omega (arith, c.last_window_room.ensures.room f, room_some f c.args.windows.now.items)
 
 pub returns-then-number-gt0-clause-segments : goal.returns-then-number-gt0-clause-segments
 returns-then-number-gt0-clause-segments g c =
-    let f : Live = g.F.Frames.live c.args.f.now in
+    let f : Live = g.F.Frames.live c.args.door.now in
     let w : Window = c.index-window.result.now in
     let items : List Window = c.args.windows.now.items in
     let least : c.min-number.result ≡ min (last_room (map (segment_of f) items)) (length c.args.bytes.now) = c.min-number.ensures ∙ ap (λ (k : ℕ). min k (length c.args.bytes.now)) (c.last_window_room.ensures.room f) in
@@ -78,7 +78,7 @@ returns-then-number-gt0-clause-segments g c =
 
 pub returns-then-number-gt0-clause-puts : goal.returns-then-number-gt0-clause-puts
 returns-then-number-gt0-clause-puts g c =
-    let f : Live = g.F.Frames.live c.args.f.now in
+    let f : Live = g.F.Frames.live c.args.door.now in
     let w : Window = c.index-window.result.now in
     let items : List Window = c.args.windows.now.items in
     let number : ℕ = c.min-number.result in
@@ -94,10 +94,10 @@ returns-then-number-gt0-clause-puts g c =
 
 pub returns-else-number-gt0-clause-segments : goal.returns-else-number-gt0-clause-segments
 returns-else-number-gt0-clause-segments g c =
-    let f : Live = g.F.Frames.live c.args.f.now in
+    let f : Live = g.F.Frames.live c.args.door.now in
     sym (topped_none (map (segment_of f) c.args.windows.now.items) c.args.bytes.now (omega (arith, c.last_window_room.ensures.room f)))
 
 pub returns-else-number-gt0-clause-puts : goal.returns-else-number-gt0-clause-puts
 returns-else-number-gt0-clause-puts g c =
-    subst (λ (n : ℕ). Puts c.args.windows.now.items c.args.windows.now.items c.args.windows.now.items n (g.F.Frames.live c.args.f.now) (g.F.Frames.live c.args.f.now))
-    (omega arith) (puts_nothing (g.F.Frames.live c.args.f.now) c.args.windows.now.items c.requires.stands)
+    subst (λ (n : ℕ). Puts c.args.windows.now.items c.args.windows.now.items c.args.windows.now.items n (g.F.Frames.live c.args.door.now) (g.F.Frames.live c.args.door.now))
+    (omega arith) (puts_nothing (g.F.Frames.live c.args.door.now) c.args.windows.now.items c.requires.stands)

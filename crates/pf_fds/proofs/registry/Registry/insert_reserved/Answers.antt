@@ -10,4 +10,4 @@ returns-clause-serial g c = rw (← c.self.view_is) (sym (length-by_number c.sel
 
 pub returns-clause-items : goal.returns-clause-items
 returns-clause-items g c =
-    rw (← c.self.view_is) (inserted c.self.inside.drawn c.insert_reserved-place.result c.self.inside.slab.slots c.insert_reserved-place.new.self.slots c.args.value c.self.invariant.sound c.insert_reserved-place.ensures.was_vacant c.insert_reserved-place.ensures.updates.changed c.insert_reserved-place.ensures.updates.others)
+    rw (← c.self.view_is) (inserted c.self.inside.drawn c.insert_reserved-slot.result c.self.inside.slab.slots c.insert_reserved-slot.new.self.slots c.args.value c.self.invariant.sound c.insert_reserved-slot.ensures.was_vacant c.insert_reserved-slot.ensures.updates.changed c.insert_reserved-slot.ensures.updates.others)

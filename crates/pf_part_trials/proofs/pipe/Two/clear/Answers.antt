@@ -14,7 +14,7 @@ clear-requires-clause-stands c =
 pub invariant_of-self : goal.invariant_of-self
 invariant_of-self c =
     let self = c.args.self.now in
-    let after = own_live c.clear.new.f in
+    let after = own_live c.clear.new.door in
     let emptied : Ring = record { capacity = self.source.ring.capacity; windows = [] } in
     record {
       joined = subst (λ (p : CountedPipe). Joined after (p.ring ∷ self.sink.ring ∷ [])) (sym c.clear.ensures.pipe)

@@ -10,7 +10,7 @@ clear-requires-clause-stands c = ring_stands (own_live c.args.self.now.frames) (
 
 pub invariant_of-self : goal.invariant_of-self
 invariant_of-self c = record {
-  joined = subst (λ (r : Ring). Joined (own_live c.clear.new.f) (r ∷ c.args.self.now.sink ∷ [])) (sym c.clear.ensures.ring)
-      (pair_first (own_live c.args.self.now.frames) (own_live c.clear.new.f) c.args.self.now.source (record { capacity = c.args.self.now.source.capacity; windows = [] }) c.args.self.now.sink c.args.self.now.joined c.clear.ensures.keeps refl (omega arith));
+  joined = subst (λ (r : Ring). Joined (own_live c.clear.new.door) (r ∷ c.args.self.now.sink ∷ [])) (sym c.clear.ensures.ring)
+      (pair_first (own_live c.args.self.now.frames) (own_live c.clear.new.door) c.args.self.now.source (record { capacity = c.args.self.now.source.capacity; windows = [] }) c.args.self.now.sink c.args.self.now.joined c.clear.ensures.keeps refl (omega arith));
   few = rw c.clear.ensures.ring (c.args.self.now.few);
 }

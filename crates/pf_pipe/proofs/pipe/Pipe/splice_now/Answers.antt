@@ -13,12 +13,12 @@ use Rattle.pf_pipe.proofs.pipe.Pipe.splice_now.Goals as goal
 
 pub returns-in-Some-clause-crosses : goal.returns-in-Some-clause-crosses
 returns-in-Some-clause-crosses g c =
-    stopped_crosses (g.F.Frames.live c.args.f.now) Splice c.args.self.now c.args.sink.now c.args.n c.in-Some.progress (g.met.F.Frames.sound _ c.requires.fact) c.requires.stands c.in-Some.ensures.stops
+    stopped_crosses (g.F.Frames.live c.args.door.now) Splice c.args.self.now c.args.sink.now c.args.n c.in-Some.progress (g.met.F.Frames.sound _ c.requires.fact) c.requires.stands c.in-Some.ensures.stops
 
 pub returns-clause-crosses : goal.returns-clause-crosses
 returns-clause-crosses g c =
-    let f : Live = g.F.Frames.live c.args.f.now in
-    let after : Live = g.F.Frames.live c.splice_into-number.new.f in
+    let f : Live = g.F.Frames.live c.args.door.now in
+    let after : Live = g.F.Frames.live c.splice_into-number.new.door in
     let source : CountedPipe = record { ring = c.self.inside.ring; owner = c.self.inside.owner; readers = c.self.inside.readers; writers = c.self.inside.writers; opens = record { file = c.self.inside.file; read = c.self.inside.read_opens; write = c.self.inside.write_opens } } in
     let sink : CountedPipe = record { ring = c.sink.inside.ring; owner = c.sink.inside.owner; readers = c.sink.inside.readers; writers = c.sink.inside.writers; opens = record { file = c.sink.inside.file; read = c.sink.inside.read_opens; write = c.sink.inside.write_opens } } in
     let source' : CountedPipe = record { ring = c.splice_into-number.new.self; owner = c.self.inside.owner; readers = c.self.inside.readers; writers = c.self.inside.writers; opens = record { file = c.self.inside.file; read = c.self.inside.read_opens; write = c.self.inside.write_opens } } in
@@ -35,7 +35,7 @@ returns-clause-crosses g c =
 
 pub returns-clause-untouched : goal.returns-clause-untouched
 returns-clause-untouched g c none =
-    let f : Live = g.F.Frames.live c.args.f.now in
+    let f : Live = g.F.Frames.live c.args.door.now in
     let goes : GoesIn f Splice c.args.self.now c.args.sink.now c.args.n = c.in_default.ensures.goes f Splice (g.met.F.Frames.sound _ c.requires.fact) (stands_first f c.args.self.now.ring.windows c.args.sink.now.ring.windows c.requires.stands) in
     let number : c.splice_into-number.result ≡ tee_number (queue_of f c.args.self.now.ring) (queue_of f c.args.sink.now.ring) c.args.n =
     c.splice_into-number.ensures.number ∙ (λ i. tee_number (queue_of f (c.self.view_is i).ring) (queue_of f (c.sink.view_is i).ring) c.args.n) in

@@ -20,18 +20,18 @@ step-requires-clause-owns g c =
 
 pub invariant_of-self : goal.invariant_of-self
 invariant_of-self g c =
-    let moved : Moved (pool_live c.door-door.result.pool.now c.door-door.result.ns) (pool_live c.step.new.f.pool.now c.step.new.f.ns) c.index_mut.result.now c.step.new.self c.args.step.now c.step.result = record { owns = c.step.ensures.owns; limits = c.step.ensures.limits; answers = c.step.ensures.answers; succeeds = c.step.ensures.succeeds } in
-    plain_after (here c.self.invariant c.self.view_is c.requires.exists) c.self.invariant c.index_mut.ensures.value c.step.new.f.pool.now
-    (same_rest c.step.new.f.pool.now c.door-door.ensures.ns c.door-door.ensures.pool c.step.ensures.rest) (same_door c.step.new.f.pool.now c.door-door.ensures.ns c.door-door.ensures.pool c.step.ensures.rest moved)
+    let moved : Moved (pool_live c.door-door.result.pool.now c.door-door.result.ns) (pool_live c.step.new.door.pool.now c.step.new.door.ns) c.index_mut.result.now c.step.new.self c.args.step.now c.step.result = record { owns = c.step.ensures.owns; limits = c.step.ensures.limits; answers = c.step.ensures.answers; succeeds = c.step.ensures.succeeds } in
+    plain_after (here c.self.invariant c.self.view_is c.requires.exists) c.self.invariant c.index_mut.ensures.value c.step.new.door.pool.now
+    (same_rest c.step.new.door.pool.now c.door-door.ensures.ns c.door-door.ensures.pool c.step.ensures.rest) (same_door c.step.new.door.pool.now c.door-door.ensures.ns c.door-door.ensures.pool c.step.ensures.rest moved)
 
 pub returns-clause-stepped : goal.returns-clause-stepped
 returns-clause-stepped g c =
-    let moved : Moved (pool_live c.door-door.result.pool.now c.door-door.result.ns) (pool_live c.step.new.f.pool.now c.step.new.f.ns) c.index_mut.result.now c.step.new.self c.args.step.now c.step.result = record { owns = c.step.ensures.owns; limits = c.step.ensures.limits; answers = c.step.ensures.answers; succeeds = c.step.ensures.succeeds } in
-    plain_stepped (here c.self.invariant c.self.view_is c.requires.exists) c.self.invariant c.index_mut.ensures.value c.step.new.f.pool.now
-    (same_rest c.step.new.f.pool.now c.door-door.ensures.ns c.door-door.ensures.pool c.step.ensures.rest) (same_door c.step.new.f.pool.now c.door-door.ensures.ns c.door-door.ensures.pool c.step.ensures.rest moved) c.self.view_is
+    let moved : Moved (pool_live c.door-door.result.pool.now c.door-door.result.ns) (pool_live c.step.new.door.pool.now c.step.new.door.ns) c.index_mut.result.now c.step.new.self c.args.step.now c.step.result = record { owns = c.step.ensures.owns; limits = c.step.ensures.limits; answers = c.step.ensures.answers; succeeds = c.step.ensures.succeeds } in
+    plain_stepped (here c.self.invariant c.self.view_is c.requires.exists) c.self.invariant c.index_mut.ensures.value c.step.new.door.pool.now
+    (same_rest c.step.new.door.pool.now c.door-door.ensures.ns c.door-door.ensures.pool c.step.ensures.rest) (same_door c.step.new.door.pool.now c.door-door.ensures.ns c.door-door.ensures.pool c.step.ensures.rest moved) c.self.view_is
 
 pub returns-clause-unchanged : goal.returns-clause-unchanged
 returns-clause-unchanged g c =
     λ e.
     let same = c.step.ensures.unchanged e in
-    plain_same (here c.self.invariant c.self.view_is c.requires.exists) c.self.invariant c.index_mut.ensures.value c.step.new.f.pool.now c.step.new.self ((λ i. (same.1 i).pool.now) ∙ c.door-door.ensures.pool) same.0 c.self.view_is
+    plain_same (here c.self.invariant c.self.view_is c.requires.exists) c.self.invariant c.index_mut.ensures.value c.step.new.door.pool.now c.step.new.self ((λ i. (same.1 i).pool.now) ∙ c.door-door.ensures.pool) same.0 c.self.view_is

@@ -35,7 +35,7 @@ value_mut-pipe-requires g c = record {
 
 pub cross_now-progress-requires-clause-stands : goal.cross_now-progress-requires-clause-stands
 cross_now-progress-requires-clause-stands g c =
-    let from = lemmas.source_was (g.F.Frames.live c.args.door.now) _ _ _ _ _ c.self.invariant.kept _ c.self.view_is c.requires.owns c.in_ok-from.from c.in_ok-to.to c.if-from-to.false _ (ap (λ (xs : PipeRows). find xs c.in_ok-from.from.pipe.place c.in_ok-from.from.pipe.serial) (sym c.take_out-taken.ensures.items) ∙ c.value_mut-pipe.ensures.value) in
+    let from = lemmas.source_was (g.F.Frames.live c.args.door.now) _ _ _ _ _ c.self.invariant.kept _ c.self.view_is c.requires.owns c.in_ok-from.from c.in_ok-to.to c.if-from-to.false _ (ap (λ (xs : PipeRows). find xs c.in_ok-from.from.pipe.slot c.in_ok-from.from.pipe.serial) (sym c.take_out-taken.ensures.items) ∙ c.value_mut-pipe.ensures.value) in
     lemmas.stand_together (g.F.Frames.live c.args.door.now) _ _ _ _ _ c.self.invariant.kept _ c.self.view_is c.requires.owns c.in_ok-from.from c.in_ok-to.to c.if-from-to.false _ _ from c.take_out-taken.ensures.value
 
 pub cross_now-progress-requires-clause-few : goal.cross_now-progress-requires-clause-few
@@ -44,7 +44,7 @@ cross_now-progress-requires-clause-few g c =
 
 pub invariant_of-self : goal.invariant_of-self
 invariant_of-self g c =
-    let from = lemmas.source_was (g.F.Frames.live c.args.door.now) _ _ _ _ _ c.self.invariant.kept _ c.self.view_is c.requires.owns c.in_ok-from.from c.in_ok-to.to c.if-from-to.false _ (ap (λ (xs : PipeRows). find xs c.in_ok-from.from.pipe.place c.in_ok-from.from.pipe.serial) (sym c.take_out-taken.ensures.items) ∙ c.value_mut-pipe.ensures.value) in
+    let from = lemmas.source_was (g.F.Frames.live c.args.door.now) _ _ _ _ _ c.self.invariant.kept _ c.self.view_is c.requires.owns c.in_ok-from.from c.in_ok-to.to c.if-from-to.false _ (ap (λ (xs : PipeRows). find xs c.in_ok-from.from.pipe.slot c.in_ok-from.from.pipe.serial) (sym c.take_out-taken.ensures.items) ∙ c.value_mut-pipe.ensures.value) in
     let kept = lemmas.crossed-kept (g.F.Frames.live c.args.door.now) _ _ _ _ _ c.self.invariant.kept _ c.self.view_is c.requires.owns c.in_ok-from.from c.in_ok-to.to c.if-from-to.false _ _ from c.take_out-taken.ensures.value _ _ _ _ _ c.cross_now-progress.ensures.crosses in
     record {
       kept =
@@ -54,19 +54,19 @@ invariant_of-self g c =
 
 pub returns-clause-owns : goal.returns-clause-owns
 returns-clause-owns g c =
-    let from = lemmas.source_was (g.F.Frames.live c.args.door.now) _ _ _ _ _ c.self.invariant.kept _ c.self.view_is c.requires.owns c.in_ok-from.from c.in_ok-to.to c.if-from-to.false _ (ap (λ (xs : PipeRows). find xs c.in_ok-from.from.pipe.place c.in_ok-from.from.pipe.serial) (sym c.take_out-taken.ensures.items) ∙ c.value_mut-pipe.ensures.value) in
+    let from = lemmas.source_was (g.F.Frames.live c.args.door.now) _ _ _ _ _ c.self.invariant.kept _ c.self.view_is c.requires.owns c.in_ok-from.from c.in_ok-to.to c.if-from-to.false _ (ap (λ (xs : PipeRows). find xs c.in_ok-from.from.pipe.slot c.in_ok-from.from.pipe.serial) (sym c.take_out-taken.ensures.items) ∙ c.value_mut-pipe.ensures.value) in
     let owns = lemmas.crossed-owns (g.F.Frames.live c.args.door.now) _ _ _ _ _ c.self.invariant.kept _ c.self.view_is c.requires.owns c.in_ok-from.from c.in_ok-to.to c.if-from-to.false _ _ from c.take_out-taken.ensures.value _ _ _ _ _ c.cross_now-progress.ensures.crosses in
     rw (c.put_back.ensures.items, c.take_out-taken.ensures.items) owns
 
 pub returns-clause-crossed : goal.returns-clause-crossed
 returns-clause-crossed g c =
-    let from = lemmas.source_was (g.F.Frames.live c.args.door.now) _ _ _ _ _ c.self.invariant.kept _ c.self.view_is c.requires.owns c.in_ok-from.from c.in_ok-to.to c.if-from-to.false _ (ap (λ (xs : PipeRows). find xs c.in_ok-from.from.pipe.place c.in_ok-from.from.pipe.serial) (sym c.take_out-taken.ensures.items) ∙ c.value_mut-pipe.ensures.value) in
+    let from = lemmas.source_was (g.F.Frames.live c.args.door.now) _ _ _ _ _ c.self.invariant.kept _ c.self.view_is c.requires.owns c.in_ok-from.from c.in_ok-to.to c.if-from-to.false _ (ap (λ (xs : PipeRows). find xs c.in_ok-from.from.pipe.slot c.in_ok-from.from.pipe.serial) (sym c.take_out-taken.ensures.items) ∙ c.value_mut-pipe.ensures.value) in
     lemmas.arrived (g.F.Frames.live c.args.door.now) _ _ _ _ _ c.self.invariant.kept _ c.self.view_is c.requires.owns c.args.crossing c.args.pid c.args.source c.args.sink c.args.n c.in_ok-from.from (sym c.in_ok-from.ensures) c.in_ok-to.to (sym c.in_ok-to.ensures) c.if-from-to.false _ _ from c.take_out-taken.ensures.value _ _ _ _ c.cross_now-progress.ensures.crosses c.put_back.new.self.items
-    (c.put_back.ensures.items ∙ ap (λ (xs : PipeRows). put_at (put_at xs c.in_ok-from.from.pipe.serial (c.in_ok-from.from.pipe.place, c.cross_now-progress.new.self)) c.in_ok-to.to.pipe.serial (c.in_ok-to.to.pipe.place, c.cross_now-progress.new.sink)) c.take_out-taken.ensures.items)
+    (c.put_back.ensures.items ∙ ap (λ (xs : PipeRows). put_at (put_at xs c.in_ok-from.from.pipe.serial (c.in_ok-from.from.pipe.slot, c.cross_now-progress.new.self)) c.in_ok-to.to.pipe.serial (c.in_ok-to.to.pipe.slot, c.cross_now-progress.new.sink)) c.take_out-taken.ensures.items)
 
 pub returns-clause-untouched : goal.returns-clause-untouched
 returns-clause-untouched g c none =
     let u = c.cross_now-progress.ensures.untouched none in
-    let from = lemmas.source_was (g.F.Frames.live c.args.door.now) _ _ _ _ _ c.self.invariant.kept _ c.self.view_is c.requires.owns c.in_ok-from.from c.in_ok-to.to c.if-from-to.false _ (ap (λ (xs : PipeRows). find xs c.in_ok-from.from.pipe.place c.in_ok-from.from.pipe.serial) (sym c.take_out-taken.ensures.items) ∙ c.value_mut-pipe.ensures.value) in
+    let from = lemmas.source_was (g.F.Frames.live c.args.door.now) _ _ _ _ _ c.self.invariant.kept _ c.self.view_is c.requires.owns c.in_ok-from.from c.in_ok-to.to c.if-from-to.false _ (ap (λ (xs : PipeRows). find xs c.in_ok-from.from.pipe.slot c.in_ok-from.from.pipe.serial) (sym c.take_out-taken.ensures.items) ∙ c.value_mut-pipe.ensures.value) in
     let view = lemmas.same_view (g.F.Frames.live c.args.door.now) _ _ _ _ _ c.self.invariant.kept _ c.self.view_is c.requires.owns c.in_ok-from.from c.in_ok-to.to c.if-from-to.false _ _ from c.take_out-taken.ensures.value _ _ u.0 u.1 in
     (rw (c.put_back.ensures.items, c.take_out-taken.ensures.items) view, u.2)

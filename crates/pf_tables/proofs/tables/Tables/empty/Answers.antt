@@ -32,9 +32,9 @@ invariant_of-self g c =
 pub returns-in-Some-clause-emptied : goal.returns-in-Some-clause-emptied
 returns-in-Some-clause-emptied g c =
     let w = c.in-Some.ensures.pipe in
-    subst (λ (l : Limits). Becomes (g.F.Frames.live c.args.door.now) (g.F.Frames.live c.clear.new.f) c.args.self.now (record { limits = l; state = state_of c.let_go-gone.new.processes c.let_go-gone.new.descriptions.items c.let_go-gone.new.pipes.items c.self.inside.files c.self.inside.files_made }) (emptied (meaning (g.F.Frames.live c.args.door.now) c.args.self.now.state) c.args.i c.args.fd)) c.refund.ensures.limits
+    subst (λ (l : Limits). Becomes (g.F.Frames.live c.args.door.now) (g.F.Frames.live c.clear.new.door) c.args.self.now (record { limits = l; state = state_of c.let_go-gone.new.processes c.let_go-gone.new.descriptions.items c.let_go-gone.new.pipes.items c.self.inside.files c.self.inside.files_made }) (emptied (meaning (g.F.Frames.live c.args.door.now) c.args.self.now.state) c.args.i c.args.fd)) c.refund.ensures.limits
     (lemmas.gone_becomes (g.F.Frames.live c.args.door.now) c.self.inside.pages.limits _ _ _ _ c.self.invariant.kept c.args.self.now c.self.view_is c.requires.owns c.args.i c.args.fd _ _ _ c.in-Some.ensures.left w.0 c.in-Some.pipe w.1 w.2
-    (g.F.Frames.live c.clear.new.f) c.clear.ensures.keeps)
+    (g.F.Frames.live c.clear.new.door) c.clear.ensures.keeps)
 
 pub returns-in_default-clause-emptied : goal.returns-in_default-clause-emptied
 returns-in_default-clause-emptied g c =

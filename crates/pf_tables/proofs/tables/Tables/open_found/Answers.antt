@@ -38,7 +38,7 @@ invariant_of-self-2 g c =
 pub returns-clause-opened : goal.returns-clause-opened
 returns-clause-opened g c =
     let z = rw (ap (λ (x : Descriptions Description). x.items) c.in_ok-reserve.ensures.rest, c.end.ensures, c.before-kept.ensures) at c.describe.ensures in
-    subst (λ (r : Pipe). HasOpened (g.F.Frames.live c.args.door.now) c.args.self.now (record { limits = c.self.inside.pages.limits; state = state_of c.describe.new.processes c.describe.new.descriptions.items (put_at c.self.inside.pipes.items c.in-Some.key.serial (c.in-Some.key.place, r)) c.self.inside.files c.self.inside.files_made }) (Ok c.describe.result)
+    subst (λ (r : Pipe). HasOpened (g.F.Frames.live c.args.door.now) c.args.self.now (record { limits = c.self.inside.pages.limits; state = state_of c.describe.new.processes c.describe.new.descriptions.items (put_at c.self.inside.pipes.items c.in-Some.key.serial (c.in-Some.key.slot, r)) c.self.inside.files c.self.inside.files_made }) (Ok c.describe.result)
     (opening c.args.self.now.limits (meaning (g.F.Frames.live c.args.door.now) c.args.self.now.state) c.args.pid (access_seen c.args.access) c.args.file)) (sym c.count.ensures)
     (lemmas.joined-opened (g.F.Frames.live c.args.door.now) _ _ _ _ _ _ c.self.invariant _ c.self.view_is c.args.pid c.args.access c.args.file c.requires.may c.in-Some.key _ c.value_mut-pipe.ensures.value c.requires.sided _ _ _ z
     (sym c.get.ensures.value ∙ sym c.copied.ensures ∙ c.in-Some.is) c.requires.owns)
