@@ -5,6 +5,7 @@ use Rattle.std.proofs.lemmas.Bool.{cases_lt}
 use Rattle.std.proofs.lemmas.List.{append-nil, take-append-le, take_all, drop_all, take_at, take_min, drop_at, drop_min, drop-drop, length-take, length-drop}
 use Rattle.pf_base.specs.declared.TheConstants.{PAGE_SIZE}
 use Rattle.pf_base.specs.Queue.{Segment, joined, pieces, without_front, after_take}
+use Rattle.pf_base.proofs.QueueLaws.{joined-without_front}
 use Rattle.pf_frame.specs.Live.{Live, IsSound}
 use Rattle.pf_ring.specs.declared.ring.Window.{Window}
 use Rattle.pf_ring.specs.Ring.{Ring, segment_of, shown, queue_of}
@@ -12,7 +13,7 @@ use Rattle.pf_ring.specs.Steps.{Puts, Cut}
 use Rattle.pf_ring.specs.Windows.{bytes_in, Stands, Drops}
 use Rattle.pf_ring.specs.WindowLaws.{segments_length, window_whole, keeps_stands, keeps_then, behind_then, drops_keep, drops_then, drops_nothing}
 use Rattle.pf_ring.proofs.Changes.{First}
-use Rattle.pf_ring.proofs.Queues.{without_more, without_rest, joined_rest, pieces_step, pieces_none}
+use Rattle.pf_ring.proofs.Queues.{without_more, without_rest, pieces_step, pieces_none}
 use Rattle.pf_ring.proofs.Segments.{without_none}
 
 nil_take : (n : ℕ) → take n (let e : List ℕ = [] in e) ≡ []
@@ -56,7 +57,7 @@ pub taken_then : (f g : Live) (old mid : List Window) (m n : ℕ) (before out af
     → after ≡ out ++ take n (joined (shown g mid)) → after ≡ before ++ take (m + n) (joined (shown f old))
 taken_then f g old mid m n before out after c first then =
     let all : List ℕ = joined (shown f old) in
-    let left : joined (shown g mid) ≡ drop m all = ap joined c.segments ∙ joined_rest m (shown f old) in
+    let left : joined (shown g mid) ≡ drop m all = ap joined c.segments ∙ joined-without_front m (shown f old) in
     then ∙ ((λ i. first i ++ take n (left i)) ∙ (append_assoc before (take m all) (take n (drop m all)) ∙ ap (λ (b : List ℕ). before ++ b) (take_both m n all)))
 
 -- the same into a buffer, whose rest took what came then
@@ -65,7 +66,7 @@ pub filled_then : (f g : Live) (old mid : List Window) (m n : ℕ) (buffer0 buff
     → take m buffer ++ (part ++ drop (length buffer - m) (drop m buffer)) ≡ take (m + n) (joined (shown f old)) ++ drop (m + n) buffer0
 filled_then f g old mid m n buffer0 buffer part sound s c filled then =
     let all : List ℕ = joined (shown f old) in
-    let left : joined (shown g mid) ≡ drop m all = ap joined c.segments ∙ joined_rest m (shown f old) in
+    let left : joined (shown g mid) ≡ drop m all = ap joined c.segments ∙ joined-without_front m (shown f old) in
     let rest : take (length buffer - m) (drop m buffer) ≡ drop m buffer = take_all (length buffer - m) (drop m buffer) (omega (arith, length-drop m buffer)) in
     let none : drop (length buffer - m) (drop m buffer) ≡ [] = drop_all (length buffer - m) (drop m buffer) (omega (arith, length-drop m buffer)) in
     let front : length (take m all) ≡ m = omega (arith, length-take m all, segments_length f old sound s, c.bytes) in

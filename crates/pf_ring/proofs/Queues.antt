@@ -2,7 +2,7 @@
 
 use Rattle.std.proofs.Common.{◌≡◌, ℕ, zero, suc, ◌+◌, ◌-◌, ◌<◌, ◌≤◌, min, Bool, List, [], ◌∷◌, ◌++◌, length, take, drop, if◌then◌else◌, refl, sym, ◌∙◌, ap, inl, inr, arith}
 use Rattle.std.proofs.lemmas.Bool.Decides.{leb_tells}
-use Rattle.std.proofs.lemmas.List.{append-nil, take_min, drop_all, drop_at, drop-drop, drop-append-le, length-drop, length-append}
+use Rattle.std.proofs.lemmas.List.{append-nil, take_min, drop-drop, length-drop, length-append}
 use Rattle.pf_base.specs.declared.TheConstants.{PAGE_SIZE}
 use Rattle.pf_base.specs.Queue.{Segment, joined, last_room, topped_up, pieces, without_front, copied}
 
@@ -63,19 +63,6 @@ without_rest n [] h = refl
 without_rest n (s ∷ ss) h =
     let size : length (s.bytes ++ joined ss) ≡ length s.bytes + length (joined ss) = length-append s.bytes (joined ss) in
     without_all n s ss (omega (arith, h, size)) ∙ without_rest (n - length s.bytes) ss (omega (arith, h, size))
-
--- what is left are the bytes that follow
-drop-past : (n : ℕ) (xs ys : List ℕ) → length xs ≤ n → drop n (xs ++ ys) ≡ drop (n - length xs) ys
-drop-past n xs ys h =
-    let more : n ≡ length xs + (n - length xs) = omega (arith, h) in
-    ap (λ (k : ℕ). drop k (xs ++ ys)) more ∙ (sym (drop-drop (n - length xs) (length xs) (xs ++ ys)) ∙ ap (drop (n - length xs)) (drop_at xs ys (length xs) refl))
-
-pub joined_rest : (n : ℕ) (ss : List Segment) → joined (without_front n ss) ≡ drop n (joined ss)
-joined_rest n [] = sym (drop_all n [] (omega arith))
-joined_rest n (s ∷ ss) = elim (leb_tells (length s.bytes) n) [
-  | inl p ↦ ap joined (without_all n s ss p.1) ∙ (joined_rest (n - length s.bytes) ss ∙ sym (drop-past n s.bytes (joined ss) p.1))
-  | inr p ↦ ap joined (without_part n s ss (omega (arith, p.1))) ∙ sym (drop-append-le n s.bytes (joined ss) (omega (arith, p.1)))
-]
 
 -- pieces of some bytes, and of none
 pub pieces_step : (k : ℕ) (x : List ℕ) → 0 < k → 0 < length x → pieces k x ≡ record { bytes = take PAGE_SIZE x; room = PAGE_SIZE - length x } ∷ pieces (k - 1) (drop PAGE_SIZE x)
