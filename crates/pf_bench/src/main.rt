@@ -321,41 +321,56 @@ fn take_after_wait<H: Host>(host: &mut H, waiting: &WaitingRead) -> Option<ByteS
     take(host, &waiting.resume, size)
 }
 
-/// Plays the fixed load's tees and splices of a size, and its reads that wait.
-fn play_calls<H: Host>(alloc: Global, host: &mut H, size: usize) -> Result<bool, AllocError> {
-    for crossing in [Crossing::Tee, Crossing::Splice] {
-        let passage = Passage::new(alloc, crossing, size)?;
-        for _ in 0..FIXED_CROSSINGS {
-            if !brings_all(host, &passage) {
-                return Ok(false);
-            }
+/// Whether the fixed load's tees or splices of a size are all answered right.
+fn play_crossings<H: Host>(host: &mut H, passage: &Passage) -> bool {
+    for _ in 0..FIXED_CROSSINGS {
+        if !brings_all(host, passage) {
+            return false;
         }
     }
-    let waiting = WaitingRead::new(alloc, size)?;
+    true
+}
+
+/// Whether the fixed load's reads that wait are all answered right.
+fn play_waits<H: Host>(host: &mut H, waiting: &WaitingRead) -> bool {
     for _ in 0..FIXED_CROSSINGS {
-        let Some(bytes) = take_after_wait(host, &waiting) else {
-            return Ok(false);
+        let Some(bytes) = take_after_wait(host, waiting) else {
+            return false;
         };
         if bytes.as_slice() != waiting.pair.payload.as_slice() {
-            return Ok(false);
+            return false;
         }
     }
-    Ok(true)
+    true
+}
+
+/// Whether the fixed load's pairs of a size are all answered right.
+fn play_pairs<H: Host>(host: &mut H, pair: &Pair) -> bool {
+    for _ in 0..FIXED_PAIRS {
+        let Some(bytes) = play(host, pair) else {
+            return false;
+        };
+        if bytes.as_slice() != pair.payload.as_slice() {
+            return false;
+        }
+    }
+    true
+}
+
+/// Plays the fixed load of a size, and says whether each answer was right.
+fn play_size<H: Host>(alloc: Global, host: &mut H, size: usize) -> Result<bool, AllocError> {
+    Ok(
+        play_pairs(host, &Pair::new(alloc, size)?)
+            && play_crossings(host, &Passage::new(alloc, Crossing::Tee, size)?)
+            && play_crossings(host, &Passage::new(alloc, Crossing::Splice, size)?)
+            && play_waits(host, &WaitingRead::new(alloc, size)?),
+    )
 }
 
 /// Plays the fixed load, and says whether each answer was right.
 fn play_fixed<H: Host>(alloc: Global, host: &mut H) -> Result<bool, AllocError> {
     for size in SIZES {
-        let pair = Pair::new(alloc, size)?;
-        for _ in 0..FIXED_PAIRS {
-            let Some(bytes) = play(host, &pair) else {
-                return Ok(false);
-            };
-            if bytes.as_slice() != pair.payload.as_slice() {
-                return Ok(false);
-            }
-        }
-        if !play_calls(alloc, host, size)? {
+        if !play_size(alloc, host, size)? {
             return Ok(false);
         }
     }
