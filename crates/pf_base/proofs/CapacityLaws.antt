@@ -7,8 +7,7 @@ use Rattle.std.proofs.lemmas.Bool.{leb-true, leb-false, cases_lt}
 use Rattle.std.proofs.lemmas.Nat.{pow_pos}
 use Rattle.std.specs.Int.{div_ceil}
 use Rattle.std.specs.Prelude.{nat_le, max, if◌then◌else◌}
-use Rattle.pf_base.specs.Capacities.{IsLeastPower}
-use Rattle.pf_base.specs.Queue.{pages_from, pages_for}
+use Rattle.pf_base.specs.Capacities.{IsLeastPower, pages_from, pages_for}
 use Rattle.pf_base.specs.declared.TheConstants.{PAGE_SIZE}
 
 -- half so many pages, which are a power of two above 1, are too few

@@ -1,9 +1,8 @@
 -- Examples by computation: capacities and the limits of pages, each at its number and one above.
 
 use Rattle.std.specs.Prelude.{◌≡◌, true, false, Ok, Err, refl}
-use Rattle.pf_base.specs.Capacities.{new_capacity, may_grow, told_as}
+use Rattle.pf_base.specs.Capacities.{new_capacity, may_grow, told_as, pages_for}
 use Rattle.pf_base.specs.Limits.{Limits}
-use Rattle.pf_base.specs.Queue.{pages_for}
 use Rattle.pf_base.specs.declared.capacity.LimitFault.TheVariants.{Hard, Reserve, Soft}
 use Rattle.pf_base.specs.declared.errno.Errno.TheVariants.{ENFILE, ENOMEM}
 

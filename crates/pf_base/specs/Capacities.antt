@@ -2,7 +2,7 @@
 -- slot, are the profile's own). `charged` is the pages that the user's pipes are charged with, and `total` those of all
 -- pipes of the namespace. Privileged callers are held to the reservation alone.
 
-use Rattle.std.specs.Prelude.{◌≡◌, ℕ, ◌+◌, ◌-◌, ◌*◌, ◌/◌, ◌^◌, ◌≤◌, ◌<◌, Bool, not, ◌||◌, ◌&&◌, nat_eq, nat_lt, if◌then◌else◌, ◌⊎◌, Result, Ok, Err}
+use Rattle.std.specs.Prelude.{◌≡◌, ℕ, zero, suc, ◌+◌, ◌-◌, ◌*◌, ◌/◌, ◌^◌, ◌≤◌, ◌<◌, Bool, not, ◌||◌, ◌&&◌, nat_eq, nat_le, nat_lt, if◌then◌else◌, ◌⊎◌, Result, Ok, Err}
 use Rattle.pf_base.specs.Limits.{Limits}
 use Rattle.pf_base.specs.declared.TheConstants.{PAGE_SIZE, DEFAULT_SLOTS, LEAST_SLOTS}
 use Rattle.pf_base.specs.declared.capacity.LimitFault.{LimitFault}
@@ -54,7 +54,16 @@ abbrev pub told_as : {A : Type 0} → Errno → Result A LimitFault → Result A
 told_as limit (Ok x) = Ok x
 told_as limit (Err fault) = Err (errno_of limit fault)
 
--- Capacities by their bytes
+-- Capacities by their bytes (fcntl(2), F_SETPIPE_SZ)
+
+-- the least of k, 2 * k, 4 * k, .. pages that hold so many bytes, among the first so many
+abbrev pub pages_from : ℕ → ℕ → ℕ → ℕ
+pages_from zero k bytes = k
+pages_from (suc more) k bytes = if nat_le bytes (PAGE_SIZE * k) then k else pages_from more (2 * k) bytes
+
+-- the least power of two of pages that holds so many bytes, which are below 2 ^ 64
+unfoldable pub pages_for : ℕ → ℕ
+pages_for bytes = pages_from 52 1 bytes
 
 -- the least power of two of pages that holds so many bytes: no smaller one does, and so its half doesn't, or it is one
 -- page

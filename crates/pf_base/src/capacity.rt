@@ -1,8 +1,7 @@
 //! The capacities of pipes: how many pages hold so many bytes, and why so many pages are refused.
 
 ghost use Rattle.std.specs.Prelude.{◌≡◌};
-ghost use Rattle.pf_base.specs.Capacities.{errno_of, IsLeastPower};
-ghost use Rattle.pf_base.specs.Queue.{pages_for};
+ghost use Rattle.pf_base.specs.Capacities.{errno_of, IsLeastPower, pages_for};
 
 use crate::PAGE_SIZE;
 use crate::errno::Errno;

@@ -1,4 +1,4 @@
-//! The types that every crate speaks of, and, in `specs/`, the definition of the lone machine.
+//! The types that every crate speaks of, and, in `specs/`, the definitions that they are compared with.
 #![tactic(auto)]
 
 pub mod bytes;
@@ -7,7 +7,6 @@ pub mod config;
 pub mod cred;
 pub mod errno;
 pub mod fault;
-pub mod laws;
 pub mod meta;
 pub mod open_flags;
 pub mod permissions;

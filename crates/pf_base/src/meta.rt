@@ -88,7 +88,7 @@ pub struct File {
 }
 
 impl File {
-    ghost use Rattle.pf_base.specs.FileMap.{root};
+    ghost use Rattle.pf_base.specs.Root.{root};
 
     /// A namespace's root directory, which all may read, change and search, of the uid 0 and the gid 0 (this profile's
     /// choice).

@@ -142,7 +142,14 @@ pub enum Step {
 }
 
 impl Step {
-    ghost use Rattle.std.specs.Prelude.{◌≡◌, IfOk};
+    ghost use Rattle.std.specs.Prelude.{◌≡◌, ◌↔◌, IfOk, IsTrue};
+
+    /// Whether it is the same step.
+    pub fn is_same(&self, other: &Step) -> bool
+        ensures { IsTrue result ↔ (self.now ≡ other.now) }
+    {
+        self == other
+    }
 
     /// The same step again.
     pub fn copy(&self, alloc: Global) -> Result<Step, AllocError>
@@ -278,7 +285,14 @@ pub enum Reply {
 }
 
 impl Reply {
-    ghost use Rattle.std.specs.Prelude.{◌≡◌, IfOk};
+    ghost use Rattle.std.specs.Prelude.{◌≡◌, ◌↔◌, IfOk, IsTrue};
+
+    /// Whether it is the same reply.
+    pub fn is_same(&self, other: &Reply) -> bool
+        ensures { IsTrue result ↔ (self.now ≡ other.now) }
+    {
+        *self == *other
+    }
 
     /// The same reply again.
     pub fn copy(&self, alloc: Global) -> Result<Reply, AllocError>

@@ -4,10 +4,10 @@ use Rattle.std.specs.Prelude.{length, map}
 use Rattle.std.proofs.Common.{arith}
 use Rattle.pf_frame.specs.Counted.{live_by}
 use Rattle.pf_frame.specs.Live.{Live, IsSound, Census}
-use Rattle.pf_frame.specs.LiveLaws.{is_census}
+use Rattle.pf_frame.specs.Sound.{is_census}
 use Rattle.pf_depot.specs.declared.loans.Loans.{Loans}
 use Rattle.pf_depot.specs.Places.{page_at}
-use Rattle.pf_depot.specs.PlacesLaws.{lent_sound}
+use Rattle.pf_depot.specs.Lent.{lent_sound}
 
 -- the live frames: the reservation is the number of the places
 abbrev pub loans_live : Loans → Live

@@ -4,8 +4,8 @@ use Rattle.std.proofs.Common.{◌≡◌, ◌≢◌, ℕ, zero, suc, ◌+◌, ◌
 use Rattle.std.proofs.lemmas.Bool.{true≢false, cases_eq, cases_lt, eq-eqb, ne_eqb}
 use Rattle.std.proofs.lemmas.List.{length_push}
 use Rattle.std.proofs.lemmas.List.Sums.{sum_by-set}
-use Rattle.pf_base.specs.Numbered.{at, put_at, clear_at}
-use Rattle.pf_base.proofs.NumberedLaws.{at_within, at_past, at-put_same, at-put_other, at-push_old, at-push_new, same_at}
+use Rattle.pf_machine.specs.Numbered.{at, put_at, clear_at}
+use Rattle.pf_machine.proofs.NumberedLaws.{at_within, at_past, at-put_same, at-put_other, at-push_old, at-push_new, same_at}
 use Rattle.pf_fds.specs.declared.registry.Entry.{Entry}
 use Rattle.pf_fds.specs.declared.registry.Key.{Key}
 use Rattle.pf_fds.specs.Registry.{Registry, if_placed, find}

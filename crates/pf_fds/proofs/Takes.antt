@@ -2,8 +2,8 @@
 
 use Rattle.std.proofs.Common.{◌≡◌, ◌≢◌, ℕ, ◌<◌, ◌≤◌, true, false, List, set, Option, Some, None, is_some, refl, sym, ap, ◌∙◌, inl, inr, arith, length-set}
 use Rattle.std.proofs.lemmas.Bool.{true≢false, cases_eq, cases_lt}
-use Rattle.pf_base.specs.Numbered.{at, first_free}
-use Rattle.pf_base.proofs.NumberedLaws.{at_past, at-put_same, at-put_other, first_free-is}
+use Rattle.pf_machine.specs.Numbered.{at, first_free}
+use Rattle.pf_machine.proofs.NumberedLaws.{at_past, at-put_same, at-put_other, first_free-is}
 use Rattle.pf_fds.specs.declared.marks.Marks.{Marks}
 use Rattle.pf_fds.specs.Marks.{is_marked}
 use Rattle.pf_fds.specs.Taken.{IsTaken}

@@ -2,7 +2,7 @@
 
 use Rattle.std.specs.Prelude.{ℕ, ◌+◌, ◌-◌, List, Option, Some, None, refl}
 use Rattle.std.specs.Coded.{Coded, code_by, coded×, coded_ℕ, coded_list, coded_option}
-use Rattle.pf_base.specs.Numbered.{change_at}
+use Rattle.pf_machine.specs.Numbered.{change_at}
 -- a value, and how many names it has
 pub use Rattle.pf_fds.specs.declared.descriptions.Named.{Named}
 

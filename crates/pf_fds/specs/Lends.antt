@@ -3,7 +3,7 @@
 use Rattle.std.specs.Prelude.{ℕ, List, Option}
 use Rattle.std.specs.Borrow.{Lends, LendsIf, Fml, RattleType, MutBor}
 use Rattle.pf_fds.specs.Registry.{Registry, with_value}
-use Rattle.pf_base.specs.Numbered.{put_at}
+use Rattle.pf_machine.specs.Numbered.{put_at}
 use Rattle.pf_fds.specs.contracts.registry.Registry.{the_row}
 use Rattle.pf_fds.specs.contracts.places.Places.{the_row as places_row}
 

@@ -2,7 +2,7 @@
 
 use Rattle.std.specs.Prelude.{◌≡◌, ℕ, ◌-◌, ◌^◌, ◌<◌, List, length, Option, Some, None, nat_eq, refl, if◌then◌else◌}
 use Rattle.std.specs.Coded.{Coded, code_by, coded×, coded_ℕ, coded_list, coded_option}
-use Rattle.pf_base.specs.Numbered.{at, put_at}
+use Rattle.pf_machine.specs.Numbered.{at, put_at}
 use Rattle.pf_fds.specs.declared.registry.InsertFault.{InsertFault}
 use Rattle.pf_fds.specs.declared.registry.InsertFault.TheVariants.{Spent, NoMemory}
 use Rattle.pf_fds.specs.declared.registry.Key.{Key}

@@ -1,7 +1,7 @@
 -- How a slab's slots are seen by number. No public clause cites this module.
 
 use Rattle.std.specs.Prelude.{◌≡◌, ℕ, zero, suc, ◌+◌, ◌^◌, ◌<◌, ◌≤◌, List, [], ◌∷◌, Option, Some, None, nat_eq, if◌then◌else◌}
-use Rattle.pf_base.specs.Numbered.{at}
+use Rattle.pf_machine.specs.Numbered.{at}
 use Rattle.pf_fds.specs.declared.registry.Entry.{Entry}
 use Rattle.pf_fds.specs.declared.registry.Key.{Key}
 use Rattle.slab.specs.Slab.{Slab, slab_len}

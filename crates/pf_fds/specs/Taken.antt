@@ -1,7 +1,7 @@
 -- How the numbers that are marked go with the values. No public clause cites this module.
 
 use Rattle.std.specs.Prelude.{◌≡◌, ℕ, ◌<◌, List, length, Option, is_some}
-use Rattle.pf_base.specs.Numbered.{at}
+use Rattle.pf_machine.specs.Numbered.{at}
 use Rattle.pf_fds.specs.declared.marks.Marks.{Marks}
 use Rattle.pf_fds.specs.Marks.{is_marked}
 

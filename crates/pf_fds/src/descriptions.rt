@@ -1,7 +1,7 @@
 ghost use Rattle.std.specs.Prelude.{◌≡◌, ℕ, ◌+◌, ◌-◌, ◌^◌, ◌<◌, ◌≤◌, List, [], ◌∷◌, ◌++◌, length, Some, None, IsSome, IsOk, OnOk, OnErr, OnSome, IfSome, IfNone, option_copied};
 ghost use Rattle.std.specs.Option.{option_map};
 ghost use Rattle.std.specs.Borrow.{sem};
-ghost use Rattle.pf_base.specs.Numbered.{at, change_at, clear_at};
+ghost use Rattle.pf_machine.specs.Numbered.{at, change_at, clear_at};
 ghost use Rattle.pf_fds.specs.Registry.{find};
 ghost use Rattle.pf_fds.specs.Descriptions.{value_of, names_of, one_more, one_less};
 

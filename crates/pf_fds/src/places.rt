@@ -1,7 +1,7 @@
 ghost use Rattle.std.specs.Prelude.{◌≡◌, ℕ, ◌<◌, ◌≤◌, List, Option, Some, IsSome, IfOk, option_copied};
 ghost use Rattle.std.specs.Borrow.{sem};
-ghost use Rattle.pf_base.specs.Numbered.{at, put_at, clear_at, first_free};
-ghost use Rattle.pf_base.specs.State.{vacant};
+ghost use Rattle.pf_machine.specs.Numbered.{at, put_at, clear_at, first_free};
+ghost use Rattle.pf_machine.specs.State.{vacant};
 ghost use Rattle.pf_fds.specs.declared.places.TheConstants.{PLACES};
 
 use crate::marks::Marks;

@@ -1,7 +1,7 @@
 ghost use Rattle.std.specs.Prelude.{◌≡◌, ℕ, ◌+◌, ◌-◌, ◌^◌, ◌<◌, ◌≤◌, List, [], ◌∷◌, ◌++◌, length, Some, None, IsSome, IsOk, OnOk, OnErr, IfOk, IfErr, option_copied};
 ghost use Rattle.std.specs.Option.{option_copied_mut};
 ghost use Rattle.std.specs.Borrow.{sem};
-ghost use Rattle.pf_base.specs.Numbered.{put_at, clear_at};
+ghost use Rattle.pf_machine.specs.Numbered.{put_at, clear_at};
 ghost use Rattle.pf_fds.specs.Registry.{find, IsInsertFault};
 
 use slab::Slab;

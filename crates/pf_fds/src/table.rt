@@ -1,6 +1,6 @@
 ghost use Rattle.std.specs.Prelude.{◌≡◌, ℕ, ◌<◌, ◌≤◌, List, Option, Some, IfOk};
-ghost use Rattle.pf_base.specs.Numbered.{at, put_at, clear_at, first_free};
-ghost use Rattle.pf_base.specs.State.{vacant};
+ghost use Rattle.pf_machine.specs.Numbered.{at, put_at, clear_at, first_free};
+ghost use Rattle.pf_machine.specs.State.{vacant};
 ghost use Rattle.pf_base.specs.declared.TheConstants.{MAX_DESCRIPTORS};
 ghost use Rattle.pf_fds.specs.declared.registry.Key.{Key as SeenKey};
 

@@ -1,9 +1,7 @@
 pub mod Bytes
 pub mod Counted
-pub mod CountedLaws
 pub mod Faults
 pub mod Live
-pub mod LiveLaws
 pub mod Own
 pub mod Pages
-pub mod PagesLaws
+pub mod Sound

@@ -4,11 +4,11 @@ use Rattle.std.specs.Prelude.{length, map}
 use Rattle.std.proofs.Common.{arith}
 use Rattle.pf_frame.specs.declared.own.OwnFrames.{OwnFrames}
 use Rattle.pf_frame.specs.Counted.{live_by}
-use Rattle.pf_frame.specs.CountedLaws.{positives-le-length, counted_within}
+use Rattle.pf_frame.specs.Sound.{positives-le-length, counted_within}
 use Rattle.pf_frame.specs.Live.{Live, IsSound, Census}
-use Rattle.pf_frame.specs.LiveLaws.{is_sound, is_census}
+use Rattle.pf_frame.specs.Sound.{is_sound, is_census}
 use Rattle.pf_frame.specs.Pages.{page_of}
-use Rattle.pf_frame.specs.PagesLaws.{pages_whole}
+use Rattle.pf_frame.specs.Sound.{pages_whole}
 
 -- the reservation is all of the frames
 abbrev pub own_live : OwnFrames → Live

@@ -10,7 +10,7 @@ use Rattle.pf_frame.specs.Live.{Live}
 use Rattle.pf_depot.specs.declared.depot.Depot.{Depot}
 use Rattle.pf_depot.specs.declared.loans.Loans.{Loans}
 use Rattle.pf_depot.specs.AllLoans.{held_of, reserved_of, live_at}
-use Rattle.pf_depot.specs.AllLoansLaws.{live_sound, held_at as loans_held_at, reserved_at, live_is, live_set, live_other, held_set, reserved_set, each_covered}
+use Rattle.pf_depot.proofs.AllLoansLaws.{live_sound, held_at as loans_held_at, reserved_at, live_is, live_set, live_other, held_set, reserved_set, each_covered}
 use Rattle.pf_depot.specs.Depot.{free_of, frames_of}
 use Rattle.pf_depot.specs.Door.{IsCovered as IsCoveredBy}
 use Rattle.pf_depot.specs.Loans.{loans_live}

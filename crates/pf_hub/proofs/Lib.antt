@@ -3,6 +3,6 @@ pub mod StepLemmas
 pub mod DepotLemmas
 pub mod OpeningLemmas
 pub mod RunLemmas
-pub mod Bounding
+pub mod HubBounds
 pub mod WorkedWorlds
 pub mod Sendable

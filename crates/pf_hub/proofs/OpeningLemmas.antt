@@ -16,7 +16,7 @@ use Rattle.pf_depot.specs.AllLoans.{reserved_of, live_at}
 use Rattle.pf_depot.specs.Depot.{IsFresh, free_of}
 use Rattle.pf_tables.specs.Meaning.{Namespace}
 use Rattle.pf_tables.specs.Owns.{Owns}
-use Rattle.pf_tables.specs.OwnsLaws.{owns_opening}
+use Rattle.pf_tables.proofs.OwnsLaws.{owns_opening}
 use Rattle.pf_hub.specs.Tenants.{tenants_from}
 use Rattle.pf_hub.specs.Shared.{IsShared, space_at, hub_of}
 use Rattle.pf_hub.specs.Opening.{limits_of, new_space, new_tenant, new_hub}

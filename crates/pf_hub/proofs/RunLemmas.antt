@@ -5,10 +5,10 @@ use Rattle.std.specs.Prelude.{Some, None, nat_le, nat_eq}
 use Rattle.std.specs.List.{position_from}
 use Rattle.std.proofs.lemmas.Bool.{eqb-true, eqb-false, leb-false}
 use Rattle.pf_base.specs.Limits.{Limits}
-use Rattle.pf_base.specs.Machine.{Answers}
-use Rattle.pf_base.specs.Runs.{Run, run_of, lone}
-use Rattle.pf_base.specs.Events.{kept, replies}
-use Rattle.pf_base.proofs.EventLaws.{told-own, told-other, kept-mine}
+use Rattle.pf_machine.specs.Machine.{Answers}
+use Rattle.pf_machine.specs.Runs.{Run, run_of, lone}
+use Rattle.pf_machine.specs.Events.{kept, replies}
+use Rattle.pf_machine.proofs.EventLaws.{told-own, told-other, kept-mine}
 use Rattle.pf_base.specs.declared.step.Step.{Step}
 use Rattle.pf_base.specs.declared.step.Answer.{Answer}
 use Rattle.pf_hub.specs.Tenants.{Tenants, Tenant, limits_at, state_at}

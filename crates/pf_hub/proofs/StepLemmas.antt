@@ -3,7 +3,7 @@
 use Rattle.std.proofs.Common.{◌≡◌, ◌≢◌, ℕ, ◌<◌, List, length, ap, sym, ◌∙◌, subst, slice_set, length-set, inl, inr}
 use Rattle.std.proofs.lemmas.List.{get_or-set_other, get_or-set_same}
 use Rattle.std.proofs.lemmas.Bool.{cases_eq}
-use Rattle.pf_base.specs.Machine.{Answers, may_want_memory}
+use Rattle.pf_machine.specs.Machine.{Answers, may_want_memory}
 use Rattle.pf_base.specs.declared.step.Step.{Step}
 use Rattle.pf_base.specs.declared.step.Answer.{Answer}
 use Rattle.pf_frame.specs.Live.{Live}

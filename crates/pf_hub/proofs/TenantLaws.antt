@@ -6,11 +6,11 @@ use Rattle.std.proofs.lemmas.List.{get_or_past}
 use Rattle.std.proofs.lemmas.List.Sums.{sum_by-cons}
 use Rattle.std.specs.Prelude.{slice_index, sum}
 use Rattle.pf_frame.specs.Live.{Live, IsSound}
-use Rattle.pf_ring.specs.Table.{held_le_used}
+use Rattle.pf_ring.proofs.TableLaws.{held_le_used}
 use Rattle.pf_tables.specs.Meaning.{Namespace, rings_of}
-use Rattle.pf_tables.specs.MeaningLaws.{occupied-meaning, empty-meaning, total-meaning}
+use Rattle.pf_tables.proofs.MeaningLaws.{occupied-meaning, empty-meaning, total-meaning}
 use Rattle.pf_tables.specs.Owns.{Owns}
-use Rattle.pf_tables.specs.OwnsLaws.{held_occupied, none_empty, occupied_pages, pages_within}
+use Rattle.pf_tables.proofs.OwnsLaws.{held_occupied, none_empty, occupied_pages, pages_within}
 use Rattle.pf_hub.specs.Covered.{IsRising, IsCovered, unspent}
 use Rattle.pf_hub.specs.Shared.{no_space, space_at}
 use Rattle.pf_hub.specs.Tenants.{Tenant, nobody, tenant_of, tenants_from, tenants_of}

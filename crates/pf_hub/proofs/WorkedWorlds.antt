@@ -3,11 +3,11 @@
 use Rattle.std.proofs.Common.{◌≡◌, ℕ, zero, suc, List, [], ◌∷◌, refl, arith}
 use Rattle.std.proofs.lemmas.Bool.{ne_eqb}
 use Rattle.pf_base.specs.Limits.{Limits}
-use Rattle.pf_base.specs.Machine.{step_of}
-use Rattle.pf_base.specs.Runs.{run_of}
-use Rattle.pf_base.specs.Events.{kept, replies}
-use Rattle.pf_base.specs.State.{State, Outcome, opening}
-use Rattle.pf_base.specs.Queue.{Queue}
+use Rattle.pf_machine.specs.Machine.{step_of}
+use Rattle.pf_machine.specs.Runs.{run_of}
+use Rattle.pf_machine.specs.Events.{kept, replies}
+use Rattle.pf_machine.specs.State.{State, Outcome, opening}
+use Rattle.pf_machine.specs.Queue.{Queue}
 use Rattle.pf_base.specs.declared.step.Step.{Step}
 use Rattle.pf_base.specs.declared.step.Step.TheVariants.{Spawn}
 use Rattle.pf_base.specs.declared.step.Answer.TheVariants.{Done, NoMemory}

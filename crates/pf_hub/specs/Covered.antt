@@ -1,10 +1,10 @@
 -- What carries the isolation: what a namespace holds is what its own pipes hold, and what it may still take is there.
 
 use Rattle.std.specs.Prelude.{◌≡◌, ℕ, ◌-◌, ◌≤◌, [], length, map, sum, Some}
-use Rattle.pf_base.specs.Numbered.{at, sum_of}
-use Rattle.pf_base.specs.Queue.{Queue, bytes_of}
-use Rattle.pf_base.specs.Counts.{total}
-use Rattle.pf_base.specs.State.{State, Pipe}
+use Rattle.pf_machine.specs.Numbered.{at, sum_of}
+use Rattle.pf_machine.specs.Queue.{Queue, bytes_of}
+use Rattle.pf_machine.specs.Counts.{total}
+use Rattle.pf_machine.specs.State.{State, Pipe}
 use Rattle.pf_hub.specs.Tenants.{Tenant, Tenants, tenant_at}
 
 -- how many slots of all pipes are in use: one for each segment

@@ -2,10 +2,10 @@
 
 use Rattle.std.specs.Prelude.{◌≡◌, ℕ, ◌≤◌, List, length, take, nat_le, Some, Option, None, ⊤}
 use Rattle.std.specs.List.{position_from}
-use Rattle.pf_base.specs.State.{opening}
-use Rattle.pf_base.specs.Runs.{run_of, lone}
-use Rattle.pf_base.specs.Events.{mine, kept, replies}
-use Rattle.pf_base.specs.Events.{IsAmple}
+use Rattle.pf_machine.specs.State.{opening}
+use Rattle.pf_machine.specs.Runs.{run_of, lone}
+use Rattle.pf_machine.specs.Events.{mine, kept, replies}
+use Rattle.pf_machine.specs.Events.{IsAmple}
 use Rattle.pf_base.specs.declared.step.Step.{Step}
 use Rattle.pf_base.specs.declared.step.Answer.{Answer}
 use Rattle.pf_hub.specs.Tenants.{Tenants, limits_at, state_at, frames_in}

@@ -2,7 +2,7 @@
 
 use Rattle.std.specs.Prelude.{ℕ, List, map, Option}
 use Rattle.pf_base.specs.Limits.{Limits}
-use Rattle.pf_base.specs.State.{opening}
+use Rattle.pf_machine.specs.State.{opening}
 use Rattle.pf_frame.specs.declared.fault.PoolFault.{PoolFault}
 use Rattle.pf_frame.specs.Faults.{fault_of}
 use Rattle.pf_tables.specs.Meaning.{Namespace}

@@ -2,7 +2,7 @@
 
 use Rattle.std.specs.Prelude.{◌≡◌, ℕ, ◌+◌, ◌≤◌, List, length, slice_index_or}
 use Rattle.std.specs.List.{sum_by}
-use Rattle.pf_base.specs.State.{opening}
+use Rattle.pf_machine.specs.State.{opening}
 use Rattle.pf_depot.specs.declared.depot.Depot.{Depot}
 use Rattle.pf_depot.specs.declared.loans.Loans.{Loans}
 use Rattle.pf_depot.specs.AllLoans.{held_of, reserved_of, live_at}

@@ -1,8 +1,8 @@
 -- What a step of one namespace does to it, and to a hub.
 
 use Rattle.std.specs.Prelude.{◌≡◌, ◌≢◌, ℕ, length, false}
-use Rattle.pf_base.specs.Machine.{Answers, may_want_memory}
-use Rattle.pf_base.specs.Events.{IsDone}
+use Rattle.pf_machine.specs.Machine.{Answers, may_want_memory}
+use Rattle.pf_machine.specs.Events.{IsDone}
 use Rattle.pf_base.specs.declared.step.Step.{Step}
 use Rattle.pf_base.specs.declared.step.Answer.{Answer}
 use Rattle.pf_frame.specs.Live.{Live}

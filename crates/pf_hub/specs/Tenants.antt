@@ -2,8 +2,8 @@
 
 use Rattle.std.specs.Prelude.{ℕ, suc, ◌+◌, List, [], ◌∷◌, map, sum, slice_index_or}
 use Rattle.pf_base.specs.Limits.{Limits}
-use Rattle.pf_base.specs.Queue.{Queue}
-use Rattle.pf_base.specs.State.{State, opening}
+use Rattle.pf_machine.specs.Queue.{Queue}
+use Rattle.pf_machine.specs.State.{State, opening}
 use Rattle.pf_frame.specs.Live.{Live}
 use Rattle.pf_tables.specs.Meaning.{Namespace, meaning}
 

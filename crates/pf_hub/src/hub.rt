@@ -131,10 +131,10 @@ fn step_over<A: Allocator + Clone, D: Lender>(
 
 impl<A: Allocator + Clone> Hub<A> {
     ghost use Rattle.std.specs.Prelude.{◌≡◌, ◌≢◌, ℕ, ◌<◌, length, IfOk, IfErr, IsOk, None, false};
-    ghost use Rattle.pf_base.specs.Machine.{Answers, may_want_memory, step_of};
-    ghost use Rattle.pf_base.specs.Events.{IsDone};
+    ghost use Rattle.pf_machine.specs.Machine.{Answers, may_want_memory, step_of};
+    ghost use Rattle.pf_machine.specs.Events.{IsDone};
     ghost use Rattle.pf_frame.specs.Faults.{IsFault};
-    ghost use Rattle.pf_tables.specs.Bounds.{reply_length, most_of};
+    ghost use Rattle.pf_machine.specs.Replies.{reply_length, most_of};
     ghost use Rattle.pf_hub.specs.Tenants.{tenant_at, limits_at, state_at, held_at, frames_in};
     ghost use Rattle.pf_hub.specs.Covered.{IsCovered};
     ghost use Rattle.pf_hub.specs.Opening.{new_hub, limits_of, first_fault};

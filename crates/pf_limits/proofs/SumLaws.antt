@@ -3,9 +3,9 @@
 
 use Rattle.std.proofs.Common.{◌≡◌, ℕ, ◌+◌, ◌≤◌, Bool, true, false, List, [], ◌∷◌, ◌++◌, map, set, Option, Some, None, nat_eq, refl, arith, if◌then◌else◌}
 use Rattle.std.specs.Option.{option_map}
-use Rattle.pf_base.specs.Numbered.{at}
-use Rattle.pf_base.proofs.NumberedLaws.{sum_of-map}
-use Rattle.pf_base.proofs.ChargeLaws.{share, charged_in, total_in, capacity-le-charged, charged-push, total-push, charged-clear, total-clear, charged-grown, total-grown, charged-shrunk, total-shrunk}
+use Rattle.pf_machine.specs.Numbered.{at}
+use Rattle.pf_machine.proofs.NumberedLaws.{sum_of-map}
+use Rattle.pf_machine.proofs.ChargeLaws.{share, charged_in, total_in, capacity-le-charged, charged-push, total-push, charged-clear, total-clear, charged-grown, total-grown, charged-shrunk, total-shrunk}
 use Rattle.pf_limits.specs.Sums.{AreSumsOf}
 use Rattle.pf_limits.specs.UserPages.{UserPages, charged_to, Charges}
 

@@ -1,10 +1,10 @@
 -- What the counters count: sums over the pipes of a namespace, computed afresh.
 
 use Rattle.std.specs.Prelude.{◌≡◌, ℕ, ◌+◌, ◌≤◌, List, [], ◌∷◌, ◌++◌, Option, Some, nat_eq, if◌then◌else◌}
-use Rattle.pf_base.specs.Counts.{charged, total}
-use Rattle.pf_base.specs.Numbered.{at, put_at, clear_at, sum_of}
-use Rattle.pf_base.specs.Queue.{Queue, with_capacity}
-use Rattle.pf_base.specs.State.{State, Pipe, opening, holding}
+use Rattle.pf_machine.specs.Counts.{charged, total}
+use Rattle.pf_machine.specs.Numbered.{at, put_at, clear_at, sum_of}
+use Rattle.pf_machine.specs.Queue.{Queue, with_capacity}
+use Rattle.pf_machine.specs.State.{State, Pipe, opening, holding}
 use Rattle.pf_limits.specs.UserPages.{UserPages, charged_to, Charges}
 
 -- counters are the sums over a namespace's pipes

@@ -1,7 +1,7 @@
 -- What is parked by pid.
 
 use Rattle.std.specs.Prelude.{ℕ, zero, suc, List, Option, None}
-use Rattle.pf_base.specs.Numbered.{at, clear_at}
+use Rattle.pf_machine.specs.Numbered.{at, clear_at}
 
 module _ {X : Type 0} where
   -- what is parked under a pid: pids count from 1

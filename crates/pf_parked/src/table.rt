@@ -1,6 +1,6 @@
 ghost use Rattle.std.specs.Prelude.{◌≡◌, ℕ, ◌-◌, ◌<◌, ◌≤◌, List, Option, None, IfOk, OnSome, option_copied};
-ghost use Rattle.pf_base.specs.Numbered.{at, put_at};
-ghost use Rattle.pf_base.specs.State.{vacant};
+ghost use Rattle.pf_machine.specs.Numbered.{at, put_at};
+ghost use Rattle.pf_machine.specs.State.{vacant};
 ghost use Rattle.pf_base.specs.declared.TheConstants.{MAX_PROCESSES};
 ghost use Rattle.pf_parked.specs.Parked.{call_at, without_call};
 

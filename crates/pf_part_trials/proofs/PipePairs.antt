@@ -1,7 +1,7 @@
 -- Two pipes in the same frames: they stand there after bytes have come from one to the other.
 
 use Rattle.std.proofs.Common.{[], ◌∷◌}
-use Rattle.pf_base.specs.Progress.{Crossed}
+use Rattle.pf_machine.specs.Progress.{Crossed}
 use Rattle.pf_base.specs.declared.progress.Progress.{Progress}
 use Rattle.pf_frame.specs.Live.{Live}
 use Rattle.pf_ring.specs.Table.{Joined}

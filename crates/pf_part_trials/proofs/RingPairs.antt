@@ -6,7 +6,8 @@ use Rattle.std.specs.List.{sum_by}
 use Rattle.pf_frame.specs.Live.{Live}
 use Rattle.pf_ring.specs.Ring.{Ring}
 use Rattle.pf_ring.specs.Windows.{reach, limit, NoEmpty, Keeps, Moves}
-use Rattle.pf_ring.specs.Table.{Joined, ring_at, named_by, opens_by, slots_of, slots_used, joined_after, no_source, source_at}
+use Rattle.pf_ring.specs.Table.{Joined, ring_at, named_by, opens_by, slots_of, slots_used}
+use Rattle.pf_ring.proofs.TableLaws.{joined_after, no_source, source_at}
 use Rattle.pf_base.specs.declared.TheConstants.{PAGE_SIZE}
 
 sum_two : (h : Ring → ℕ) (a b : Ring) → sum_by h (a ∷ b ∷ []) ≡ h a + h b

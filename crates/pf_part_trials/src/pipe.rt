@@ -2,7 +2,8 @@
 
 ghost use Rattle.std.specs.Prelude.{◌≡◌, ◌+◌, ◌-◌, ◌<◌, ◌≤◌, ◌^◌, [], ◌∷◌, length};
 ghost use Rattle.pf_frame.specs.Own.{own_live};
-ghost use Rattle.pf_ring.specs.Table.{Joined, Joined-prop};
+ghost use Rattle.pf_ring.specs.Table.{Joined};
+ghost use Rattle.pf_ring.proofs.TableLaws.{Joined-prop};
 ghost use Rattle.pf_pipe.specs.Pipe.{ends, with_ends};
 
 use pf_base::{Crossing, Progress, Side};

@@ -2,7 +2,8 @@
 
 ghost use Rattle.std.specs.Prelude.{◌≡◌, ◌+◌, ◌<◌, ◌≤◌, [], ◌∷◌, length};
 ghost use Rattle.pf_frame.specs.Own.{own_live};
-ghost use Rattle.pf_ring.specs.Table.{Joined, Joined-prop};
+ghost use Rattle.pf_ring.specs.Table.{Joined};
+ghost use Rattle.pf_ring.proofs.TableLaws.{Joined-prop};
 
 use pf_frame::{Frame, Frames, OwnFrames};
 use pf_ring::{SlotRing, Window};

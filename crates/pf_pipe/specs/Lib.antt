@@ -1,2 +1,1 @@
 pub mod Pipe
-pub mod PipeLaws

@@ -1,8 +1,8 @@
 -- What a pipe means, and what a transfer through it leaves.
 
 use Rattle.std.specs.Prelude.{◌≡◌, ℕ, ◌+◌, ◌<◌, ◌≤◌, [], length, Option, Result, Ok, Err}
-use Rattle.pf_base.specs.Progress.{Passed, Crossed, source_after, cross_now}
-use Rattle.pf_base.specs.Queue.{tee_number, after_tee}
+use Rattle.pf_machine.specs.Progress.{Passed, Crossed, source_after, cross_now}
+use Rattle.pf_machine.specs.Queue.{tee_number, after_tee}
 use Rattle.pf_base.specs.declared.errno.Errno.TheVariants.{EBUSY}
 use Rattle.pf_base.specs.declared.fault.Fault.{Fault}
 use Rattle.pf_base.specs.declared.fault.Fault.TheVariants as faults

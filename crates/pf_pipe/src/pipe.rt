@@ -1,8 +1,8 @@
 ghost use Rattle.std.specs.Prelude.{◌≡◌, ◌≢◌, ◌+◌, ◌-◌, ◌<◌, ◌≤◌, ◌^◌, [], ◌++◌, length, drop, min, nat_eq, nat_lt, if◌then◌else◌, vec_len, vec_capacity, IfOk, IfSome, IfNone, Err};
-ghost use Rattle.pf_base.specs.Progress.{moved, portion, read_now, write_now, cross_now};
+ghost use Rattle.pf_machine.specs.Progress.{moved, portion, read_now, write_now, cross_now};
 ghost use Rattle.pf_base.specs.declared.progress.Crossing.TheVariants.{Tee, Splice};
 ghost use Rattle.pf_base.specs.declared.progress.Progress.TheVariants.{WouldBlock, EndOfFile};
-ghost use Rattle.pf_base.specs.Queue.{room_of, bytes_of, taken};
+ghost use Rattle.pf_machine.specs.Queue.{room_of, bytes_of, taken};
 ghost use Rattle.pf_frame.specs.Live.{Live, IsSound};
 ghost use Rattle.pf_ring.specs.Ring.{queue_of};
 ghost use Rattle.pf_ring.specs.Windows.{Stands, Keeps, SameBytes, PutsBehind, bytes_in};

@@ -10,11 +10,12 @@ use Rattle.pf_base.specs.declared.step.Answer.{Answer}
 use Rattle.pf_frame.specs.declared.fault.PoolFault.{PoolFault}
 use Rattle.pf_frame.specs.declared.fault.PoolFault.TheVariants.{NoMemory}
 use Rattle.pf_frame.specs.Faults.{fault_of, IsFault}
-use Rattle.pf_frame.specs.CountedLaws.{positives-le-length}
+use Rattle.pf_frame.specs.Sound.{positives-le-length}
 use Rattle.pf_frame.specs.Live.{Live, IsIdle}
 use Rattle.pf_pool.specs.declared.pool.FramePool.{FramePool}
 use Rattle.pf_pool.specs.Pool.{pool_live, pool_rest, frames_of, all_held, IsFresh, DoorRest}
-use Rattle.pf_pool.specs.PoolLaws.{pool_sound, held_is, same_view, same_reserves, same_frames}
+use Rattle.pf_pool.specs.PoolSound.{pool_sound}
+use Rattle.pf_pool.proofs.PoolLaws.{held_is, same_view, same_reserves, same_frames}
 use Rattle.pf_tables.specs.Meaning.{Namespace}
 use Rattle.pf_tables.specs.Owns.{Owns}
 use Rattle.pf_hub.specs.Covered.{IsCovered}

@@ -55,8 +55,8 @@ fn spaces_of<A: Allocator + Clone>(
 
 impl<A: Allocator + Clone> Plain<A> {
     ghost use Rattle.std.specs.Prelude.{◌≡◌, ◌≢◌, ◌⊎◌, ℕ, ◌<◌, length, IfOk, IfErr, Some, false};
-    ghost use Rattle.pf_base.specs.Machine.{Answers, may_want_memory};
-    ghost use Rattle.pf_base.specs.Events.{IsDone};
+    ghost use Rattle.pf_machine.specs.Machine.{Answers, may_want_memory};
+    ghost use Rattle.pf_machine.specs.Events.{IsDone};
     ghost use Rattle.pf_frame.specs.declared.fault.PoolFault.TheVariants.{NoMemory};
     ghost use Rattle.pf_hub.specs.Tenants.{tenant_at, limits_at, state_at, held_at, frames_in};
     ghost use Rattle.pf_hub.specs.Covered.{IsCovered};

@@ -5,8 +5,8 @@ use Rattle.pf_base.specs.declared.step.Step.{Step}
 use Rattle.pf_base.specs.declared.step.Reply.{Reply}
 use Rattle.pf_base.specs.declared.step.Answer.{Answer}
 use Rattle.pf_base.specs.declared.step.Answer.TheVariants.{Done, NoMemory}
-use Rattle.pf_base.specs.Events.{mine, kept, replies, keep_step, keep_reply}
-use Rattle.pf_base.specs.Runs.{lone}
+use Rattle.pf_machine.specs.Events.{mine, kept, replies, keep_step, keep_reply}
+use Rattle.pf_machine.specs.Runs.{lone}
 use Rattle.pf_script.specs.Script.{Draft}
 
 -- one answer a step, and each namespace's replies are those of the lone machine with its limits to its steps, but for those that memory was wanted for

@@ -1,4 +1,3 @@
 pub mod Owned
-pub mod OwnedLaws
 pub mod Pool
-pub mod PoolLaws
+pub mod PoolSound

@@ -12,7 +12,7 @@ pub struct Door<'a> {
 
 impl Frames for Door<'_> {
     ghost use Rattle.pf_pool.specs.Pool.{pool_live, DoorRest, namespaces_of, pool_rest};
-    ghost use Rattle.pf_pool.specs.PoolLaws.{pool_sound, pool_census};
+    ghost use Rattle.pf_pool.specs.PoolSound.{pool_sound, pool_census};
 
     ghost live = { λ d. pool_live d.pool.now d.ns };
 

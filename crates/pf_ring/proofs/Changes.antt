@@ -6,14 +6,14 @@ use Rattle.std.proofs.lemmas.Bool.Decides.{nat_tests}
 use Rattle.std.proofs.lemmas.Slice.{drop-append-drop}
 use Rattle.std.proofs.lemmas.List.{map-append, take-take, take-append-le, take_all, take_more, take_more_set, length-take, length-append, length-set}
 use Rattle.pf_base.specs.declared.TheConstants.{PAGE_SIZE}
-use Rattle.pf_base.specs.Queue.{last_room}
+use Rattle.pf_machine.specs.Queue.{last_room}
 use Rattle.pf_frame.specs.Live.{Live, IsSound, Takes, Fills}
 use Rattle.pf_ring.specs.declared.ring.Window.{Window}
 use Rattle.pf_ring.specs.Ring.{segment_of}
 use Rattle.pf_ring.proofs.Queues.{last_room_push}
 use Rattle.pf_ring.specs.Steps.{Puts}
 use Rattle.pf_ring.specs.Windows.{named, reach, opens, limit, last_grows, NoEmpty, Stands, Keeps, PutsBehind, Drops}
-use Rattle.pf_ring.specs.WindowLaws.{named-append, opens-append, reach-append, limit-append, limit_le, opens_le_named, reach_unnamed, limit_closed, NoEmpty-append, bytes_in-append, reach_here, behind_nothing, drops_keep, drops_nothing}
+use Rattle.pf_ring.proofs.WindowLaws.{named-append, opens-append, reach-append, limit-append, limit_le, opens_le_named, reach_unnamed, limit_closed, NoEmpty-append, bytes_in-append, reach_here, behind_nothing, drops_keep, drops_nothing}
 
 -- a window alone, by whether it is on the frame q
 pub own : (q : ℕ) (w : Window) → w.frame ≡ q → (named q (w ∷ []) ≡ 1) × (reach q (w ∷ []) ≡ w.from + w.len)

@@ -1,6 +1,8 @@
+pub mod WindowLaws
 pub mod Changes
-pub mod Copying
+pub mod WindowsShare
 pub mod Loops
 pub mod Queues
 pub mod Segments
-pub mod Shifting
+pub mod WindowsShift
+pub mod TableLaws

@@ -4,14 +4,14 @@ use Rattle.std.proofs.Common.{◌≡◌, ℕ, zero, suc, ◌+◌, ◌-◌, ◌*�
 use Rattle.std.proofs.lemmas.Bool.{cases_lt}
 use Rattle.std.proofs.lemmas.List.{append-nil, take-append-le, take_all, drop_all, take_at, take_min, drop_at, drop_min, drop-drop, length-take, length-drop}
 use Rattle.pf_base.specs.declared.TheConstants.{PAGE_SIZE}
-use Rattle.pf_base.specs.Queue.{Segment, joined, pieces, without_front, after_take}
-use Rattle.pf_base.proofs.QueueLaws.{joined-without_front}
+use Rattle.pf_machine.specs.Queue.{Segment, joined, pieces, without_front, after_take}
+use Rattle.pf_machine.proofs.QueueLaws.{joined-without_front}
 use Rattle.pf_frame.specs.Live.{Live, IsSound}
 use Rattle.pf_ring.specs.declared.ring.Window.{Window}
 use Rattle.pf_ring.specs.Ring.{Ring, segment_of, shown, queue_of}
 use Rattle.pf_ring.specs.Steps.{Puts, Cut}
 use Rattle.pf_ring.specs.Windows.{bytes_in, Stands, Drops}
-use Rattle.pf_ring.specs.WindowLaws.{segments_length, window_whole, keeps_stands, keeps_then, behind_then, drops_keep, drops_then, drops_nothing}
+use Rattle.pf_ring.proofs.WindowLaws.{segments_length, window_whole, keeps_stands, keeps_then, behind_then, drops_keep, drops_then, drops_nothing}
 use Rattle.pf_ring.proofs.Changes.{First}
 use Rattle.pf_ring.proofs.Queues.{without_more, without_rest, pieces_step, pieces_none}
 use Rattle.pf_ring.proofs.Segments.{without_none}

@@ -4,7 +4,7 @@ use Rattle.std.proofs.Common.{◌≡◌, ℕ, zero, suc, ◌+◌, ◌-◌, ◌<�
 use Rattle.std.proofs.lemmas.Bool.Decides.{leb_tells}
 use Rattle.std.proofs.lemmas.List.{append-nil, take_min, drop-drop, length-drop, length-append}
 use Rattle.pf_base.specs.declared.TheConstants.{PAGE_SIZE}
-use Rattle.pf_base.specs.Queue.{Segment, joined, last_room, topped_up, pieces, without_front, copied}
+use Rattle.pf_machine.specs.Queue.{Segment, joined, last_room, topped_up, pieces, without_front, copied}
 
 -- two segments are the same by their parts
 pub same_segment : (s t : Segment) → s.bytes ≡ t.bytes → s.room ≡ t.room → s ≡ t

@@ -4,13 +4,13 @@ use Rattle.std.proofs.Common.{◌≡◌, ℕ, ◌+◌, ◌-◌, ◌<◌, ◌≤�
 use Rattle.std.proofs.lemmas.Bool.{cases_eq}
 use Rattle.std.proofs.lemmas.List.{map-append, take_at, take_min, drop-drop, drop-take, drop-append-le, length-take, length-drop, length-append}
 use Rattle.pf_base.specs.declared.TheConstants.{PAGE_SIZE}
-use Rattle.pf_base.specs.Queue.{Segment, last_room, topped_up, without_front}
+use Rattle.pf_machine.specs.Queue.{Segment, last_room, topped_up, without_front}
 use Rattle.pf_frame.specs.Live.{Live, IsSound, Takes, Fills}
 use Rattle.pf_ring.specs.declared.ring.Window.{Window}
 use Rattle.pf_ring.specs.Ring.{segment_of, shown}
 use Rattle.pf_ring.specs.Windows.{reach, bytes_in, Stands, Drops}
 use Rattle.pf_ring.specs.Steps.{Cut}
-use Rattle.pf_ring.specs.WindowLaws.{named-append, reach-append, limit-append, segments_stay, segments_same, drops_show, window_whole, stands_rest}
+use Rattle.pf_ring.proofs.WindowLaws.{named-append, reach-append, limit-append, segments_stay, segments_same, drops_show, window_whole, stands_rest}
 use Rattle.pf_ring.proofs.Queues.{same_segment, topped_push, without_all, without_part}
 use Rattle.pf_ring.proofs.Changes.{First, last_room_at, own_open, fresh, longer, shorter, cut_drops, take_filled}
 

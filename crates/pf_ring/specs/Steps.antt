@@ -2,7 +2,7 @@
 -- own functions.
 
 use Rattle.std.specs.Prelude.{◌≡◌, ℕ, ◌+◌, ◌<◌, ◌≤◌, List, [], length}
-use Rattle.pf_base.specs.Queue.{without_front}
+use Rattle.pf_machine.specs.Queue.{without_front}
 use Rattle.pf_frame.specs.Live.{Live}
 use Rattle.pf_ring.specs.declared.ring.Window.{Window}
 use Rattle.pf_ring.specs.Ring.{shown}

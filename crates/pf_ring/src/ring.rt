@@ -1,5 +1,5 @@
 ghost use Rattle.std.specs.Prelude.{◌≡◌, ℕ, ◌+◌, ◌-◌, ◌<◌, ◌≤◌, ◌^◌, [], ◌++◌, length, take, drop, min, vec_len, vec_capacity, IfOk, IsOk, OnOk, OnErr};
-ghost use Rattle.pf_base.specs.Queue.{Queue, room_of, bytes_of, put, taken, after_take, tee_number, after_tee, after_splice, with_capacity, empty};
+ghost use Rattle.pf_machine.specs.Queue.{Queue, room_of, bytes_of, put, taken, after_take, tee_number, after_tee, after_splice, with_capacity, empty};
 ghost use Rattle.pf_frame.specs.Live.{Live, IsSound};
 ghost use Rattle.pf_ring.specs.Ring.{segment_of, queue_of};
 ghost use Rattle.pf_base.specs.declared.TheConstants.{PAGE_SIZE};

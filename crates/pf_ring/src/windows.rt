@@ -1,7 +1,7 @@
 ghost use Rattle.std.specs.Prelude.{◌≡◌, ◌+◌, ◌-◌, ◌*◌, ◌<◌, ◌≤◌, ◌^◌, [], ◌∷◌, ◌++◌, length, take, drop, min, get_or, vec_len, vec_capacity};
 ghost use Rattle.std.specs.VecDeque.{deque_len, deque_capacity};
 ghost use Rattle.pf_base.specs.declared.TheConstants.{PAGE_SIZE};
-ghost use Rattle.pf_base.specs.Queue.{Segment, joined, last_room, topped_up, pieces, copied};
+ghost use Rattle.pf_machine.specs.Queue.{Segment, joined, last_room, topped_up, pieces, copied};
 ghost use Rattle.pf_frame.specs.Live.{Live};
 ghost use Rattle.pf_ring.specs.Ring.{segment_of, shown};
 ghost use Rattle.pf_ring.specs.Windows.{Stands, Drops, bytes_in};

@@ -3,7 +3,7 @@
 use Rattle.std.proofs.Common.{◌≡◌, ℕ, ◌+◌, List, take, drop, Some, None, ap, refl}
 use Rattle.memchr.specs.Find.{IsFirstByte, is_byte}
 use Rattle.pf_script.specs.Words.{pieces_of, hex_bytes, repeated, bytes_of_parts}
-use Rattle.pf_script.proofs.Cutting.{front, whole, some_piece}
+use Rattle.pf_script.proofs.CutLaws.{front, whole, some_piece}
 
 pub no_star : (word : List ℕ) → IsFirstByte (is_byte 42) word None → bytes_of_parts (pieces_of 42 word) ≡ hex_bytes word
 no_star word none = ap bytes_of_parts (whole 42 word none)

@@ -7,7 +7,7 @@ use Rattle.std.proofs.lemmas.Bool.{le-leb}
 use Rattle.std.proofs.Math.ListN.{drop_of_length-le}
 use Rattle.std.proofs.Math.Nat.{le-mul_of_pos_right}
 use Rattle.pf_script.specs.Words.{digit, digits_from, up_to}
-use Rattle.pf_script.proofs.Cutting.{next_of}
+use Rattle.pf_script.proofs.CutLaws.{next_of}
 
 -- what is too large stays so
 pub too_large : (base most n : ℕ) (cs : List ℕ) → 1 ≤ base → most < n → option_and_then (up_to most) (digits_from base n cs) ≡ None

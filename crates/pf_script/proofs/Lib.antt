@@ -1,13 +1,13 @@
-pub mod Cutting
+pub mod CutLaws
 pub mod Digits
 pub mod Numbers
 pub mod Data
 pub mod Lines
-pub mod Naming
+pub mod ScriptNames
 pub mod Places
 pub mod Soundness
 pub mod Streams
-pub mod Putting
+pub mod PrinterPut
 pub mod Texts
 pub mod ScriptLemmas
 mod ScriptExamples

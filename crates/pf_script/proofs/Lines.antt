@@ -9,7 +9,7 @@ use Rattle.pf_script.specs.Words.{pieces_of}
 use Rattle.pf_script.specs.declared.fault.LineFault.{LineFault}
 use Rattle.pf_script.specs.declared.fault.LineFault.TheVariants as faults
 use Rattle.pf_script.specs.Faults.{Fails, Reads, at_line}
-use Rattle.pf_script.proofs.Cutting.{front, whole, some_piece}
+use Rattle.pf_script.proofs.CutLaws.{front, whole, some_piece}
 
 first_line : (d : Draft) (k : ℕ) (text cs : List ℕ) → lines_from d k (text ∷ pieces_of 10 cs) ≡ numbered k (line_of d text) (λ e. lines_from e (k + 1) (pieces_of 10 cs))
 unfolding lines_from

@@ -6,7 +6,7 @@ use Rattle.memchr.specs.Find.{IsFirstByte, is_byte}
 use Rattle.pf_script.specs.declared.refusal.Cause.{Cause}
 use Rattle.pf_script.specs.Arguments.{or_cause}
 use Rattle.pf_script.specs.Words.{number, numbers_onto, numbers_of, pieces_of}
-use Rattle.pf_script.proofs.Cutting.{front, whole}
+use Rattle.pf_script.proofs.CutLaws.{front, whole}
 
 -- a number more
 pub goes_on : (numbers rest piece : List ℕ) (k n : ℕ) (all : Option (List ℕ)) → IsFirstByte (is_byte 44) rest (Some k) → piece ≡ take k rest → number 4294967295 piece ≡ Some n →

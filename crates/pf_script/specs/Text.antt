@@ -11,7 +11,7 @@ use Rattle.pf_base.specs.declared.meta.Kind.{Kind}
 use Rattle.pf_base.specs.declared.meta.Kind.TheVariants.{Fifo, Directory}
 use Rattle.pf_base.specs.declared.meta.Meta.{Meta}
 use Rattle.pf_base.specs.Errors.{name_of}
-use Rattle.pf_base.specs.Events.{mine}
+use Rattle.pf_machine.specs.Events.{mine}
 use Rattle.pf_base.specs.Limits.{Limits}
 use Rattle.pf_script.specs.Script.{Draft}
 

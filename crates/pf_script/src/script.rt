@@ -133,7 +133,7 @@ impl Script {
     }
 
     /// The limits of each namespace, in the order of their numbers. They reserve no more frames than the pool has.
-    #[tactic(auto, using(crate::proofs::Naming::limits_of))]
+    #[tactic(auto, using(crate::proofs::ScriptNames::limits_of))]
     pub fn configs(&self, alloc: Global) -> Result<Vec<Config>, AllocError>
         ensures limits { IfOk result (λ configs. configs.items ≡ map (λ s. s.1) self.now.spaces) }
         ensures most { IfOk result (λ configs. length configs.items ≤ 64) }
@@ -171,7 +171,7 @@ impl Script {
     }
 
     /// The sum of the reservations.
-    #[tactic(auto, using(crate::proofs::Naming::reserved_is))]
+    #[tactic(auto, using(crate::proofs::ScriptNames::reserved_is))]
     fn reserved_frames(&self) -> u64
         ensures sum { result ≡ reserved self.now.spaces }
         ensures most { result ≤ MAX_FRAMES }
@@ -183,7 +183,7 @@ impl Script {
     }
 
     /// The number of the namespace with this name.
-    #[tactic(auto, using(crate::proofs::Naming::place_is))]
+    #[tactic(auto, using(crate::proofs::ScriptNames::place_is))]
     pub fn place(&self, name: &[u8]) -> Option<u32>
         ensures place { result ≡ place_of name.now self.now.spaces }
         ensures within { IfSome result (λ place. place < length self.now.spaces) }

@@ -1,8 +1,7 @@
-pub mod Marking
-pub mod Walking
-pub mod Merging
-pub mod Counting
-pub mod Sameness
-pub mod Logging
-pub mod Judging
+pub mod GivenLaws
+pub mod MergeSteps
+pub mod MergeLaws
+pub mod SeatLaws
+pub mod LoggedLaws
+pub mod JudgeLaws
 pub mod Sendable

@@ -2,8 +2,8 @@
 
 use Rattle.std.specs.Prelude.{◌≡◌, ℕ, ◌<◌, ◌≤◌, List, length, map}
 use Rattle.pf_base.specs.Limits.{Limits}
-use Rattle.pf_base.specs.State.{opening}
-use Rattle.pf_base.specs.Runs.{run_of}
+use Rattle.pf_machine.specs.State.{opening}
+use Rattle.pf_machine.specs.Runs.{run_of}
 use Rattle.pf_base.specs.declared.step.Step.{Step}
 use Rattle.pf_base.specs.declared.step.Reply.{Reply}
 use Rattle.pf_hub.specs.Opening.{new_hub}

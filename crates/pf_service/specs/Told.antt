@@ -2,7 +2,7 @@
 
 use Rattle.std.specs.Prelude.{◌≡◌, ℕ, List, ◌++◌, [], ◌∷◌, length, drop}
 use Rattle.pf_base.specs.Limits.{Limits}
-use Rattle.pf_base.specs.Runs.{lone}
+use Rattle.pf_machine.specs.Runs.{lone}
 use Rattle.pf_base.specs.declared.step.Step.{Step}
 use Rattle.pf_base.specs.declared.step.Reply.{Reply}
 

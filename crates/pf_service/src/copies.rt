@@ -1,5 +1,5 @@
 ghost use Rattle.std.specs.Prelude.{◌≡◌, ◌≤◌, [], length, vec_capacity};
-ghost use Rattle.pf_tables.specs.Bounds.{reply_length};
+ghost use Rattle.pf_machine.specs.Replies.{reply_length};
 
 use pf_base::{ByteString, Reply};
 use std::alloc::Global;

@@ -11,21 +11,9 @@ pub struct Event {
     pub reply: Reply,
 }
 
-fn is_same_step(a: &Step, b: &Step) -> bool
-    ensures { IsTrue result ↔ (a.now ≡ b.now) }
-{
-    a == b
-}
-
-fn is_same_reply(a: &Reply, b: &Reply) -> bool
-    ensures { IsTrue result ↔ (a.now ≡ b.now) }
-{
-    a == b
-}
-
 /// Whether an entry of a transcript is this event's step and reply.
 pub(crate) fn is_same(entry: &(Step, Reply), event: &Event) -> bool
     ensures { IsTrue result ↔ (entry.now ≡ (event.now.step, event.now.reply)) }
 {
-    is_same_step(&entry.0, &event.step) && is_same_reply(&entry.1, &event.reply)
+    entry.0.is_same(&event.step) && entry.1.is_same(&event.reply)
 }

@@ -14,8 +14,6 @@ pub mod merge;
 pub mod receipt;
 pub mod seat;
 pub mod service;
-#[cfg(test)]
-mod tests;
 pub mod transcript;
 
 pub use event::Event;

@@ -48,13 +48,13 @@ fn transcripts_of<A: Allocator>(
 
 impl<A: Allocator + Clone> LoggedHub<A> {
     ghost use Rattle.std.specs.Prelude.{◌≢◌, ℕ, ◌+◌, ◌<◌, ◌≤◌, ◌++◌, [], ◌∷◌, IfErr, IsOk, OnOk, OnErr, None};
-    ghost use Rattle.pf_base.specs.State.{opening};
-    ghost use Rattle.pf_base.specs.Runs.{run_of};
-    ghost use Rattle.pf_base.specs.Machine.{step_of};
+    ghost use Rattle.pf_machine.specs.State.{opening};
+    ghost use Rattle.pf_machine.specs.Runs.{run_of};
+    ghost use Rattle.pf_machine.specs.Machine.{step_of};
     ghost use Rattle.pf_frame.specs.Faults.{IsFault};
     ghost use Rattle.pf_hub.specs.Opening.{first_fault};
     ghost use Rattle.pf_hub.specs.Tenants.{limits_at, state_at, tenant_at};
-    ghost use Rattle.pf_tables.specs.Bounds.{reply_length};
+    ghost use Rattle.pf_machine.specs.Replies.{reply_length};
     ghost use Rattle.pf_service.specs.Logs.{entries_at, new_logs, IsApplyFault};
     ghost use Rattle.pf_service.specs.Transcripts.{steps_in, replies_in, transcript_at, IsLone};
     ghost use Rattle.pf_service.specs.declared.TheConstants.{MAX_ENTRIES};

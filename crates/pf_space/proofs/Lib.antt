@@ -1,4 +1,4 @@
-mod Resuming
+mod ParkedResume
 pub mod Sendable
 mod Steps
-mod Waiting
+mod ParkedTransfers

@@ -3,4 +3,6 @@
 
 pub mod space;
 
+/// The laws of the lone machine's definitions, of which `stream` speaks of every run.
+pub use pf_laws as laws;
 pub use space::Space;

@@ -1,5 +1,5 @@
 ghost use Rattle.std.specs.Prelude.{◌≡◌, ◌≢◌, Err};
-ghost use Rattle.pf_base.specs.Machine.{call};
+ghost use Rattle.pf_machine.specs.Machine.{call};
 
 use pf_base::{Answer, Config, Crossing, Fault, Reply, Step};
 use pf_frame::Frames;
@@ -36,9 +36,9 @@ impl<A: Allocator> Model for Space<A> {
 
 impl<A: Allocator + Clone> Space<A> {
     ghost use Rattle.std.specs.Prelude.{◌≡◌, ◌≢◌, ◌≤◌, Err, IfOk, false};
-    ghost use Rattle.pf_base.specs.State.{opening};
-    ghost use Rattle.pf_base.specs.Machine.{Answers, call, may_want_memory};
-    ghost use Rattle.pf_base.specs.Events.{IsDone};
+    ghost use Rattle.pf_machine.specs.State.{opening};
+    ghost use Rattle.pf_machine.specs.Machine.{Answers, call, may_want_memory};
+    ghost use Rattle.pf_machine.specs.Events.{IsDone};
     ghost use Rattle.pf_tables.specs.Meaning.{meaning, occupied, AreEmpty};
     ghost use Rattle.pf_tables.specs.Owns.{Owns};
     ghost use Rattle.pf_tables.specs.Told.{Told};

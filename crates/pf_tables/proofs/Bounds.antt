@@ -1,246 +1,198 @@
--- What the machine's replies hand out, kind by kind: nothing but the bytes of a read and the names of a list.
+-- How much a reply hands out, as the tables know it.
 
-use Rattle.std.proofs.Common.{◌≡◌, ℕ, ◌+◌, ◌≤◌, Bool, true, false, not, ◌&&◌, ◌||◌, List, [], ◌∷◌, ◌++◌, length, Option, Some, None, Result, Ok, Err, refl, ap, ◌∙◌, arith, nat_eq, nat_le, nat_lt, if◌then◌else◌, length-take}
-use Rattle.std.specs.Prelude.{⊤, min}
-use Rattle.std.specs.Option.{option_and_then}
-use Rattle.pf_base.specs.Refusals.{◌>>=◌, refuse_if, or_refuse}
+use Rattle.std.proofs.Common.{◌≡◌, ℕ, zero, suc, ◌≤◌, not, List, length, Option, Some, None, Result, Ok, Err, refl, sym, ap, subst, ◌∙◌, arith}
+use Rattle.std.specs.Prelude.{min}
+use Rattle.std.specs.Option.{option_map, option_and_then}
+use Rattle.pf_machine.specs.FileMap.{Files, Path, names_below, listed, is_directory}
+use Rattle.pf_machine.specs.Paths.{target}
+use Rattle.pf_base.specs.Permissions.{allows}
+use Rattle.pf_base.specs.declared.permissions.Want.TheVariants as Access
 use Rattle.pf_base.specs.Limits.{Limits}
-use Rattle.pf_base.specs.FileCalls as calls
-use Rattle.pf_base.specs.Queue.{Queue, bytes_of, after_take}
-use Rattle.pf_base.specs.Progress.{Passed, moved, read_now}
-use Rattle.pf_base.specs.Numbered.{at, first_free}
-use Rattle.pf_base.specs.Calls.{Transfer, Reading, Writing, Bringing, Call, Opening, Moving, written_of}
-use Rattle.pf_base.specs.State.{State, Process, Description, End, Outcome, process, living, ready, settle, told, end_at, reading_end, change_pipe}
-use Rattle.pf_base.specs.Counts.{readers, writers}
-use Rattle.pf_base.specs.Processes.{exit, fork}
-use Rattle.pf_base.specs.Descriptors.{dup, close, set_nonblock}
-use Rattle.pf_base.specs.Pipes.{pipe, set_size, get_size, is_spent}
-use Rattle.pf_base.specs.Files.{make, unlink, rmdir, chmod, stat, list}
-use Rattle.pf_base.specs.Transfers.{Tried, tried, try_read}
-use Rattle.pf_base.specs.Attempts.{Attempt, Finished, Waits, transfer_told, given, other_opens, open_told, attempt, first, again, nonblocking, transfer, resume}
-use Rattle.pf_base.specs.Opens.{Access, access_of, is_waiting, counted, kept_by, openable, fifo_pipe, fifo_readers, pipe_of, open_pipe, open_fifo, open_path}
-use Rattle.pf_base.specs.Machine.{call, call_of}
-use Rattle.pf_base.specs.declared.TheConstants.{MAX_DESCRIPTORS}
+use Rattle.pf_machine.specs.Refusals.{refuse_if, or_refuse}
+use Rattle.pf_machine.specs.Queue.{Queue, IsQueue, bytes_of}
+use Rattle.pf_machine.proofs.QueueLaws.{length-joined-le}
+use Rattle.pf_machine.specs.Numbered.{at, weight}
+use Rattle.pf_machine.proofs.NumberedLaws.{at-map, weight-le-sum_of}
+use Rattle.pf_machine.proofs.HoldsLaws.{Holds, goes, carries, passes}
+use Rattle.pf_machine.specs.Calls as calls
+use Rattle.pf_machine.specs.State as machine
+use Rattle.pf_machine.specs.State.{State, End, ready, end_at, end_of, reading_end}
+use Rattle.pf_machine.specs.Machine.{step_of, call, call_of as machine_call_of}
+use Rattle.pf_base.specs.declared.TheConstants.{MAX_RESERVE}
 use Rattle.pf_base.specs.declared.errno.Errno.{Errno}
-use Rattle.pf_base.specs.declared.errno.Errno.TheVariants.{EBADF, EPIPE, EAGAIN, EINVAL, EMFILE, ENXIO, ENFILE, ESRCH}
-use Rattle.pf_base.specs.declared.meta.File.{File}
-use Rattle.pf_base.specs.declared.meta.Kind.TheVariants as kinds
-use Rattle.pf_base.specs.declared.progress.Crossing.TheVariants as crossings
-use Rattle.pf_base.specs.declared.progress.Progress.{Progress}
-use Rattle.pf_base.specs.declared.progress.Progress.TheVariants.{Moved, WouldBlock, EndOfFile, NoReader}
-use Rattle.pf_base.specs.declared.step.Reply.TheVariants.{Num}
+use Rattle.pf_base.specs.declared.errno.Errno.TheVariants.{EBADF, ENOTDIR, EACCES}
+use Rattle.pf_base.specs.declared.progress.Side.TheVariants as sides
 use Rattle.pf_base.specs.declared.step.Step.{Step}
-use Rattle.pf_base.specs.declared.step.Step.TheVariants.{Spawn, Exit, Pipe, Close, Read, Write, Tee, Splice, SetSize, GetSize, Fork, Dup, SetNonblock, Mkdir, Mkfifo, Open, Unlink, Rmdir, Chmod, Stat, List as Lists, Resume}
-use Rattle.pf_base.proofs.HoldsLaws.{Holds, goes, carries, passes}
-use Rattle.pf_tables.specs.Bounds.{reply_length}
+use Rattle.pf_base.specs.declared.step.Step.TheVariants as steps
+use Rattle.pf_fds.specs.Registry.{find}
+use Rattle.pf_frame.specs.Live.{Live, IsSound}
+use Rattle.pf_limits.specs.UserPages.{UserPages}
+use Rattle.pf_parked.specs.declared.call.Call.TheVariants.{Open, Read, Write, Cross}
+use Rattle.pf_ring.specs.Ring.{Ring, queue_of}
+use Rattle.pf_ring.specs.Windows.{Stands}
+use Rattle.pf_ring.specs.Table.{slots_used, slots_of}
+use Rattle.pf_ring.proofs.TableLaws.{ring_queue}
+use Rattle.pf_tables.specs.Bounds.{Covers}
+use Rattle.pf_machine.specs.Replies.{reply_length}
+use Rattle.pf_tables.specs.Meaning.{Namespace, meaning, pipe_meaning, pages}
+use Rattle.pf_tables.specs.Owns.{Owns}
+use Rattle.pf_tables.proofs.OwnsLaws.{ring_at-pipe, stands_at, pages_within}
+use Rattle.pf_tables.specs.Rows.{ProcessRows, DescriptionRows, PipeRows, Key, Call, Process, Description, Pipe, call_of, call_in, process_of, state_of, end_in, Kept}
+use Rattle.pf_machine.proofs.ReplyLaws.{read_bytes, read-few, resume-few, list-few, quiet, few}
+use Rattle.pf_tables.proofs.Ends.{end_of_rows, refused, found}
+use Rattle.pf_tables.proofs.RowsShown.{find_at, was}
+use Rattle.pf_tables.proofs.Transfers as transfers
 
--- a read by its three tests
-abbrev read_by : Queue → ℕ → Bool → Bool → Bool → Passed
-read_by q n a b c =
-    if a then record { progress = Moved 0; queue = q }
-    else if b then record { progress = Moved (min n (length (bytes_of q))); queue = after_take q n }
-    else if c then record { progress = EndOfFile; queue = q }
-    else record { progress = WouldBlock; queue = q }
+-- the reply to a step hands out no more, over these frames
+abbrev AtMost : Live → Step → ℕ → Namespace → Type 0
+AtMost f step bound n = reply_length (step_of n.limits (meaning f n.state) step).reply ≤ bound
 
-read_by-le : (q : Queue) (n : ℕ) (a b c : Bool) → moved (read_by q n a b c).progress ≤ min n (length (bytes_of q))
-read_by-le q n true b c = omega arith
-read_by-le q n false true c = omega arith
-read_by-le q n false false true = omega arith
-read_by-le q n false false false = omega arith
+-- No pipe has more bytes than all frames
 
--- it takes no more than it asks for, and no more than there is
-read_now-le : (q : Queue) (writers n : ℕ) → moved (read_now q writers n).progress ≤ min n (length (bytes_of q))
-read_now-le q writers n = read_by-le q n (nat_eq n 0) (nat_lt 0 (length (bytes_of q))) (nat_eq writers 0)
+module _ (f : Live) (n : Namespace) (sound : IsSound f) (owns : Owns f n) (most : n.limits.reserve ≤ MAX_RESERVE) where
+  pub all_bytes : (j : ℕ) (p : machine.Pipe Queue) → at (meaning f n.state).pipes j ≡ Some p → length (bytes_of p.queue) ≤ 268435456
+  all_bytes j p there =
+      let w = was (pipe_meaning f) n.state.pipes j p there in
+      let fits : slots_used w.0.queue ≤ slots_of w.0.queue = subst (λ (r : Ring). slots_used r ≤ slots_of r) (ring_at-pipe n.state.pipes j w.0 w.1) (owns.joined.fits j) in
+      let queue : IsQueue (queue_of f w.0.queue) = ring_queue f w.0.queue sound (stands_at f n.state j w.0 owns.joined w.1) fits in
+      let bytes = length-joined-le (queue_of f w.0.queue).segments queue.each in
+      let slots = queue.slots in
+      let h : machine.Pipe Ring → ℕ = λ (q : machine.Pipe Ring). q.queue.capacity in
+      let weighs = ap (weight h) w.1 in
+      let among = weight-le-sum_of h n.state.pipes j in
+      let within : pages n.state ≤ n.limits.reserve = pages_within f n owns in
+      let here : length (bytes_of (queue_of f w.0.queue)) ≤ 268435456 = omega (arith, bytes, slots, weighs, among, within, most) in
+      subst (λ (q : machine.Pipe Queue). length (bytes_of q.queue) ≤ 268435456) w.2 here
 
-pub read_bytes : (s : State Queue) (e : End Queue) (n : ℕ) → length (try_read s e n).bytes ≤ min n (length (bytes_of e.pipe.queue))
-read_bytes s e n =
-    let k = moved (read_now e.pipe.queue (writers s e.description.pipe) n).progress in
-    omega (arith, length-take k (bytes_of e.pipe.queue), read_now-le e.pipe.queue (writers s e.description.pipe) n)
+-- A read
 
--- no reply hands out more than m bytes
-module _ (s : State Queue) (m : ℕ) where
-  abbrev pub Few : Outcome → Type 0
-  Few o = reply_length o.reply ≤ m
+module _ {files : Files} {files_made : ℕ} (limits : Limits) (charges : UserPages) (ps : ProcessRows) (ds : DescriptionRows) (pipes : PipeRows) (k : Kept charges ps ds pipes)
+    (n : Namespace) (view : record { limits = limits; state = state_of ps ds pipes files files_made } ≡ n) (pid fd count : ℕ) where
+  abbrev shows : Live → State Queue
+  shows f = meaning f (state_of ps ds pipes files files_made)
 
-  nothing : 0 ≤ m
-  nothing = omega arith
-
-  -- Attempts
-
-  abbrev Told : Attempt → Type 0
-  Told (Finished t reply) = reply_length reply ≤ m
-  Told (Waits t call) = ⊤
-
-  -- the bytes of a read are few
-  abbrev Little : Transfer → Tried → Type 0
-  Little (Reading fd n) t = length t.bytes ≤ m
-  Little (Writing fd x written) t = ⊤
-  Little (Bringing c source sink n) t = ⊤
-
-  told-few : (call : Transfer) (t : Tried) (p : Progress) → Little call t → Holds Told (transfer_told call t p)
-  told-few (Reading fd n) t (Moved k) h = h
-  told-few (Reading fd n) t EndOfFile h = nothing
-  told-few (Reading fd n) t NoReader h = nothing
-  told-few (Reading fd n) t WouldBlock h = tt
-  told-few (Writing fd x written) t (Moved k) h = by_rest (nat_eq (written + k) (length x))
+  -- nothing where there is no end that reads
+  pub no_read : ((d : Description) → end_in (Some sides.Read) ps ds pid fd ≡ Ok d → ⊥) → Covers n (steps.Read pid fd count) 0
+  no_read none f sound owns = subst (AtMost f (steps.Read pid fd count) 0) view (by_end (end_in (Some sides.Read) ps ds pid fd) refl)
     where
-      by_rest : (b : Bool) → Holds Told (if b then Ok (Finished t.state (Num (length x))) else Ok (Waits t.state (Moving (Writing fd x (written + k)))))
-      by_rest true = nothing
-      by_rest false = tt
-  told-few (Writing fd x written) t NoReader h = by_none (nat_eq written 0)
+      by_end : (r : Result Description Errno) → end_in (Some sides.Read) ps ds pid fd ≡ r → AtMost f (steps.Read pid fd count) 0 (record { limits = limits; state = state_of ps ds pipes files files_made })
+      by_end (Ok d) h = absurd (none d h)
+      by_end (Err e) h =
+          few (shows f) 0 (call limits (shows f) (steps.Read pid fd count)) (read-few (shows f) 0 limits pid fd count
+          (λ x is. let both : ◌≡◌ {A = Result (End Queue) Errno} (Err e) (Ok x) = sym (refused f (Some sides.Read) ps ds pipes files files_made k.tied pid fd e h) ∙ is in absurd (cc)))
+
+  module _ (d : Description) (h : end_in (Some sides.Read) ps ds pid fd ≡ Ok d) where
+    -- it has a pipe
+    pub no_pipe : find pipes d.pipe.slot d.pipe.serial ≡ None → Covers n (steps.Read pid fd count) 0
+    no_pipe none f sound owns =
+        let e = found f (Some sides.Read) ps ds pipes files files_made k.tied pid fd d h in
+        let there = find_at pipes d.pipe.slot d.pipe.serial e.pipe e.stands in
+        let both : ◌≡◌ {A = Option Pipe} None (Some e.pipe) = sym none ∙ there in
+        absurd (cc)
+
+    -- what the pipe holds, up to what is asked for
+    pub reads : (r : Pipe) → find pipes d.pipe.slot d.pipe.serial ≡ Some r → (held : ℕ) → ((f : Live) → IsSound f → Stands f r.ring.windows → held ≡ length (bytes_of (queue_of f r.ring)))
+        → Covers n (steps.Read pid fd count) (min held count)
+    reads r handed held holds f sound owns =
+        let e = found f (Some sides.Read) ps ds pipes files files_made k.tied pid fd d h in
+        let rows : ◌≡◌ {A = Option Pipe} (Some e.pipe) (Some r) = sym (find_at pipes d.pipe.slot d.pipe.serial e.pipe e.stands) ∙ handed in
+        let same : e.pipe ≡ r = cc in
+        let stands : Stands f r.ring.windows = transfers.stands_in f limits charges ps ds pipes k n view owns d r handed in
+        let number : held ≡ length (bytes_of (queue_of f r.ring)) = holds f sound stands in
+        subst (AtMost f (steps.Read pid fd count) (min held count)) view
+        (few (shows f) (min held count) (call limits (shows f) (steps.Read pid fd count)) (read-few (shows f) (min held count) limits pid fd count
+        (λ x is.
+        let ends : ◌≡◌ {A = Result (End Queue) Errno} (Ok (end_of_rows f d e.pipe)) (Ok x) = sym e.is ∙ is in
+        let end : end_of_rows f d e.pipe ≡ x = cc in
+        let bytes : length (bytes_of (queue_of f r.ring)) ≡ length (bytes_of x.pipe.queue) = ap (λ (q : Pipe). length (bytes_of (queue_of f q.ring))) (sym same) ∙ ap (λ (y : End Queue). length (bytes_of y.pipe.queue)) end in
+        omega (arith, read_bytes (shows f) x count, bytes, number))))
+
+-- A list
+
+module _ {files : Files} {files_made : ℕ} (limits : Limits) (ps : ProcessRows) (ds : DescriptionRows) (pipes : PipeRows)
+    (n : Namespace) (view : record { limits = limits; state = state_of ps ds pipes files files_made } ≡ n) where
+  pub lists : (most : ℕ) → ((path : Path) → length (listed (names_below path files)) ≤ most) → (pid : ℕ) (path : List ℕ) → Covers n (steps.List pid path) most
+  lists most h pid path f sound owns =
+      subst (AtMost f (steps.List pid path) most) view
+      (few s most (call limits s (steps.List pid path)) (list-few s most limits pid path
+      (λ p ready. carries Short (target files p.cred path) _
+      (λ t. passes Short (refuse_if (not (is_directory t.file)) ENOTDIR) _ (passes Short (refuse_if (not (allows p.cred t.file.meta Access.Read)) EACCES) _ (h t.path))))))
     where
-      by_none : (b : Bool) → Holds Told (if b then Err EPIPE else Ok (Finished t.state (Num written)))
-      by_none true = tt
-      by_none false = nothing
-  told-few (Writing fd x written) t WouldBlock h = tt
-  told-few (Writing fd x written) t EndOfFile h = tt
-  told-few (Bringing c source sink n) t (Moved k) h = nothing
-  told-few (Bringing c source sink n) t EndOfFile h = nothing
-  told-few (Bringing c source sink n) t NoReader h = tt
-  told-few (Bringing c source sink n) t WouldBlock h = tt
+      s : State Queue
+      s = meaning f (state_of ps ds pipes files files_made)
 
-  attempt-few : (pid : ℕ) (p : Process) (call : Transfer) → Holds (Little call) (tried s p call) → Holds Told (attempt s pid p (Moving call))
-  attempt-few pid p call h = goes (Little call) Told (tried s p call) (λ t. transfer_told call t t.progress) h (λ t l. told-few call t t.progress l)
+      Short : List ℕ → Type 0
+      Short names = length names ≤ most
 
-  first-few : (pid : ℕ) (nonblock : Bool) (a : Attempt) → Told a → Holds Few (first pid nonblock a)
-  first-few pid nonblock (Finished t reply) h = h
-  first-few pid false (Waits t call) h = nothing
-  first-few pid true (Waits t call) h = by_none (nat_eq (written_of call) 0)
+-- A call that is tried again
+
+-- the pipe of an end that reads stands
+abbrev Standing : State Queue → End Queue → Type 0
+Standing s e = at s.pipes e.description.pipe ≡ Some e.pipe
+
+end_at-stands : (s : State Queue) (m : ℕ) → Holds (Standing s) (or_refuse EBADF (end_at s m))
+end_at-stands s m = by_description (at s.descriptions m)
+  where
+    by_pipe : (d : machine.Description) (o : Option (machine.Pipe Queue)) → at s.pipes d.pipe ≡ o → Holds (Standing s) (or_refuse EBADF (option_map (λ (pipe : machine.Pipe Queue). record { description = d; pipe = pipe }) o))
+    by_pipe d None e = tt
+    by_pipe d (Some p) e = e
+
+    by_description : (o : Option machine.Description) → Holds (Standing s) (or_refuse EBADF (option_and_then (λ d. option_map (λ (pipe : machine.Pipe Queue). record { description = d; pipe = pipe }) (at s.pipes d.pipe)) o))
+    by_description None = tt
+    by_description (Some d) = by_pipe d (at s.pipes d.pipe) refl
+
+reading_end-stands : (s : State Queue) (p : machine.Process) (fd : ℕ) → Holds (Standing s) (reading_end s p fd)
+reading_end-stands s p fd = goes (Standing s) (Standing s) (end_of s p fd) _ (by_number (at p.descriptors fd)) (λ e h. passes (Standing s) (refuse_if (not e.description.reads) EBADF) (Ok e) h)
+  where
+    by_number : (o : Option ℕ) → Holds (Standing s) (or_refuse EBADF (option_and_then (end_at s) o))
+    by_number None = tt
+    by_number (Some m) = end_at-stands s m
+
+reading_there : (s : State Queue) (p : machine.Process) (fd : ℕ) (e : End Queue) → reading_end s p fd ≡ Ok e → Standing s e
+reading_there s p fd e is = subst (Holds (Standing s)) is (reading_end-stands s p fd)
+
+-- the machine's call is the one that the tables keep
+call_shown : (f : Live) (ps : ProcessRows) (ds : DescriptionRows) (pipes : PipeRows) (files : Files) (files_made pid : ℕ) → machine_call_of (meaning f (state_of ps ds pipes files files_made)) pid ≡ option_map call_of (call_in ps pid)
+call_shown f ps ds pipes files files_made pid = by_pid pid
+  where
+    by_row : (x : Option Process) → option_and_then (λ (p : machine.Process). p.parked) (option_map process_of x) ≡ option_map call_of (option_and_then (λ (p : Process). p.parked) x)
+    by_row None = refl
+    by_row (Some p) = refl
+
+    by_pid : (m : ℕ) → machine_call_of (meaning f (state_of ps ds pipes files files_made)) m ≡ option_map call_of (call_in ps m)
+    by_pid zero = refl
+    by_pid (suc i) = ap (option_and_then (λ (p : machine.Process). p.parked)) (at-map process_of ps i) ∙ by_row (at ps i)
+
+-- what a call asks for, as far as it hands anything out
+abbrev pub asked : Option (Call Key) → ℕ
+asked (Some (Read fd count)) = count
+asked _ = 0
+
+module _ {files : Files} {files_made : ℕ} (limits : Limits) (ps : ProcessRows) (ds : DescriptionRows) (pipes : PipeRows)
+    (n : Namespace) (view : record { limits = limits; state = state_of ps ds pipes files files_made } ≡ n) (most : limits.reserve ≤ MAX_RESERVE) (pid : ℕ) where
+  pub resumes : (o : Option (Call Key)) → o ≡ call_in ps pid → Covers n (steps.Resume pid) (min 268435456 (asked o))
+  resumes o is f sound owns =
+      subst (AtMost f (steps.Resume pid) (min 268435456 (asked o))) view
+      (few s (min 268435456 (asked o)) (call limits s (steps.Resume pid)) (resume-few s (min 268435456 (asked o)) limits pid
+      (λ p fd count e waits reads.
+      let all = all_bytes f m sound (subst (Owns f) (sym view) owns) most e.description.pipe e.pipe (reading_there s p fd e reads) in
+      let asks : asked o ≡ count = by_call o fd count (ap (option_map call_of) is ∙ sym (call_shown f ps ds pipes files files_made pid) ∙ waits) in
+      omega (arith, read_bytes s e count, all, asks))))
     where
-      by_none : (b : Bool) → Holds Few (if b then Err EAGAIN else Ok (told t (Num (written_of call))))
-      by_none true = tt
-      by_none false = nothing
+      m : Namespace
+      m = record { limits = limits; state = state_of ps ds pipes files files_made }
 
-  transfer-few : (pid : ℕ) (p : Process) (flag : Bool) (call : Transfer) → Holds (Little call) (tried s p call) → Holds Few (transfer s pid p flag call)
-  transfer-few pid p flag call h =
-      goes Told Few (attempt s pid p (Moving call)) (first pid (flag || nonblocking s p call)) (attempt-few pid p call h) (λ a t. first-few pid (flag || nonblocking s p call) a t)
+      s : State Queue
+      s = meaning f (state_of ps ds pipes files files_made)
 
-  any_tried : (r : Result Tried Errno) → Holds (λ t. ⊤) r
-  any_tried (Ok t) = tt
-  any_tried (Err e) = tt
+      by_call : (x : Option (Call Key)) (fd count : ℕ) → option_map call_of x ≡ Some (calls.Moving (calls.Reading fd count)) → asked x ≡ count
+      by_call None fd count e = absurd (cc)
+      by_call (Some (Open key kept)) fd count e = absurd (cc)
+      by_call (Some (Read fd' count')) fd count e = cc
+      by_call (Some (Write fd' write)) fd count e = absurd (cc)
+      by_call (Some (Cross crossing source sink c)) fd count e = absurd (cc)
 
-  again-few : (pid : ℕ) (r : Result Attempt Errno) → Holds Told r → Few (again s pid r)
-  again-few pid (Ok (Finished t reply)) h = h
-  again-few pid (Ok (Waits t call)) h = nothing
-  again-few pid (Err e) h = nothing
+-- Any other step
 
-  -- Opens
-
-  told_open : (t u : State Queue) (pid : ℕ) (p : Process) (n : ℕ) (call : Call) (b : Bool) → Told (if b then Waits t call else given u pid p n)
-  told_open t u pid p n call true = tt
-  told_open t u pid p n call false = nothing
-
-  told_again : (t u : State Queue) (pid : ℕ) (p : Process) (n : ℕ) (call : Call) (b : Bool) → Told (if b then given u pid p n else Waits t call)
-  told_again t u pid p n call true = nothing
-  told_again t u pid p n call false = tt
-
-  open_pipe-few : (t : State Queue) (pid : ℕ) (p : Process) (a : Access) (n : ℕ) → Told (open_pipe t pid p a n)
-  open_pipe-few t pid p a n = told_open made made pid p (length t.descriptions) (Opening (length t.descriptions) (kept_by a (at t.pipes n))) (is_waiting a (readers t n) (writers t n))
-    where
-      d : Description
-      d = record { pipe = n; reads = a.reads; writes = a.writes; nonblocking = a.nonblock }
-
-      made : State Queue
-      made = change_pipe (counted a) (record t { descriptions = t.descriptions ++ Some d ∷ [] }) n
-
-  open-few : (c : Limits) (pid : ℕ) (p : Process) (path : List ℕ) (a : Access) → Holds Few (open_path c s pid p path a)
-  open-few c pid p path a = carries Few (openable s.files p.cred path a) (λ f. open_fifo c s pid p a f.number) opened
-    where
-      opened : (f : File) → Holds Few (open_fifo c s pid p a f.number)
-      opened f =
-          passes Few (refuse_if (nat_le MAX_DESCRIPTORS (first_free p.descriptors)) EMFILE) _
-          (passes Few (refuse_if (a.writes && not a.reads && a.nonblock && nat_eq (fifo_readers s (fifo_pipe s f.number)) 0) ENXIO) _
-          (passes Few (refuse_if (is_spent s.descriptions 1) ENFILE) _
-          (carries Few (pipe_of c s p f.number (fifo_pipe s f.number)) (λ found. first pid false (open_pipe found.state pid p a found.pipe))
-          (λ found. first-few pid false (open_pipe found.state pid p a found.pipe) (open_pipe-few found.state pid p a found.pipe)))))
-
-  -- Calls that hand out nothing
-
-  by_ready : (pid : ℕ) (f : Process → Result Outcome Errno) → ((p : Process) → Holds Few (f p)) → Holds Few (ready s pid >>= f)
-  by_ready pid f h = carries Few (ready s pid) f h
-
-  transferred : (pid : ℕ) (p : Process) (flag : Bool) (fd : ℕ) (x : List ℕ) → Holds Few (transfer s pid p flag (Writing fd x 0))
-  transferred pid p flag fd x = transfer-few pid p flag (Writing fd x 0) (any_tried (tried s p (Writing fd x 0)))
-
-  pub quiet : (c : Limits) (step : Step) → ((pid fd n : ℕ) → step ≡ Read pid fd n → ⊥) → ((pid : ℕ) (path : List ℕ) → step ≡ Lists pid path → ⊥) → ((pid : ℕ) → step ≡ Resume pid → ⊥)
-      → Holds Few (call c s step)
-  quiet c (Spawn uid gid groups umask) r l a = search (passes, nothing) depth 16
-  quiet c (Exit pid) r l a = carries Few (living s pid) (λ p. exit s pid) (λ p. nothing)
-  quiet c (Resume pid) r l a = absurd (a pid refl)
-  quiet c (Read pid fd n) r l a = absurd (r pid fd n refl)
-  quiet c (Lists pid path) r l a = absurd (l pid path refl)
-  quiet c (Fork pid) r l a = by_ready pid (λ p. fork s p) (λ p. search (passes, nothing) depth 16)
-  quiet c (Mkdir pid path mode) r l a = by_ready pid (λ p. make kinds.Directory s p path mode) (λ p. search (carries, nothing) depth 16)
-  quiet c (Mkfifo pid path mode) r l a = by_ready pid (λ p. make kinds.Fifo s p path mode) (λ p. search (carries, nothing) depth 16)
-  quiet c (Unlink pid path) r l a = by_ready pid (λ p. unlink s p path) (λ p. search (carries, nothing) depth 16)
-  quiet c (Rmdir pid path) r l a = by_ready pid (λ p. rmdir s p path) (λ p. search (carries, nothing) depth 16)
-  quiet c (Chmod pid path mode) r l a = by_ready pid (λ p. chmod s p path mode) (λ p. search (carries, nothing) depth 16)
-  quiet c (Stat pid path) r l a = by_ready pid (λ p. stat s p path) (λ p. search (carries, nothing) depth 16)
-  quiet c (Open pid path flags) r l a = by_ready pid (λ p. open_path c s pid p path (access_of flags.0)) (λ p. open-few c pid p path (access_of flags.0))
-  quiet c (Pipe pid nonblock) r l a = by_ready pid (λ p. pipe c s pid p nonblock) (λ p. search (passes, carries, nothing) depth 16)
-  quiet c (Dup pid fd) r l a = by_ready pid (λ p. dup s pid p fd) (λ p. search (passes, carries, nothing) depth 16)
-  quiet c (Close pid fd) r l a = by_ready pid (λ p. close s pid p fd) (λ p. search (carries, nothing) depth 16)
-  quiet c (Write pid fd payload) r l a = by_ready pid (λ p. transfer s pid p false (Writing fd payload 0)) (λ p. transferred pid p false fd payload)
-  quiet c (Tee pid source sink n nonblock) r l a =
-      by_ready pid (λ p. transfer s pid p nonblock (Bringing crossings.Tee source sink n)) (λ p. transfer-few pid p nonblock (Bringing crossings.Tee source sink n) (any_tried (tried s p (Bringing crossings.Tee source sink n))))
-  quiet c (Splice pid source sink n nonblock) r l a =
-      by_ready pid (λ p. transfer s pid p nonblock (Bringing crossings.Splice source sink n)) (λ p. transfer-few pid p nonblock (Bringing crossings.Splice source sink n) (any_tried (tried s p (Bringing crossings.Splice source sink n))))
-  quiet c (SetSize pid fd bytes) r l a = by_ready pid (λ p. set_size c s p fd bytes) (λ p. search (passes, carries, nothing) depth 16)
-  quiet c (GetSize pid fd) r l a = by_ready pid (λ p. get_size s p fd) (λ p. search (carries, nothing) depth 16)
-  quiet c (SetNonblock pid fd on) r l a = by_ready pid (λ p. set_nonblock s p fd on) (λ p. search (carries, nothing) depth 16)
-
-  -- A read
-
-  read-little : (p : Process) (fd n : ℕ) → ((e : End Queue) → reading_end s p fd ≡ Ok e → length (try_read s e n).bytes ≤ m) → Holds (Little (Reading fd n)) (tried s p (Reading fd n))
-  read-little p fd n h = by_end (reading_end s p fd) refl
-    where
-      by_end : (r : Result (End Queue) Errno) → reading_end s p fd ≡ r → Holds (Little (Reading fd n)) (r >>= (λ e. Ok (try_read s e n)))
-      by_end (Ok e) is = h e is
-      by_end (Err e) is = tt
-
-  pub read-few : (c : Limits) (pid fd n : ℕ) → ((e : End Queue) → (ready s pid >>= (λ p. reading_end s p fd)) ≡ Ok e → length (try_read s e n).bytes ≤ m) → Holds Few (call c s (Read pid fd n))
-  read-few c pid fd n h = by_caller (ready s pid) refl
-    where
-      by_caller : (r : Result Process Errno) → ready s pid ≡ r → Holds Few (r >>= (λ p. transfer s pid p false (Reading fd n)))
-      by_caller (Err e) is = tt
-      by_caller (Ok p) is = transfer-few pid p false (Reading fd n) (read-little p fd n (λ e found. h e (ap (λ r. r >>= (λ q. reading_end s q fd)) is ∙ found)))
-
-  -- A call that is tried again
-
-  call_is : (pid : ℕ) (p : Process) → living s pid ≡ Ok p → call_of s pid ≡ p.parked
-  call_is pid p is = by_process (process s pid) is
-    where
-      by_process : (o : Option Process) → or_refuse ESRCH o ≡ Ok p → option_and_then (λ (q : Process). q.parked) o ≡ p.parked
-      by_process None e = absurd (cc)
-      by_process (Some q) e = let same : q ≡ p = cc in ap (λ (x : Process). x.parked) same
-
-  pub resume-few : (c : Limits) (pid : ℕ) → ((p : Process) (fd n : ℕ) (e : End Queue) → call_of s pid ≡ Some (Moving (Reading fd n)) → reading_end s p fd ≡ Ok e → length (try_read s e n).bytes ≤ m) → Holds Few (call c s (Resume pid))
-  resume-few c pid h = by_caller (living s pid) refl
-    where
-      of_call : (p : Process) (call : Call) → call_of s pid ≡ Some call → Holds Told (attempt s pid p call)
-      of_call p (Opening n kept) is = carries Told (or_refuse EBADF (end_at s n)) (λ e. Ok (open_told s pid p n kept e)) (λ e. told_again s s pid p n (Opening n kept) (nat_lt kept (other_opens e)))
-      of_call p (Moving (Reading fd n)) is = attempt-few pid p (Reading fd n) (read-little p fd n (λ e found. h p fd n e is found))
-      of_call p (Moving (Writing fd x written)) is = attempt-few pid p (Writing fd x written) (any_tried (tried s p (Writing fd x written)))
-      of_call p (Moving (Bringing c source sink n)) is = attempt-few pid p (Bringing c source sink n) (any_tried (tried s p (Bringing c source sink n)))
-
-      of_parked : (p : Process) (o : Option Call) → call_of s pid ≡ o → Holds Few (or_refuse EINVAL o >>= (λ call. Ok (again s pid (attempt s pid p call))))
-      of_parked p None is = tt
-      of_parked p (Some call) is = again-few pid (attempt s pid p call) (of_call p call is)
-
-      by_caller : (r : Result Process Errno) → living s pid ≡ r → Holds Few (r >>= (λ p. resume s pid p))
-      by_caller (Err e) is = tt
-      by_caller (Ok p) is = of_parked p p.parked (call_is pid p is)
-
-  -- A list
-
-  pub list-few : (c : Limits) (pid : ℕ) (path : List ℕ) → ((p : Process) → ready s pid ≡ Ok p → Holds (λ names. length names ≤ m) (calls.list s.files p.cred path)) → Holds Few (call c s (Lists pid path))
-  list-few c pid path h = by_caller (ready s pid) refl
-    where
-      by_caller : (r : Result Process Errno) → ready s pid ≡ r → Holds Few (r >>= (λ p. list s p path))
-      by_caller (Err e) is = tt
-      by_caller (Ok p) is = goes (λ names. length names ≤ m) Few (calls.list s.files p.cred path) _ (h p is) (λ names few. few)
-
-  -- what a step is told is the call's reply, or a refusal
-  pub few : (r : Result Outcome Errno) → Holds Few r → reply_length (settle s r).reply ≤ m
-  few (Ok o) h = h
-  few (Err e) h = nothing
+pub others : (n : Namespace) (step : Step) → ((pid fd count : ℕ) → step ≡ steps.Read pid fd count → ⊥) → ((pid : ℕ) (path : List ℕ) → step ≡ steps.List pid path → ⊥) → ((pid : ℕ) → step ≡ steps.Resume pid → ⊥) → Covers n step 0
+others n step r l a f sound owns = few (meaning f n.state) 0 (call n.limits (meaning f n.state) step) (quiet (meaning f n.state) 0 n.limits step r l a)

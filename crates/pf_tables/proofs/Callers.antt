@@ -2,15 +2,15 @@
 
 use Rattle.std.proofs.Common.{◌≡◌, ℕ, zero, suc, ◌-◌, Bool, true, false, Option, Some, None, is_some, Result, Ok, Err, refl, sym, ap, ◌∙◌, arith}
 use Rattle.std.specs.Option.{option_map}
-use Rattle.pf_base.specs.FileMap.{Files}
-use Rattle.pf_base.specs.Refusals.{◌>>=◌, ◌>>◌, refuse_if, or_refuse}
-use Rattle.pf_base.specs.Numbered.{at}
-use Rattle.pf_base.proofs.NumberedLaws.{at-map}
-use Rattle.pf_base.specs.State as machine
-use Rattle.pf_base.specs.State.{living, ready}
+use Rattle.pf_machine.specs.FileMap.{Files}
+use Rattle.pf_machine.specs.Refusals.{◌>>=◌, ◌>>◌, refuse_if, or_refuse}
+use Rattle.pf_machine.specs.Numbered.{at}
+use Rattle.pf_machine.proofs.NumberedLaws.{at-map}
+use Rattle.pf_machine.specs.State as machine
+use Rattle.pf_machine.specs.State.{living, ready}
 use Rattle.pf_base.specs.declared.errno.Errno.{Errno}
 use Rattle.pf_base.specs.declared.errno.Errno.TheVariants.{ESRCH, EBUSY}
-use Rattle.pf_base.specs.Queue.{Queue}
+use Rattle.pf_machine.specs.Queue.{Queue}
 use Rattle.pf_frame.specs.Live.{Live}
 use Rattle.pf_tables.specs.Meaning.{meaning}
 use Rattle.pf_tables.specs.Rows.{ProcessRows, DescriptionRows, PipeRows, Key, Process, Call, call_of, process_of, state_of, process_in, awake, ready_in}

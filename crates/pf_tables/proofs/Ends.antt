@@ -2,14 +2,14 @@
 
 use Rattle.std.proofs.Common.{◌≡◌, ℕ, suc, ◌+◌, ◌-◌, Bool, true, false, not, Option, Some, None, IsOk, is_ok, Result, Ok, Err, refl, sym, ap, subst, ◌∙◌, arith}
 use Rattle.std.specs.Option.{option_map, option_and_then}
-use Rattle.pf_base.specs.FileMap.{Files}
-use Rattle.pf_base.specs.Refusals.{◌>>=◌, ◌>>◌, refuse_if, or_refuse}
-use Rattle.pf_base.specs.Queue.{Queue}
-use Rattle.pf_base.specs.Numbered.{at}
-use Rattle.pf_base.proofs.NumberedLaws.{at-map}
-use Rattle.pf_base.specs.State as machine
-use Rattle.pf_base.specs.State.{State, End, ready, end_at, end_of, reading_end, writing_end}
-use Rattle.pf_base.specs.Counts.{readers, writers}
+use Rattle.pf_machine.specs.FileMap.{Files}
+use Rattle.pf_machine.specs.Refusals.{◌>>=◌, ◌>>◌, refuse_if, or_refuse}
+use Rattle.pf_machine.specs.Queue.{Queue}
+use Rattle.pf_machine.specs.Numbered.{at}
+use Rattle.pf_machine.proofs.NumberedLaws.{at-map}
+use Rattle.pf_machine.specs.State as machine
+use Rattle.pf_machine.specs.State.{State, End, ready, end_at, end_of, reading_end, writing_end}
+use Rattle.pf_machine.specs.Counts.{readers, writers}
 use Rattle.pf_base.specs.declared.errno.Errno.{Errno}
 use Rattle.pf_base.specs.declared.errno.Errno.TheVariants.{EBADF}
 use Rattle.pf_base.specs.declared.progress.Side.{Side}
@@ -18,9 +18,9 @@ use Rattle.pf_frame.specs.Live.{Live}
 use Rattle.pf_tables.specs.Meaning.{meaning, pipe_meaning}
 use Rattle.pf_tables.specs.Rows.{ProcessRows, DescriptionRows, PipeRows, Key, Named, Process, Description, Pipe, process_of, description_of, pipe_of, pipes_of, state_of, ready_in, has, description_in, end_in, read_by, written_by, UsedRow, Tied}
 use Rattle.pf_tables.proofs.Callers.{shown_in, ready_shown, place_is}
-use Rattle.pf_tables.proofs.Held.{finds}
-use Rattle.pf_tables.proofs.Shown.{shown, find_at}
-use Rattle.pf_tables.proofs.Swept.{readers_shown, writers_shown}
+use Rattle.pf_tables.proofs.CountersTied.{finds}
+use Rattle.pf_tables.proofs.RowsShown.{shown, find_at}
+use Rattle.pf_tables.proofs.TablesSettled.{readers_shown, writers_shown}
 
 -- the machine's end of a side, or any where none is asked for
 abbrev pub side_end : Option Side → State Queue → machine.Process → ℕ → Result (End Queue) Errno

@@ -5,16 +5,16 @@ use Rattle.std.specs.Option.{option_map}
 use Rattle.std.specs.Map.{lookup}
 use Rattle.std.proofs.lemmas.Bool.{cases_eq, eq-eqb, ne_eqb}
 use Rattle.std.proofs.lemmas.List.{map-set, map_push, length_push}
-use Rattle.pf_base.specs.Numbered.{at, put_at, clear_at}
-use Rattle.pf_base.proofs.NumberedLaws.{at_within, at-put_other, at-push_old}
+use Rattle.pf_machine.specs.Numbered.{at, put_at, clear_at}
+use Rattle.pf_machine.proofs.NumberedLaws.{at_within, at-put_other, at-push_old}
 use Rattle.pf_fds.specs.Registry.{find}
 use Rattle.pf_pipe.specs.Pipe.{unopened}
 use Rattle.pf_tables.specs.Rows.{ProcessRows, DescriptionRows, PipeRows, Key, Pipe, Opens, opens_at, opens_of, NoMore, AreFifos}
 use Rattle.pf_tables.specs.Tables.{LetsGoOpens, Forgets}
-use Rattle.pf_tables.proofs.Crossing.{set_around}
-use Rattle.pf_tables.proofs.Held.{by_set, by_push, once}
-use Rattle.pf_tables.proofs.Opening.{Makes, reading, writing, two_ended}
-use Rattle.pf_tables.proofs.Shown.{shown, find_was, set_same}
+use Rattle.pf_tables.proofs.TransfersCross.{set_around}
+use Rattle.pf_tables.proofs.CountersTied.{by_set, by_push, once}
+use Rattle.pf_tables.proofs.PipesOpen.{Makes, reading, writing, two_ended}
+use Rattle.pf_tables.proofs.RowsShown.{shown, find_was, set_same}
 
 -- one row has one file, and one key is of one pipe
 pub same_file : {p q : ℕ} {o x : Opens} → ◌≡◌ {A = Option (ℕ × Opens)} (Some (p, o)) (Some (q, x)) → o.file ≡ x.file

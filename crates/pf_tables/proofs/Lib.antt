@@ -1,36 +1,37 @@
-mod Admitting
-pub mod Bounding
-mod Bounds
+pub mod MeaningLaws
+pub mod OwnsLaws
+mod OpensTests
+pub mod Bounds
 mod Callers
-mod Closing
-mod Crossing
-mod Duping
+mod DescriptorsLetGo
+mod TransfersCross
+mod DescriptorsDup
 mod Ends
-mod Entered
-mod Entering
-pub mod Exiting
+mod OpensOutcome
+mod OpensDescribe
+pub mod ProcessesDrop
 mod Fifos
-pub mod Filing
-mod Finding
-mod Filling
-mod Flagging
-mod Founding
-mod Forking
-mod Going
-mod Held
-mod Joining
-mod Making
-mod Naming
-mod Opening
-pub mod Resizing
-pub mod Resolving
-mod Seating
+pub mod Files
+mod OpensFind
+mod DescriptorsFlag
+mod OpensNew
+mod ProcessesFork
+mod DescriptorsDrop
+mod CountersTied
+mod OpensFound
+mod Arrivals
+mod DescriptorsNamed
+mod PipesOpen
+pub mod PipesSetSize
+pub mod OpensResolve
+mod ProcessTable
 pub mod Sendable
-mod Small
-mod Sharing
-pub mod Shown
-mod Swept
+mod SmallChanges
+mod OneNameMore
+pub mod RowsShown
+mod TablesSettled
 mod Transfers
-mod Vacating
-mod Waking
-mod Wholes
+mod ProcessTableEmpty
+mod Parked
+mod TransfersWhole
+mod FileTree

@@ -4,17 +4,17 @@ use Rattle.std.proofs.Common.{◌≡◌, ℕ, ◌+◌, ◌-◌, ◌<◌, ◌≤�
 use Rattle.std.specs.Option.{option_map}
 use Rattle.std.proofs.lemmas.Bool.{lt-ltb, le-ltb}
 use Rattle.std.proofs.lemmas.List.{map-set, take_all, length-drop}
-use Rattle.pf_base.specs.FileMap.{Files}
+use Rattle.pf_machine.specs.FileMap.{Files}
 use Rattle.pf_base.specs.Limits.{Limits}
-use Rattle.pf_base.specs.Refusals.{◌>>=◌, ◌>>◌, refuse_if}
-use Rattle.pf_base.specs.Queue.{Queue, taken}
-use Rattle.pf_base.specs.Numbered.{at, put_at}
-use Rattle.pf_base.specs.Calls.{Reading, Writing}
-use Rattle.pf_base.specs.Progress.{Passed, moved, read_now, write_now}
-use Rattle.pf_base.specs.State.{State, End, ready, reading_end, writing_end, with_queue, holding}
-use Rattle.pf_base.specs.Counts.{readers, writers}
-use Rattle.pf_base.specs.Transfers.{Tried, try_read, try_write}
-use Rattle.pf_base.specs.Sweep.{sweep}
+use Rattle.pf_machine.specs.Refusals.{◌>>=◌, ◌>>◌, refuse_if}
+use Rattle.pf_machine.specs.Queue.{Queue, taken}
+use Rattle.pf_machine.specs.Numbered.{at, put_at}
+use Rattle.pf_machine.specs.Calls.{Reading, Writing}
+use Rattle.pf_machine.specs.Progress.{Passed, moved, read_now, write_now}
+use Rattle.pf_machine.specs.State.{State, End, ready, reading_end, writing_end, with_queue, holding}
+use Rattle.pf_machine.specs.Counts.{readers, writers}
+use Rattle.pf_machine.specs.Transfers.{Tried, try_read, try_write}
+use Rattle.pf_machine.specs.Sweep.{sweep}
 use Rattle.pf_base.specs.declared.TheConstants.{PIPE_BUF, MAX_WRITE}
 use Rattle.pf_base.specs.declared.errno.Errno.{Errno}
 use Rattle.pf_base.specs.declared.errno.Errno.TheVariants.{EINVAL}
@@ -26,19 +26,20 @@ use Rattle.pf_frame.specs.Live.{Live, IsSound}
 use Rattle.pf_pipe.specs.Pipe.{Passes}
 use Rattle.pf_ring.specs.Ring.{Ring, queue_of}
 use Rattle.pf_ring.specs.Windows.{Stands}
-use Rattle.pf_ring.specs.Table.{Joined, slots_used, slots_of, no_source}
+use Rattle.pf_ring.specs.Table.{Joined, slots_used, slots_of}
+use Rattle.pf_ring.proofs.TableLaws.{no_source}
 use Rattle.pf_limits.specs.UserPages.{UserPages}
 use Rattle.pf_tables.specs.Meaning.{Namespace, meaning, rings_of, Charged}
-use Rattle.pf_tables.specs.MeaningLaws.{meaning-with_queue, settled-meaning}
+use Rattle.pf_tables.proofs.MeaningLaws.{meaning-with_queue, settled-meaning}
 use Rattle.pf_tables.specs.Owns.{Owns}
-use Rattle.pf_tables.specs.OwnsLaws.{ring_at-pipe, stands_at, credits_at, others_written, joined_written, charged-with_queue}
+use Rattle.pf_tables.proofs.OwnsLaws.{ring_at-pipe, stands_at, credits_at, others_written, joined_written, charged-with_queue}
 use Rattle.pf_tables.specs.Rows.{ProcessRows, DescriptionRows, PipeRows, Process, Description, Pipe, pipe_of, processes_of, descriptions_of, pipes_of, state_of, pipe_with, ready_in, end_in, Kept}
 use Rattle.pf_tables.specs.Told.{attempted, Came}
 use Rattle.pf_tables.proofs.Callers.{shown_in, ready_shown}
 use Rattle.pf_tables.proofs.Ends.{side_end, end_of_rows, refused, found, counted}
-use Rattle.pf_tables.proofs.Shown.{shown, find_at, find_was, set_same}
-use Rattle.pf_tables.proofs.Small.{requeued}
-use Rattle.pf_tables.proofs.Swept.{settled}
+use Rattle.pf_tables.proofs.RowsShown.{shown, find_at, find_was, set_same}
+use Rattle.pf_tables.proofs.SmallChanges.{requeued}
+use Rattle.pf_tables.proofs.TablesSettled.{settled}
 
 -- the third step goes on from the second as from the two together
 pub bind-bind : {A B C : Type 0} (m : Result A Errno) (h : A → Result B Errno) (go : B → Result C Errno) → (m >>= (λ a. h a >>= go)) ≡ ((m >>= h) >>= go)

@@ -1,10 +1,7 @@
 pub mod Bounds
-pub mod FileLimits
 pub mod Meaning
-pub mod MeaningLaws
 pub mod Opened
 pub mod Owns
-pub mod OwnsLaws
 pub mod Recharging
 pub mod Rows
 pub mod Tables

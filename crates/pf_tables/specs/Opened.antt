@@ -2,17 +2,17 @@
 
 use Rattle.std.specs.Prelude.{◌≡◌, ℕ, ◌+◌, ◌-◌, ◌<◌, ⊤, Bool, not, ◌&&◌, List, [], ◌∷◌, ◌++◌, length, Option, Some, None, nat_eq, nat_le, if◌then◌else◌, Result, Ok, Err}
 use Rattle.std.specs.Map.{lookup}
-use Rattle.pf_base.specs.Refusals.{◌>>=◌, ◌>>◌, refuse_if}
+use Rattle.pf_machine.specs.Refusals.{◌>>=◌, ◌>>◌, refuse_if}
 use Rattle.pf_base.specs.Limits.{Limits}
-use Rattle.pf_base.specs.Queue.{Queue}
-use Rattle.pf_base.specs.Calls.{Opening}
+use Rattle.pf_machine.specs.Queue.{Queue}
+use Rattle.pf_machine.specs.Calls.{Opening}
 use Rattle.pf_base.specs.Capacities.{told_as}
-use Rattle.pf_base.specs.Numbered.{put_at, change_at, first_free, one_if}
-use Rattle.pf_base.specs.State as machine
-use Rattle.pf_base.specs.State.{State, Outcome, ready, living}
-use Rattle.pf_base.specs.Pipes.{is_spent, capacity_for}
-use Rattle.pf_base.specs.Attempts.{Waits, attempt, given}
-use Rattle.pf_base.specs.Opens.{Access, openable, is_waiting, fifo_pipe, fifo_readers, open_fifo}
+use Rattle.pf_machine.specs.Numbered.{put_at, change_at, first_free, one_if}
+use Rattle.pf_machine.specs.State as machine
+use Rattle.pf_machine.specs.State.{State, Outcome, ready, living}
+use Rattle.pf_machine.specs.Pipes.{is_spent, capacity_for}
+use Rattle.pf_machine.specs.Attempts.{Waits, attempt, given}
+use Rattle.pf_machine.specs.Opens.{Access, openable, is_waiting, fifo_pipe, fifo_readers, open_fifo}
 use Rattle.pf_base.specs.declared.TheConstants.{MAX_DESCRIPTORS}
 use Rattle.pf_base.specs.declared.errno.Errno.{Errno}
 use Rattle.pf_base.specs.declared.errno.Errno.TheVariants.{EMFILE, ENXIO, ENFILE, ENOMEM}

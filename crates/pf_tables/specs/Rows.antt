@@ -3,11 +3,11 @@
 use Rattle.std.specs.Prelude.{◌≡◌, ℕ, zero, suc, ◌+◌, ◌-◌, ◌*◌, ◌<◌, ◌≤◌, Bool, true, not, ◌&&◌, List, [], ◌∷◌, length, map, Option, Some, None, is_some, nat_lt, nat_eq, ⊤, if◌then◌else◌, Result, Ok}
 use Rattle.std.specs.Option.{option_map, option_and_then}
 use Rattle.std.specs.Map.{lookup}
-use Rattle.pf_base.specs.Refusals.{◌>>=◌, ◌>>◌, refuse_if, or_refuse}
-use Rattle.pf_base.specs.FileMap.{Files}
-use Rattle.pf_base.specs.Numbered.{at, put_at, clear_at, change_at, first_free, sum_of, one_if}
-use Rattle.pf_base.specs.State as machine
-use Rattle.pf_base.specs.State.{State}
+use Rattle.pf_machine.specs.Refusals.{◌>>=◌, ◌>>◌, refuse_if, or_refuse}
+use Rattle.pf_machine.specs.FileMap.{Files}
+use Rattle.pf_machine.specs.Numbered.{at, put_at, clear_at, change_at, first_free, sum_of, one_if}
+use Rattle.pf_machine.specs.State as machine
+use Rattle.pf_machine.specs.State.{State}
 use Rattle.pf_base.specs.declared.TheConstants.{MAX_PROCESSES, MAX_DESCRIPTORS}
 use Rattle.pf_base.specs.declared.errno.Errno.{Errno}
 use Rattle.pf_base.specs.declared.errno.Errno.TheVariants.{ESRCH, EBUSY, EBADF}
@@ -21,7 +21,7 @@ pub use Rattle.pf_ring.specs.Ring.{Ring}
 pub use Rattle.pf_pipe.specs.Pipe.{Opens}
 pub use Rattle.pf_pipe.specs.Pipe.{CountedPipe as Pipe}
 use Rattle.pf_base.specs.declared.cred.Cred.{Cred}
-use Rattle.pf_base.specs.Calls as calls
+use Rattle.pf_machine.specs.Calls as calls
 pub use Rattle.pf_parked.specs.declared.call.Call.{Call}
 use Rattle.pf_parked.specs.declared.call.Call.TheVariants.{Open, Read, Write, Cross}
 use Rattle.pf_tables.specs.declared.process_table.Process.{Process as Stored}

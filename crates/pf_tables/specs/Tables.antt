@@ -3,20 +3,20 @@
 use Rattle.std.specs.Prelude.{◌≡◌, ℕ, ◌*◌, ◌<◌, ◌≤◌, ⊤, ◌||◌, length, nat_lt, if◌then◌else◌, Bool, true, false, List, Option, Some, None, Result, Ok, Err, nat_le, nat_eq}
 use Rattle.std.specs.Map.{lookup}
 use Rattle.std.specs.Option.{option_and_then}
-use Rattle.pf_base.specs.Refusals.{◌>>=◌, refuse_if, or_refuse}
-use Rattle.pf_base.specs.FileMap.{Files}
-use Rattle.pf_base.specs.Queue.{Queue, empty}
-use Rattle.pf_base.specs.Numbered.{at, clear_at, change_at, first_free, keep}
-use Rattle.pf_base.specs.Calls.{Call, Opening, Moving}
-use Rattle.pf_base.specs.State.{State, Process, Pipe, Outcome, living, ready, end_of, told, with_process, change_process, without_process, with_descriptor, waiting}
-use Rattle.pf_base.specs.Processes.{fork}
-use Rattle.pf_base.specs.Descriptors.{named, dup, without_descriptor, with_flag}
-use Rattle.pf_base.specs.Sweep.{sweep}
-use Rattle.pf_base.specs.FileCalls as calls
-use Rattle.pf_base.specs.Files.{make, unlink, rmdir, chmod}
+use Rattle.pf_machine.specs.Refusals.{◌>>=◌, refuse_if, or_refuse}
+use Rattle.pf_machine.specs.FileMap.{Files}
+use Rattle.pf_machine.specs.Queue.{Queue, empty}
+use Rattle.pf_machine.specs.Numbered.{at, clear_at, change_at, first_free, keep}
+use Rattle.pf_machine.specs.Calls.{Call, Opening, Moving}
+use Rattle.pf_machine.specs.State.{State, Process, Pipe, Outcome, living, ready, end_of, told, with_process, change_process, without_process, with_descriptor, waiting}
+use Rattle.pf_machine.specs.Processes.{fork}
+use Rattle.pf_machine.specs.Descriptors.{named, dup, without_descriptor, with_flag}
+use Rattle.pf_machine.specs.Sweep.{sweep}
+use Rattle.pf_machine.specs.FileCalls as calls
+use Rattle.pf_machine.specs.Files.{make, unlink, rmdir, chmod}
 use Rattle.pf_base.specs.declared.meta.Kind.{Kind}
 use Rattle.pf_base.specs.declared.meta.Meta.{Meta}
-use Rattle.pf_base.specs.Pipes.{first_descriptor, second_descriptor, is_spent, capacity_for, set_size, opened}
+use Rattle.pf_machine.specs.Pipes.{first_descriptor, second_descriptor, is_spent, capacity_for, set_size, opened}
 use Rattle.pf_base.specs.Capacities.{may_grow, told_as}
 use Rattle.pf_base.specs.Limits.{Limits}
 use Rattle.pf_base.specs.declared.TheConstants.{PAGE_SIZE, MAX_DESCRIPTORS}

@@ -1,15 +1,15 @@
 -- What a call of a namespace does over the frames of its door, and what it is told.
 
 use Rattle.std.specs.Prelude.{◌≡◌, ℕ, ◌<◌, ◌⊎◌, Bool, false, List, length, Option, Some, None, take, ⊤, Result, Ok, Err}
-use Rattle.pf_base.specs.Refusals.{◌>>=◌}
-use Rattle.pf_base.specs.Queue.{Queue}
-use Rattle.pf_base.specs.Progress.{moved}
-use Rattle.pf_base.specs.Calls.{Transfer, Call, Moving}
-use Rattle.pf_base.specs.State.{State, Process, Outcome, told, ready, change_process, waiting}
-use Rattle.pf_base.specs.Transfers.{Tried, tried}
-use Rattle.pf_base.specs.Attempts.{attempt, first, is_nonblocking, transfer}
-use Rattle.pf_base.specs.Machine.{swept}
-use Rattle.pf_base.specs.Sweep.{sweep}
+use Rattle.pf_machine.specs.Refusals.{◌>>=◌}
+use Rattle.pf_machine.specs.Queue.{Queue}
+use Rattle.pf_machine.specs.Progress.{moved}
+use Rattle.pf_machine.specs.Calls.{Transfer, Call, Moving}
+use Rattle.pf_machine.specs.State.{State, Process, Outcome, told, ready, change_process, waiting}
+use Rattle.pf_machine.specs.Transfers.{Tried, tried}
+use Rattle.pf_machine.specs.Attempts.{attempt, first, is_nonblocking, transfer}
+use Rattle.pf_machine.specs.Machine.{swept}
+use Rattle.pf_machine.specs.Sweep.{sweep}
 use Rattle.pf_base.specs.declared.errno.Errno.{Errno}
 use Rattle.pf_base.specs.declared.errno.Errno.TheVariants.{EPIPE}
 use Rattle.pf_base.specs.declared.fault.Fault.{Fault}

@@ -1,8 +1,8 @@
 //! The files of a namespace, within this profile's limits.
 
 ghost use Rattle.std.specs.Prelude.{◌≡◌, ℕ, ◌+◌, ◌<◌, ◌≤◌, ◌^◌, List, length, IfOk};
-ghost use Rattle.pf_base.specs.FileMap.{Path, root_alone, names_below, listed};
-ghost use Rattle.pf_base.specs.FileCalls.{make, unlink, rmdir, chmod};
+ghost use Rattle.pf_machine.specs.FileMap.{Path, root_alone, names_below, listed};
+ghost use Rattle.pf_machine.specs.FileCalls.{make, unlink, rmdir, chmod};
 ghost use Rattle.pf_walk.specs.Told.{Changed};
 
 use pf_base::{Cred, Fault, File, Kind, Mode};
@@ -20,11 +20,11 @@ pub struct FileTree<A: Allocator> {
 }
 
 impl<A: Allocator> Model for FileTree<A> {
-    ghost use Rattle.pf_base.specs.FileMap.{Files};
+    ghost use Rattle.pf_machine.specs.FileMap.{Files};
 
     ghost Value = { Files };
 
-    ghost use Rattle.pf_tables.specs.FileLimits.{IsWithin};
+    ghost use Rattle.pf_machine.specs.FileLimits.{IsWithin};
 
     ghost view = { λ t. t.tree };
 

@@ -1,8 +1,8 @@
 //! The processes of a namespace, each with the call in which it waits.
 
 ghost use Rattle.std.specs.Prelude.{◌≡◌, ◌-◌, ◌<◌, ◌≤◌, None, Some, Ok, Err, IfOk, IsOk, MatchResult, option_copied, slice_set};
-ghost use Rattle.pf_base.specs.Numbered.{at, put_at, clear_at, change_at, first_free};
-ghost use Rattle.pf_base.specs.State.{vacant};
+ghost use Rattle.pf_machine.specs.Numbered.{at, put_at, clear_at, change_at, first_free};
+ghost use Rattle.pf_machine.specs.State.{vacant};
 ghost use Rattle.pf_base.specs.declared.TheConstants.{MAX_DESCRIPTORS, MAX_PROCESSES};
 ghost use Rattle.pf_tables.specs.Rows.{process_at, process_in, ready_in, call_in, idle, woken, Lives, IsAwake, HasSpare, HasLowest, MayWait, key_at, with_key, with_keys, without_key, with_call};
 

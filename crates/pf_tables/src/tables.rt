@@ -144,8 +144,8 @@ fn writing_end(
 
 impl<A: Allocator> Tables<A> {
     ghost use Rattle.std.specs.Prelude.{◌≡◌, IfOk};
-    ghost use Rattle.pf_base.specs.State.{opening};
-    ghost use Rattle.pf_base.specs.Sweep.{sweep};
+    ghost use Rattle.pf_machine.specs.State.{opening};
+    ghost use Rattle.pf_machine.specs.Sweep.{sweep};
 
     /// Nothing in them but the root directory.
     pub fn new(alloc: Global, tree: A, config: Config) -> Result<Self, AllocError>

@@ -5,8 +5,8 @@ use Rattle.std.specs.Ordering.{is_eq, ordering_then}
 use Rattle.std.specs.declared.cmp.Ordering.{Ordering}
 use Rattle.std.specs.declared.cmp.Ordering.TheVariants.{Less, Equal, Greater}
 use Rattle.pf_base.specs.declared.meta.File.{File}
-use Rattle.pf_base.specs.FileMap.{Name, Path, Files, name_cmp, path_cmp, find, names_below, front, IsDirectory, AfterPath, IsRising, IsFileMap}
-use Rattle.pf_base.proofs.FileLaws.{path_itself, front-has_names}
+use Rattle.pf_machine.specs.FileMap.{Name, Path, Files, name_cmp, path_cmp, find, names_below, front, IsDirectory, AfterPath, IsRising, IsFileMap}
+use Rattle.pf_machine.proofs.FileLaws.{path_itself, front-has_names}
 use Rattle.pf_tree.specs.Subtrees.{under, subtree}
 use Rattle.pf_tree.proofs.Names.{same}
 use Rattle.pf_tree.specs.SubtreeLaws.{find_under}

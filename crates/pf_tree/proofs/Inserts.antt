@@ -10,7 +10,7 @@ use Rattle.pf_tree.specs.declared.node.Body.TheVariants.{Directory}
 use Rattle.pf_tree.specs.declared.node.Entry.{Entry}
 use Rattle.pf_tree.specs.declared.node.Node.TheInside.{Inside}
 use Rattle.pf_tree.specs.Place.{IsPlace}
-use Rattle.pf_base.specs.FileMap.{Name, Path, Files, name_cmp, path_cmp, find, insert, by_order, front, IsDirectory}
+use Rattle.pf_machine.specs.FileMap.{Name, Path, Files, name_cmp, path_cmp, find, insert, by_order, front, IsDirectory}
 use Rattle.pf_tree.specs.Subtrees.{under}
 use Rattle.pf_tree.specs.Node.{After, Before, Rises, below, all_below, IsSorted, Rooted, HasRoot, IsDeeper, file_of, files_of_body, files_of}
 use Rattle.pf_tree.proofs.Names.{itself, later}

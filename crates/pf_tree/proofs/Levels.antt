@@ -2,7 +2,7 @@
 use Rattle.std.proofs.Common.{◌≡◌, ℕ, zero, suc, ◌<◌, List, [], ◌∷◌, ◌++◌, length, take, drop, slice_index_or, refl, sym, ap, ◌∙◌, subst, arith, false, append-nil}
 use Rattle.std.specs.Ordering.{is_eq}
 use Rattle.pf_tree.specs.declared.node.Entry.{Entry}
-use Rattle.pf_base.specs.FileMap.{Name, Files, name_cmp, find}
+use Rattle.pf_machine.specs.FileMap.{Name, Files, name_cmp, find}
 use Rattle.pf_tree.specs.Subtrees.{under}
 use Rattle.pf_tree.specs.Node.{After, Before, below, all_below, IsSorted, Rooted, HasRoot, files_of_body, files_of}
 use Rattle.std.specs.Prelude.{IsSome}

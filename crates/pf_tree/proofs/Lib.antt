@@ -5,7 +5,7 @@ pub mod Paths
 pub mod Inserts
 pub mod Locals
 pub mod Removes
-pub mod Listing
-pub mod Walking
+pub mod NodeList
+pub mod NodeWalk
 pub mod Alone
 pub mod Sendable

@@ -8,7 +8,7 @@ use Rattle.pf_base.specs.declared.meta.File.{File}
 use Rattle.pf_tree.specs.declared.node.Entry.{Entry}
 use Rattle.pf_tree.specs.declared.node.Node.TheInside.{Inside}
 use Rattle.pf_tree.specs.Place.{IsPlace}
-use Rattle.pf_base.specs.FileMap.{Name, Path, Files, name_cmp}
+use Rattle.pf_machine.specs.FileMap.{Name, Path, Files, name_cmp}
 use Rattle.pf_tree.specs.Node.{After, Before, Rises, below, all_below, IsSorted, files_of, Rooted}
 use Rattle.pf_tree.proofs.Names.{later}
 use Rattle.pf_tree.proofs.Places.{is_at, set_split}

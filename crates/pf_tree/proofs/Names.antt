@@ -6,7 +6,7 @@ use Rattle.std.specs.FinMap.{nat_cmp-IsAntisymmetric, slice_cmp-IsAntisymmetric}
 use Rattle.std.specs.Ordering.{ordering_reverse}
 use Rattle.std.specs.declared.cmp.Ordering.TheVariants.{Less, Equal, Greater}
 use Rattle.std.proofs.lemmas.Cmp.{tied_itself}
-use Rattle.pf_base.specs.FileMap.{Name, name_cmp}
+use Rattle.pf_machine.specs.FileMap.{Name, name_cmp}
 
 pub total : IsTotalOrder name_cmp
 total = nat_list_cmp_total

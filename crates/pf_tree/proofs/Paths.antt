@@ -1,7 +1,7 @@
 -- Walking down a path.
 use Rattle.std.proofs.Common.{◌≡◌, ℕ, zero, suc, ◌<◌, ◌≤◌, List, [], ◌∷◌, ◌++◌, length, drop, slice_index_or, refl, sym, ap, ◌∙◌, arith, None}
 use Rattle.std.specs.Borrow.{Bor}
-use Rattle.pf_base.specs.FileMap.{Name, Path, Files, find, front}
+use Rattle.pf_machine.specs.FileMap.{Name, Path, Files, find, front}
 use Rattle.pf_tree.specs.Subtrees.{under, subtree, path_of}
 use Rattle.pf_tree.specs.SubtreeLaws.{find_subtree}
 

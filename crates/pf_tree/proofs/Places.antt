@@ -8,7 +8,7 @@ use Rattle.std.specs.Ordering.{ordering_index}
 use Rattle.std.specs.List.Sorted.{IsSearchInRange, IsBinarySearchResult, IsNonDecreasingBy}
 use Rattle.std.proofs.lemmas.List.Sorted.{IsNonDecreasingBy-from_default}
 use Rattle.pf_tree.specs.declared.node.Entry.{Entry}
-use Rattle.pf_base.specs.FileMap.{Name, name_cmp}
+use Rattle.pf_machine.specs.FileMap.{Name, name_cmp}
 use Rattle.pf_tree.specs.Node.{After, Before, Rises}
 use Rattle.pf_tree.specs.Place.{IsPlace}
 use Rattle.pf_tree.proofs.Names.{total, same, later, earlier}

@@ -6,7 +6,7 @@ use Rattle.std.specs.declared.cmp.Ordering.TheVariants.{Less, Equal, Greater}
 use Rattle.std.specs.Borrow.{Bor}
 use Rattle.std.specs.Prelude.{IsSome}
 use Rattle.pf_base.specs.declared.meta.File.{File}
-use Rattle.pf_base.specs.FileMap.{Name, Path, Files, name_cmp, path_cmp, remove, with_mode, set_mode, same_path, find}
+use Rattle.pf_machine.specs.FileMap.{Name, Path, Files, name_cmp, path_cmp, remove, with_mode, set_mode, same_path, find}
 use Rattle.pf_tree.specs.Subtrees.{under, path_of}
 use Rattle.pf_tree.specs.Node.{below, HasRoot, IsDeeper, all_below, file_of, files_of_body}
 use Rattle.pf_tree.specs.declared.node.Entry.{Entry}

@@ -8,7 +8,7 @@ use Rattle.pf_tree.specs.declared.node.Body.{Body}
 use Rattle.pf_tree.specs.declared.node.Body.TheVariants.{Fifo, Directory}
 use Rattle.pf_tree.specs.declared.node.Entry.{Entry}
 use Rattle.pf_tree.specs.declared.node.Node.TheInside.{Inside}
-use Rattle.pf_base.specs.FileMap.{Files, Name, name_cmp}
+use Rattle.pf_machine.specs.FileMap.{Files, Name, name_cmp}
 
 -- the files of an entry, below its name
 abbrev pub below : Name → Files → Files

@@ -7,7 +7,7 @@ use Rattle.pf_tree.specs.declared.node.Body.{Body}
 use Rattle.pf_tree.specs.declared.node.Body.TheVariants.{Fifo, Directory}
 use Rattle.pf_tree.specs.declared.node.Entry.{Entry}
 use Rattle.pf_tree.specs.declared.node.Node.TheDeep.{deep-Body, deep-Entry}
-use Rattle.pf_base.specs.FileMap.{Files, Name}
+use Rattle.pf_machine.specs.FileMap.{Files, Name}
 use Rattle.pf_tree.specs.Node.{below, all_below, files_of_body}
 
 pub length-below : (n : Name) (fs : Files) → length (below n fs) ≡ length fs

@@ -2,7 +2,7 @@
 use Rattle.std.specs.Prelude.{◌≡◌, ℕ, ◌<◌, ◌≤◌, List, length, take, drop, Result, slice_index_or}
 use Rattle.std.specs.declared.result.Result.TheVariants.{Ok, Err}
 use Rattle.pf_tree.specs.declared.node.Entry.{Entry}
-use Rattle.pf_base.specs.FileMap.{Name}
+use Rattle.pf_machine.specs.FileMap.{Name}
 use Rattle.pf_tree.specs.Node.{Before, After}
 
 module _ {Z : Type 0} where

@@ -3,7 +3,7 @@
 use Rattle.std.proofs.Common.{◌≡◌, [], ◌∷◌, ◌++◌, refl, ap, ◌∙◌, cond, Some}
 use Rattle.std.specs.Ordering.{ordering_then, is_eq}
 use Rattle.std.specs.declared.cmp.Ordering.TheVariants.{Less, Equal, Greater}
-use Rattle.pf_base.specs.FileMap.{Name, Path, Files, name_cmp, path_cmp, find}
+use Rattle.pf_machine.specs.FileMap.{Name, Path, Files, name_cmp, path_cmp, find}
 use Rattle.pf_tree.specs.Subtrees.{under, subtree}
 
 -- a path's file is its rest's file among what stands under its first name

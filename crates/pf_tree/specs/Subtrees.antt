@@ -2,7 +2,7 @@
 
 use Rattle.std.specs.Prelude.{List, [], ◌∷◌, if◌then◌else◌}
 use Rattle.std.specs.Borrow.{Bor}
-use Rattle.pf_base.specs.FileMap.{Name, Path, Files, same_name}
+use Rattle.pf_machine.specs.FileMap.{Name, Path, Files, same_name}
 
 -- what stands below a name, each path without that name
 abbrev pub under : Name → Files → Files

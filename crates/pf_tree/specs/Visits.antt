@@ -2,7 +2,7 @@
 use Rattle.std.specs.Prelude.{◌≡◌, ℕ, ◌+◌, List, [], ◌∷◌}
 use Rattle.std.specs.Borrow.{Bor}
 use Rattle.pf_base.specs.declared.meta.Meta.{Meta}
-use Rattle.pf_base.specs.FileMap.{Name, Path, Files}
+use Rattle.pf_machine.specs.FileMap.{Name, Path, Files}
 
 -- the last name of a path, and n where it has none
 abbrev pub last_or : Name → Path → Name

@@ -2,8 +2,8 @@
 
 ghost use Rattle.std.specs.Prelude.{◌≡◌, ◌<◌, ◌≤◌, ◌^◌, ◌+◌, [], ◌∷◌, ◌++◌, length, Some, None, IsSome, IfSome, IfNone, IfOk, OnOk, if◌then◌else◌, is_ok};
 ghost use Rattle.std.specs.List.{FoldsTo};
-ghost use Rattle.pf_base.specs.FileMap.{find, front, IsDirectory, insert, remove, set_mode, names_below, listed};
-ghost use Rattle.pf_base.specs.Paths.{is_nonempty};
+ghost use Rattle.pf_machine.specs.FileMap.{find, front, IsDirectory, insert, remove, set_mode, names_below, listed};
+ghost use Rattle.pf_machine.specs.Paths.{is_nonempty};
 ghost use Rattle.pf_tree.specs.Node.{Rises};
 ghost use Rattle.pf_tree.specs.Place.{IsPlace};
 ghost use Rattle.pf_tree.specs.Subtrees.{under, subtree, path_of};
@@ -42,7 +42,7 @@ struct Entry<A: Allocator> {
 }
 
 impl<A: Allocator> Model for Node<A> {
-    ghost use Rattle.pf_base.specs.FileMap.{Files};
+    ghost use Rattle.pf_machine.specs.FileMap.{Files};
 
     ghost Value = { Files };
 

@@ -2,8 +2,8 @@
 
 ghost use Rattle.std.specs.Prelude.{◌≡◌, ◌≢◌, ◌<◌, ◌^◌, ◌+◌, [], ◌∷◌, length, Some, None, IsTrue, IsSome, IfSome, IfOk, if◌then◌else◌, is_ok};
 ghost use Rattle.std.specs.List.{FoldsTo};
-ghost use Rattle.pf_base.specs.FileMap.{find, front, is_directory, IsDirectory, IsFileMap, insert, remove, set_mode, names_below, listed};
-ghost use Rattle.pf_base.specs.Paths.{is_nonempty};
+ghost use Rattle.pf_machine.specs.FileMap.{find, front, is_directory, IsDirectory, IsFileMap, insert, remove, set_mode, names_below, listed};
+ghost use Rattle.pf_machine.specs.Paths.{is_nonempty};
 ghost use Rattle.pf_tree.specs.Subtrees.{path_of};
 ghost use Rattle.pf_tree.specs.Visits.{Visits, visits};
 
@@ -25,7 +25,7 @@ pub struct Tree<A: Allocator> {
 
 impl<A: Allocator> Model for Tree<A> {
     ghost use Rattle.std.specs.Prelude.{◌≡◌, ◌<◌, ◌^◌, length};
-    ghost use Rattle.pf_base.specs.FileMap.{Files, IsFileMap};
+    ghost use Rattle.pf_machine.specs.FileMap.{Files, IsFileMap};
 
     ghost Value = { Files };
 

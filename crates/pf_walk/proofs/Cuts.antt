@@ -5,8 +5,8 @@ use Rattle.std.specs.Prelude.{if◌then◌else◌, true, false, Result, Ok, Err,
 use Rattle.std.proofs.lemmas.Bool.Decides.{nat_tests}
 use Rattle.std.specs.Vec.{vec_items}
 use Rattle.std.specs.declared.vec.Vec.{Vec}
-use Rattle.pf_base.specs.FileMap.{Name, Path, front}
-use Rattle.pf_base.specs.Paths.{Last, Named, Dot, DotDot, last_of, is_dot, is_dot_dot, ends_in_slash, is_nonempty}
+use Rattle.pf_machine.specs.FileMap.{Name, Path, front}
+use Rattle.pf_machine.specs.Paths.{Last, Named, Dot, DotDot, last_of, is_dot, is_dot_dot, ends_in_slash, is_nonempty}
 use Rattle.pf_tree.specs.Subtrees.{path_of}
 
 pub path_of-map : (rs : List (Bor Name)) → path_of rs ≡ map (λ r. r.now) rs

@@ -1,5 +1,5 @@
 pub mod Cuts
-pub mod Standing
+pub mod WalkLaws
 pub mod Steps
 pub mod Splits
 pub mod Reached

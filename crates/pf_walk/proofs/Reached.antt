@@ -1,9 +1,9 @@
 -- What follows from where names lead, for a target and for an entry.
 use Rattle.std.proofs.Common.{◌≡◌, [], refl, ap, Some, None, Option}
 use Rattle.std.specs.Prelude.{Result, Ok, Err, ◌&&◌, not}
-use Rattle.pf_base.specs.Refusals.{◌>>=◌, ◌>>◌, refuse_if, or_refuse}
-use Rattle.pf_base.specs.FileMap.{Path, Files, find, front, is_directory}
-use Rattle.pf_base.specs.Paths.{Words, Resolved, Nothing, permitted, searched, reach, last_of, target_of, entry_of}
+use Rattle.pf_machine.specs.Refusals.{◌>>=◌, ◌>>◌, refuse_if, or_refuse}
+use Rattle.pf_machine.specs.FileMap.{Path, Files, find, front, is_directory}
+use Rattle.pf_machine.specs.Paths.{Words, Resolved, Nothing, permitted, searched, reach, last_of, target_of, entry_of}
 use Rattle.pf_base.specs.declared.cred.Cred.{Cred}
 use Rattle.pf_base.specs.declared.errno.Errno.{Errno}
 use Rattle.pf_base.specs.declared.errno.Errno.TheVariants.{ENOENT, ENOTDIR}

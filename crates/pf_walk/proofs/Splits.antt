@@ -2,9 +2,9 @@
 use Rattle.std.proofs.Common.{◌≡◌, ℕ, List, length, sym, ap, ◌∙◌}
 use Rattle.std.specs.Prelude.{Bool, false, ◌||◌, ◌&&◌, nat_eq, nat_lt, Ok}
 use Rattle.std.specs.List.{list_any}
-use Rattle.pf_base.specs.Refusals.{◌>>◌, refuse_if}
-use Rattle.pf_base.specs.FileMap.{Name}
-use Rattle.pf_base.specs.Paths.{Words, words_of, components, ends_in_slash, is_nonempty}
+use Rattle.pf_machine.specs.Refusals.{◌>>◌, refuse_if}
+use Rattle.pf_machine.specs.FileMap.{Name}
+use Rattle.pf_machine.specs.Paths.{Words, words_of, components, ends_in_slash, is_nonempty}
 use Rattle.pf_base.specs.declared.errno.Errno.TheVariants.{ENOENT, EINVAL, ENAMETOOLONG}
 
 abbrev long_names : List Name → Bool

@@ -1,9 +1,9 @@
 -- One component further, by what was found and tested on the way.
 use Rattle.std.proofs.Common.{◌≡◌, [], ◌∷◌, ◌++◌, refl, sym, ap, ◌∙◌, Some, None, Option, T, subst}
 use Rattle.std.specs.Prelude.{Ok, Err, true, false, IsSome, if◌then◌else◌}
-use Rattle.pf_base.specs.Refusals.{◌>>=◌, ◌>>◌, or_refuse}
-use Rattle.pf_base.specs.FileMap.{Name, Path, Files, find, front}
-use Rattle.pf_base.specs.Paths.{is_dot, is_dot_dot, permitted, searched, step_to, stepped}
+use Rattle.pf_machine.specs.Refusals.{◌>>=◌, ◌>>◌, or_refuse}
+use Rattle.pf_machine.specs.FileMap.{Name, Path, Files, find, front}
+use Rattle.pf_machine.specs.Paths.{is_dot, is_dot_dot, permitted, searched, step_to, stepped}
 use Rattle.pf_base.specs.declared.cred.Cred.{Cred}
 use Rattle.pf_base.specs.declared.errno.Errno.{Errno}
 use Rattle.pf_base.specs.declared.errno.Errno.TheVariants.{ENOENT}

@@ -3,9 +3,9 @@
 use Rattle.std.specs.Prelude.{ℕ, List, Result, Vec}
 use Rattle.std.specs.Borrow.{Bor}
 use Rattle.std.specs.declared.alloc.Global.{Global}
-use Rattle.pf_base.specs.FileMap.{Name, Path, Files}
-use Rattle.pf_base.specs.Paths.{Words as PathWords, Resolved as PathResolved, Last as PathLast, Nothing, Dot, DotDot, Named, target, entry}
-use Rattle.pf_base.specs.FileCalls.{Place as EntryPlace}
+use Rattle.pf_machine.specs.FileMap.{Name, Path, Files}
+use Rattle.pf_machine.specs.Paths.{Words as PathWords, Resolved as PathResolved, Last as PathLast, Nothing, Dot, DotDot, Named, target, entry}
+use Rattle.pf_machine.specs.FileCalls.{Place as EntryPlace}
 use Rattle.pf_base.specs.declared.cred.Cred.{Cred}
 use Rattle.pf_base.specs.declared.errno.Errno.{Errno}
 use Rattle.pf_base.specs.declared.meta.File.{File}

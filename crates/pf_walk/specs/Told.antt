@@ -1,7 +1,7 @@
 -- What a call that may want memory tells: the answer that the definitions give, or that there was no memory.
 
 use Rattle.std.specs.Prelude.{◌≡◌, Result, Ok, Err}
-use Rattle.pf_base.specs.FileMap.{Files}
+use Rattle.pf_machine.specs.FileMap.{Files}
 use Rattle.pf_base.specs.declared.errno.Errno.{Errno}
 use Rattle.pf_base.specs.declared.fault.Fault.{Fault}
 use Rattle.pf_base.specs.declared.fault.Fault.TheVariants.{Errno as Refused, NoMemory}

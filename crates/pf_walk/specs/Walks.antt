@@ -2,8 +2,8 @@
 
 use Rattle.std.specs.Prelude.{◌≡◌, List, [], ◌∷◌, Result, Ok}
 use Rattle.std.specs.Borrow.{Bor}
-use Rattle.pf_base.specs.FileMap.{Name, Path, Files, find}
-use Rattle.pf_base.specs.Refusals.{◌>>=◌, or_refuse}
+use Rattle.pf_machine.specs.FileMap.{Name, Path, Files, find}
+use Rattle.pf_machine.specs.Refusals.{◌>>=◌, or_refuse}
 use Rattle.pf_base.specs.declared.errno.Errno.{Errno}
 use Rattle.pf_base.specs.declared.errno.Errno.TheVariants.{ENOENT}
 use Rattle.pf_base.specs.declared.meta.File.{File}

@@ -2,9 +2,9 @@
 //! then makes its one change. A refusal, and want of memory, leaves the files as they were.
 
 ghost use Rattle.std.specs.Prelude.{◌≡◌, ◌<◌, ◌+◌, ◌^◌, false, length, IfOk};
-ghost use Rattle.pf_base.specs.FileMap.{find, front, IsDirectory};
-ghost use Rattle.pf_base.specs.Opens.{openable};
-ghost use Rattle.pf_base.specs.FileCalls.{place, permitted_change, is_fifo, make, unlink, rmdir, chmod, stat, list};
+ghost use Rattle.pf_machine.specs.FileMap.{find, front, IsDirectory};
+ghost use Rattle.pf_machine.specs.Opens.{openable};
+ghost use Rattle.pf_machine.specs.FileCalls.{place, permitted_change, is_fifo, make, unlink, rmdir, chmod, stat, list};
 ghost use Rattle.pf_tree.specs.Subtrees.{path_of};
 ghost use Rattle.pf_walk.specs.Told.{Told, Changed};
 ghost use Rattle.pf_walk.specs.Resolutions.{placed};

@@ -1,6 +1,6 @@
 //! What the calls on files do and refuse: paths, permissions and changes over a tree of any allocator.
 //!
-//! Each call answers what `specs/FileCalls` of `pf_base` says of the tree's map of files, with the refusals in its
+//! Each call answers what `specs/FileCalls` of `pf_machine` says of the tree's map of files, with the refusals in its
 //! order, and changes nothing where it refuses or finds no memory.
 #![tactic(auto)]
 

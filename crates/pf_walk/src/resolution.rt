@@ -1,8 +1,8 @@
 //! Where a path leads (POSIX.1-2017, 4.13 "Pathname Resolution"). Relative and absolute paths both begin at the root.
 
 ghost use Rattle.std.specs.Prelude.{◌≡◌, [], Some, IfOk, IsTrue};
-ghost use Rattle.pf_base.specs.FileMap.{front, find, is_directory};
-ghost use Rattle.pf_base.specs.Paths.{reach, last_of, target_of, entry_of};
+ghost use Rattle.pf_machine.specs.FileMap.{front, find, is_directory};
+ghost use Rattle.pf_machine.specs.Paths.{reach, last_of, target_of, entry_of};
 ghost use Rattle.pf_tree.specs.Subtrees.{path_of};
 ghost use Rattle.pf_walk.specs.Told.{Told};
 ghost use Rattle.pf_walk.specs.Resolutions.{words, resolved, resolution, reached, last};

@@ -1,8 +1,8 @@
 //! A walk down a tree and up again, a component at a time.
 
 ghost use Rattle.std.specs.Prelude.{◌≡◌, [], ◌∷◌, ◌++◌, IfOk, OnOk};
-ghost use Rattle.pf_base.specs.FileMap.{is_directory};
-ghost use Rattle.pf_base.specs.Paths.{permitted, stepped};
+ghost use Rattle.pf_machine.specs.FileMap.{is_directory};
+ghost use Rattle.pf_machine.specs.Paths.{permitted, stepped};
 ghost use Rattle.pf_tree.specs.Subtrees.{subtree, path_of};
 ghost use Rattle.pf_walk.specs.Told.{Told};
 ghost use Rattle.pf_walk.specs.Walks.{Stands};

@@ -2,7 +2,7 @@
 
 ghost use Rattle.std.specs.Prelude.{◌≡◌, IfOk, length, nat_lt};
 ghost use Rattle.std.specs.List.{list_any};
-ghost use Rattle.pf_base.specs.Paths.{components, words_of, ends_in_slash};
+ghost use Rattle.pf_machine.specs.Paths.{components, words_of, ends_in_slash};
 ghost use Rattle.pf_tree.specs.Subtrees.{path_of};
 ghost use Rattle.pf_walk.specs.Told.{Told};
 ghost use Rattle.pf_walk.specs.Resolutions.{words};

@@ -1,8 +1,9 @@
 //! What is known of a reply before its step is made, and of a write that waits: numbers, which take no memory.
 
 ghost use Rattle.std.specs.Prelude.{◌≡◌, ◌≤◌};
-ghost use Rattle.pf_base.specs.Machine.{call_of};
-ghost use Rattle.pf_tables.specs.Bounds.{Covers, most_of, written_in};
+ghost use Rattle.pf_machine.specs.Machine.{call_of};
+ghost use Rattle.pf_tables.specs.Bounds.{Covers};
+ghost use Rattle.pf_machine.specs.Replies.{most_of, written_in};
 
 use super::Space;
 use pf_base::Step;

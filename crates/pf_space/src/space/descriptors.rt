@@ -1,7 +1,7 @@
 //! Descriptors: Dup (dup(2)), Close (close(2)) and SetNonblock (fcntl(2), F_SETFL).
 
 ghost use Rattle.std.specs.Prelude.{◌≡◌, ◌≢◌, Err};
-ghost use Rattle.pf_base.specs.Machine.{call};
+ghost use Rattle.pf_machine.specs.Machine.{call};
 ghost use Rattle.pf_tables.specs.Meaning.{meaning};
 ghost use Rattle.pf_tables.specs.Owns.{Owns};
 ghost use Rattle.pf_tables.specs.Told.{Told};

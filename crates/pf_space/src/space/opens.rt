@@ -1,8 +1,8 @@
 //! Opens of FIFOs (open(2), fifo(7)).
 
 ghost use Rattle.std.specs.Prelude.{IsOk, ◌≡◌, ◌≢◌, Err};
-ghost use Rattle.pf_base.specs.Machine.{call};
-ghost use Rattle.pf_base.specs.State.{ready};
+ghost use Rattle.pf_machine.specs.Machine.{call};
+ghost use Rattle.pf_machine.specs.State.{ready};
 ghost use Rattle.pf_tables.specs.Meaning.{meaning};
 ghost use Rattle.pf_tables.specs.Owns.{Owns};
 ghost use Rattle.pf_tables.specs.Told.{Told};

@@ -1,7 +1,7 @@
 //! Calls that wait, tried again (this profile's own).
 
 ghost use Rattle.std.specs.Prelude.{◌≡◌, ◌≢◌, Ok, Err, true};
-ghost use Rattle.pf_base.specs.Machine.{call, call_of, hands_out};
+ghost use Rattle.pf_machine.specs.Machine.{call, call_of, hands_out};
 ghost use Rattle.pf_tables.specs.Meaning.{meaning};
 ghost use Rattle.pf_tables.specs.Owns.{Owns};
 ghost use Rattle.pf_tables.specs.Told.{Told, ended};

@@ -1,8 +1,8 @@
 //! Processes: Spawn and Exit (the profile's own), Fork (fork(2)).
 
 ghost use Rattle.std.specs.Prelude.{IsOk, ◌≡◌, ◌≢◌, Err};
-ghost use Rattle.pf_base.specs.Machine.{call};
-ghost use Rattle.pf_base.specs.State.{ready};
+ghost use Rattle.pf_machine.specs.Machine.{call};
+ghost use Rattle.pf_machine.specs.State.{ready};
 ghost use Rattle.pf_tables.specs.Meaning.{meaning};
 ghost use Rattle.pf_tables.specs.Owns.{Owns};
 ghost use Rattle.pf_tables.specs.Told.{Told};

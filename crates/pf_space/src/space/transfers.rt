@@ -2,9 +2,9 @@
 //! call that would wait parks, or is told EAGAIN where the step or a description says nonblocking.
 
 ghost use Rattle.std.specs.Prelude.{◌≡◌, ◌≢◌, Err, IsOk, not, ◌&&◌, ◌||◌, false, true};
-ghost use Rattle.pf_base.specs.Calls.{Reading, Writing, Bringing};
-ghost use Rattle.pf_base.specs.State.{ready};
-ghost use Rattle.pf_base.specs.Machine.{call};
+ghost use Rattle.pf_machine.specs.Calls.{Reading, Writing, Bringing};
+ghost use Rattle.pf_machine.specs.State.{ready};
+ghost use Rattle.pf_machine.specs.Machine.{call};
 ghost use Rattle.pf_tables.specs.Meaning.{meaning};
 ghost use Rattle.pf_tables.specs.Owns.{Owns};
 ghost use Rattle.pf_tables.specs.Told.{Told, tried_call, is_nonblocking_at, write_ended, Parks};

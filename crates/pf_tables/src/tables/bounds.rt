@@ -1,9 +1,10 @@
 //! What is known of a reply before its step is made, and of a write that waits: numbers, which take no memory.
 
 ghost use Rattle.std.specs.Prelude.{◌≡◌, ℕ, ◌≤◌, List};
-ghost use Rattle.pf_base.specs.Machine.{call_of};
+ghost use Rattle.pf_machine.specs.Machine.{call_of};
 ghost use Rattle.pf_base.specs.declared.step.Step.TheVariants.{Read, Resume, List as Lists};
-ghost use Rattle.pf_tables.specs.Bounds.{Covers, most_of, written_in};
+ghost use Rattle.pf_tables.specs.Bounds.{Covers};
+ghost use Rattle.pf_machine.specs.Replies.{most_of, written_in};
 
 use super::{Tables, reading_end};
 use pf_parked::Call;

@@ -4,8 +4,8 @@
 
 ghost use Rattle.std.specs.Prelude.{◌≡◌, ℕ, ◌+◌, ◌<◌, ◌≤◌, None, IsSome, IfSome, OnErr, length, slice_set};
 ghost use Rattle.pf_base.specs.declared.TheConstants.{MAX_PROCESSES};
-ghost use Rattle.pf_base.specs.Machine.{call_of};
-ghost use Rattle.pf_base.specs.Numbered.{at, one_if};
+ghost use Rattle.pf_machine.specs.Machine.{call_of};
+ghost use Rattle.pf_machine.specs.Numbered.{at, one_if};
 ghost use Rattle.pf_fds.specs.Registry.{find};
 ghost use Rattle.pf_tables.specs.Meaning.{meaning};
 ghost use Rattle.pf_tables.specs.Owns.{Owns};

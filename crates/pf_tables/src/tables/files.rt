@@ -1,7 +1,7 @@
 //! Files: the calls of `pf_walk` on the tree, for the process that makes them.
 
 ghost use Rattle.std.specs.Prelude.{◌≡◌, Err, IsOk, OnErr};
-ghost use Rattle.pf_base.specs.State.{ready};
+ghost use Rattle.pf_machine.specs.State.{ready};
 ghost use Rattle.pf_tables.specs.Meaning.{meaning};
 ghost use Rattle.pf_tables.specs.Owns.{Owns};
 ghost use Rattle.pf_tables.specs.Tables.{HasFiled, making, unlinking, removing, remoding, known, names_in};

@@ -2,10 +2,10 @@
 //! with.
 
 ghost use Rattle.std.specs.Prelude.{◌≡◌, ◌+◌, ◌-◌, ◌^◌, ◌<◌, ◌≤◌, [], false, true, None, Some, Ok, Err, IsSome, is_some, IsOk, IfOk, OnOk, OnErr, length, nat_lt};
-ghost use Rattle.pf_base.specs.Opens.{has_flag, access_of, fifo_pipe, fifo_readers};
-ghost use Rattle.pf_base.specs.Numbered.{one_if};
-ghost use Rattle.pf_base.specs.State.{ready};
-ghost use Rattle.pf_base.specs.Counts.{total};
+ghost use Rattle.pf_machine.specs.Opens.{has_flag, access_of, fifo_pipe, fifo_readers};
+ghost use Rattle.pf_machine.specs.Numbered.{one_if};
+ghost use Rattle.pf_machine.specs.State.{ready};
+ghost use Rattle.pf_machine.specs.Counts.{total};
 ghost use Rattle.pf_limits.specs.UserPages.{charged_to, Charges};
 ghost use Rattle.pf_pipe.specs.Pipe.{unopened};
 ghost use Rattle.pf_tables.specs.Meaning.{meaning};

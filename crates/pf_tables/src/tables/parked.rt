@@ -2,8 +2,8 @@
 
 ghost use Rattle.std.specs.Prelude.{◌≡◌, Ok, Err, None, Some, IsOk, MatchResult};
 ghost use Rattle.std.specs.Option.{option_map};
-ghost use Rattle.pf_base.specs.Machine as machine;
-ghost use Rattle.pf_base.specs.State.{ready, living};
+ghost use Rattle.pf_machine.specs.Machine as machine;
+ghost use Rattle.pf_machine.specs.State.{ready, living};
 ghost use Rattle.pf_tables.specs.Meaning.{meaning};
 ghost use Rattle.pf_tables.specs.Owns.{Owns};
 ghost use Rattle.pf_tables.specs.Rows.{call_of, made_by};

@@ -1,10 +1,10 @@
 //! Pipes: what makes one with its two ends.
 
 ghost use Rattle.std.specs.Prelude.{◌≡◌, ◌+◌, ◌-◌, ◌^◌, ◌<◌, ◌≤◌, false, Err, Some, None, IsOk, IfOk, OnOk, OnErr, slice_set, length, [], ◌∷◌, ◌++◌, not, ◌&&◌, nat_lt};
-ghost use Rattle.pf_base.specs.Numbered.{at};
-ghost use Rattle.pf_base.specs.Counts.{total};
+ghost use Rattle.pf_machine.specs.Numbered.{at};
+ghost use Rattle.pf_machine.specs.Counts.{total};
 ghost use Rattle.pf_tables.specs.Meaning.{meaning};
-ghost use Rattle.pf_base.specs.State.{ready};
+ghost use Rattle.pf_machine.specs.State.{ready};
 ghost use Rattle.pf_limits.specs.UserPages.{charged_to};
 ghost use Rattle.pf_pipe.specs.Pipe.{unopened};
 ghost use Rattle.pf_tables.specs.Owns.{Owns};

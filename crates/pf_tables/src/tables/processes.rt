@@ -1,8 +1,8 @@
 //! Processes: what makes one, and what lets one go.
 
 ghost use Rattle.std.specs.Prelude.{◌≡◌, ◌+◌, ◌≤◌, Err, IsOk, IfSome, IfNone, OnOk, OnErr, length};
-ghost use Rattle.pf_base.specs.Numbered.{first_free};
-ghost use Rattle.pf_base.specs.State.{ready, with_process, vacant};
+ghost use Rattle.pf_machine.specs.Numbered.{first_free};
+ghost use Rattle.pf_machine.specs.State.{ready, with_process, vacant};
 ghost use Rattle.pf_base.specs.declared.TheConstants.{MAX_DESCRIPTORS, MAX_PROCESSES};
 ghost use Rattle.pf_tables.specs.Meaning.{meaning};
 ghost use Rattle.pf_tables.specs.Owns.{Owns};

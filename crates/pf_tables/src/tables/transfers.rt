@@ -2,9 +2,9 @@
 //! there are two, one is taken out for as long.
 
 ghost use Rattle.std.specs.Prelude.{◌≡◌, ◌≤◌, Ok, Err, None, IfOk, IfSome, IsOk, OnErr, drop, length};
-ghost use Rattle.pf_base.specs.Calls.{Reading, Writing, Bringing};
-ghost use Rattle.pf_base.specs.Progress.{moved};
-ghost use Rattle.pf_base.specs.State.{ready};
+ghost use Rattle.pf_machine.specs.Calls.{Reading, Writing, Bringing};
+ghost use Rattle.pf_machine.specs.Progress.{moved};
+ghost use Rattle.pf_machine.specs.State.{ready};
 ghost use Rattle.pf_tables.specs.Meaning.{meaning};
 ghost use Rattle.pf_tables.specs.Owns.{Owns};
 ghost use Rattle.pf_tables.specs.Told.{attempted, is_nonblocking_at, HasRead, HasCrossed, HasWritten, Wrote};

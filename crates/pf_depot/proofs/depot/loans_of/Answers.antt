@@ -1,6 +1,6 @@
 use Rattle.std.proofs.Common.{arith, ◌∙◌}
 use Rattle.std.proofs.lemmas.List.{take_all}
-use Rattle.pf_depot.specs.AllLoansLaws.{unnamed}
+use Rattle.pf_depot.proofs.AllLoansLaws.{unnamed}
 use Rattle.pf_depot.proofs.depot.loans_of.Goals as goal
 
 pub returns : goal.returns

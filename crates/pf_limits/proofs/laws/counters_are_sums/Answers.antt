@@ -1,8 +1,8 @@
 use Rattle.std.proofs.Common.{ℕ, ◌+◌, List, nat_eq, refl, ap}
 use Rattle.std.specs.Map.{lookup}
 use Rattle.std.specs.Prelude.{unwrap_or}
-use Rattle.pf_base.specs.Queue.{Queue, with_capacity}
-use Rattle.pf_base.specs.State.{State, Pipe, holding}
+use Rattle.pf_machine.specs.Queue.{Queue, with_capacity}
+use Rattle.pf_machine.specs.State.{State, Pipe, holding}
 use Rattle.pf_limits.proofs.SumLaws as laws
 use Rattle.pf_limits.proofs.laws.counters_are_sums.Goals as goal
 use Rattle.pf_limits.specs.Sums.{AreSums, AreSumsOf}

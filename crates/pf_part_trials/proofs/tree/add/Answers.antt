@@ -1,5 +1,5 @@
 use Rattle.std.proofs.Common.{◌≡◌, sym, ap, ◌∙◌, subst, refl}
-use Rattle.pf_base.specs.FileMap.{find, front, IsDirectory}
+use Rattle.pf_machine.specs.FileMap.{find, front, IsDirectory}
 use Rattle.pf_tree.specs.Subtrees.{path_of}
 use Rattle.pf_tree.proofs.Paths.{front_push}
 use Rattle.pf_part_trials.proofs.tree.add.Goals as goal

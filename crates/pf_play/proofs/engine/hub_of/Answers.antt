@@ -1,6 +1,6 @@
 use Rattle.std.proofs.Common.{◌≡◌, map, ap, ◌∙◌}
 use Rattle.pf_hub.specs.Opening.{limits_of, new_hub}
-use Rattle.pf_play.proofs.Playing.{limits_beside}
+use Rattle.pf_play.proofs.EngineLaws.{limits_beside}
 use Rattle.pf_play.proofs.engine.hub_of.Goals as goal
 
 pub returns-in-Ok : goal.returns-in-Ok

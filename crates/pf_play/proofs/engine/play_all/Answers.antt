@@ -1,5 +1,5 @@
 use Rattle.std.proofs.Common.{refl}
-use Rattle.pf_play.proofs.Playing.{played}
+use Rattle.pf_play.proofs.EngineLaws.{played}
 use Rattle.pf_play.proofs.engine.play_all.Goals as goal
 
 pub returns-in-Ok : goal.returns-in-Ok

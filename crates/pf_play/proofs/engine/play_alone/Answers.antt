@@ -1,7 +1,7 @@
 use Rattle.std.proofs.Common.{◌≡◌, ℕ, ◌+◌, [], ◌∷◌, ◌++◌, take, ap, sym, ◌∙◌}
 use Rattle.std.proofs.lemmas.List.{take_more}
 use Rattle.pf_base.specs.declared.step.Step.{Step}
-use Rattle.pf_play.proofs.Playing.{went_on, went_by, opens, alone, take_all}
+use Rattle.pf_play.proofs.EngineLaws.{went_on, went_by, opens, alone, take_all}
 use Rattle.pf_play.proofs.engine.play_alone.Goals as goal
 use Rattle.pf_play.proofs.engine.play_alone.Goals.{then-event-ns+in_ok-push, else-event-ns}
 

@@ -1,7 +1,7 @@
 use Rattle.std.proofs.Common.{◌≡◌, Some, map, take}
 use Rattle.std.specs.Prelude.{slice_get}
 use Rattle.pf_base.specs.Limits.{Limits}
-use Rattle.pf_play.proofs.Playing.{Went}
+use Rattle.pf_play.proofs.EngineLaws.{Went}
 use Rattle.pf_play.proofs.engine.play_alone.Given as goal
 
 abbrev pub invariant-loop-event : goal.invariant-loop-event

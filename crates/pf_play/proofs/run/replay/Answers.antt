@@ -1,5 +1,5 @@
 use Rattle.std.proofs.lemmas.Result.{err_from_is_err_and}
-use Rattle.pf_play.proofs.Playing.{cut_short}
+use Rattle.pf_play.proofs.EngineLaws.{cut_short}
 use Rattle.pf_play.proofs.run.replay.Goals as goal
 
 pub returns-in_err-print-clause-fault : goal.returns-in_err-print-clause-fault

@@ -1,6 +1,6 @@
 use Rattle.std.proofs.Common.{◌≡◌, ℕ, ◌+◌, length, sym, ◌∙◌, eqb-true, Bool, false, ◌==◌, arith}
 use Rattle.std.proofs.lemmas.Bool.Decides.{nat_tests}
-use Rattle.pf_ring.specs.WindowLaws.{bytes_in_le}
+use Rattle.pf_ring.proofs.WindowLaws.{bytes_in_le}
 use Rattle.pf_ring.proofs.Loops.{appending_more, appending_end}
 use Rattle.pf_ring.proofs.windows.append.Goals as goal
 

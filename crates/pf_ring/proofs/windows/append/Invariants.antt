@@ -1,6 +1,6 @@
 use Rattle.std.proofs.Common.{◌≡◌, ◌-◌, ◌++◌, drop}
 use Rattle.std.specs.VecDeque.{deque_len, deque_capacity}
-use Rattle.pf_base.specs.Queue.{last_room, topped_up, pieces}
+use Rattle.pf_machine.specs.Queue.{last_room, topped_up, pieces}
 use Rattle.pf_ring.specs.Ring.{shown}
 use Rattle.pf_ring.proofs.Loops.{Appending}
 use Rattle.pf_ring.proofs.windows.append.Given as goal

@@ -1,6 +1,6 @@
 use Rattle.std.proofs.Common.{◌≡◌, ℕ, ◌-◌, ◌<◌, refl, List, [], ◌∷◌, ◌++◌, take, ap, ◌∙◌, map, sym, arith}
 use Rattle.std.specs.VecDeque.{deque_len}
-use Rattle.pf_base.specs.Queue.{last_room}
+use Rattle.pf_machine.specs.Queue.{last_room}
 use Rattle.pf_ring.specs.declared.ring.Window.{Window}
 use Rattle.pf_ring.specs.Ring.{segment_of}
 use Rattle.pf_ring.proofs.Changes.{split_last}

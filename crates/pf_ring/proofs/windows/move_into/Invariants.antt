@@ -1,6 +1,6 @@
 use Rattle.std.proofs.Common.{◌≡◌, ◌≤◌, ◌++◌, ◌-◌, length, take, drop}
 use Rattle.std.specs.VecDeque.{deque_capacity}
-use Rattle.pf_base.specs.Queue.{joined}
+use Rattle.pf_machine.specs.Queue.{joined}
 use Rattle.pf_ring.specs.Ring.{shown}
 use Rattle.pf_ring.specs.Windows.{Stands}
 use Rattle.pf_ring.specs.Steps.{Cut}

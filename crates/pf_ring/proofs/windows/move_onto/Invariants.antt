@@ -1,7 +1,7 @@
 use Rattle.std.proofs.Common.{◌≡◌, ◌≤◌, ◌++◌, ◌+◌, ◌-◌, take}
 use Rattle.std.specs.Prelude.{vec_len, vec_capacity}
 use Rattle.std.specs.VecDeque.{deque_capacity}
-use Rattle.pf_base.specs.Queue.{joined}
+use Rattle.pf_machine.specs.Queue.{joined}
 use Rattle.pf_ring.specs.Ring.{shown}
 use Rattle.pf_ring.specs.Windows.{Stands}
 use Rattle.pf_ring.specs.Steps.{Cut}

@@ -2,8 +2,8 @@ use Rattle.std.proofs.Common.{List, refl, ◌∙◌, inl, inr, arith}
 use Rattle.pf_frame.specs.Live.{Live}
 use Rattle.pf_ring.specs.declared.ring.Window.{Window}
 use Rattle.pf_ring.specs.Windows.{Stands}
-use Rattle.pf_ring.specs.WindowLaws.{stands_first}
-use Rattle.pf_ring.proofs.Copying.{Source, is_source, sharing_none, sharing_more, sharing_end, all_or_full}
+use Rattle.pf_ring.proofs.WindowLaws.{stands_first}
+use Rattle.pf_ring.proofs.WindowsShare.{Source, is_source, sharing_none, sharing_more, sharing_end, all_or_full}
 use Rattle.pf_ring.proofs.windows.share.Goals as goal
 
 pub loop-place-init : goal.loop-place-init

@@ -1,8 +1,8 @@
 use Rattle.std.proofs.Common.{◌≡◌, ◌++◌, ◌-◌}
 use Rattle.std.specs.VecDeque.{deque_len, deque_capacity}
-use Rattle.pf_base.specs.Queue.{copied}
+use Rattle.pf_machine.specs.Queue.{copied}
 use Rattle.pf_ring.specs.Ring.{shown}
-use Rattle.pf_ring.proofs.Copying.{Sharing}
+use Rattle.pf_ring.proofs.WindowsShare.{Sharing}
 use Rattle.pf_ring.proofs.windows.share.Given as goal
 
 abbrev pub invariant-loop-place : goal.invariant-loop-place

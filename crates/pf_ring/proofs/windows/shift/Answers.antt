@@ -3,7 +3,7 @@ use Rattle.std.specs.VecDeque.{deque_capacity}
 use Rattle.pf_frame.specs.Live.{Live}
 use Rattle.pf_ring.specs.declared.ring.Window.{Window}
 use Rattle.pf_ring.proofs.Changes.{First}
-use Rattle.pf_ring.proofs.Shifting.{first, live_now, set_first, shifting_none, shifting_whole, shifting_cut, shifting_end, shifted, sink_shown, moved_all}
+use Rattle.pf_ring.proofs.WindowsShift.{first, live_now, set_first, shifting_none, shifting_whole, shifting_cut, shifting_end, shifted, sink_shown, moved_all}
 use Rattle.pf_ring.proofs.windows.shift.Goals.{then-first-part, else-first-part}
 use Rattle.pf_ring.proofs.windows.shift.Goals as goal
 

@@ -1,8 +1,8 @@
 use Rattle.std.proofs.Common.{◌≡◌, ◌++◌, ◌-◌}
 use Rattle.std.specs.VecDeque.{deque_len, deque_capacity}
-use Rattle.pf_base.specs.Queue.{copied}
+use Rattle.pf_machine.specs.Queue.{copied}
 use Rattle.pf_ring.specs.Ring.{shown}
-use Rattle.pf_ring.proofs.Shifting.{Shifting}
+use Rattle.pf_ring.proofs.WindowsShift.{Shifting}
 use Rattle.pf_ring.proofs.windows.shift.Given as goal
 
 abbrev pub invariant-loop : goal.invariant-loop

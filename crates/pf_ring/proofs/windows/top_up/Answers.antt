@@ -1,6 +1,6 @@
 use Rattle.std.proofs.Common.{◌≡◌, ℕ, ◌-◌, min, List, [], ◌∷◌, ◌++◌, length, map, take, set, sym, ◌∙◌, ap, subst, arith}
 use Rattle.std.proofs.lemmas.List.{length-take}
-use Rattle.pf_base.specs.Queue.{last_room, topped_up}
+use Rattle.pf_machine.specs.Queue.{last_room, topped_up}
 use Rattle.pf_frame.specs.Live.{Live, IsSound}
 use Rattle.pf_ring.specs.declared.ring.Window.{Window}
 use Rattle.pf_ring.specs.Ring.{segment_of}

@@ -1,4 +1,4 @@
-use Rattle.pf_script.proofs.Cutting.{goes_on, ends}
+use Rattle.pf_script.proofs.CutLaws.{goes_on, ends}
 use Rattle.pf_script.proofs.cut.cut_into.Goals as goal
 
 pub loop-k-preserved : goal.loop-k-preserved

@@ -1,7 +1,7 @@
 use Rattle.std.proofs.Common.{[], ◌++◌, refl, subst}
 use Rattle.hex.specs.Hex.{encode_lower}
 use Rattle.pf_script.specs.Puts.{Puts}
-use Rattle.pf_script.proofs.Putting.{put_more, nothing}
+use Rattle.pf_script.proofs.PrinterPut.{put_more, nothing}
 use Rattle.pf_script.proofs.Texts.{digits_on}
 use Rattle.pf_script.proofs.text.put_digits.Goals as goal
 

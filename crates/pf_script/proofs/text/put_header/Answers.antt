@@ -1,4 +1,4 @@
-use Rattle.pf_script.proofs.Putting.{put_more}
+use Rattle.pf_script.proofs.PrinterPut.{put_more}
 use Rattle.pf_script.proofs.text.put_header.Goals as goal
 
 pub returns : goal.returns

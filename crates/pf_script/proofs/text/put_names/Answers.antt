@@ -1,7 +1,7 @@
 use Rattle.std.proofs.Common.{[], ◌++◌, refl, subst}
 use Rattle.std.specs.Prelude.{codes}
 use Rattle.pf_script.specs.Puts.{Puts}
-use Rattle.pf_script.proofs.Putting.{put_more, nothing}
+use Rattle.pf_script.proofs.PrinterPut.{put_more, nothing}
 use Rattle.pf_script.proofs.Texts.{name_on, names_end}
 use Rattle.pf_script.proofs.text.put_names.Goals as goal
 

@@ -3,7 +3,7 @@ use Rattle.std.specs.Prelude.{OnOk, OnErr}
 use Rattle.pf_script.specs.Text.{text}
 use Rattle.pf_script.specs.Ports.{IsWritten, IsCut}
 use Rattle.pf_script.specs.Puts.{EndsBy, FailsBy}
-use Rattle.pf_script.proofs.Putting.{ended, cut_off}
+use Rattle.pf_script.proofs.PrinterPut.{ended, cut_off}
 use Rattle.pf_script.proofs.transcript.print.Goals as goal
 
 pub returns-clause-written : goal.returns-clause-written

@@ -1,4 +1,4 @@
-use Rattle.pf_script.proofs.Putting.{put_more}
+use Rattle.pf_script.proofs.PrinterPut.{put_more}
 use Rattle.pf_script.proofs.Texts.{section_named}
 use Rattle.pf_script.proofs.transcript.put_alone.Goals as goal
 

@@ -1,7 +1,7 @@
 use Rattle.std.proofs.Common.{[], ◌++◌, ◌+◌, refl, subst, sym, ◌∙◌}
 use Rattle.pf_script.specs.Puts.{Puts}
 use Rattle.pf_script.specs.Text.{line_text}
-use Rattle.pf_script.proofs.Putting.{put_more, failed_on, nothing}
+use Rattle.pf_script.proofs.PrinterPut.{put_more, failed_on, nothing}
 use Rattle.pf_script.proofs.Texts.{chosen_on, chosen_end}
 use Rattle.pf_script.proofs.transcript.put_chosen.Goals as goal
 

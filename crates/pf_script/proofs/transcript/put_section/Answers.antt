@@ -1,6 +1,6 @@
 use Rattle.pf_script.specs.Text.{answers_of}
 use Rattle.pf_script.proofs.Places.{within}
-use Rattle.pf_script.proofs.Putting.{put_more}
+use Rattle.pf_script.proofs.PrinterPut.{put_more}
 use Rattle.pf_script.proofs.Texts.{section_named, chosen_are}
 use Rattle.pf_script.proofs.transcript.put_section.Goals as goal
 

@@ -1,7 +1,7 @@
 use Rattle.std.proofs.Common.{◌<◌, ◌≤◌, [], ◌++◌, length, refl, subst, sym, ◌∙◌, arith}
 use Rattle.pf_script.specs.Puts.{Puts}
 use Rattle.pf_script.specs.Text.{section_at, answers_of}
-use Rattle.pf_script.proofs.Putting.{put_more, failed_on, nothing}
+use Rattle.pf_script.proofs.PrinterPut.{put_more, failed_on, nothing}
 use Rattle.pf_script.proofs.Texts.{section_on, sections_end}
 use Rattle.pf_script.proofs.transcript.put_sections.Goals as goal
 

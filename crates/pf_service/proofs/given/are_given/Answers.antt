@@ -4,8 +4,8 @@ use Rattle.std.proofs.lemmas.Bool.{cases_lt}
 use Rattle.std.proofs.lemmas.List.{get_or_past}
 use Rattle.std.proofs.lemmas.List.Elements.{All-from_get_or}
 use Rattle.pf_service.specs.Seats.{OneSeat, IsGiven}
-use Rattle.pf_service.proofs.Counting.{refused_number}
-use Rattle.pf_service.proofs.Judging.{none_given}
+use Rattle.pf_service.proofs.SeatLaws.{refused_number}
+use Rattle.pf_service.proofs.JudgeLaws.{none_given}
 use Rattle.pf_service.proofs.given.are_given.Goals as goal
 
 pub returns-then-ns-given : goal.returns-then-ns-given

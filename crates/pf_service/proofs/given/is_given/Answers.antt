@@ -2,7 +2,7 @@ use Rattle.std.proofs.Common.{◌≡◌, List, length, Bool, sym, ap, ◌∙◌,
 use Rattle.std.proofs.lemmas.List.{take_all}
 use Rattle.std.proofs.lemmas.Grind.{common_steps}
 use Rattle.pf_service.specs.Marks.{IsCounted}
-use Rattle.pf_service.proofs.Counting.{refused_seen, refused_number, given_answers}
+use Rattle.pf_service.proofs.SeatLaws.{refused_seen, refused_number, given_answers}
 use Rattle.pf_service.proofs.given.is_given.Goals as goal
 use Rattle.pf_service.proofs.given.is_given.Goals.{then-number-len-via-then-number-len, then-number-len-via-else-number-len+then-index}
 

@@ -2,7 +2,7 @@
 use Rattle.std.proofs.Common.{rules, length, arith, inl, inr}
 use Rattle.std.proofs.lemmas.Bool.{cases_lt}
 use Rattle.pf_service.specs.Seats.{AreGiven}
-use Rattle.pf_service.proofs.Judging.{past}
+use Rattle.pf_service.proofs.JudgeLaws.{past}
 use Rattle.pf_service.proofs.judge.compare.Goals as goal
 
 pub returns-clause-agree : goal.returns-clause-agree

@@ -6,7 +6,7 @@ use Rattle.pf_service.specs.Marks.{IsMarked}
 use Rattle.pf_service.specs.Merge.{at, stands, Rises}
 use Rattle.pf_service.specs.Seats.{OneSeat, lists_of}
 use Rattle.pf_service.specs.declared.event.Event.{Event}
-use Rattle.pf_service.proofs.Merging.{joined, joined-push, more_mine, more_other, around, seen_from, answers}
+use Rattle.pf_service.proofs.MergeLaws.{joined, joined-push, more_mine, more_other, around, seen_from, answers}
 use Rattle.pf_service.proofs.merge.is_merge.Goals as goal
 use Rattle.pf_service.proofs.merge.is_merge.Goals.{else-ns-via-then-ns+else-not-mark_all, else-ns-via-else-ns}
 

@@ -3,7 +3,7 @@ use Rattle.std.proofs.lemmas.Grind.{common_steps}
 use Rattle.std.proofs.lemmas.Option.{gets}
 use Rattle.std.specs.List.{slice_get}
 use Rattle.pf_service.specs.Marks.{IsMarked}
-use Rattle.pf_service.proofs.Marking.{refused_past, refused_twice, refused_other, marked_more}
+use Rattle.pf_service.proofs.GivenLaws.{refused_past, refused_twice, refused_other, marked_more}
 use Rattle.pf_service.proofs.merge.mark.Goals as goal
 use Rattle.pf_service.proofs.merge.mark.Goals.{then-index-via-then-index, then-index-via-else-index+then-not-is_same}
 

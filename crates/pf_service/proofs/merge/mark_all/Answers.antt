@@ -3,7 +3,7 @@ use Rattle.std.proofs.lemmas.List.{length-map, take_all}
 use Rattle.pf_service.specs.Marks.{IsMarked}
 use Rattle.pf_service.specs.Merge.{at, stands}
 use Rattle.pf_service.specs.declared.event.Event.{Event}
-use Rattle.pf_service.proofs.Walking.{split_at, take_one, at_map, rises_more, falls}
+use Rattle.pf_service.proofs.MergeSteps.{split_at, take_one, at_map, rises_more, falls}
 use Rattle.pf_service.proofs.merge.mark_all.Goals as goal
 use Rattle.pf_service.proofs.merge.mark_all.Goals.{then-event-least-via-then-event-least, then-event-least-via-else-event-least+then-not-mark}
 

@@ -1,6 +1,6 @@
 use Rattle.std.proofs.Common.{rules}
 use Rattle.std.proofs.lemmas.Fn.{always_returns_same}
-use Rattle.pf_base.specs.FileMap.{name_cmp}
+use Rattle.pf_machine.specs.FileMap.{name_cmp}
 use Rattle.pf_tree.proofs.Places.{placed}
 use Rattle.pf_tree.proofs.node.locate.Goals as goal
 

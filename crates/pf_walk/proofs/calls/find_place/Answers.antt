@@ -1,8 +1,8 @@
 use Rattle.std.proofs.Common.{◌≡◌, ◌++◌, ◌∷◌, [], refl, sym, ap, ◌∙◌, subst, Some}
 use Rattle.std.specs.Prelude.{Ok}
-use Rattle.pf_base.specs.Refusals.{◌>>=◌}
-use Rattle.pf_base.specs.FileMap.{find, front, IsDirectory}
-use Rattle.pf_base.specs.FileCalls.{place_of}
+use Rattle.pf_machine.specs.Refusals.{◌>>=◌}
+use Rattle.pf_machine.specs.FileMap.{find, front, IsDirectory}
+use Rattle.pf_machine.specs.FileCalls.{place_of}
 use Rattle.pf_tree.specs.Subtrees.{path_of}
 use Rattle.pf_walk.specs.Resolutions.{resolved, last}
 use Rattle.pf_walk.proofs.Cuts.{path_of-append, front-append}

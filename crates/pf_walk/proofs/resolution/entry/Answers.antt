@@ -1,7 +1,7 @@
 use Rattle.std.proofs.Common.{rules, [], ap, ◌∙◌, subst}
 use Rattle.std.specs.Prelude.{Err}
-use Rattle.pf_base.specs.FileMap.{front}
-use Rattle.pf_base.specs.Paths.{reach}
+use Rattle.pf_machine.specs.FileMap.{front}
+use Rattle.pf_machine.specs.Paths.{reach}
 use Rattle.pf_tree.specs.Subtrees.{path_of}
 use Rattle.pf_walk.specs.Told.{Told}
 use Rattle.pf_walk.specs.Walks.{file_at}

@@ -1,13 +1,13 @@
 use Rattle.std.proofs.Common.{◌≡◌, [], sym, ap, ◌∙◌, Some}
 use Rattle.std.specs.Prelude.{Ok}
-use Rattle.pf_base.specs.Refusals.{◌>>=◌, or_refuse}
+use Rattle.pf_machine.specs.Refusals.{◌>>=◌, or_refuse}
 use Rattle.pf_base.specs.declared.errno.Errno.TheVariants.{ENOENT}
-use Rattle.pf_base.specs.FileMap.{find}
-use Rattle.pf_base.specs.Paths.{reach}
+use Rattle.pf_machine.specs.FileMap.{find}
+use Rattle.pf_machine.specs.Paths.{reach}
 use Rattle.pf_tree.specs.Subtrees.{path_of, subtree}
 use Rattle.pf_walk.specs.Walks.{file_at}
 use Rattle.pf_walk.proofs.Cuts.{path_past}
-use Rattle.pf_walk.proofs.Standing.{found_here}
+use Rattle.pf_walk.proofs.WalkLaws.{found_here}
 use Rattle.pf_walk.proofs.resolution.follow.Goals as goal
 
 pub returns-clause-told : goal.returns-clause-told

@@ -1,5 +1,5 @@
 use Rattle.std.proofs.Common.{◌≡◌, drop, []}
-use Rattle.pf_base.specs.Paths.{reach}
+use Rattle.pf_machine.specs.Paths.{reach}
 use Rattle.pf_tree.specs.Subtrees.{path_of}
 use Rattle.pf_walk.specs.Walks.{Stands}
 use Rattle.pf_walk.proofs.resolution.follow.Given as goal

@@ -1,7 +1,7 @@
 use Rattle.std.proofs.Common.{◌≡◌, ◌∷◌, [], sym, ap, ◌∙◌, true, false}
 use Rattle.std.specs.Prelude.{nat_eq}
 use Rattle.std.specs.Cmp.Lexicographic.{texts_ties, pointwise}
-use Rattle.pf_base.specs.Paths.{last_of, is_dot, is_dot_dot}
+use Rattle.pf_machine.specs.Paths.{last_of, is_dot, is_dot_dot}
 use Rattle.pf_tree.specs.Subtrees.{path_of}
 use Rattle.pf_walk.proofs.Cuts.{last-append, path_of-append, kind_dot, kind_dot_dot, kind_named}
 use Rattle.pf_walk.proofs.resolution.last_of.Goals as goal

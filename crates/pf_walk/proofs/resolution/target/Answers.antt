@@ -1,10 +1,10 @@
 use Rattle.std.proofs.Common.{rules, ◌≡◌, [], sym, ap, ◌∙◌, subst, false}
 use Rattle.std.specs.Prelude.{Ok, Err, ◌&&◌, not}
-use Rattle.pf_base.specs.Refusals.{◌>>=◌, ◌>>◌, refuse_if}
+use Rattle.pf_machine.specs.Refusals.{◌>>=◌, ◌>>◌, refuse_if}
 use Rattle.pf_base.specs.declared.errno.Errno.TheVariants.{ENOTDIR}
 use Rattle.pf_walk.specs.declared.resolution.Last.TheVariants.{Nothing}
-use Rattle.pf_base.specs.FileMap.{is_directory}
-use Rattle.pf_base.specs.Paths.{reach}
+use Rattle.pf_machine.specs.FileMap.{is_directory}
+use Rattle.pf_machine.specs.Paths.{reach}
 use Rattle.pf_tree.specs.Subtrees.{path_of}
 use Rattle.pf_walk.specs.Told.{Told}
 use Rattle.pf_walk.specs.Walks.{file_at}

@@ -3,7 +3,7 @@ use borrow.Author.Tests.{tests}
 use Rattle.std.specs.Prelude.{nat_eq}
 use Rattle.std.proofs.lemmas.Iterator.Splits.{YieldsList-from_slice_split}
 use Rattle.std.proofs.lemmas.Iterator.Consumers.{YieldsList-at, YieldsList-from_filter, map_from_collect}
-use Rattle.pf_base.specs.Paths.{is_component}
+use Rattle.pf_machine.specs.Paths.{is_component}
 use Rattle.pf_walk.proofs.Cuts.{path_from_map}
 use Rattle.pf_walk.proofs.words.components.Goals as goal
 

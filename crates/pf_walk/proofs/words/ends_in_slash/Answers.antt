@@ -1,5 +1,5 @@
 use Rattle.std.proofs.Common.{sym, ap, ◌∙◌}
-use Rattle.pf_base.specs.Paths.{ends_in_slash}
+use Rattle.pf_machine.specs.Paths.{ends_in_slash}
 use Rattle.pf_walk.proofs.Cuts.{ends-append}
 use Rattle.pf_walk.proofs.words.ends_in_slash.Goals as goal
 

@@ -2,7 +2,7 @@ use Rattle.std.proofs.Common.{◌≡◌, length, sym, ap, ◌∙◌, arith, fals
 use Rattle.std.specs.Prelude.{nat_eq, nat_lt, ◌&&◌, Ok, not, ◌==◌}
 use Rattle.std.specs.List.{list_any}
 use Rattle.std.proofs.lemmas.Bool.Decides.{nat_tests}
-use Rattle.pf_base.specs.Paths.{ends_in_slash, is_nonempty, components}
+use Rattle.pf_machine.specs.Paths.{ends_in_slash, is_nonempty, components}
 use Rattle.pf_tree.specs.Subtrees.{path_of}
 use Rattle.pf_walk.proofs.Cuts.{nonempty_path}
 use Rattle.pf_walk.proofs.Splits.{all_pass}

@@ -1,5 +1,5 @@
 use Rattle.std.proofs.Common.{arith}
-use Rattle.pf_depot.specs.PlacesLaws.{some_held}
+use Rattle.pf_depot.proofs.PlacesLaws.{some_held}
 use Rattle.pf_depot.proofs.door.LoanDoorFrames.release.Goals as goal
 
 pub give-requires-clause-out : goal.give-requires-clause-out

@@ -1,6 +1,7 @@
 use Rattle.std.proofs.Common.{◌<◌, length, arith, length-set, refl}
-use Rattle.pf_frame.specs.CountedLaws.{table_room, table_releases_last, counted_within}
-use Rattle.pf_depot.specs.PlacesLaws.{lent_gives, is_given}
+use Rattle.pf_frame.proofs.CountedLaws.{table_room, table_releases_last}
+use Rattle.pf_frame.specs.Sound.{counted_within}
+use Rattle.pf_depot.proofs.PlacesLaws.{lent_gives, is_given}
 use Rattle.pf_depot.proofs.loans.Loans.hand_back.Goals as goal
 
 pub push_reserved-requires : goal.push_reserved-requires

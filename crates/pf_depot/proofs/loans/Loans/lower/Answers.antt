@@ -1,7 +1,8 @@
 use Rattle.std.proofs.Common.{◌≡◌, ◌<◌, arith, slice_index, length}
 use Rattle.std.proofs.lemmas.List.{get_or_read}
-use Rattle.pf_frame.specs.CountedLaws.{table_counts, counted_within}
-use Rattle.pf_depot.specs.PlacesLaws.{lent_counts, is_lowered}
+use Rattle.pf_frame.proofs.CountedLaws.{table_counts}
+use Rattle.pf_frame.specs.Sound.{counted_within}
+use Rattle.pf_depot.proofs.PlacesLaws.{lent_counts, is_lowered}
 use Rattle.pf_depot.proofs.loans.Loans.lower.Goals as goal
 
 pub invariant_of-self : goal.invariant_of-self

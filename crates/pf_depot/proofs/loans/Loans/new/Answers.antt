@@ -3,8 +3,8 @@ use Rattle.std.specs.Prelude.{Option}
 use Rattle.std.proofs.lemmas.List.{length-replicate}
 use Rattle.pf_frame.specs.declared.frame.Frame.{Frame}
 use Rattle.pf_frame.specs.Counted.{occurs}
-use Rattle.pf_frame.specs.CountedLaws.{idle_table, pushed_once, pushed_within}
-use Rattle.pf_depot.specs.PlacesLaws.{lent_none, lent_idle}
+use Rattle.pf_frame.proofs.CountedLaws.{idle_table, pushed_once, pushed_within}
+use Rattle.pf_depot.proofs.PlacesLaws.{lent_none, lent_idle}
 use Rattle.pf_depot.proofs.loans.Loans.new.Goals as goal
 
 pub loop-no-preserved : goal.loop-no-preserved

@@ -1,6 +1,6 @@
 use Rattle.std.proofs.Common.{arith, length-set, Some}
-use Rattle.pf_frame.specs.CountedLaws.{table_takes, top_within, top_idle}
-use Rattle.pf_depot.specs.PlacesLaws.{lent_takes, is_received, bytes_received}
+use Rattle.pf_frame.proofs.CountedLaws.{table_takes, top_within, top_idle}
+use Rattle.pf_depot.proofs.PlacesLaws.{lent_takes, is_received, bytes_received}
 use Rattle.pf_depot.proofs.loans.Loans.receive.Goals as goal
 
 pub index_mut-requires : goal.index_mut-requires

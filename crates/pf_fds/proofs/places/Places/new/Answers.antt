@@ -1,5 +1,5 @@
 use Rattle.std.proofs.Common.{◌≡◌, replicate, None, ap, ◌∙◌, arith}
-use Rattle.pf_base.specs.State.{vacant}
+use Rattle.pf_machine.specs.State.{vacant}
 use Rattle.pf_fds.proofs.places.Places.new.Goals as goal
 
 pub returns : goal.returns

@@ -1,5 +1,5 @@
 use Rattle.std.proofs.Common.{◌≡◌, Some, None, option_copied, sym, ap, ◌∙◌}
-use Rattle.pf_base.specs.Numbered.{at}
+use Rattle.pf_machine.specs.Numbered.{at}
 use Rattle.pf_fds.proofs.Slots.{found, entry_value, entry_value-some, entry_value-none}
 use Rattle.pf_fds.proofs.registry.Registry.get.Goals as goal
 

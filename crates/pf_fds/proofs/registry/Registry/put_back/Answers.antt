@@ -1,5 +1,5 @@
 use Rattle.std.proofs.Common.{ap, ◌∙◌, arith}
-use Rattle.pf_base.specs.Numbered.{put_at}
+use Rattle.pf_machine.specs.Numbered.{put_at}
 use Rattle.pf_fds.specs.Slots.{by_number}
 use Rattle.pf_fds.proofs.Slots.{kept-filled, sound-returned, returned}
 use Rattle.pf_fds.proofs.registry.Registry.put_back.Goals as goal

@@ -1,7 +1,7 @@
 use Rattle.std.proofs.Common.{◌≡◌, ℕ, List, length, ap, ◌∙◌, subst}
 use Rattle.std.proofs.lemmas.List.{length-replicate}
 use Rattle.pf_frame.specs.Live.{IsIdle}
-use Rattle.pf_frame.specs.LiveLaws.{is_idle}
+use Rattle.pf_frame.proofs.LiveLaws.{is_idle}
 use Rattle.pf_frame.specs.Own.{own_live}
 use Rattle.pf_frame.proofs.own.OwnFrames.new.Goals as goal
 

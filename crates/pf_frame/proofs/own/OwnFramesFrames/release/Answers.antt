@@ -1,6 +1,6 @@
 use Rattle.std.proofs.Common.{ℕ, List, length, map, ap, ◌∙◌, length-set}
 use Rattle.pf_frame.specs.declared.frame.Frame.{Frame}
-use Rattle.pf_frame.specs.LiveLaws.{releases_as}
+use Rattle.pf_frame.proofs.LiveLaws.{releases_as}
 use Rattle.pf_frame.specs.Pages.{page_of}
 use Rattle.pf_frame.proofs.own.OwnFramesFrames.release.Goals as goal
 

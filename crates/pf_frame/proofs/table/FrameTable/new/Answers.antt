@@ -1,6 +1,6 @@
 use Rattle.std.proofs.Common.{◌≡◌, ◌<◌, ℕ, length, arith, rules, replicate}
 use Rattle.pf_frame.specs.Counted.{occurs}
-use Rattle.pf_frame.specs.CountedLaws.{idle_table, pushed_once, pushed_within}
+use Rattle.pf_frame.proofs.CountedLaws.{idle_table, pushed_once, pushed_within}
 use Rattle.pf_frame.proofs.table.FrameTable.new.Goals as goal
 
 pub loop-no-preserved : goal.loop-no-preserved

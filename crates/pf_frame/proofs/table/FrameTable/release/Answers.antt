@@ -1,5 +1,5 @@
 use Rattle.std.proofs.Common.{arith}
-use Rattle.pf_frame.specs.CountedLaws.{table_releases_last, table_counts, table_room}
+use Rattle.pf_frame.proofs.CountedLaws.{table_releases_last, table_counts, table_room}
 use Rattle.pf_frame.proofs.table.FrameTable.release.Goals as goal
 
 pub push_reserved-requires : goal.push_reserved-requires

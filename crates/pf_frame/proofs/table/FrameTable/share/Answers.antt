@@ -1,5 +1,5 @@
 use Rattle.std.proofs.Common.{arith}
-use Rattle.pf_frame.specs.CountedLaws.{table_counts}
+use Rattle.pf_frame.proofs.CountedLaws.{table_counts}
 use Rattle.pf_frame.proofs.table.FrameTable.share.Goals as goal
 
 pub invariant_of-self : goal.invariant_of-self

@@ -1,5 +1,5 @@
 use Rattle.std.proofs.Common.{arith}
-use Rattle.pf_frame.specs.CountedLaws.{table_takes, top_within, top_idle}
+use Rattle.pf_frame.proofs.CountedLaws.{table_takes, top_within, top_idle}
 use Rattle.pf_frame.proofs.table.FrameTable.take.Goals as goal
 
 pub index_mut-requires : goal.index_mut-requires

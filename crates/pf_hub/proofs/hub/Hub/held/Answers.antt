@@ -1,6 +1,6 @@
 -- The loans of a number say what its namespace holds.
 use Rattle.std.proofs.Common.{◌≡◌, ◌<◌, ◌≤◌, ◌∙◌, length, get_or, rules}
-use Rattle.pf_depot.specs.AllLoansLaws.{held_is, held_past}
+use Rattle.pf_depot.proofs.AllLoansLaws.{held_is, held_past}
 use Rattle.pf_hub.proofs.DepotLemmas.{held_said}
 use Rattle.pf_hub.proofs.hub.Hub.held.Goals as goal
 

@@ -2,10 +2,11 @@
 use Rattle.std.proofs.Common.{subst, ◌∙◌, rules}
 use Rattle.std.proofs.lemmas.List.{get_or_default}
 use Rattle.pf_tables.specs.Meaning.{Namespace}
-use Rattle.pf_tables.specs.Bounds.{reply_length, Covers}
+use Rattle.pf_tables.specs.Bounds.{Covers}
+use Rattle.pf_machine.specs.Replies.{reply_length}
 use Rattle.pf_hub.specs.Shared.{no_space}
 use Rattle.pf_hub.proofs.DepotLemmas.{here}
-use Rattle.pf_hub.proofs.Bounding.{bounded}
+use Rattle.pf_hub.proofs.HubBounds.{bounded}
 use Rattle.pf_hub.proofs.hub.Hub.reply_bound.Goals as goal
 
 pub index-requires : goal.index-requires

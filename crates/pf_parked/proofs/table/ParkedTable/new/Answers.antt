@@ -1,5 +1,5 @@
 use Rattle.std.proofs.Common.{◌≡◌, replicate, None, ap, ◌∙◌, arith}
-use Rattle.pf_base.specs.State.{vacant}
+use Rattle.pf_machine.specs.State.{vacant}
 use Rattle.pf_base.specs.declared.TheConstants.{MAX_PROCESSES}
 use Rattle.pf_parked.proofs.table.ParkedTable.new.Goals as goal
 

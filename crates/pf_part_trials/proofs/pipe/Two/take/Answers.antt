@@ -1,7 +1,7 @@
 use Rattle.std.proofs.Common.{[], ◌∷◌, refl, arith}
 use Rattle.pf_frame.specs.Own.{own_live}
-use Rattle.pf_ring.specs.Table.{ring_stands}
-use Rattle.pf_pipe.specs.PipeLaws.{passes_joined}
+use Rattle.pf_ring.proofs.TableLaws.{ring_stands}
+use Rattle.pf_pipe.proofs.PipeLaws.{passes_joined}
 use Rattle.pf_part_trials.proofs.pipe.Two.take.Goals as goal
 
 pub read_onto-progress-requires-clause-stands : goal.read_onto-progress-requires-clause-stands

@@ -1,7 +1,7 @@
 use Rattle.std.proofs.Common.{[], ◌∷◌, refl, arith}
 use Rattle.pf_frame.specs.Own.{own_live, own_sound}
-use Rattle.pf_ring.specs.Table.{ring_stands, credits_for}
-use Rattle.pf_pipe.specs.PipeLaws.{passes_joined}
+use Rattle.pf_ring.proofs.TableLaws.{ring_stands, credits_for}
+use Rattle.pf_pipe.proofs.PipeLaws.{passes_joined}
 use Rattle.pf_part_trials.proofs.pipe.Two.write.Goals as goal
 
 pub write_now-requires-clause-stands : goal.write_now-requires-clause-stands

@@ -1,6 +1,7 @@
 use Rattle.std.proofs.Common.{[], ◌∷◌, sym, subst, refl, arith}
 use Rattle.pf_frame.specs.Own.{own_live}
-use Rattle.pf_ring.specs.Table.{Joined, ring_stands}
+use Rattle.pf_ring.specs.Table.{Joined}
+use Rattle.pf_ring.proofs.TableLaws.{ring_stands}
 use Rattle.pf_ring.specs.Ring.{Ring}
 use Rattle.pf_part_trials.proofs.RingPairs.{pair_first}
 use Rattle.pf_part_trials.proofs.ring.Two.clear.Goals as goal

@@ -1,6 +1,6 @@
 use Rattle.std.proofs.Common.{[], ◌∷◌, arith}
 use Rattle.pf_frame.specs.Own.{own_live}
-use Rattle.pf_ring.specs.Table.{rings_stand}
+use Rattle.pf_ring.proofs.TableLaws.{rings_stand}
 use Rattle.pf_part_trials.proofs.RingPairs.{shares_le, pair_teed}
 use Rattle.pf_part_trials.proofs.ring.Two.tee.Goals as goal
 

@@ -1,6 +1,6 @@
 use Rattle.std.proofs.Common.{[], ◌∷◌, arith}
 use Rattle.pf_frame.specs.Own.{own_live, own_sound}
-use Rattle.pf_ring.specs.Table.{ring_stands, credits_for}
+use Rattle.pf_ring.proofs.TableLaws.{ring_stands, credits_for}
 use Rattle.pf_part_trials.proofs.RingPairs.{pair_first}
 use Rattle.pf_part_trials.proofs.ring.Two.write.Goals as goal
 

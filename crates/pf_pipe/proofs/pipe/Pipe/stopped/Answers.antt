@@ -1,6 +1,6 @@
 use Rattle.std.proofs.Common.{◌≡◌, ap, arith}
 use Rattle.pf_pipe.specs.Pipe.{CountedPipe}
-use Rattle.pf_pipe.proofs.Crossing.{goes}
+use Rattle.pf_pipe.proofs.PipeCross.{goes}
 use Rattle.pf_pipe.proofs.pipe.Pipe.stopped.Goals as goal
 
 pub returns-clause-goes : goal.returns-clause-goes

@@ -1,14 +1,14 @@
 use Rattle.std.proofs.Common.{◌≡◌, ◌++◌, refl, sym, ◌∙◌, subst, arith}
-use Rattle.pf_base.specs.Queue.{tee_number}
-use Rattle.pf_base.specs.Progress.{cross_now}
+use Rattle.pf_machine.specs.Queue.{tee_number}
+use Rattle.pf_machine.specs.Progress.{cross_now}
 use Rattle.pf_base.specs.declared.progress.Crossing.TheVariants.{Tee}
 use Rattle.pf_base.specs.declared.progress.Progress.TheVariants.{Moved}
 use Rattle.pf_frame.specs.Live.{Live}
 use Rattle.pf_ring.specs.Ring.{queue_of}
 use Rattle.pf_ring.specs.Windows.{Stands}
-use Rattle.pf_ring.specs.WindowLaws.{stands_first}
+use Rattle.pf_ring.proofs.WindowLaws.{stands_first}
 use Rattle.pf_pipe.specs.Pipe.{CountedPipe, Crosses, Goes, GoesIn}
-use Rattle.pf_pipe.proofs.Crossing.{stopped_crosses, moved_crosses, tee_moves}
+use Rattle.pf_pipe.proofs.PipeCross.{stopped_crosses, moved_crosses, tee_moves}
 use Rattle.pf_pipe.proofs.pipe.Pipe.tee_now.Goals as goal
 
 pub returns-in-Some-clause-crosses : goal.returns-in-Some-clause-crosses

@@ -1,5 +1,5 @@
 use Rattle.std.proofs.Common.{refl, sym, ◌∙◌, slice_index}
-use Rattle.pf_pool.specs.OwnedLaws.{count_is, owner_is}
+use Rattle.pf_pool.proofs.OwnedLaws.{count_is, owner_is}
 use Rattle.pf_pool.proofs.pool.FramePool.count.Goals as goal
 
 pub returns-clause-live : goal.returns-clause-live

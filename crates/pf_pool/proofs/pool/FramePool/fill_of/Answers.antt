@@ -1,8 +1,8 @@
 use Rattle.std.proofs.Common.{◌<◌, length, map, arith}
 use Rattle.std.proofs.lemmas.List.{length-map}
-use Rattle.pf_frame.specs.CountedLaws.{counted_within}
+use Rattle.pf_frame.specs.Sound.{counted_within}
 use Rattle.pf_frame.specs.Pages.{page_of}
-use Rattle.pf_pool.specs.OwnedLaws.{counted, mine_fills, rest_fills}
+use Rattle.pf_pool.proofs.OwnedLaws.{counted, mine_fills, rest_fills}
 use Rattle.pf_pool.proofs.pool.FramePool.fill_of.Goals as goal
 
 pub fill-requires-clause-exists : goal.fill-requires-clause-exists

@@ -2,7 +2,7 @@ use Rattle.std.proofs.Common.{◌<◌, List, length, map, arith, ap, sym, ◌∙
 use Rattle.std.proofs.lemmas.List.{get_or_read}
 use Rattle.pf_frame.specs.declared.frame.Frame.{Frame}
 use Rattle.pf_frame.specs.Pages.{page_of}
-use Rattle.pf_pool.specs.OwnedLaws.{counted, held_some, mine_releases, rest_counts, released_last, released_more}
+use Rattle.pf_pool.proofs.OwnedLaws.{counted, held_some, mine_releases, rest_counts, released_last, released_more}
 use Rattle.pf_pool.proofs.pool.FramePool.release_of.Goals as goal
 
 pub release-requires : goal.release-requires

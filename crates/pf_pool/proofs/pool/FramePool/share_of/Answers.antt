@@ -1,7 +1,7 @@
 use Rattle.std.proofs.Common.{List, map, arith, ap}
 use Rattle.pf_frame.specs.declared.frame.Frame.{Frame}
 use Rattle.pf_frame.specs.Pages.{page_of}
-use Rattle.pf_pool.specs.OwnedLaws.{count_is, counted, owner_is, mine_shares, rest_counts, shared_pool}
+use Rattle.pf_pool.proofs.OwnedLaws.{count_is, counted, owner_is, mine_shares, rest_counts, shared_pool}
 use Rattle.pf_pool.proofs.pool.FramePool.share_of.Goals as goal
 
 pub share-requires-clause-is_live : goal.share-requires-clause-is_live

@@ -2,7 +2,7 @@ use Rattle.std.proofs.Common.{◌<◌, List, length, map, arith, ap, refl}
 use Rattle.std.proofs.lemmas.List.{get_or_read}
 use Rattle.pf_frame.specs.declared.frame.Frame.{Frame}
 use Rattle.pf_frame.specs.Pages.{page_of}
-use Rattle.pf_pool.specs.OwnedLaws.{has_free, taken_pool, mine_takes, rest_takes}
+use Rattle.pf_pool.proofs.OwnedLaws.{has_free, taken_pool, mine_takes, rest_takes}
 use Rattle.pf_pool.proofs.pool.FramePool.take_for.Goals as goal
 
 pub take-no-requires : goal.take-no-requires

@@ -1,5 +1,5 @@
-use Rattle.pf_frame.specs.CountedLaws.{counted_within}
-use Rattle.pf_pool.specs.OwnedLaws.{counted}
+use Rattle.pf_frame.specs.Sound.{counted_within}
+use Rattle.pf_pool.proofs.OwnedLaws.{counted}
 use Rattle.pf_pool.proofs.pool.FramePool.view_of.Goals as goal
 
 pub view-requires-clause-exists : goal.view-requires-clause-exists

@@ -1,7 +1,7 @@
 use Rattle.std.proofs.Common.{◌≡◌, ℕ, List, length, sum, replicate, rules, ap, refl, ◌∙◌}
 use Rattle.std.proofs.lemmas.List.{length-replicate}
-use Rattle.pf_frame.specs.CountedLaws.{sum_none}
-use Rattle.pf_pool.specs.OwnedLaws.{fresh_pool, fresh_idle}
+use Rattle.pf_frame.proofs.CountedLaws.{sum_none}
+use Rattle.pf_pool.proofs.OwnedLaws.{fresh_pool, fresh_idle}
 use Rattle.pf_pool.proofs.pool.FramePool.within.Goals as goal
 
 pub invariant_of-result : goal.invariant_of-result

@@ -1,7 +1,7 @@
 use Rattle.std.proofs.Common.{◌∙◌, sym, ap}
 use Rattle.pf_ring.specs.Ring.{Ring}
 use Rattle.pf_ring.specs.Windows.{bytes_in}
-use Rattle.pf_ring.specs.Table.{bytes_number}
+use Rattle.pf_ring.proofs.TableLaws.{bytes_number}
 use Rattle.pf_ring.proofs.ring.SlotRing.len.Goals as goal
 
 pub returns-clause-bytes : goal.returns-clause-bytes

@@ -1,10 +1,10 @@
 use Rattle.std.proofs.Common.{◌≡◌, ◌++◌, ◌∙◌, ap, sym, subst, arith}
-use Rattle.pf_base.specs.Queue.{tee_number, after_take}
+use Rattle.pf_machine.specs.Queue.{tee_number, after_take}
 use Rattle.pf_frame.specs.Live.{Live}
 use Rattle.pf_ring.specs.Ring.{Ring, queue_of}
 use Rattle.pf_ring.specs.Windows.{Stands}
-use Rattle.pf_ring.specs.WindowLaws.{bytes_in_le, stands_second}
-use Rattle.pf_ring.proofs.Copying.{tee_number_is, moves_stand}
+use Rattle.pf_ring.proofs.WindowLaws.{bytes_in_le, stands_second}
+use Rattle.pf_ring.proofs.WindowsShare.{tee_number_is, moves_stand}
 use Rattle.pf_ring.proofs.ring.SlotRing.splice_into.Given.{Over}
 use Rattle.pf_ring.proofs.ring.SlotRing.splice_into.Goals.{After-shift-moved}
 use Rattle.pf_ring.proofs.ring.SlotRing.splice_into.Goals as goal

@@ -1,6 +1,6 @@
 use Rattle.std.proofs.Common.{◌≡◌, ℕ, min, List, ◌++◌, length, take, drop, ◌∙◌, ap, subst, arith}
 use Rattle.std.proofs.lemmas.List.{length-take}
-use Rattle.pf_base.specs.Queue.{joined}
+use Rattle.pf_machine.specs.Queue.{joined}
 use Rattle.pf_ring.specs.Ring.{Ring, shown}
 use Rattle.pf_ring.specs.Windows.{bytes_in}
 use Rattle.pf_ring.specs.Steps.{Cut}

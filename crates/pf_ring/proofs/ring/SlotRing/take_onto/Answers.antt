@@ -1,5 +1,5 @@
 use Rattle.std.proofs.Common.{◌≡◌, ℕ, min, List, ◌++◌, take, ◌∙◌, ap, subst, arith}
-use Rattle.pf_base.specs.Queue.{joined}
+use Rattle.pf_machine.specs.Queue.{joined}
 use Rattle.pf_ring.specs.Ring.{Ring, shown}
 use Rattle.pf_ring.specs.Windows.{bytes_in}
 use Rattle.pf_ring.specs.Steps.{Cut}

@@ -1,10 +1,10 @@
 use Rattle.std.proofs.Common.{◌≡◌, ◌++◌, ◌∙◌, sym, subst, arith}
-use Rattle.pf_base.specs.Queue.{tee_number}
+use Rattle.pf_machine.specs.Queue.{tee_number}
 use Rattle.pf_frame.specs.Live.{Live}
 use Rattle.pf_ring.specs.Ring.{Ring, queue_of}
 use Rattle.pf_ring.specs.Windows.{Stands}
-use Rattle.pf_ring.specs.WindowLaws.{bytes_in_le, stands_first, stands_second, keeps_stands}
-use Rattle.pf_ring.proofs.Copying.{tee_number_is, source_shows}
+use Rattle.pf_ring.proofs.WindowLaws.{bytes_in_le, stands_first, stands_second, keeps_stands}
+use Rattle.pf_ring.proofs.WindowsShare.{tee_number_is, source_shows}
 use Rattle.pf_ring.proofs.ring.SlotRing.tee_into.Goals as goal
 
 pub overflow_add-sink : goal.overflow_add-sink

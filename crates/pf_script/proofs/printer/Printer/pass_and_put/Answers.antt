@@ -1,5 +1,5 @@
 use Rattle.std.proofs.Common.{sym, ◌∙◌}
-use Rattle.pf_script.proofs.Putting.{put_more, failed_on}
+use Rattle.pf_script.proofs.PrinterPut.{put_more, failed_on}
 use Rattle.pf_script.proofs.printer.Printer.pass_and_put.Goals as goal
 
 pub returns-then-not-has_failed : goal.returns-then-not-has_failed

@@ -2,7 +2,7 @@ use Rattle.std.proofs.Common.{ap, sym, ◌∙◌}
 use Rattle.std.specs.Prelude.{option_map}
 use Rattle.std.specs.Map.Iter.{deref_pair}
 use Rattle.pf_script.proofs.Soundness.{one_fits}
-use Rattle.pf_script.proofs.Naming.{limits_at}
+use Rattle.pf_script.proofs.ScriptNames.{limits_at}
 use Rattle.pf_script.proofs.script.Script.config.Goals as goal
 
 pub returns-clause-limits : goal.returns-clause-limits

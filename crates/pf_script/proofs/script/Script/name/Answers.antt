@@ -1,7 +1,7 @@
 use Rattle.std.proofs.Common.{ap, sym, ◌∙◌}
 use Rattle.std.specs.Prelude.{option_map}
 use Rattle.std.specs.Map.Iter.{deref_pair}
-use Rattle.pf_script.proofs.Naming.{name_at}
+use Rattle.pf_script.proofs.ScriptNames.{name_at}
 use Rattle.pf_script.proofs.script.Script.name.Goals as goal
 
 pub returns : goal.returns

@@ -1,5 +1,5 @@
 use Rattle.std.proofs.Common.{◌∙◌}
-use Rattle.pf_script.proofs.Naming.{place_is}
+use Rattle.pf_script.proofs.ScriptNames.{place_is}
 use Rattle.pf_script.proofs.script.Script.place.Goals as goal
 
 pub returns-in-Some-clause-place : goal.returns-in-Some-clause-place

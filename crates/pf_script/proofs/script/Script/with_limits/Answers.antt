@@ -5,7 +5,7 @@ use Rattle.std.specs.declared.alloc.Global.{Global}
 use Rattle.indexmap.proofs.CallerLemmas.{insert_entry-new}
 use Rattle.pf_script.specs.Script.{reserved}
 use Rattle.pf_script.specs.Named.{named}
-use Rattle.pf_script.proofs.Naming.{none_is, grown}
+use Rattle.pf_script.proofs.ScriptNames.{none_is, grown}
 use Rattle.pf_script.proofs.Soundness.{space_sound, reserves}
 use Rattle.pf_script.proofs.script.Script.with_limits.Goals as goal
 use Rattle.pf_script.proofs.script.Script.with_limits.Goals.{In_ok-insert}

@@ -1,9 +1,9 @@
 use Rattle.std.proofs.Common.{ℕ, sym, ap, subst}
-use Rattle.pf_base.specs.State.{Outcome}
+use Rattle.pf_machine.specs.State.{Outcome}
 use Rattle.pf_hub.specs.Tenants.{limits_at, state_at}
 use Rattle.pf_service.specs.Logs.{entries_at}
 use Rattle.pf_service.specs.Told.{Told}
-use Rattle.pf_service.proofs.Logging.{told}
+use Rattle.pf_service.proofs.LoggedLaws.{told}
 use Rattle.pf_service.proofs.desk.Desk.event.Goals as goal
 
 pub returns-clause-told : goal.returns-clause-told

@@ -5,7 +5,7 @@ use Rattle.pf_base.specs.declared.step.Step.{Step}
 use Rattle.pf_base.specs.declared.step.Reply.{Reply}
 use Rattle.pf_service.specs.Logs.{Logs}
 use Rattle.pf_service.specs.Transcripts.{OneTranscript, transcript_at}
-use Rattle.pf_service.proofs.Logging.{next, longer}
+use Rattle.pf_service.proofs.LoggedLaws.{next, longer}
 use Rattle.pf_service.proofs.logged.LoggedHub.apply.Goals as goal
 
 pub invariant_of-self-2 : goal.invariant_of-self-2

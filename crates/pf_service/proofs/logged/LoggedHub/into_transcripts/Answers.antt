@@ -1,4 +1,4 @@
-use Rattle.pf_service.proofs.Logging.{alone}
+use Rattle.pf_service.proofs.LoggedLaws.{alone}
 use Rattle.pf_service.proofs.logged.LoggedHub.into_transcripts.Goals as goal
 
 pub returns-clause-alone : goal.returns-clause-alone

@@ -1,7 +1,7 @@
 -- Nothing was asked of a new hub.
 use Rattle.std.proofs.Common.{length}
 use Rattle.pf_hub.specs.Opening.{limits_of}
-use Rattle.pf_service.proofs.Logging.{made, are_opened}
+use Rattle.pf_service.proofs.LoggedLaws.{made, are_opened}
 use Rattle.pf_service.proofs.logged.LoggedHub.new.Goals as goal
 
 pub invariant_of-result : goal.invariant_of-result

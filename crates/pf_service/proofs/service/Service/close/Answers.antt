@@ -1,7 +1,7 @@
 use Rattle.std.proofs.Common.{sym, ◌∙◌, subst}
 use Rattle.std.proofs.Common.{List}
 use Rattle.pf_service.specs.Transcripts.{OneTranscript, IsLone, transcript_at}
-use Rattle.pf_service.proofs.Judging.{closed}
+use Rattle.pf_service.proofs.JudgeLaws.{closed}
 use Rattle.pf_service.proofs.service.Service.close.Goals as goal
 
 pub returns-clause-closed : goal.returns-clause-closed

@@ -1,7 +1,7 @@
 -- The tests let no more namespaces pass than there may be.
 use Rattle.std.proofs.Common.{rules, ◌≤◌, length, arith}
 use Rattle.std.proofs.lemmas.Grind.{common_steps}
-use Rattle.pf_service.proofs.Logging.{few}
+use Rattle.pf_service.proofs.LoggedLaws.{few}
 use Rattle.pf_service.proofs.service.Service.new.Goals as goal
 
 pub new-requires-2-clause-few : goal.new-requires-2-clause-few

@@ -2,12 +2,12 @@
 -- kind is known.
 
 use Rattle.std.proofs.Common.{subst, sym}
-use Rattle.pf_base.specs.Machine.{call}
+use Rattle.pf_machine.specs.Machine.{call}
 use Rattle.pf_base.specs.declared.progress.Crossing.TheVariants as crossings
 use Rattle.pf_base.specs.declared.step.Step.{Step}
 use Rattle.pf_tables.specs.Meaning.{meaning}
 use Rattle.pf_tables.specs.Told.{Told}
-use Rattle.pf_space.proofs.Waiting.{crossed_first}
+use Rattle.pf_space.proofs.ParkedTransfers.{crossed_first}
 use Rattle.pf_space.proofs.space.Space.call.Goals as goal
 
 pub returns-in-Tee-clause-told : goal.returns-in-Tee-clause-told

@@ -2,13 +2,13 @@
 -- descriptions whether it may wait.
 
 use Rattle.std.proofs.Common.{◌≡◌, false, not, ◌&&◌, ◌||◌, Ok, refl, sym, ap, subst, ◌∙◌}
-use Rattle.pf_base.specs.Calls.{Bringing, Moving}
-use Rattle.pf_base.specs.Progress.{moved}
-use Rattle.pf_base.specs.Attempts.{transfer_told}
+use Rattle.pf_machine.specs.Calls.{Bringing, Moving}
+use Rattle.pf_machine.specs.Progress.{moved}
+use Rattle.pf_machine.specs.Attempts.{transfer_told}
 use Rattle.pf_base.specs.declared.step.Reply.TheVariants as replies
 use Rattle.pf_tables.specs.Meaning.{Namespace, meaning}
 use Rattle.pf_tables.specs.Told.{Told, tried_call, is_nonblocking_at}
-use Rattle.pf_space.proofs.Waiting.{parks}
+use Rattle.pf_space.proofs.ParkedTransfers.{parks}
 use Rattle.pf_space.proofs.space.Space.cross.Goals as goal
 
 pub returns-clause-told : goal.returns-clause-told

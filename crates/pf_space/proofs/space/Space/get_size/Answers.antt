@@ -1,10 +1,10 @@
 -- It changes nothing, so what it tells of the tables as they stand has to be what the machine tells of a swept state.
 
 use Rattle.std.proofs.Common.{◌≡◌, Ok, sym, subst}
-use Rattle.pf_base.specs.Sweep.{sweep}
+use Rattle.pf_machine.specs.Sweep.{sweep}
 use Rattle.pf_tables.specs.Meaning.{Namespace, meaning}
 use Rattle.pf_tables.specs.Tables.{size_of_end}
-use Rattle.pf_tables.proofs.Resizing.{tells_size}
+use Rattle.pf_tables.proofs.PipesSetSize.{tells_size}
 use Rattle.pf_space.proofs.space.Space.get_size.Goals as goal
 
 pub returns-clause-told : goal.returns-clause-told

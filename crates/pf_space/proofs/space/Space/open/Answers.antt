@@ -2,15 +2,15 @@
 -- chain elsewhere.
 
 use Rattle.std.proofs.Common.{Option, Some, None, Ok, Err, subst, sym, rules}
-use Rattle.pf_base.specs.Opens.{access_of, open_path}
-use Rattle.pf_base.specs.Refusals.{◌>>=◌}
-use Rattle.pf_base.specs.State.{ready}
+use Rattle.pf_machine.specs.Opens.{access_of, open_path}
+use Rattle.pf_machine.specs.Refusals.{◌>>=◌}
+use Rattle.pf_machine.specs.State.{ready}
 use Rattle.pf_base.specs.declared.step.Reply.TheVariants as replies
 use Rattle.pf_tables.specs.Meaning.{Namespace, meaning}
 use Rattle.pf_tables.specs.Opened.{access_seen, opening, HasOpened}
 use Rattle.pf_tables.specs.Owns.{Owns}
 use Rattle.pf_tables.specs.Told.{Told}
-use Rattle.pf_tables.proofs.Resolving as lemmas
+use Rattle.pf_tables.proofs.OpensResolve as lemmas
 use Rattle.pf_space.proofs.space.Space.open.Goals as goal
 
 pub returns-in_err-file-clause-told : goal.returns-in_err-file-clause-told

@@ -2,13 +2,13 @@
 -- whether it may wait comes between.
 
 use Rattle.std.proofs.Common.{◌≡◌, false, not, ◌&&◌, Ok, refl, sym, ap, subst, ◌∙◌}
-use Rattle.pf_base.specs.Calls.{Reading, Moving}
-use Rattle.pf_base.specs.Progress.{moved}
-use Rattle.pf_base.specs.Attempts.{transfer_told}
+use Rattle.pf_machine.specs.Calls.{Reading, Moving}
+use Rattle.pf_machine.specs.Progress.{moved}
+use Rattle.pf_machine.specs.Attempts.{transfer_told}
 use Rattle.pf_base.specs.declared.step.Reply.TheVariants as replies
 use Rattle.pf_tables.specs.Meaning.{Namespace, meaning}
 use Rattle.pf_tables.specs.Told.{Told, tried_call, is_nonblocking_at}
-use Rattle.pf_space.proofs.Waiting.{parks, not_asked, nothing_asked}
+use Rattle.pf_space.proofs.ParkedTransfers.{parks, not_asked, nothing_asked}
 use Rattle.pf_space.proofs.space.Space.read_on.Goals as goal
 use Rattle.pf_space.proofs.space.Space.read_on.Goals.{else-not-again-via-then-not-again+else-is_nonblocking, else-not-again-via-else-not-again}
 

@@ -5,7 +5,7 @@ use Rattle.pf_base.specs.declared.step.Step.{Step}
 use Rattle.pf_base.specs.declared.step.Step.TheVariants.{List}
 use Rattle.pf_tables.specs.Bounds.{Covers}
 use Rattle.pf_tables.specs.Meaning.{Namespace}
-use Rattle.pf_tables.proofs.Bounding as lemmas
+use Rattle.pf_tables.proofs.Bounds as lemmas
 use Rattle.pf_space.proofs.space.Space.reply_bound.Goals as goal
 
 pub returns-in-List-clause-covers : goal.returns-in-List-clause-covers

@@ -2,16 +2,16 @@
 -- of memory puts the call back.
 
 use Rattle.std.proofs.Common.{Some, Ok, Err, refl, sym, ap, subst, ◌∙◌}
-use Rattle.pf_base.specs.Calls.{Reading, Writing, Bringing, Moving}
-use Rattle.pf_base.specs.Machine.{call}
+use Rattle.pf_machine.specs.Calls.{Reading, Writing, Bringing, Moving}
+use Rattle.pf_machine.specs.Machine.{call}
 use Rattle.pf_base.specs.declared.step.Step.TheVariants.{Resume}
 use Rattle.pf_tables.specs.Rows.{call_of}
 use Rattle.pf_tables.specs.Meaning.{Namespace, meaning}
-use Rattle.pf_tables.specs.MeaningLaws.{settled-meaning}
+use Rattle.pf_tables.proofs.MeaningLaws.{settled-meaning}
 use Rattle.pf_base.specs.declared.step.Reply.TheVariants.{Err as Refused}
 use Rattle.pf_tables.specs.Owns.{Owns}
 use Rattle.pf_tables.specs.Told.{Told, waits_in, ended}
-use Rattle.pf_space.proofs.Resuming as lemmas
+use Rattle.pf_space.proofs.ParkedResume as lemmas
 use Rattle.pf_space.proofs.space.Space.resume.Goals as goal
 
 pub returns-in-Some-Write-clause-told : goal.returns-in-Some-Write-clause-told

@@ -1,14 +1,14 @@
 -- It asks who came and went since the open was made, which the machine counts and the tables keep.
 
 use Rattle.std.proofs.Common.{Ok, subst, sym}
-use Rattle.pf_base.specs.Machine.{call}
+use Rattle.pf_machine.specs.Machine.{call}
 use Rattle.pf_base.specs.declared.step.Reply.TheVariants as replies
 use Rattle.pf_base.specs.declared.step.Step.TheVariants.{Resume}
 use Rattle.pf_tables.specs.Meaning.{Namespace, meaning}
-use Rattle.pf_tables.specs.MeaningLaws.{settled-meaning}
+use Rattle.pf_tables.proofs.MeaningLaws.{settled-meaning}
 use Rattle.pf_tables.specs.Owns.{Owns}
 use Rattle.pf_tables.specs.Told.{Told}
-use Rattle.pf_space.proofs.Resuming as lemmas
+use Rattle.pf_space.proofs.ParkedResume as lemmas
 use Rattle.pf_space.proofs.space.Space.resume_open.Goals as goal
 
 pub returns-then-not-open_is_over-clause-told : goal.returns-then-not-open_is_over-clause-told

@@ -1,12 +1,12 @@
 -- It changes nothing, so what it tells of the tables as they stand has to be what the machine tells of a swept state.
 
 use Rattle.std.proofs.Common.{◌≡◌, Ok, subst}
-use Rattle.pf_base.specs.FileCalls as calls
-use Rattle.pf_base.specs.Sweep.{sweep}
+use Rattle.pf_machine.specs.FileCalls as calls
+use Rattle.pf_machine.specs.Sweep.{sweep}
 use Rattle.pf_base.specs.declared.step.Reply.TheVariants as replies
 use Rattle.pf_tables.specs.Meaning.{Namespace, meaning}
 use Rattle.pf_tables.specs.Tables.{known}
-use Rattle.pf_tables.proofs.Filing.{tells}
+use Rattle.pf_tables.proofs.Files.{tells}
 use Rattle.pf_walk.specs.Told.{Told}
 use Rattle.pf_space.proofs.space.Space.stat.Goals as goal
 

@@ -2,12 +2,12 @@
 -- rest of them.
 
 use Rattle.std.proofs.Common.{◌≡◌, ◌+◌, false, Ok, refl, sym, ap, subst, ◌∙◌}
-use Rattle.pf_base.specs.Calls.{Writing, Moving}
-use Rattle.pf_base.specs.Attempts.{Waits, transfer_told}
+use Rattle.pf_machine.specs.Calls.{Writing, Moving}
+use Rattle.pf_machine.specs.Attempts.{Waits, transfer_told}
 use Rattle.pf_base.specs.declared.step.Reply.TheVariants as replies
 use Rattle.pf_tables.specs.Meaning.{Namespace, meaning}
 use Rattle.pf_tables.specs.Told.{Told, attempted, tried_call}
-use Rattle.pf_space.proofs.Waiting.{parks, goes_on, stays_waiting, blocked_as}
+use Rattle.pf_space.proofs.ParkedTransfers.{parks, goes_on, stays_waiting, blocked_as}
 use Rattle.pf_space.proofs.space.Space.write_on.Goals as goal
 use Rattle.pf_space.proofs.space.Space.write_on.Goals.{in-Moved+else-written-n, in-WouldBlock}
 

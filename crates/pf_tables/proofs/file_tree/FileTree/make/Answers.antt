@@ -1,4 +1,4 @@
-use Rattle.pf_tables.proofs.Filling as lemmas
+use Rattle.pf_tables.proofs.FileTree as lemmas
 use Rattle.pf_tables.proofs.file_tree.FileTree.make.Goals as goal
 
 pub invariant_of-self : goal.invariant_of-self

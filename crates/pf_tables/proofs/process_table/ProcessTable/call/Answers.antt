@@ -1,5 +1,5 @@
 use Rattle.std.proofs.Common.{sym, ◌∙◌}
-use Rattle.pf_tables.proofs.Seating.{waits_in}
+use Rattle.pf_tables.proofs.ProcessTable.{waits_in}
 use Rattle.pf_tables.proofs.process_table.ProcessTable.call.Goals as goal
 
 pub returns : goal.returns

@@ -1,7 +1,7 @@
 use Rattle.std.proofs.Common.{is_some, ap, ◌∙◌}
-use Rattle.pf_base.specs.Numbered.{put_at}
+use Rattle.pf_machine.specs.Numbered.{put_at}
 use Rattle.pf_tables.specs.Rows.{seated_rows}
-use Rattle.pf_tables.proofs.Seating.{awake_is, given-seated, both_given-rows}
+use Rattle.pf_tables.proofs.ProcessTable.{awake_is, given-seated, both_given-rows}
 use Rattle.pf_tables.proofs.process_table.ProcessTable.give_keys.Goals as goal
 
 pub value_mut-process-requires : goal.value_mut-process-requires

@@ -1,6 +1,6 @@
 use Rattle.std.proofs.Common.{rules, ap}
 use Rattle.pf_tables.specs.Rows.{process_in}
-use Rattle.pf_tables.proofs.Seating.{absent_if, alive_if}
+use Rattle.pf_tables.proofs.ProcessTable.{absent_if, alive_if}
 use Rattle.pf_tables.proofs.process_table.ProcessTable.lives.Goals as goal
 use Rattle.pf_tables.proofs.process_table.ProcessTable.lives.Goals.{then-pid-eq0-via-then-pid-eq0, then-pid-eq0-via-else-pid-eq0+then-is_none}
 

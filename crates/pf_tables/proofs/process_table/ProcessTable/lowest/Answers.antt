@@ -1,5 +1,5 @@
 use Rattle.std.proofs.Common.{◌∙◌}
-use Rattle.pf_tables.proofs.Seating.{lowest_is}
+use Rattle.pf_tables.proofs.ProcessTable.{lowest_is}
 use Rattle.pf_tables.proofs.process_table.ProcessTable.lowest.Goals as goal
 
 pub returns-clause-lowest : goal.returns-clause-lowest

@@ -1,6 +1,6 @@
 use Rattle.std.specs.Prelude.{option_copied}
 use Rattle.std.proofs.Common.{sym, ap, ◌∙◌}
-use Rattle.pf_tables.proofs.Seating.{alive_is, lowest_of}
+use Rattle.pf_tables.proofs.ProcessTable.{alive_is, lowest_of}
 use Rattle.pf_tables.proofs.process_table.ProcessTable.lowest_descriptor.Goals as goal
 
 pub unreachable-requires : goal.unreachable-requires

@@ -1,5 +1,5 @@
 use Rattle.std.proofs.Common.{rules}
-use Rattle.pf_tables.proofs.Seating.{vacant-seated, seated-vacant}
+use Rattle.pf_tables.proofs.ProcessTable.{vacant-seated, seated-vacant}
 use Rattle.pf_tables.proofs.process_table.ProcessTable.new.Goals as goal
 
 pub invariant_of-result : goal.invariant_of-result

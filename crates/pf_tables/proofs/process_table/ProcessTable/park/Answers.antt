@@ -1,6 +1,6 @@
 use Rattle.std.proofs.Common.{subst, sym, ap, ◌∙◌, arith}
 use Rattle.pf_tables.specs.Rows.{seated_rows, IsSeated}
-use Rattle.pf_tables.proofs.Seating.{ready_is, park-seated, park-rows}
+use Rattle.pf_tables.proofs.ProcessTable.{ready_is, park-seated, park-rows}
 use Rattle.pf_tables.proofs.process_table.ProcessTable.park.Goals as goal
 
 pub park-requires-clause-to : goal.park-requires-clause-to

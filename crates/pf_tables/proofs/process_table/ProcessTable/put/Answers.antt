@@ -1,6 +1,6 @@
 use Rattle.std.proofs.Common.{subst, sym, ap, ◌∙◌}
 use Rattle.pf_tables.specs.Rows.{seated_rows, IsSeated}
-use Rattle.pf_tables.proofs.Seating.{put-seated, put-rows}
+use Rattle.pf_tables.proofs.ProcessTable.{put-seated, put-rows}
 use Rattle.pf_tables.proofs.process_table.ProcessTable.put.Goals as goal
 
 pub invariant_of-self : goal.invariant_of-self

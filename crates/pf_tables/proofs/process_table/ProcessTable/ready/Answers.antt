@@ -1,5 +1,5 @@
 use Rattle.std.proofs.Common.{rules}
-use Rattle.pf_tables.proofs.Seating.{not_ready, busy_if, is_ready}
+use Rattle.pf_tables.proofs.ProcessTable.{not_ready, busy_if, is_ready}
 use Rattle.pf_tables.proofs.process_table.ProcessTable.ready.Goals as goal
 
 pub returns-in_default : goal.returns-in_default

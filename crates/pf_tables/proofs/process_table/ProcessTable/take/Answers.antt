@@ -1,7 +1,7 @@
 use Rattle.std.proofs.Common.{ap, ◌∙◌, subst, sym}
-use Rattle.pf_base.specs.Numbered.{clear_at}
+use Rattle.pf_machine.specs.Numbered.{clear_at}
 use Rattle.pf_tables.specs.Rows.{seated_rows, IsSeated}
-use Rattle.pf_tables.proofs.Seating.{gone-seated, gone-rows}
+use Rattle.pf_tables.proofs.ProcessTable.{gone-seated, gone-rows}
 use Rattle.pf_tables.proofs.process_table.ProcessTable.take.Goals as goal
 
 pub invariant_of-self : goal.invariant_of-self

@@ -1,7 +1,7 @@
 use Rattle.std.proofs.Common.{rules, sym, ap, subst, ◌∙◌}
-use Rattle.pf_base.specs.Numbered.{put_at}
+use Rattle.pf_machine.specs.Numbered.{put_at}
 use Rattle.pf_tables.specs.Rows.{seated_rows, IsSeated}
-use Rattle.pf_tables.proofs.Seating.{none_there, cleared-seated, cleared-rows, key_is, no_key, nothing_cleared}
+use Rattle.pf_tables.proofs.ProcessTable.{none_there, cleared-seated, cleared-rows, key_is, no_key, nothing_cleared}
 use Rattle.pf_tables.proofs.process_table.ProcessTable.take_key.Goals as goal
 
 pub returns-then-is_none-clause-key : goal.returns-then-is_none-clause-key

@@ -1,7 +1,7 @@
 use Rattle.std.proofs.Common.{rules, Some, ap, sym, ◌∙◌, ◌-◌}
-use Rattle.pf_base.specs.Numbered.{put_at}
+use Rattle.pf_machine.specs.Numbered.{put_at}
 use Rattle.pf_tables.specs.Rows.{seated_rows}
-use Rattle.pf_tables.proofs.Seating.{alive_is, waits_in, spare_is, over-rows, opened-rows}
+use Rattle.pf_tables.proofs.ProcessTable.{alive_is, waits_in, spare_is, over-rows, opened-rows}
 use Rattle.pf_tables.proofs.process_table.ProcessTable.wake.Goals as goal
 use Rattle.pf_tables.proofs.process_table.ProcessTable.wake.Goals.{in-Open, in_default}
 

@@ -1,12 +1,12 @@
 use Rattle.std.proofs.Common.{ap, sym, Ok, ◌∙◌}
-use Rattle.pf_base.specs.FileCalls as calls
-use Rattle.pf_base.specs.Files.{chmod, with_files}
-use Rattle.pf_base.specs.Refusals.{◌>>=◌}
-use Rattle.pf_base.specs.State.{State, done}
-use Rattle.pf_base.specs.Queue.{Queue}
+use Rattle.pf_machine.specs.FileCalls as calls
+use Rattle.pf_machine.specs.Files.{chmod, with_files}
+use Rattle.pf_machine.specs.Refusals.{◌>>=◌}
+use Rattle.pf_machine.specs.State.{State, done}
+use Rattle.pf_machine.specs.Queue.{Queue}
 use Rattle.pf_tables.specs.Meaning.{meaning}
 use Rattle.pf_tables.specs.Rows.{state_of}
-use Rattle.pf_tables.proofs.Filing.{changed-filed}
+use Rattle.pf_tables.proofs.Files.{changed-filed}
 use Rattle.pf_tables.proofs.tables.Tables.chmod.Goals as goal
 
 pub returns-clause-made : goal.returns-clause-made

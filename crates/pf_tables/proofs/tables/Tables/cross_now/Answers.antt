@@ -1,9 +1,9 @@
 use Rattle.std.proofs.Common.{ap, arith, sym, ◌∙◌, rules}
 use Rattle.pf_base.specs.Limits.{Limits}
-use Rattle.pf_base.specs.Numbered.{put_at}
+use Rattle.pf_machine.specs.Numbered.{put_at}
 use Rattle.pf_fds.specs.Registry.{find}
 use Rattle.pf_tables.specs.Rows.{PipeRows}
-use Rattle.pf_tables.proofs.Crossing as lemmas
+use Rattle.pf_tables.proofs.TransfersCross as lemmas
 use Rattle.pf_tables.proofs.Fifos.{fifos-crossed}
 use Rattle.pf_tables.proofs.tables.Tables.cross_now.Goals as goal
 

@@ -1,9 +1,9 @@
 use Rattle.std.proofs.Common.{Ok, sym, rules}
-use Rattle.pf_base.specs.Descriptors.{without_descriptor}
-use Rattle.pf_base.specs.State.{with_process}
+use Rattle.pf_machine.specs.Descriptors.{without_descriptor}
+use Rattle.pf_machine.specs.State.{with_process}
 use Rattle.pf_tables.specs.Meaning.{meaning}
-use Rattle.pf_tables.proofs.Going.{closed_is}
-use Rattle.pf_tables.proofs.Naming.{has, names_nothing}
+use Rattle.pf_tables.proofs.DescriptorsDrop.{closed_is}
+use Rattle.pf_tables.proofs.DescriptorsNamed.{has, names_nothing}
 use Rattle.pf_tables.proofs.tables.Tables.drop_descriptor.Goals as goal
 
 pub returns-in_err-key_of-clause-left : goal.returns-in_err-key_of-clause-left

@@ -1,6 +1,6 @@
 use Rattle.std.proofs.Common.{refl, ◌∙◌}
-use Rattle.pf_tables.proofs.Exiting as lemmas
-use Rattle.pf_tables.proofs.Going.{exited_is}
+use Rattle.pf_tables.proofs.ProcessesDrop as lemmas
+use Rattle.pf_tables.proofs.DescriptorsDrop.{exited_is}
 use Rattle.pf_tables.proofs.tables.Tables.drop_process.Goals as goal
 
 pub loop-fd-init : goal.loop-fd-init

@@ -1,6 +1,6 @@
 use Rattle.std.proofs.Common.{length, length-set, ap, ◌∙◌, sym}
-use Rattle.pf_tables.proofs.Duping as lemmas
-use Rattle.pf_tables.proofs.Naming.{has, key_stands}
+use Rattle.pf_tables.proofs.DescriptorsDup as lemmas
+use Rattle.pf_tables.proofs.DescriptorsNamed.{has, key_stands}
 use Rattle.pf_tables.proofs.Fifos.{fifos-changed}
 use Rattle.pf_tables.proofs.tables.Tables.dup.Goals as goal
 

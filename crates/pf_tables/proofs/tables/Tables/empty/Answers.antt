@@ -5,7 +5,7 @@ use Rattle.pf_tables.specs.Rows.{state_of}
 use Rattle.pf_tables.specs.Tables.{emptied}
 use Rattle.pf_tables.specs.Told.{Becomes}
 use Rattle.pf_tables.proofs.Fifos.{fifos-gone, fifos-same}
-use Rattle.pf_tables.proofs.Going as lemmas
+use Rattle.pf_tables.proofs.DescriptorsDrop as lemmas
 use Rattle.pf_tables.proofs.tables.Tables.empty.Goals as goal
 
 pub refund-requires : goal.refund-requires

@@ -2,8 +2,8 @@ use Rattle.std.proofs.Common.{◌+◌, ◌≤◌, arith, sym, refl, ap, ◌∙�
 use Rattle.pf_limits.specs.UserPages.{charged_to}
 use Rattle.pf_tables.specs.Meaning.{Namespace}
 use Rattle.pf_tables.specs.Rows.{idle}
-use Rattle.pf_tables.proofs.Admitting as lemmas
-use Rattle.pf_tables.proofs.Opening.{total_is, has_room}
+use Rattle.pf_tables.proofs.OpensTests as lemmas
+use Rattle.pf_tables.proofs.PipesOpen.{total_is, has_room}
 use Rattle.pf_tables.proofs.tables.Tables.fifo_capacity.Goals as goal
 
 pub returns-then-drawn-clause-found : goal.returns-then-drawn-clause-found

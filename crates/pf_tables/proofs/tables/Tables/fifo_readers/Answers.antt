@@ -1,5 +1,5 @@
 use Rattle.std.proofs.Common.{sym, ◌∙◌}
-use Rattle.pf_tables.proofs.Finding as lemmas
+use Rattle.pf_tables.proofs.OpensFind as lemmas
 use Rattle.pf_tables.proofs.tables.Tables.fifo_readers.Goals as goal
 
 pub returns-in_default : goal.returns-in_default

@@ -1,8 +1,8 @@
 use Rattle.std.proofs.Common.{◌≡◌, List, length, Option, None, sym, ap, ◌∙◌, subst, rules}
-use Rattle.pf_base.specs.Numbered.{at}
-use Rattle.pf_base.proofs.NumberedLaws.{at-first_free}
+use Rattle.pf_machine.specs.Numbered.{at}
+use Rattle.pf_machine.proofs.NumberedLaws.{at-first_free}
 use Rattle.pf_tables.specs.Rows.{Key, Process, idle, AllFind}
-use Rattle.pf_tables.proofs.Forking as lemmas
+use Rattle.pf_tables.proofs.ProcessesFork as lemmas
 use Rattle.pf_tables.proofs.Fifos.{fifos-changed}
 use Rattle.pf_tables.proofs.tables.Tables.fork.Given.{Over}
 use Rattle.pf_tables.proofs.tables.Tables.fork.Goals.{After-put}

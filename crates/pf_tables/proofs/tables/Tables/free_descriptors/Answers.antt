@@ -1,4 +1,4 @@
-use Rattle.pf_tables.proofs.Opening.{has_no_first, has_no_second, has_two}
+use Rattle.pf_tables.proofs.PipesOpen.{has_no_first, has_no_second, has_two}
 use Rattle.pf_tables.proofs.tables.Tables.free_descriptors.Goals as goal
 
 pub returns-then-first-ge-MAX_DESCRIPTORS : goal.returns-then-first-ge-MAX_DESCRIPTORS

@@ -1,5 +1,5 @@
 use Rattle.std.proofs.Common.{◌+◌, sym, ap, ◌∙◌, arith}
-use Rattle.pf_base.proofs.NumberedLaws.{first_free-map}
+use Rattle.pf_machine.proofs.NumberedLaws.{first_free-map}
 use Rattle.pf_tables.specs.Rows.{process_of}
 use Rattle.pf_tables.proofs.tables.Tables.free_pid.Goals as goal
 

@@ -1,5 +1,5 @@
 use Rattle.std.proofs.Common.{◌∙◌}
-use Rattle.pf_tables.proofs.Finding as lemmas
+use Rattle.pf_tables.proofs.OpensFind as lemmas
 use Rattle.pf_tables.proofs.tables.Tables.has_pipe.Goals as goal
 
 pub returns : goal.returns

@@ -1,5 +1,5 @@
 use Rattle.std.proofs.Common.{sym, ◌∙◌}
-use Rattle.pf_tables.proofs.Wholes as lemmas
+use Rattle.pf_tables.proofs.TransfersWhole as lemmas
 use Rattle.pf_tables.proofs.tables.Tables.is_nonblocking.Goals as goal
 
 pub returns-in-Ok : goal.returns-in-Ok

@@ -1,7 +1,7 @@
 use Rattle.std.proofs.Common.{ℕ, Vec, Global, Err, refl, sym, subst}
-use Rattle.pf_base.specs.FileCalls as calls
-use Rattle.pf_base.specs.FileMap.{Files}
-use Rattle.pf_tables.proofs.Filing.{caller_told, refusal}
+use Rattle.pf_machine.specs.FileCalls as calls
+use Rattle.pf_machine.specs.FileMap.{Files}
+use Rattle.pf_tables.proofs.Files.{caller_told, refusal}
 use Rattle.pf_walk.specs.Told.{Told}
 use Rattle.pf_tables.proofs.tables.Tables.list.Goals as goal
 

@@ -1,4 +1,4 @@
-use Rattle.pf_tables.proofs.Bounding as lemmas
+use Rattle.pf_tables.proofs.Bounds as lemmas
 use Rattle.pf_tables.proofs.tables.Tables.list_bound.Goals as goal
 
 pub returns-clause-covers : goal.returns-clause-covers

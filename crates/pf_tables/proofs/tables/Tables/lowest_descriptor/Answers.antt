@@ -1,4 +1,4 @@
-use Rattle.pf_tables.proofs.Waking as lemmas
+use Rattle.pf_tables.proofs.Parked as lemmas
 use Rattle.pf_tables.proofs.tables.Tables.lowest_descriptor.Goals as goal
 
 pub lowest_descriptor-requires : goal.lowest_descriptor-requires

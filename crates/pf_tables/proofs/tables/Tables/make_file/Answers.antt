@@ -1,13 +1,13 @@
 use Rattle.std.proofs.Common.{◌≡◌, ◌+◌, Ok, Err, ap, arith, rules, subst, sym, ◌∙◌}
-use Rattle.pf_base.specs.FileCalls as calls
-use Rattle.pf_base.specs.Files.{make, with_new}
-use Rattle.pf_base.specs.Refusals.{◌>>=◌}
-use Rattle.pf_base.specs.State.{State, done}
-use Rattle.pf_base.specs.Queue.{Queue}
+use Rattle.pf_machine.specs.FileCalls as calls
+use Rattle.pf_machine.specs.Files.{make, with_new}
+use Rattle.pf_machine.specs.Refusals.{◌>>=◌}
+use Rattle.pf_machine.specs.State.{State, done}
+use Rattle.pf_machine.specs.Queue.{Queue}
 use Rattle.pf_tables.specs.Meaning.{Namespace, meaning}
 use Rattle.pf_tables.specs.Rows.{state_of}
 use Rattle.pf_tables.specs.Tables.{HasFiled, making}
-use Rattle.pf_tables.proofs.Filing.{changed-filed, refused-filed}
+use Rattle.pf_tables.proofs.Files.{changed-filed, refused-filed}
 use Rattle.pf_tables.proofs.tables.Tables.make_file.Goals as goal
 
 pub overflow_add-self : goal.overflow_add-self

@@ -1,7 +1,7 @@
 use Rattle.std.proofs.Common.{ap}
 use Rattle.pf_limits.specs.UserPages.{UserPages}
 use Rattle.pf_tables.proofs.Fifos.{no_fifos}
-use Rattle.pf_tables.proofs.Vacating.{nothing_tied, nothing_charged, nothing_shown}
+use Rattle.pf_tables.proofs.ProcessTableEmpty.{nothing_tied, nothing_charged, nothing_shown}
 use Rattle.pf_tables.proofs.tables.Tables.new.Goals as goal
 
 pub invariant_of-result : goal.invariant_of-result

@@ -2,7 +2,7 @@ use Rattle.std.proofs.Common.{◌+◌, ◌≤◌, arith, sym, refl, ap, ◌∙�
 use Rattle.pf_limits.specs.UserPages.{charged_to}
 use Rattle.pf_tables.specs.Meaning.{Namespace}
 use Rattle.pf_tables.specs.Rows.{idle}
-use Rattle.pf_tables.proofs.Opening as lemmas
+use Rattle.pf_tables.proofs.PipesOpen as lemmas
 use Rattle.pf_tables.proofs.tables.Tables.new_capacity.Goals as goal
 
 pub returns-in-Ok-clause-found : goal.returns-in-Ok-clause-found

@@ -1,7 +1,7 @@
 use Rattle.std.proofs.Common.{◌∙◌, sym, rules}
 use Rattle.pf_tables.specs.Opened.{access_seen}
 use Rattle.pf_tables.specs.Meaning.{meaning}
-use Rattle.pf_tables.proofs.Founding as lemmas
+use Rattle.pf_tables.proofs.OpensNew as lemmas
 use Rattle.pf_tables.proofs.tables.Tables.open.Goals as goal
 
 pub returns-in_err-slots-clause-opened : goal.returns-in_err-slots-clause-opened

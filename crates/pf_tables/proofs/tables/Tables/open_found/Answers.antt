@@ -3,9 +3,9 @@ use Rattle.pf_fds.specs.Descriptions.{Descriptions}
 use Rattle.pf_tables.specs.Rows.{Description, Pipe, state_of}
 use Rattle.pf_tables.specs.Meaning.{meaning}
 use Rattle.pf_tables.specs.Opened.{access_seen, opening, HasOpened}
-use Rattle.pf_base.specs.Numbered.{put_at}
-use Rattle.pf_tables.proofs.Finding.{key_stands}
-use Rattle.pf_tables.proofs.Joining as lemmas
+use Rattle.pf_machine.specs.Numbered.{put_at}
+use Rattle.pf_tables.proofs.OpensFind.{key_stands}
+use Rattle.pf_tables.proofs.OpensFound as lemmas
 use Rattle.pf_tables.proofs.tables.Tables.open_found.Goals as goal
 
 pub unreachable-requires : goal.unreachable-requires

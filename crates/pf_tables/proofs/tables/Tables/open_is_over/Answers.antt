@@ -1,5 +1,5 @@
 use Rattle.std.proofs.Common.{◌∙◌, Some, ap, sym}
-use Rattle.pf_tables.proofs.Admitting as lemmas
+use Rattle.pf_tables.proofs.OpensTests as lemmas
 use Rattle.pf_tables.proofs.tables.Tables.open_is_over.Goals as goal
 
 pub returns-in_default-get : goal.returns-in_default-get

@@ -3,9 +3,9 @@ use Rattle.pf_fds.specs.Descriptions.{Descriptions}
 use Rattle.pf_tables.specs.Meaning.{Namespace}
 use Rattle.pf_tables.specs.Opened.{counted}
 use Rattle.pf_tables.specs.Rows.{Description, Pipe, idle}
-use Rattle.pf_tables.proofs.Founding as lemmas
-use Rattle.pf_tables.proofs.Joining as joining
-use Rattle.pf_tables.proofs.Opening.{total_is}
+use Rattle.pf_tables.proofs.OpensNew as lemmas
+use Rattle.pf_tables.proofs.OpensFound as joining
+use Rattle.pf_tables.proofs.PipesOpen.{total_is}
 use Rattle.pf_tables.proofs.tables.Tables.open_new.Goals as goal
 
 pub make_fifo-requires-clause-room : goal.make_fifo-requires-clause-room

@@ -5,7 +5,7 @@ use Rattle.pf_tables.specs.Rows.{idle, state_of, opens_of, AreFifos}
 use Rattle.pf_tables.proofs.Callers.{place_is}
 use Rattle.pf_tables.specs.Tables.{Opens}
 use Rattle.pf_tables.proofs.Fifos as lemmas
-use Rattle.pf_tables.proofs.Opening.{Makes, pushed, first_in, opened-kept, opens, total_is}
+use Rattle.pf_tables.proofs.PipesOpen.{Makes, pushed, first_in, opened-kept, opens, total_is}
 use Rattle.pf_tables.proofs.tables.Tables.open_pipe.Given.{Over}
 use Rattle.pf_tables.proofs.tables.Tables.open_pipe.Goals.{After-give_keys}
 use Rattle.pf_tables.proofs.tables.Tables.open_pipe.Goals as goal

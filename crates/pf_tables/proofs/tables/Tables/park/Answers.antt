@@ -1,4 +1,4 @@
-use Rattle.pf_tables.proofs.Waking as lemmas
+use Rattle.pf_tables.proofs.Parked as lemmas
 use Rattle.pf_tables.proofs.tables.Tables.park.Goals as goal
 
 pub park-requires-clause-ready : goal.park-requires-clause-ready

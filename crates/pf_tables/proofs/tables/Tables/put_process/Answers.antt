@@ -1,8 +1,8 @@
 use Rattle.std.proofs.Common.{◌+◌, refl, sym, ap, ◌∙◌}
-use Rattle.pf_base.specs.Numbered.{first_free}
+use Rattle.pf_machine.specs.Numbered.{first_free}
 use Rattle.pf_tables.specs.Meaning.{Namespace}
 use Rattle.pf_tables.specs.Rows.{idle}
-use Rattle.pf_tables.proofs.Making.{spawned-kept, spawned-becomes, spawned-free}
+use Rattle.pf_tables.proofs.Arrivals.{spawned-kept, spawned-becomes, spawned-free}
 use Rattle.pf_tables.proofs.tables.Tables.put_process.Goals as goal
 
 pub invariant_of-self : goal.invariant_of-self

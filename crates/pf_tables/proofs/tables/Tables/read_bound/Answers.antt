@@ -1,7 +1,7 @@
 use Rattle.std.proofs.Common.{ℕ, sym, ◌∙◌, subst}
 use Rattle.pf_base.specs.declared.step.Step.TheVariants.{Read}
 use Rattle.pf_tables.specs.Bounds.{Covers}
-use Rattle.pf_tables.proofs.Bounding as lemmas
+use Rattle.pf_tables.proofs.Bounds as lemmas
 use Rattle.pf_tables.proofs.tables.Tables.read_bound.Goals as goal
 
 pub returns-in_default-clause-covers : goal.returns-in_default-clause-covers

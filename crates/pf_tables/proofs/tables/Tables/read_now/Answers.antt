@@ -1,6 +1,6 @@
 use Rattle.std.proofs.Common.{Some, refl, sym, ◌∙◌, ap, ◌++◌, rules}
-use Rattle.pf_base.specs.Progress.{moved}
-use Rattle.pf_base.specs.Queue.{taken}
+use Rattle.pf_machine.specs.Progress.{moved}
+use Rattle.pf_machine.specs.Queue.{taken}
 use Rattle.pf_base.specs.declared.progress.Side.TheVariants.{Read}
 use Rattle.pf_ring.specs.Ring.{queue_of}
 use Rattle.pf_tables.proofs.Transfers as lemmas

@@ -3,7 +3,7 @@ use Rattle.pf_base.specs.Limits.{Limits}
 use Rattle.pf_base.specs.declared.step.Step.TheVariants.{Resume}
 use Rattle.pf_parked.specs.declared.call.Call.TheVariants.{Read}
 use Rattle.pf_tables.specs.Bounds.{Covers}
-use Rattle.pf_tables.proofs.Bounding as lemmas
+use Rattle.pf_tables.proofs.Bounds as lemmas
 use Rattle.pf_tables.proofs.tables.Tables.resume_bound.Goals as goal
 
 pub returns-in-Some-Read-clause-covers : goal.returns-in-Some-Read-clause-covers

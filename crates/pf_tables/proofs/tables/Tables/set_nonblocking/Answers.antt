@@ -1,8 +1,8 @@
 use Rattle.std.proofs.Common.{length-set, Ok, sym, rules}
-use Rattle.pf_base.specs.Descriptors.{with_flag}
+use Rattle.pf_machine.specs.Descriptors.{with_flag}
 use Rattle.pf_tables.specs.Meaning.{meaning}
-use Rattle.pf_tables.proofs.Flagging as lemmas
-use Rattle.pf_tables.proofs.Naming.{has, key_stands, names_nothing}
+use Rattle.pf_tables.proofs.DescriptorsFlag as lemmas
+use Rattle.pf_tables.proofs.DescriptorsNamed.{has, key_stands, names_nothing}
 use Rattle.pf_tables.proofs.Fifos.{fifos-changed}
 use Rattle.pf_tables.proofs.tables.Tables.set_nonblocking.Goals as goal
 

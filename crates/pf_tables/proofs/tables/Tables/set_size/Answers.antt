@@ -1,10 +1,10 @@
 use Rattle.std.proofs.Common.{Err, ◌≡◌, ◌*◌, not, ◌&&◌, nat_lt, sym, ◌∙◌, refl, ap, subst, arith, rules}
 use Rattle.pf_base.specs.Permissions.{is_privileged}
-use Rattle.pf_base.specs.Queue.{pages_for}
+use Rattle.pf_base.specs.Capacities.{pages_for}
 use Rattle.pf_base.specs.declared.TheConstants.{PAGE_SIZE}
 use Rattle.pf_tables.specs.Tables.{Refuses, Resizes, Resizing}
 use Rattle.pf_tables.specs.Rows.{Pipe, idle}
-use Rattle.pf_tables.proofs.Resizing as lemmas
+use Rattle.pf_tables.proofs.PipesSetSize as lemmas
 use Rattle.pf_tables.proofs.Fifos.{fifos-put}
 use Rattle.pf_tables.proofs.tables.Tables.set_size.Goals as goal
 

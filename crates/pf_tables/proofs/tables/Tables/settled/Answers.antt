@@ -1,4 +1,4 @@
-use Rattle.pf_tables.proofs.Swept.{settled}
+use Rattle.pf_tables.proofs.TablesSettled.{settled}
 use Rattle.pf_tables.proofs.tables.Tables.settled.Goals as goal
 
 pub returns : goal.returns

@@ -1,5 +1,5 @@
 use Rattle.std.proofs.Common.{sym, rules}
-use Rattle.pf_tables.proofs.Resizing as lemmas
+use Rattle.pf_tables.proofs.PipesSetSize as lemmas
 use Rattle.pf_tables.proofs.tables.Tables.size.Goals as goal
 
 pub returns-in_err-end : goal.returns-in_err-end

@@ -1,4 +1,4 @@
-use Rattle.pf_tables.proofs.Going.{vacated-kept, vacated-becomes}
+use Rattle.pf_tables.proofs.DescriptorsDrop.{vacated-kept, vacated-becomes}
 use Rattle.pf_tables.proofs.tables.Tables.take_process.Goals as goal
 
 pub invariant_of-self : goal.invariant_of-self

@@ -1,4 +1,4 @@
-use Rattle.pf_tables.proofs.Waking as lemmas
+use Rattle.pf_tables.proofs.Parked as lemmas
 use Rattle.pf_tables.proofs.tables.Tables.wake.Goals as goal
 
 pub wake-requires : goal.wake-requires

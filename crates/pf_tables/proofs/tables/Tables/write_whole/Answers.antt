@@ -1,12 +1,12 @@
 use Rattle.std.proofs.Common.{◌<◌, ◌≤◌, length, Some, refl, sym, subst, rules, arith}
-use Rattle.pf_base.specs.Progress.{Passed}
-use Rattle.pf_base.specs.Queue.{room_of}
+use Rattle.pf_machine.specs.Progress.{Passed}
+use Rattle.pf_machine.specs.Queue.{room_of}
 use Rattle.pf_base.specs.declared.progress.Side.TheVariants.{Write}
 use Rattle.pf_ring.specs.Ring.{queue_of}
 use Rattle.pf_tables.specs.Told.{IsDone}
 use Rattle.pf_tables.proofs.Transfers as lemmas
 use Rattle.pf_tables.proofs.Fifos.{fifos-put}
-use Rattle.pf_tables.proofs.Wholes.{ends, stops_at}
+use Rattle.pf_tables.proofs.TransfersWhole.{ends, stops_at}
 use Rattle.pf_tables.proofs.tables.Tables.write_whole.Given.{Over}
 use Rattle.pf_tables.proofs.tables.Tables.write_whole.Goals as goal
 use Rattle.pf_tables.proofs.tables.Tables.write_whole.Goals.{else-readers-gt0-via-then-readers-gt0+else-room-bytes, else-readers-gt0-via-else-readers-gt0}

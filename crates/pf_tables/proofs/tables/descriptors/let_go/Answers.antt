@@ -1,5 +1,5 @@
 use Rattle.std.proofs.Common.{length, length-set, ap, sym, ◌∙◌}
-use Rattle.pf_tables.proofs.Closing as lemmas
+use Rattle.pf_tables.proofs.DescriptorsLetGo as lemmas
 use Rattle.pf_tables.proofs.tables.descriptors.let_go.Goals as goal
 
 pub returns-in_err-key-clause-left : goal.returns-in_err-key-clause-left

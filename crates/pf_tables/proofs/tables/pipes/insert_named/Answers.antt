@@ -1,4 +1,4 @@
-use Rattle.pf_tables.proofs.Opening.{named_once}
+use Rattle.pf_tables.proofs.PipesOpen.{named_once}
 use Rattle.pf_tables.proofs.tables.pipes.insert_named.Goals as goal
 
 pub returns-clause-items : goal.returns-clause-items

@@ -2,7 +2,7 @@ use Rattle.std.proofs.Common.{◌≡◌, IsSome, subst, sym, ap, ◌∙◌, arit
 use Rattle.pf_fds.specs.Descriptions.{names_of}
 use Rattle.pf_fds.specs.Registry.{find}
 use Rattle.pf_tables.specs.Rows.{DescriptionRows, with_first_names}
-use Rattle.pf_tables.proofs.Forking as lemmas
+use Rattle.pf_tables.proofs.ProcessesFork as lemmas
 use Rattle.pf_tables.proofs.tables.processes.name_all.Goals as goal
 
 pub name-requires-clause-stands : goal.name-requires-clause-stands

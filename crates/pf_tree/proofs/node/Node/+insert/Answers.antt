@@ -1,6 +1,6 @@
 use Rattle.std.proofs.Common.{◌≡◌, refl, sym, ap, ◌∙◌, subst, arith, [], ◌∷◌, cond, is_ok, None}
 use Rattle.std.specs.declared.result.Result.TheVariants.{Ok, Err}
-use Rattle.pf_base.specs.FileMap.{find, front, insert, IsDirectory}
+use Rattle.pf_machine.specs.FileMap.{find, front, insert, IsDirectory}
 use Rattle.pf_tree.specs.Subtrees.{path_of}
 use Rattle.pf_tree.specs.Place.{IsPlace}
 use Rattle.pf_tree.specs.Node.{Rises, Rooted, all_below}

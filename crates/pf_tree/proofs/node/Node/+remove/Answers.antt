@@ -2,7 +2,7 @@ use Rattle.std.proofs.Common.{◌≡◌, refl, sym, ap, ◌∙◌, subst, arith,
 use Rattle.std.specs.Prelude.{IsSome}
 use Rattle.std.proofs.lemmas.Bool.Decides.{nat_tests}
 use Rattle.std.specs.declared.result.Result.TheVariants.{Ok, Err}
-use Rattle.pf_base.specs.FileMap.{find, remove}
+use Rattle.pf_machine.specs.FileMap.{find, remove}
 use Rattle.pf_tree.specs.Subtrees.{path_of, under, subtree}
 use Rattle.pf_tree.specs.Place.{IsPlace}
 use Rattle.pf_tree.specs.Node.{IsSorted, HasRoot, Rises, Rooted, all_below, files_of_body}

@@ -1,7 +1,7 @@
 use Rattle.std.proofs.Common.{◌≡◌, refl, sym, ap, ◌∙◌, subst, arith, [], ◌∷◌, length}
 use Rattle.std.specs.Prelude.{IsSome}
 use Rattle.std.specs.declared.result.Result.TheVariants.{Ok, Err}
-use Rattle.pf_base.specs.FileMap.{find, set_mode}
+use Rattle.pf_machine.specs.FileMap.{find, set_mode}
 use Rattle.pf_tree.specs.Subtrees.{path_of}
 use Rattle.pf_tree.specs.Place.{IsPlace}
 use Rattle.pf_tree.specs.Node.{IsSorted, HasRoot}

@@ -3,7 +3,7 @@ use Rattle.std.specs.declared.result.Result.TheVariants.{Ok, Err}
 use Rattle.pf_tree.specs.Place.{IsPlace}
 use Rattle.pf_tree.specs.Subtrees.{under}
 use Rattle.std.specs.Prelude.{IsSome}
-use Rattle.pf_base.specs.FileMap.{find}
+use Rattle.pf_machine.specs.FileMap.{find}
 use Rattle.pf_tree.proofs.Levels.{child_found, child_absent, child_rooted, rooted_found}
 use Rattle.pf_tree.proofs.node.Node.child.Goals as goal
 

@@ -1,9 +1,9 @@
 use Rattle.std.proofs.Common.{◌≡◌, List, [], ◌∷◌, sym, ap, ◌∙◌, refl, length, arith}
 use Rattle.std.proofs.lemmas.Bool.Decides.{nat_tests}
 use Rattle.std.specs.Prelude.{◌==◌, not}
-use Rattle.pf_base.specs.Paths.{is_nonempty}
+use Rattle.pf_machine.specs.Paths.{is_nonempty}
 use Rattle.pf_tree.specs.declared.node.Entry.{Entry}
-use Rattle.pf_tree.proofs.Listing.{entry_names, names_seen}
+use Rattle.pf_tree.proofs.NodeList.{entry_names, names_seen}
 use Rattle.pf_tree.proofs.node.Node.has_names.Goals as goal
 
 counted : {Z : Type 0} (es : List (Entry Z)) → not (length es == 0) ≡ is_nonempty (entry_names es)

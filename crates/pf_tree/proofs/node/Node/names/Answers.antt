@@ -1,6 +1,6 @@
 use Rattle.std.proofs.Common.{◌+◌, sym, ap, ◌∙◌, ◌++◌, ◌∷◌, [], drop, append-nil}
-use Rattle.pf_base.specs.FileMap.{listed}
-use Rattle.pf_tree.proofs.Listing.{entry_names, names_seen, one_more, past}
+use Rattle.pf_machine.specs.FileMap.{listed}
+use Rattle.pf_tree.proofs.NodeList.{entry_names, names_seen, one_more, past}
 use Rattle.pf_tree.proofs.node.Node.names.Goals as goal
 
 pub loop-entry-init : goal.loop-entry-init

@@ -1,6 +1,6 @@
 use Rattle.std.proofs.Common.{◌≡◌, drop, ◌++◌, []}
-use Rattle.pf_base.specs.FileMap.{listed, names_below}
-use Rattle.pf_tree.proofs.Listing.{entry_names}
+use Rattle.pf_machine.specs.FileMap.{listed, names_below}
+use Rattle.pf_tree.proofs.NodeList.{entry_names}
 use Rattle.pf_tree.proofs.node.Node.names.Given as goal
 
 abbrev pub invariant-loop-entry : goal.invariant-loop-entry

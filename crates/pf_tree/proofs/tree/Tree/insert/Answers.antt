@@ -1,6 +1,6 @@
 use Rattle.std.proofs.Common.{◌≡◌, ◌+◌, sym, ap, ◌∙◌, subst, arith, length, None}
-use Rattle.pf_base.specs.FileMap.{find, front, IsDirectory, IsFileMap}
-use Rattle.pf_base.proofs.FileLaws.{insert-map, length-insert}
+use Rattle.pf_machine.specs.FileMap.{find, front, IsDirectory, IsFileMap}
+use Rattle.pf_machine.proofs.FileLaws.{insert-map, length-insert}
 use Rattle.pf_tree.specs.Subtrees.{path_of}
 use Rattle.pf_tree.proofs.tree.Tree.insert.Goals as goal
 

@@ -1,8 +1,8 @@
 use Rattle.std.proofs.Common.{◌≡◌, sym, ap, ◌∙◌, subst, []}
-use Rattle.pf_base.specs.FileMap.{names_below, listed}
+use Rattle.pf_machine.specs.FileMap.{names_below, listed}
 use Rattle.pf_tree.specs.Subtrees.{path_of}
 use Rattle.std.specs.Prelude.{IfOk}
-use Rattle.pf_tree.proofs.Listing.{names_subtree}
+use Rattle.pf_tree.proofs.NodeList.{names_subtree}
 use Rattle.pf_tree.proofs.tree.Tree.names.Goals as goal
 
 pub returns : goal.returns

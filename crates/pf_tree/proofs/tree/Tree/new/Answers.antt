@@ -1,6 +1,6 @@
 use Rattle.std.proofs.Common.{◌≡◌, ◌<◌, sym, subst, arith, length}
-use Rattle.pf_base.specs.FileMap.{IsFileMap}
-use Rattle.pf_base.proofs.FileLaws.{opening-map}
+use Rattle.pf_machine.specs.FileMap.{IsFileMap}
+use Rattle.pf_machine.proofs.FileLaws.{opening-map}
 use Rattle.pf_tree.proofs.tree.Tree.new.Goals as goal
 
 pub invariant_of-result : goal.invariant_of-result

@@ -1,6 +1,6 @@
 use Rattle.std.proofs.Common.{◌≡◌, ◌+◌, ◌<◌, sym, ap, subst, arith, [], length}
-use Rattle.pf_base.specs.FileMap.{find, names_below, IsDirectory, IsFileMap, remove}
-use Rattle.pf_base.proofs.FileLaws.{remove-map, length-remove}
+use Rattle.pf_machine.specs.FileMap.{find, names_below, IsDirectory, IsFileMap, remove}
+use Rattle.pf_machine.proofs.FileLaws.{remove-map, length-remove}
 use Rattle.pf_tree.specs.Subtrees.{path_of}
 use Rattle.pf_tree.proofs.Alone.{alone}
 use Rattle.pf_tree.proofs.Removes.{long}

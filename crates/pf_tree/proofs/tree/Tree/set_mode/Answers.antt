@@ -1,6 +1,6 @@
 use Rattle.std.proofs.Common.{◌≡◌, sym, ap, ◌∙◌, subst, arith, length}
-use Rattle.pf_base.specs.FileMap.{IsFileMap}
-use Rattle.pf_base.proofs.FileLaws.{set_mode-map, length-set_mode}
+use Rattle.pf_machine.specs.FileMap.{IsFileMap}
+use Rattle.pf_machine.proofs.FileLaws.{set_mode-map, length-set_mode}
 use Rattle.pf_tree.specs.Subtrees.{path_of}
 use Rattle.pf_tree.proofs.tree.Tree.set_mode.Goals as goal
 

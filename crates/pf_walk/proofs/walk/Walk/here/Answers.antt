@@ -1,7 +1,7 @@
 use Rattle.std.proofs.Common.{sym, ◌∙◌, subst}
 use Rattle.pf_walk.specs.Walks.{Stands}
 use Rattle.pf_walk.proofs.Cuts.{no_items}
-use Rattle.pf_walk.proofs.Standing.{last_stands, root_stands}
+use Rattle.pf_walk.proofs.WalkLaws.{last_stands, root_stands}
 use Rattle.pf_walk.proofs.walk.Walk.here.Goals as goal
 
 pub returns-in-Some : goal.returns-in-Some

@@ -1,12 +1,12 @@
 use Rattle.std.proofs.Common.{rules, ◌≡◌, ◌++◌, ◌∷◌, [], ◌-◌, length, take, refl, sym, ap, ◌∙◌, subst, true, false, Some, None}
 use Rattle.std.specs.Prelude.{Ok, IsSome, nat_eq}
 use Rattle.std.specs.Cmp.Lexicographic.{texts_ties, pointwise}
-use Rattle.pf_base.specs.FileMap.{find}
-use Rattle.pf_base.specs.Paths.{is_dot, is_dot_dot, permitted}
+use Rattle.pf_machine.specs.FileMap.{find}
+use Rattle.pf_machine.specs.Paths.{is_dot, is_dot_dot, permitted}
 use Rattle.pf_tree.specs.Subtrees.{path_of, under}
 use Rattle.pf_walk.specs.Walks.{Stands}
 use Rattle.pf_walk.proofs.Cuts.{path_of-append, front-take}
-use Rattle.pf_walk.proofs.Standing.{stands_down, stands_up, found_here, found_below}
+use Rattle.pf_walk.proofs.WalkLaws.{stands_down, stands_up, found_here, found_below}
 use Rattle.pf_walk.proofs.Steps.{step_refused, step_stays, step_up, step_lost, step_down}
 use Rattle.pf_walk.proofs.walk.Walk.step.Goals as goal
 

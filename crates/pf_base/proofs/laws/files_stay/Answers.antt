@@ -1,8 +1,0 @@
-use Rattle.std.proofs.Common.{refl}
-use Rattle.pf_base.specs.FileMap.{root}
-use Rattle.pf_base.proofs.FileLaws.{opening-map}
-use Rattle.pf_base.proofs.StayLaws.{stays}
-use Rattle.pf_base.proofs.laws.files_stay.Goals as goal
-
-pub returns : goal.returns
-returns c = record { alone = refl; opens = opening-map root refl; stays = λ c s step m. stays s m c step }

@@ -1,0 +1,15 @@
+mod TransferLaws
+mod KeepLaws
+mod PipeLaws
+mod QueueTransfers
+mod TriedLaws
+mod StreamLaws
+mod OtherLaws
+mod PieceLaws
+mod FifoLaws
+mod NumberLaws
+mod EndLaws
+mod ApartLaws
+mod ApartSteps
+mod StayLaws
+mod WorkedStreams

@@ -1,0 +1,199 @@
+-- Each step leaves a map of files where there was one.
+
+use Rattle.std.specs.Prelude.{◌≡◌, ℕ, List, [], ◌∷◌, ◌++◌, Bool, true, false, not, ◌&&◌, Option, Some, None, is_some, IsTrue, Result, Ok, Err, ⊤, nat_eq}
+use Rattle.std.proofs.Common.{refl, sym, ap, subst, ◌∙◌}
+use Rattle.pf_machine.specs.Refusals.{◌>>=◌, ◌>>◌, refuse_if}
+use Rattle.pf_machine.specs.FileMap.{Files, Path, Name, find, front, insert, names_below, is_directory, IsDirectory, IsFileMap}
+use Rattle.pf_machine.specs.FileCalls as calls
+use Rattle.pf_machine.specs.FileCalls.{Place, place_of, place, permitted_change, is_fifo, is_full, made_by}
+use Rattle.pf_machine.specs.Paths.{Words, Resolved, Last, Nothing, Dot, DotDot, Named, words_of, reach, searched, permitted, entry_of, entry, target, is_nonempty}
+use Rattle.pf_base.specs.Permissions.{allows, mode_of, is_privileged}
+use Rattle.pf_base.specs.Limits.{Limits}
+use Rattle.pf_machine.specs.Queue.{Queue}
+use Rattle.pf_machine.specs.Numbered.{at}
+use Rattle.pf_machine.specs.Calls.{Reading, Writing, Bringing}
+use Rattle.pf_machine.specs.State.{State, Process, Outcome, settle, living, ready, done}
+use Rattle.pf_machine.specs.Processes.{exit, fork}
+use Rattle.pf_machine.specs.Descriptors.{dup, close, set_nonblock}
+use Rattle.pf_machine.specs.Pipes.{pipe, set_size, get_size}
+use Rattle.pf_machine.specs.Attempts.{transfer, resume}
+use Rattle.pf_machine.specs.Opens.{access_of, open_path}
+use Rattle.pf_machine.specs.Files.{with_files, with_new, make, unlink, rmdir, chmod, stat, list}
+use Rattle.pf_machine.specs.Machine.{call, step_of}
+use Rattle.pf_base.specs.declared.progress.Crossing.TheVariants as crossings
+use Rattle.pf_base.specs.declared.step.Step.{Step}
+use Rattle.pf_base.specs.declared.step.Step.TheVariants.{Spawn, Exit, Pipe, Close, Read, Write, Tee, Splice, SetSize, GetSize, Fork, Dup, SetNonblock, Mkdir, Mkfifo, Open, Unlink, Rmdir, Chmod, Stat, List as Lists, Resume}
+use Rattle.pf_base.specs.declared.meta.Kind.TheVariants as kinds
+use Rattle.pf_base.specs.declared.cred.Cred.{Cred}
+use Rattle.pf_base.specs.declared.errno.Errno.{Errno}
+use Rattle.pf_base.specs.declared.errno.Errno.TheVariants.{EPERM, ENOENT, EACCES, EBUSY, EEXIST, ENOTDIR, EINVAL, ENOSPC, ENOTEMPTY}
+use Rattle.pf_base.specs.declared.meta.File.{File}
+use Rattle.pf_base.specs.declared.meta.Kind.{Kind}
+use Rattle.pf_base.specs.declared.permissions.Want.TheVariants.{Search}
+use Rattle.pf_machine.proofs.HoldsLaws.{Holds, goes, carries, passes, any, unless, found}
+use Rattle.pf_laws.proofs.KeepLaws.{Kept, transfer-keeps, resume-keeps, open-keeps}
+use Rattle.pf_machine.proofs.FileLaws.{insert-map, remove-map, set_mode-map}
+
+-- Places of entries
+
+front-last : (p : Path) (n : Name) → front (p ++ n ∷ []) ≡ p
+front-last [] n = refl
+front-last (x ∷ []) n = refl
+front-last (x ∷ y ∷ p) n = ap (λ q. x ∷ q) (front-last (y ∷ p) n)
+
+some_name : (p : Path) (n : Name) → p ++ n ∷ [] ≡ [] → ⊥
+some_name [] n e = absurd (cc)
+some_name (x ∷ p) n e = absurd (cc)
+
+is_so : (b : Bool) → not b ≡ false → IsTrue b
+is_so true e = refl
+is_so false e = absurd (cc)
+
+searched-in : (files : Files) (c : Cred) (at : Path) → Holds (λ f. IsDirectory (find at files)) (searched files c at)
+searched-in files c at =
+    found _ ENOENT (find at files) (λ f. permitted c f >> Ok f)
+    (λ f there. judged f there (not (is_directory f)) refl (not (allows c f.meta Search)))
+  where
+    judged : (f : File) → find at files ≡ Some f → (b : Bool) → not (is_directory f) ≡ b → (d : Bool) → Holds (λ f. IsDirectory (find at files)) ((refuse_if b ENOTDIR >> refuse_if d EACCES) >> Ok f)
+    judged f there true is d = tt
+    judged f there false is true = tt
+    judged f there false is false = subst IsDirectory (sym there) (is_so (is_directory f) is)
+
+-- an entry's directory is there, and the root is no entry
+abbrev pub IsPlace : Files → Place → Type 0
+IsPlace files l = IsDirectory (find (front l.path) files) × (l.path ≡ [] → ⊥)
+
+pub place-in : (a b d : Errno) (files : Files) (c : Cred) (bs : List ℕ) → Holds (IsPlace files) (place a b d files c bs)
+place-in a b d files c bs =
+    goes (λ e. IsDirectory (find e.path files)) (IsPlace files) (entry files c bs) (λ e. place_of a b d e e.last)
+    (goes (λ w. ⊤) _ (words_of bs) (λ words. entry_of files c words) (any (words_of bs)) (λ words _. entry-in words))
+    (λ e directory. by_last e directory e.last)
+  where
+    entry-in : (words : Words) → Holds (λ e. IsDirectory (find e.path files)) (entry_of files c words)
+    entry-in words =
+        goes (λ at. ⊤) _ (reach files c [] (front words.names)) _ (any (reach files c [] (front words.names)))
+        (λ at _. goes (λ f. IsDirectory (find at files)) _ (searched files c at) _ (searched-in files c at) (λ f directory. directory))
+
+    by_last : (e : Resolved) → IsDirectory (find e.path files) → (last : Last) → Holds (IsPlace files) (place_of a b d e last)
+    by_last e directory Nothing = tt
+    by_last e directory Dot = tt
+    by_last e directory DotDot = tt
+    by_last e directory (Named n) = (subst (λ p. IsDirectory (find p files)) (sym (front-last e.path n)) directory, some_name e.path n)
+
+-- Calls
+
+pub make-map : (kind : Kind) (files : Files) (made : ℕ) (c : Cred) (path : List ℕ) (mode : ℕ) → IsFileMap files → Holds IsFileMap (calls.make kind files made c path mode)
+make-map kind files made c path mode m =
+    goes (IsPlace files) IsFileMap (place EEXIST EEXIST EEXIST files c path) _ (place-in EEXIST EEXIST EEXIST files c path)
+    (λ l in_place. by_find l in_place (find l.path files) refl)
+  where
+    by_find : (l : Place) → IsPlace files l → (o : Option File) → find l.path files ≡ o
+        → Holds IsFileMap (refuse_if (is_some o) EEXIST >> (refuse_if (is_fifo kind && l.slash) ENOENT >> (permitted_change c l.directory >> (refuse_if (is_full files made) ENOSPC >> Ok (insert l.path (made_by c kind mode made) files)))))
+    by_find l in_place (Some f) e = tt
+    by_find l in_place None e =
+        passes IsFileMap (refuse_if (is_fifo kind && l.slash) ENOENT) _ (passes IsFileMap (permitted_change c l.directory) _ (passes IsFileMap (refuse_if (is_full files made) ENOSPC) _
+        (insert-map l.path (made_by c kind mode made) files e in_place.0 m)))
+
+no_names : (ns : List Name) → is_nonempty ns ≡ false → ns ≡ []
+no_names [] e = refl
+no_names (n ∷ ns) e = absurd (cc)
+
+-- what is no directory has nothing below it to ask for
+not_directory : {X : Type 0} (f : File) (o : Option File) → o ≡ Some f → is_directory f ≡ false → IsDirectory o → X
+not_directory f None there is d = absurd (d)
+not_directory f (Some g) there is d = let both : false ≡ true = sym is ∙ subst IsDirectory there d in absurd (cc)
+
+pub unlink-map : (files : Files) (c : Cred) (path : List ℕ) → IsFileMap files → Holds IsFileMap (calls.unlink files c path)
+unlink-map files c path m =
+    goes (IsPlace files) IsFileMap (place EPERM EPERM EPERM files c path) _ (place-in EPERM EPERM EPERM files c path)
+    (λ l in_place. found IsFileMap ENOENT (find l.path files) _
+    (λ f there. passes IsFileMap (refuse_if (l.slash && not (is_directory f)) ENOTDIR) _ (passes IsFileMap (permitted_change c l.directory) _
+    (unless IsFileMap (is_directory f) EPERM _ (λ fifo. remove-map l.path files in_place.1 (not_directory f (find l.path files) there fifo) m)))))
+
+pub rmdir-map : (files : Files) (c : Cred) (path : List ℕ) → IsFileMap files → Holds IsFileMap (calls.rmdir files c path)
+rmdir-map files c path m =
+    goes (IsPlace files) IsFileMap (place EBUSY EINVAL EINVAL files c path) _ (place-in EBUSY EINVAL EINVAL files c path)
+    (λ l in_place. found IsFileMap ENOENT (find l.path files) _
+    (λ f there. passes IsFileMap (refuse_if (not (is_directory f)) ENOTDIR) _ (passes IsFileMap (permitted_change c l.directory) _
+    (unless IsFileMap (is_nonempty (names_below l.path files)) ENOTEMPTY _ (λ empty. remove-map l.path files in_place.1 (λ _. no_names (names_below l.path files) empty) m)))))
+
+pub chmod-map : (files : Files) (c : Cred) (path : List ℕ) (mode : ℕ) → IsFileMap files → Holds IsFileMap (calls.chmod files c path mode)
+chmod-map files c path mode m =
+    goes (λ t. ⊤) IsFileMap (target files c path) _ (any (target files c path))
+    (λ t _. passes IsFileMap (refuse_if (not (is_privileged c) && not (nat_eq c.uid t.file.meta.uid)) EPERM) _ (set_mode-map t.path mode files m))
+
+-- Steps
+
+abbrev Keeps : Outcome → Type 0
+Keeps o = IsFileMap o.state.files
+
+-- the files of a state
+abbrev IsMapped : State Queue → Type 0
+IsMapped s = IsFileMap s.files
+
+-- no other part of it matters to them
+others : Kept IsMapped
+others = record {
+  people = λ s ps h. h;
+  drawn = λ s ds h. h;
+  held = λ s n q h. h;
+  opens = λ s a n h. h;
+  fifo = λ s q owner f there e h. h;
+}
+
+module _ (s : State Queue) (m : IsFileMap s.files) where
+  made-keeps : (kind : Kind) (p : Process) (path : List ℕ) (bits : ℕ) → Holds Keeps (make kind s p path bits)
+  made-keeps kind p path bits =
+      carries Keeps (mode_of bits) (λ mode. calls.make kind s.files s.files_made p.cred path mode >>= (λ files. Ok (done (with_new s files) 0)))
+      (λ mode. goes IsFileMap Keeps (calls.make kind s.files s.files_made p.cred path mode) (λ files. Ok (done (with_new s files) 0)) (make-map kind s.files s.files_made p.cred path mode m) (λ files h. h))
+
+  unlinked-keeps : (p : Process) (path : List ℕ) → Holds Keeps (unlink s p path)
+  unlinked-keeps p path = goes IsFileMap Keeps (calls.unlink s.files p.cred path) (λ files. Ok (done (with_files s files) 0)) (unlink-map s.files p.cred path m) (λ files h. h)
+
+  removed-keeps : (p : Process) (path : List ℕ) → Holds Keeps (rmdir s p path)
+  removed-keeps p path = goes IsFileMap Keeps (calls.rmdir s.files p.cred path) (λ files. Ok (done (with_files s files) 0)) (rmdir-map s.files p.cred path m) (λ files h. h)
+
+  remoded-keeps : (p : Process) (path : List ℕ) (bits : ℕ) → Holds Keeps (chmod s p path bits)
+  remoded-keeps p path bits =
+      carries Keeps (mode_of bits) (λ mode. calls.chmod s.files p.cred path mode >>= (λ files. Ok (done (with_files s files) 0)))
+      (λ mode. goes IsFileMap Keeps (calls.chmod s.files p.cred path mode) (λ files. Ok (done (with_files s files) 0)) (chmod-map s.files p.cred path mode m) (λ files h. h))
+
+  -- a call of a process that lives, and of one that waits in no call
+  by_caller : (pid : ℕ) (f : Process → Result Outcome Errno) → ((p : Process) → Holds Keeps (f p)) → Holds Keeps (living s pid >>= f)
+  by_caller pid f h = carries Keeps (living s pid) f h
+
+  by_ready : (pid : ℕ) (f : Process → Result Outcome Errno) → ((p : Process) → Holds Keeps (f p)) → Holds Keeps (ready s pid >>= f)
+  by_ready pid f h = carries Keeps (ready s pid) f h
+
+  kept : (c : Limits) (step : Step) → Holds Keeps (call c s step)
+  kept c (Spawn uid gid groups umask) = search (passes, m) depth 16
+  kept c (Exit pid) = by_caller pid (λ p. exit s pid) (λ p. m)
+  kept c (Resume pid) = by_caller pid (λ p. resume s pid p) (λ p. resume-keeps IsMapped others s m pid p)
+  kept c (Fork pid) = by_ready pid (λ p. fork s p) (λ p. search (passes, m) depth 16)
+  kept c (Mkdir pid path mode) = by_ready pid (λ p. make kinds.Directory s p path mode) (λ p. made-keeps kinds.Directory p path mode)
+  kept c (Mkfifo pid path mode) = by_ready pid (λ p. make kinds.Fifo s p path mode) (λ p. made-keeps kinds.Fifo p path mode)
+  kept c (Unlink pid path) = by_ready pid (λ p. unlink s p path) (λ p. unlinked-keeps p path)
+  kept c (Rmdir pid path) = by_ready pid (λ p. rmdir s p path) (λ p. removed-keeps p path)
+  kept c (Chmod pid path mode) = by_ready pid (λ p. chmod s p path mode) (λ p. remoded-keeps p path mode)
+  kept c (Stat pid path) = by_ready pid (λ p. stat s p path) (λ p. search (carries, m) depth 16)
+  kept c (Lists pid path) = by_ready pid (λ p. list s p path) (λ p. search (carries, m) depth 16)
+  kept c (Open pid path flags) = by_ready pid (λ p. open_path c s pid p path (access_of flags.0)) (λ p. open-keeps IsMapped others s m c pid p path (access_of flags.0))
+  kept c (Pipe pid nonblock) = by_ready pid (λ p. pipe c s pid p nonblock) (λ p. search (passes, carries, m) depth 16)
+  kept c (Dup pid fd) = by_ready pid (λ p. dup s pid p fd) (λ p. search (passes, carries, m) depth 16)
+  kept c (Close pid fd) = by_ready pid (λ p. close s pid p fd) (λ p. search (carries, m) depth 16)
+  kept c (Read pid fd n) = by_ready pid (λ p. transfer s pid p false (Reading fd n)) (λ p. transfer-keeps IsMapped others s m pid p false (Reading fd n))
+  kept c (Write pid fd payload) = by_ready pid (λ p. transfer s pid p false (Writing fd payload 0)) (λ p. transfer-keeps IsMapped others s m pid p false (Writing fd payload 0))
+  kept c (Tee pid source sink n nonblock) =
+      by_ready pid (λ p. transfer s pid p nonblock (Bringing crossings.Tee source sink n)) (λ p. transfer-keeps IsMapped others s m pid p nonblock (Bringing crossings.Tee source sink n))
+  kept c (Splice pid source sink n nonblock) =
+      by_ready pid (λ p. transfer s pid p nonblock (Bringing crossings.Splice source sink n)) (λ p. transfer-keeps IsMapped others s m pid p nonblock (Bringing crossings.Splice source sink n))
+  kept c (SetSize pid fd bytes) = by_ready pid (λ p. set_size c s p fd bytes) (λ p. search (passes, carries, m) depth 16)
+  kept c (GetSize pid fd) = by_ready pid (λ p. get_size s p fd) (λ p. search (carries, m) depth 16)
+  kept c (SetNonblock pid fd on) = by_ready pid (λ p. set_nonblock s p fd on) (λ p. search (carries, m) depth 16)
+
+  pub stays : (c : Limits) (step : Step) → IsFileMap (step_of c s step).state.files
+  stays c step = settled (call c s step) (kept c step)
+    where
+      settled : (r : Result Outcome Errno) → Holds Keeps r → IsFileMap (settle s r).state.files
+      settled (Ok o) h = h
+      settled (Err e) h = m

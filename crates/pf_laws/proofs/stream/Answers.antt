@@ -1,0 +1,10 @@
+use Rattle.pf_laws.proofs.StreamLaws.{stream}
+use Rattle.pf_laws.proofs.PieceLaws.{in_order, whole}
+use Rattle.pf_laws.proofs.stream.Goals as goal
+
+pub returns : goal.returns
+returns c = record {
+  stream = stream c.args.config.now c.args.steps.now;
+  in_order = in_order c.args.config.now c.args.steps.now;
+  whole = whole c.args.config.now c.args.steps.now;
+}

@@ -1,0 +1,146 @@
+-- What went through a pipe in a run (pipe(7)): what each step put in, and what the steps took out.
+
+use Rattle.std.specs.Prelude.{◌≡◌, ℕ, suc, ◌⊎◌, List, [], ◌∷◌, ◌++◌, take, map, filter, Option, Some, None, is_some, nat_eq, if◌then◌else◌, Result, Ok, Err, Bool, false, ◌≤◌, length}
+use Rattle.std.specs.List.{flat_map}
+use Rattle.pf_machine.specs.Refusals.{◌>>=◌, or_refuse}
+use Rattle.pf_base.specs.Limits.{Limits}
+use Rattle.pf_machine.specs.Queue.{Queue, bytes_of}
+use Rattle.pf_machine.specs.Numbered.{at}
+use Rattle.pf_base.specs.declared.TheConstants.{PIPE_BUF}
+use Rattle.pf_machine.specs.Calls.{Call, Opening, Moving, Reading, Writing, Bringing}
+use Rattle.pf_machine.specs.State.{State, Process, Pipe, opening, process, living, ready}
+use Rattle.pf_machine.specs.Transfers.{Tried, tried}
+use Rattle.pf_machine.specs.Machine.{step_of}
+use Rattle.pf_machine.specs.Runs.{run_of}
+use Rattle.pf_base.specs.declared.errno.Errno.{Errno}
+use Rattle.pf_base.specs.declared.errno.Errno.TheVariants.{EINVAL}
+use Rattle.pf_base.specs.declared.progress.Crossing.TheVariants as crossings
+use Rattle.pf_base.specs.declared.step.Step.{Step}
+use Rattle.pf_base.specs.declared.step.Step.TheVariants as steps
+
+-- The transfer of a step
+
+-- that of a call, if it is one
+abbrev pub tried_call : State Queue → Process → Call → Result Tried Errno
+tried_call s p (Opening description kept) = Err EINVAL
+tried_call s p (Moving transfer) = tried s p transfer
+
+-- that of a step, if it tries one, and if this is not refused
+abbrev pub transfer_of : State Queue → Step → Result Tried Errno
+transfer_of s (steps.Read pid fd n) = ready s pid >>= (λ p. tried s p (Reading fd n))
+transfer_of s (steps.Write pid fd payload) = ready s pid >>= (λ p. tried s p (Writing fd payload 0))
+transfer_of s (steps.Tee pid source sink n nonblock) =
+    ready s pid >>= (λ p. tried s p (Bringing crossings.Tee source sink n))
+transfer_of s (steps.Splice pid source sink n nonblock) =
+    ready s pid >>= (λ p. tried s p (Bringing crossings.Splice source sink n))
+transfer_of s (steps.Resume pid) = living s pid >>= (λ p. or_refuse EINVAL p.parked >>= tried_call s p)
+transfer_of s _ = Err EINVAL
+
+-- bytes that moved at a pipe, if it was this one
+abbrev pub if_at : ℕ → Option ℕ → List ℕ → List ℕ
+if_at p None x = []
+if_at p (Some q) x = if nat_eq q p then x else []
+
+-- what a transfer put into a pipe, and what it took out of it
+abbrev pub put_in : ℕ → Result Tried Errno → List ℕ
+put_in p (Ok t) = if_at p t.into t.bytes
+put_in p (Err e) = []
+
+abbrev pub taken_out : ℕ → Result Tried Errno → List ℕ
+taken_out p (Ok t) = if_at p t.from t.bytes
+taken_out p (Err e) = []
+
+-- What the steps put in
+
+-- some bytes that a step put into a pipe, and the place in the list of steps where its call began
+pub record Gift : Type 0 where
+  pub call : ℕ
+  pub pipe : ℕ
+  pub bytes : List ℕ
+
+-- some bytes are one gift, none are none
+abbrev pub gift : ℕ → ℕ → List ℕ → List Gift
+gift k n [] = []
+gift k n (b ∷ x) = record { call = k; pipe = n; bytes = b ∷ x } ∷ []
+
+-- what a transfer of a call gave, into whatever pipe
+abbrev pub gift_into : ℕ → List ℕ → Option ℕ → List Gift
+gift_into k x None = []
+gift_into k x (Some n) = gift k n x
+
+abbrev pub gift_of : ℕ → Result Tried Errno → List Gift
+gift_of k (Ok t) = gift_into k t.bytes t.into
+gift_of k (Err e) = []
+
+-- whether a process waits in a call
+abbrev pub in_call : Option Process → Bool
+in_call None = false
+in_call (Some p) = is_some p.parked
+
+abbrev pub is_parked : State Queue → ℕ → Bool
+is_parked s pid = in_call (process s pid)
+
+-- where the call of a step at place i began; `began` is the place of the call in which each process waits
+abbrev pub call_at : (ℕ → ℕ) → ℕ → Step → ℕ
+call_at began i (steps.Resume pid) = began pid
+call_at began i _ = i
+
+-- the same after the step at place i: who waits then, and didn't before, waits in the call of this step
+abbrev pub beginning : State Queue → (ℕ → ℕ) → ℕ → ℕ → ℕ
+beginning s began i pid = if is_parked s pid then began pid else i
+
+-- what the steps from place i on put into pipes
+abbrev pub gifts : Limits → State Queue → (ℕ → ℕ) → ℕ → List Step → List Gift
+gifts c s began i [] = []
+gifts c s began i (x ∷ xs) =
+    gift_of (call_at began i x) (transfer_of s x)
+    ++ gifts c (step_of c s x).state (beginning s began i) (suc i) xs
+
+-- in a run from the opening state
+abbrev pub given : Limits → List Step → List Gift
+given c xs = gifts c opening (λ pid. 0) 0 xs
+
+-- the bytes of a list of pieces, joined
+abbrev pub joined : List (List ℕ) → List ℕ
+joined pieces = flat_map (λ x. x) pieces
+
+-- what was given to one pipe, and what one call gave
+abbrev pub given_to : ℕ → List Gift → List (List ℕ)
+given_to n gs = map (λ g. g.bytes) (filter (λ g. nat_eq g.pipe n) gs)
+
+abbrev pub given_by : ℕ → List Gift → List (List ℕ)
+given_by k gs = map (λ g. g.bytes) (filter (λ g. nat_eq g.call k) gs)
+
+-- What the steps took out
+
+abbrev pub took_from : Limits → State Queue → List Step → ℕ → List ℕ
+took_from c s [] p = []
+took_from c s (x ∷ xs) p = taken_out p (transfer_of s x) ++ took_from c (step_of c s x).state xs p
+
+abbrev pub took : Limits → List Step → ℕ → List ℕ
+took c xs p = took_from c opening xs p
+
+-- The law
+
+-- what was taken from a pipe, and then what it holds, is what was given to it, in order
+abbrev pub IsStream : Limits → List Step → ℕ → Pipe Queue → Type 0
+IsStream c xs n p = took c xs n ++ bytes_of p.queue ≡ joined (given_to n (given c xs))
+
+-- what a call gives stands in its order
+abbrev pub IsInOrder : List ℕ → List (List ℕ) → Type 0
+IsInOrder x pieces = (m : ℕ) × (joined pieces ≡ take m x)
+
+-- it is one piece, or none
+abbrev pub IsWhole : List ℕ → List (List ℕ) → Type 0
+IsWhole x pieces = (pieces ≡ []) ⊎ (pieces ≡ x ∷ [])
+
+-- the step at a place is a Write of these bytes
+abbrev pub IsWrite : List Step → ℕ → List ℕ → Type 0
+IsWrite xs k x = (pid : ℕ) × (fd : ℕ) × (at (map Some xs) k ≡ Some (steps.Write pid fd x))
+
+-- in a run from the opening state each pipe at its end is a stream; what a Write gives stands in its order, and what a
+-- Write of at most PIPE_BUF bytes gives is one piece or none
+pub record StreamLaw (c : Limits) (xs : List Step) : Type 0 where
+  pub stream : (n : ℕ) (p : Pipe Queue) → at (run_of c opening xs).state.pipes n ≡ Some p → IsStream c xs n p
+  pub in_order : (k : ℕ) (x : List ℕ) → IsWrite xs k x → IsInOrder x (given_by k (given c xs))
+  pub whole : (k : ℕ) (x : List ℕ) → IsWrite xs k x → length x ≤ PIPE_BUF → IsWhole x (given_by k (given c xs))

@@ -1,0 +1,246 @@
+-- What the machine's replies hand out, kind by kind: nothing but the bytes of a read and the names of a list.
+
+use Rattle.std.proofs.Common.{◌≡◌, ℕ, ◌+◌, ◌≤◌, Bool, true, false, not, ◌&&◌, ◌||◌, List, [], ◌∷◌, ◌++◌, length, Option, Some, None, Result, Ok, Err, refl, ap, ◌∙◌, arith, nat_eq, nat_le, nat_lt, if◌then◌else◌, length-take}
+use Rattle.std.specs.Prelude.{⊤, min}
+use Rattle.std.specs.Option.{option_and_then}
+use Rattle.pf_machine.specs.Refusals.{◌>>=◌, refuse_if, or_refuse}
+use Rattle.pf_base.specs.Limits.{Limits}
+use Rattle.pf_machine.specs.FileCalls as calls
+use Rattle.pf_machine.specs.Queue.{Queue, bytes_of, after_take}
+use Rattle.pf_machine.specs.Progress.{Passed, moved, read_now}
+use Rattle.pf_machine.specs.Numbered.{at, first_free}
+use Rattle.pf_machine.specs.Calls.{Transfer, Reading, Writing, Bringing, Call, Opening, Moving, written_of}
+use Rattle.pf_machine.specs.State.{State, Process, Description, End, Outcome, process, living, ready, settle, told, end_at, reading_end, change_pipe}
+use Rattle.pf_machine.specs.Counts.{readers, writers}
+use Rattle.pf_machine.specs.Processes.{exit, fork}
+use Rattle.pf_machine.specs.Descriptors.{dup, close, set_nonblock}
+use Rattle.pf_machine.specs.Pipes.{pipe, set_size, get_size, is_spent}
+use Rattle.pf_machine.specs.Files.{make, unlink, rmdir, chmod, stat, list}
+use Rattle.pf_machine.specs.Transfers.{Tried, tried, try_read}
+use Rattle.pf_machine.specs.Attempts.{Attempt, Finished, Waits, transfer_told, given, other_opens, open_told, attempt, first, again, nonblocking, transfer, resume}
+use Rattle.pf_machine.specs.Opens.{Access, access_of, is_waiting, counted, kept_by, openable, fifo_pipe, fifo_readers, pipe_of, open_pipe, open_fifo, open_path}
+use Rattle.pf_machine.specs.Machine.{call, call_of}
+use Rattle.pf_base.specs.declared.TheConstants.{MAX_DESCRIPTORS}
+use Rattle.pf_base.specs.declared.errno.Errno.{Errno}
+use Rattle.pf_base.specs.declared.errno.Errno.TheVariants.{EBADF, EPIPE, EAGAIN, EINVAL, EMFILE, ENXIO, ENFILE, ESRCH}
+use Rattle.pf_base.specs.declared.meta.File.{File}
+use Rattle.pf_base.specs.declared.meta.Kind.TheVariants as kinds
+use Rattle.pf_base.specs.declared.progress.Crossing.TheVariants as crossings
+use Rattle.pf_base.specs.declared.progress.Progress.{Progress}
+use Rattle.pf_base.specs.declared.progress.Progress.TheVariants.{Moved, WouldBlock, EndOfFile, NoReader}
+use Rattle.pf_base.specs.declared.step.Reply.TheVariants.{Num}
+use Rattle.pf_base.specs.declared.step.Step.{Step}
+use Rattle.pf_base.specs.declared.step.Step.TheVariants.{Spawn, Exit, Pipe, Close, Read, Write, Tee, Splice, SetSize, GetSize, Fork, Dup, SetNonblock, Mkdir, Mkfifo, Open, Unlink, Rmdir, Chmod, Stat, List as Lists, Resume}
+use Rattle.pf_machine.proofs.HoldsLaws.{Holds, goes, carries, passes}
+use Rattle.pf_machine.specs.Replies.{reply_length}
+
+-- a read by its three tests
+abbrev read_by : Queue → ℕ → Bool → Bool → Bool → Passed
+read_by q n a b c =
+    if a then record { progress = Moved 0; queue = q }
+    else if b then record { progress = Moved (min n (length (bytes_of q))); queue = after_take q n }
+    else if c then record { progress = EndOfFile; queue = q }
+    else record { progress = WouldBlock; queue = q }
+
+read_by-le : (q : Queue) (n : ℕ) (a b c : Bool) → moved (read_by q n a b c).progress ≤ min n (length (bytes_of q))
+read_by-le q n true b c = omega arith
+read_by-le q n false true c = omega arith
+read_by-le q n false false true = omega arith
+read_by-le q n false false false = omega arith
+
+-- it takes no more than it asks for, and no more than there is
+read_now-le : (q : Queue) (writers n : ℕ) → moved (read_now q writers n).progress ≤ min n (length (bytes_of q))
+read_now-le q writers n = read_by-le q n (nat_eq n 0) (nat_lt 0 (length (bytes_of q))) (nat_eq writers 0)
+
+pub read_bytes : (s : State Queue) (e : End Queue) (n : ℕ) → length (try_read s e n).bytes ≤ min n (length (bytes_of e.pipe.queue))
+read_bytes s e n =
+    let k = moved (read_now e.pipe.queue (writers s e.description.pipe) n).progress in
+    omega (arith, length-take k (bytes_of e.pipe.queue), read_now-le e.pipe.queue (writers s e.description.pipe) n)
+
+-- no reply hands out more than m bytes
+module _ (s : State Queue) (m : ℕ) where
+  abbrev pub Few : Outcome → Type 0
+  Few o = reply_length o.reply ≤ m
+
+  nothing : 0 ≤ m
+  nothing = omega arith
+
+  -- Attempts
+
+  abbrev Told : Attempt → Type 0
+  Told (Finished t reply) = reply_length reply ≤ m
+  Told (Waits t call) = ⊤
+
+  -- the bytes of a read are few
+  abbrev Little : Transfer → Tried → Type 0
+  Little (Reading fd n) t = length t.bytes ≤ m
+  Little (Writing fd x written) t = ⊤
+  Little (Bringing c source sink n) t = ⊤
+
+  told-few : (call : Transfer) (t : Tried) (p : Progress) → Little call t → Holds Told (transfer_told call t p)
+  told-few (Reading fd n) t (Moved k) h = h
+  told-few (Reading fd n) t EndOfFile h = nothing
+  told-few (Reading fd n) t NoReader h = nothing
+  told-few (Reading fd n) t WouldBlock h = tt
+  told-few (Writing fd x written) t (Moved k) h = by_rest (nat_eq (written + k) (length x))
+    where
+      by_rest : (b : Bool) → Holds Told (if b then Ok (Finished t.state (Num (length x))) else Ok (Waits t.state (Moving (Writing fd x (written + k)))))
+      by_rest true = nothing
+      by_rest false = tt
+  told-few (Writing fd x written) t NoReader h = by_none (nat_eq written 0)
+    where
+      by_none : (b : Bool) → Holds Told (if b then Err EPIPE else Ok (Finished t.state (Num written)))
+      by_none true = tt
+      by_none false = nothing
+  told-few (Writing fd x written) t WouldBlock h = tt
+  told-few (Writing fd x written) t EndOfFile h = tt
+  told-few (Bringing c source sink n) t (Moved k) h = nothing
+  told-few (Bringing c source sink n) t EndOfFile h = nothing
+  told-few (Bringing c source sink n) t NoReader h = tt
+  told-few (Bringing c source sink n) t WouldBlock h = tt
+
+  attempt-few : (pid : ℕ) (p : Process) (call : Transfer) → Holds (Little call) (tried s p call) → Holds Told (attempt s pid p (Moving call))
+  attempt-few pid p call h = goes (Little call) Told (tried s p call) (λ t. transfer_told call t t.progress) h (λ t l. told-few call t t.progress l)
+
+  first-few : (pid : ℕ) (nonblock : Bool) (a : Attempt) → Told a → Holds Few (first pid nonblock a)
+  first-few pid nonblock (Finished t reply) h = h
+  first-few pid false (Waits t call) h = nothing
+  first-few pid true (Waits t call) h = by_none (nat_eq (written_of call) 0)
+    where
+      by_none : (b : Bool) → Holds Few (if b then Err EAGAIN else Ok (told t (Num (written_of call))))
+      by_none true = tt
+      by_none false = nothing
+
+  transfer-few : (pid : ℕ) (p : Process) (flag : Bool) (call : Transfer) → Holds (Little call) (tried s p call) → Holds Few (transfer s pid p flag call)
+  transfer-few pid p flag call h =
+      goes Told Few (attempt s pid p (Moving call)) (first pid (flag || nonblocking s p call)) (attempt-few pid p call h) (λ a t. first-few pid (flag || nonblocking s p call) a t)
+
+  any_tried : (r : Result Tried Errno) → Holds (λ t. ⊤) r
+  any_tried (Ok t) = tt
+  any_tried (Err e) = tt
+
+  again-few : (pid : ℕ) (r : Result Attempt Errno) → Holds Told r → Few (again s pid r)
+  again-few pid (Ok (Finished t reply)) h = h
+  again-few pid (Ok (Waits t call)) h = nothing
+  again-few pid (Err e) h = nothing
+
+  -- Opens
+
+  told_open : (t u : State Queue) (pid : ℕ) (p : Process) (n : ℕ) (call : Call) (b : Bool) → Told (if b then Waits t call else given u pid p n)
+  told_open t u pid p n call true = tt
+  told_open t u pid p n call false = nothing
+
+  told_again : (t u : State Queue) (pid : ℕ) (p : Process) (n : ℕ) (call : Call) (b : Bool) → Told (if b then given u pid p n else Waits t call)
+  told_again t u pid p n call true = nothing
+  told_again t u pid p n call false = tt
+
+  open_pipe-few : (t : State Queue) (pid : ℕ) (p : Process) (a : Access) (n : ℕ) → Told (open_pipe t pid p a n)
+  open_pipe-few t pid p a n = told_open made made pid p (length t.descriptions) (Opening (length t.descriptions) (kept_by a (at t.pipes n))) (is_waiting a (readers t n) (writers t n))
+    where
+      d : Description
+      d = record { pipe = n; reads = a.reads; writes = a.writes; nonblocking = a.nonblock }
+
+      made : State Queue
+      made = change_pipe (counted a) (record t { descriptions = t.descriptions ++ Some d ∷ [] }) n
+
+  open-few : (c : Limits) (pid : ℕ) (p : Process) (path : List ℕ) (a : Access) → Holds Few (open_path c s pid p path a)
+  open-few c pid p path a = carries Few (openable s.files p.cred path a) (λ f. open_fifo c s pid p a f.number) opened
+    where
+      opened : (f : File) → Holds Few (open_fifo c s pid p a f.number)
+      opened f =
+          passes Few (refuse_if (nat_le MAX_DESCRIPTORS (first_free p.descriptors)) EMFILE) _
+          (passes Few (refuse_if (a.writes && not a.reads && a.nonblock && nat_eq (fifo_readers s (fifo_pipe s f.number)) 0) ENXIO) _
+          (passes Few (refuse_if (is_spent s.descriptions 1) ENFILE) _
+          (carries Few (pipe_of c s p f.number (fifo_pipe s f.number)) (λ found. first pid false (open_pipe found.state pid p a found.pipe))
+          (λ found. first-few pid false (open_pipe found.state pid p a found.pipe) (open_pipe-few found.state pid p a found.pipe)))))
+
+  -- Calls that hand out nothing
+
+  by_ready : (pid : ℕ) (f : Process → Result Outcome Errno) → ((p : Process) → Holds Few (f p)) → Holds Few (ready s pid >>= f)
+  by_ready pid f h = carries Few (ready s pid) f h
+
+  transferred : (pid : ℕ) (p : Process) (flag : Bool) (fd : ℕ) (x : List ℕ) → Holds Few (transfer s pid p flag (Writing fd x 0))
+  transferred pid p flag fd x = transfer-few pid p flag (Writing fd x 0) (any_tried (tried s p (Writing fd x 0)))
+
+  pub quiet : (c : Limits) (step : Step) → ((pid fd n : ℕ) → step ≡ Read pid fd n → ⊥) → ((pid : ℕ) (path : List ℕ) → step ≡ Lists pid path → ⊥) → ((pid : ℕ) → step ≡ Resume pid → ⊥)
+      → Holds Few (call c s step)
+  quiet c (Spawn uid gid groups umask) r l a = search (passes, nothing) depth 16
+  quiet c (Exit pid) r l a = carries Few (living s pid) (λ p. exit s pid) (λ p. nothing)
+  quiet c (Resume pid) r l a = absurd (a pid refl)
+  quiet c (Read pid fd n) r l a = absurd (r pid fd n refl)
+  quiet c (Lists pid path) r l a = absurd (l pid path refl)
+  quiet c (Fork pid) r l a = by_ready pid (λ p. fork s p) (λ p. search (passes, nothing) depth 16)
+  quiet c (Mkdir pid path mode) r l a = by_ready pid (λ p. make kinds.Directory s p path mode) (λ p. search (carries, nothing) depth 16)
+  quiet c (Mkfifo pid path mode) r l a = by_ready pid (λ p. make kinds.Fifo s p path mode) (λ p. search (carries, nothing) depth 16)
+  quiet c (Unlink pid path) r l a = by_ready pid (λ p. unlink s p path) (λ p. search (carries, nothing) depth 16)
+  quiet c (Rmdir pid path) r l a = by_ready pid (λ p. rmdir s p path) (λ p. search (carries, nothing) depth 16)
+  quiet c (Chmod pid path mode) r l a = by_ready pid (λ p. chmod s p path mode) (λ p. search (carries, nothing) depth 16)
+  quiet c (Stat pid path) r l a = by_ready pid (λ p. stat s p path) (λ p. search (carries, nothing) depth 16)
+  quiet c (Open pid path flags) r l a = by_ready pid (λ p. open_path c s pid p path (access_of flags.0)) (λ p. open-few c pid p path (access_of flags.0))
+  quiet c (Pipe pid nonblock) r l a = by_ready pid (λ p. pipe c s pid p nonblock) (λ p. search (passes, carries, nothing) depth 16)
+  quiet c (Dup pid fd) r l a = by_ready pid (λ p. dup s pid p fd) (λ p. search (passes, carries, nothing) depth 16)
+  quiet c (Close pid fd) r l a = by_ready pid (λ p. close s pid p fd) (λ p. search (carries, nothing) depth 16)
+  quiet c (Write pid fd payload) r l a = by_ready pid (λ p. transfer s pid p false (Writing fd payload 0)) (λ p. transferred pid p false fd payload)
+  quiet c (Tee pid source sink n nonblock) r l a =
+      by_ready pid (λ p. transfer s pid p nonblock (Bringing crossings.Tee source sink n)) (λ p. transfer-few pid p nonblock (Bringing crossings.Tee source sink n) (any_tried (tried s p (Bringing crossings.Tee source sink n))))
+  quiet c (Splice pid source sink n nonblock) r l a =
+      by_ready pid (λ p. transfer s pid p nonblock (Bringing crossings.Splice source sink n)) (λ p. transfer-few pid p nonblock (Bringing crossings.Splice source sink n) (any_tried (tried s p (Bringing crossings.Splice source sink n))))
+  quiet c (SetSize pid fd bytes) r l a = by_ready pid (λ p. set_size c s p fd bytes) (λ p. search (passes, carries, nothing) depth 16)
+  quiet c (GetSize pid fd) r l a = by_ready pid (λ p. get_size s p fd) (λ p. search (carries, nothing) depth 16)
+  quiet c (SetNonblock pid fd on) r l a = by_ready pid (λ p. set_nonblock s p fd on) (λ p. search (carries, nothing) depth 16)
+
+  -- A read
+
+  read-little : (p : Process) (fd n : ℕ) → ((e : End Queue) → reading_end s p fd ≡ Ok e → length (try_read s e n).bytes ≤ m) → Holds (Little (Reading fd n)) (tried s p (Reading fd n))
+  read-little p fd n h = by_end (reading_end s p fd) refl
+    where
+      by_end : (r : Result (End Queue) Errno) → reading_end s p fd ≡ r → Holds (Little (Reading fd n)) (r >>= (λ e. Ok (try_read s e n)))
+      by_end (Ok e) is = h e is
+      by_end (Err e) is = tt
+
+  pub read-few : (c : Limits) (pid fd n : ℕ) → ((e : End Queue) → (ready s pid >>= (λ p. reading_end s p fd)) ≡ Ok e → length (try_read s e n).bytes ≤ m) → Holds Few (call c s (Read pid fd n))
+  read-few c pid fd n h = by_caller (ready s pid) refl
+    where
+      by_caller : (r : Result Process Errno) → ready s pid ≡ r → Holds Few (r >>= (λ p. transfer s pid p false (Reading fd n)))
+      by_caller (Err e) is = tt
+      by_caller (Ok p) is = transfer-few pid p false (Reading fd n) (read-little p fd n (λ e found. h e (ap (λ r. r >>= (λ q. reading_end s q fd)) is ∙ found)))
+
+  -- A call that is tried again
+
+  call_is : (pid : ℕ) (p : Process) → living s pid ≡ Ok p → call_of s pid ≡ p.parked
+  call_is pid p is = by_process (process s pid) is
+    where
+      by_process : (o : Option Process) → or_refuse ESRCH o ≡ Ok p → option_and_then (λ (q : Process). q.parked) o ≡ p.parked
+      by_process None e = absurd (cc)
+      by_process (Some q) e = let same : q ≡ p = cc in ap (λ (x : Process). x.parked) same
+
+  pub resume-few : (c : Limits) (pid : ℕ) → ((p : Process) (fd n : ℕ) (e : End Queue) → call_of s pid ≡ Some (Moving (Reading fd n)) → reading_end s p fd ≡ Ok e → length (try_read s e n).bytes ≤ m) → Holds Few (call c s (Resume pid))
+  resume-few c pid h = by_caller (living s pid) refl
+    where
+      of_call : (p : Process) (call : Call) → call_of s pid ≡ Some call → Holds Told (attempt s pid p call)
+      of_call p (Opening n kept) is = carries Told (or_refuse EBADF (end_at s n)) (λ e. Ok (open_told s pid p n kept e)) (λ e. told_again s s pid p n (Opening n kept) (nat_lt kept (other_opens e)))
+      of_call p (Moving (Reading fd n)) is = attempt-few pid p (Reading fd n) (read-little p fd n (λ e found. h p fd n e is found))
+      of_call p (Moving (Writing fd x written)) is = attempt-few pid p (Writing fd x written) (any_tried (tried s p (Writing fd x written)))
+      of_call p (Moving (Bringing c source sink n)) is = attempt-few pid p (Bringing c source sink n) (any_tried (tried s p (Bringing c source sink n)))
+
+      of_parked : (p : Process) (o : Option Call) → call_of s pid ≡ o → Holds Few (or_refuse EINVAL o >>= (λ call. Ok (again s pid (attempt s pid p call))))
+      of_parked p None is = tt
+      of_parked p (Some call) is = again-few pid (attempt s pid p call) (of_call p call is)
+
+      by_caller : (r : Result Process Errno) → living s pid ≡ r → Holds Few (r >>= (λ p. resume s pid p))
+      by_caller (Err e) is = tt
+      by_caller (Ok p) is = of_parked p p.parked (call_is pid p is)
+
+  -- A list
+
+  pub list-few : (c : Limits) (pid : ℕ) (path : List ℕ) → ((p : Process) → ready s pid ≡ Ok p → Holds (λ names. length names ≤ m) (calls.list s.files p.cred path)) → Holds Few (call c s (Lists pid path))
+  list-few c pid path h = by_caller (ready s pid) refl
+    where
+      by_caller : (r : Result Process Errno) → ready s pid ≡ r → Holds Few (r >>= (λ p. list s p path))
+      by_caller (Err e) is = tt
+      by_caller (Ok p) is = goes (λ names. length names ≤ m) Few (calls.list s.files p.cred path) _ (h p is) (λ names few. few)
+
+  -- what a step is told is the call's reply, or a refusal
+  pub few : (r : Result Outcome Errno) → Holds Few r → reply_length (settle s r).reply ≤ m
+  few (Ok o) h = h
+  few (Err e) h = nothing

@@ -1,0 +1,41 @@
+-- Counted afresh over a state. An open that waits names its description as a descriptor would: so the description
+-- lives, counts as an end, and keeps its pipe.
+
+use Rattle.std.specs.Prelude.{ℕ, List, Option, ◌∷◌, ◌&&◌, nat_eq, if◌then◌else◌}
+use Rattle.pf_machine.specs.Queue.{Queue}
+use Rattle.pf_machine.specs.Numbered.{sum_of, one_if}
+use Rattle.pf_machine.specs.Calls.{made_by}
+use Rattle.pf_machine.specs.State.{State, Process, Description}
+
+-- how many names in a list are those of a description
+abbrev pub named_in : ℕ → List (Option ℕ) → ℕ
+named_in n names = sum_of (λ m. one_if (nat_eq m n)) names
+
+-- all names that a process has: that of its parked open, and those of its descriptors
+abbrev pub names_of : Process → List (Option ℕ)
+names_of p = made_by p.parked ∷ p.descriptors
+
+-- how many names of all processes are those of a description
+abbrev pub names : List (Option Process) → ℕ → ℕ
+names ps n = sum_of (λ p. named_in n (names_of p)) ps
+
+-- how many descriptions are an end of a pipe
+abbrev pub ends : List (Option Description) → ℕ → ℕ
+ends ds p = sum_of (λ d. one_if (nat_eq d.pipe p)) ds
+
+module _ {Q : Type 0} where
+  -- how many of them read it
+  abbrev pub readers : State Q → ℕ → ℕ
+  readers s p = sum_of (λ d. one_if (nat_eq d.pipe p && d.reads)) s.descriptions
+
+  -- how many of them write it
+  abbrev pub writers : State Q → ℕ → ℕ
+  writers s p = sum_of (λ d. one_if (nat_eq d.pipe p && d.writes)) s.descriptions
+
+-- the pages that the pipes of a user are charged with
+abbrev pub charged : State Queue → ℕ → ℕ
+charged s uid = sum_of (λ p. if nat_eq p.owner uid then p.queue.capacity else 0) s.pipes
+
+-- the pages that all pipes are charged with
+abbrev pub total : State Queue → ℕ
+total s = sum_of (λ p. p.queue.capacity) s.pipes

@@ -1,0 +1,27 @@
+-- How much a reply hands out, known before its step is made.
+
+use Rattle.std.specs.Prelude.{ℕ, length, Option, Some, None}
+use Rattle.pf_base.specs.declared.step.Reply.{Reply}
+use Rattle.pf_base.specs.declared.step.Reply.TheVariants.{Bytes, Names}
+use Rattle.pf_base.specs.declared.step.Step.{Step}
+use Rattle.pf_base.specs.declared.step.Step.TheVariants.{Read, List as Lists, Resume}
+use Rattle.pf_machine.specs.Calls.{Call, written_of}
+
+-- how many bytes a reply hands out
+abbrev pub reply_length : Reply → ℕ
+reply_length (Bytes x) = length x
+reply_length (Names x) = length x
+reply_length _ = 0
+
+-- the most that the reply to a step hands out, in any state: what a read asks for, 10,000 names of 255 bytes with a slash
+-- behind each, and all that 65,536 frames hold
+abbrev pub most_of : Step → ℕ
+most_of (Read pid fd n) = n
+most_of (Lists pid path) = 2560000
+most_of (Resume pid) = 268435456
+most_of _ = 0
+
+-- how many bytes of its write went in before a process waited
+abbrev pub written_in : Option Call → ℕ
+written_in None = 0
+written_in (Some call) = written_of call

@@ -1,0 +1,133 @@
+-- From what the hub promises to what a script's namespaces are told.
+
+use Rattle.std.proofs.Common.{◌≡◌, ℕ, ◌+◌, ◌<◌, ◌≤◌, take, List, [], ◌∷◌, ◌++◌, length, length-append, append-nil, map, get_or, Option, Some, None, Ok, refl, ap, subst, sym, ◌∙◌, arith}
+use Rattle.std.specs.Prelude.{◌≢◌, Result, slice_get, IfSome, option_map, if◌then◌else◌}
+use Rattle.std.specs.declared.alloc.Global.{Global}
+use Rattle.std.proofs.lemmas.List.{take-append-drop}
+use Rattle.std.proofs.Math.ListN.{drop_of_length-le}
+use Rattle.std.proofs.lemmas.Bool.{eq-eqb, ne_eqb}
+use Rattle.pf_machine.specs.Machine.{Answers}
+use Rattle.pf_machine.specs.State.{opening as opened}
+use Rattle.pf_machine.proofs.EventLaws.{mine-append, keep_step-append, keep_reply-append}
+use Rattle.pf_machine.proofs.RunLaws.{run_of-answered}
+use Rattle.pf_hub.specs.Opening as opening
+use Rattle.std.proofs.lemmas.Option.{slice_get-map, get_or_from_slice_get}
+use Rattle.pf_base.specs.Limits.{Limits}
+use Rattle.pf_base.specs.declared.step.Answer.{Answer}
+use Rattle.pf_base.specs.declared.step.Step.{Step}
+use Rattle.pf_machine.specs.Events.{mine, kept, replies, keep_step, keep_reply}
+use Rattle.pf_machine.specs.Runs.{Run, run_of, lone}
+use Rattle.pf_script.specs.Script.{Draft}
+use Rattle.pf_script.specs.Text.{text}
+use Rattle.pf_script.specs.Ports.{Output, IsCut}
+use Rattle.pf_script.specs.declared.refusal.Refusal.{Refusal}
+use Rattle.pf_play.specs.Replays.{IfAccepted, Names}
+use Rattle.pf_hub.specs.Isolation.{AreAlone}
+use Rattle.pf_hub.specs.Opening.{new_tenant, new_hub}
+use Rattle.pf_hub.specs.Tenants.{Tenant, Tenants, nobody, limits_at, state_at}
+use Rattle.pf_play.specs.Played.{IsPlayed, IsPlayedAlone, IsPlayedFor, kept_alone, replies_alone}
+
+-- the namespace of a number at the start
+at_place : (spaces : List (List ℕ × Limits)) (n : ℕ) (space : List ℕ × Limits) → slice_get spaces n ≡ Some space → get_or (map new_tenant (map (λ s. s.1) spaces)) n nobody ≡ new_tenant space.1
+at_place spaces n space is =
+    get_or_from_slice_get (map new_tenant (map (λ s. s.1) spaces)) n (new_tenant space.1) nobody
+    (slice_get-map new_tenant (map (λ s. s.1) spaces) n ∙ ap (option_map new_tenant) (slice_get-map (λ s. s.1) spaces n ∙ ap (option_map (λ s. s.1)) is))
+
+-- each namespace is at its opening state, so it is told what its lone machine is
+told : (script : Draft) (frames : ℕ) (answers : List Answer) → AreAlone (new_hub (map (λ s. s.1) script.spaces) frames) script.steps answers → (n : ℕ) → IfSome (slice_get script.spaces n) (λ space. replies script.steps answers n ≡ lone space.1 (kept script.steps answers n))
+told script frames answers alone n = elim (slice_get script.spaces n) as (λ r. slice_get script.spaces n ≡ r → IfSome r (λ space. replies script.steps answers n ≡ lone space.1 (kept script.steps answers n))) [
+  | Some space ↦ λ is.
+      let here = at_place script.spaces n space is in
+      alone n (ap (λ (t : Tenant). t.state) here) ∙ ap (λ (t : Tenant). lone t.limits (kept script.steps answers n)) here
+  | None ↦ λ is. tt
+] refl
+
+-- a run of a new hub of a script's namespaces
+pub played : (script : Draft) (configs : List Limits) (frames : ℕ) (hub : Tenants) (events : List (ℕ × Step)) (answers : List Answer) →
+    configs ≡ map (λ s. s.1) script.spaces → hub ≡ new_hub configs frames → events ≡ script.steps →
+    length answers ≡ length events → AreAlone hub events answers → IsPlayed script answers
+played script configs frames hub events answers limits opened same many alone = (
+  many ∙ ap length same,
+  told script frames answers
+      (subst (λ es. AreAlone (new_hub (map (λ s. s.1) script.spaces) frames) es answers) same
+      (subst (λ h. AreAlone h events answers) (opened ∙ ap (λ c. new_hub c frames) limits) alone)),
+)
+
+-- limits with an allocator beside each are those limits
+pub limits_beside : (alloc : Global) (limits : List Limits) → opening.limits_of (map (λ l. (l, alloc)) limits) ≡ limits
+limits_beside alloc [] = refl
+limits_beside alloc (l ∷ ls) = ap (λ rest. l ∷ rest) (limits_beside alloc ls)
+
+-- One namespace alone
+
+kept_push : (xs : List Step) (answers : List Answer) (x : Step) (a : Answer) → length answers ≡ length xs → kept_alone (xs ++ x ∷ []) (answers ++ a ∷ []) ≡ kept_alone xs answers ++ keep_step a x []
+kept_push [] [] x a many = refl
+kept_push [] (b ∷ answers) x a many = absurd (omega (arith, many))
+kept_push (y ∷ ys) [] x a many = absurd (omega (arith, many))
+kept_push (y ∷ ys) (b ∷ answers) x a many =
+    ap (λ r. keep_step b y r) (kept_push ys answers x a (omega (arith, many))) ∙ keep_step-append b y (kept_alone ys answers) (keep_step a x [])
+
+replies_push : (answers : List Answer) (a : Answer) → replies_alone (answers ++ a ∷ []) ≡ replies_alone answers ++ keep_reply a []
+replies_push [] a = refl
+replies_push (b ∷ answers) a = ap (λ r. keep_reply b r) (replies_push answers a) ∙ keep_reply-append b (replies_alone answers) (keep_reply a [])
+
+-- the first so many steps of a script, of which those of one namespace were run: its hub is where its lone machine is
+pub record Went (limits : Limits) (n : ℕ) (steps : List (ℕ × Step)) (answers : List Answer) (hub : Tenants) : Type 0 where
+  pub exists : 0 < length hub.tenants
+  pub keeps : limits_at hub 0 ≡ limits
+  pub many : length answers ≡ length (mine steps n)
+  pub ran : run_of limits opened (kept_alone (mine steps n) answers) ≡ record { state = state_at hub 0; replies = replies_alone answers }
+
+-- a step of its own more
+pub went_on : (limits : Limits) (n : ℕ) (steps : List (ℕ × Step)) (e : ℕ × Step) (answers : List Answer) (a : Answer) (old new : Tenants) →
+    Went limits n steps answers old → e.0 ≡ n → length new.tenants ≡ length old.tenants → limits_at new 0 ≡ limits_at old 0 →
+    Answers (limits_at old 0) a (state_at old 0) e.1 (state_at new 0) → Went limits n (steps ++ e ∷ []) (answers ++ a ∷ []) new
+went_on limits n steps e answers a old new went own same keeps answered =
+    let gained : mine (steps ++ e ∷ []) n ≡ mine steps n ++ e.1 ∷ [] = mine-append steps (e ∷ []) n ∙ ap (λ b. mine steps n ++ (if b then e.1 ∷ [] else [])) (eq-eqb e.0 n own) in
+    record {
+      exists = omega (arith, same, went.exists);
+      keeps = keeps ∙ went.keeps;
+      many =
+          length-append answers (a ∷ []) ∙ ap (λ k. k + 1) went.many ∙ sym (length-append (mine steps n) (e.1 ∷ [])) ∙ ap length (sym gained);
+      ran =
+          ap (λ xs. run_of limits opened (kept_alone xs (answers ++ a ∷ []))) gained
+          ∙ ap (run_of limits opened) (kept_push (mine steps n) answers e.1 a went.many)
+          ∙ run_of-answered limits opened (state_at old 0) (state_at new 0) (kept_alone (mine steps n) answers) e.1 (replies_alone answers) a went.ran (subst (λ l. Answers l a (state_at old 0) e.1 (state_at new 0)) went.keeps answered)
+          ∙ ap (λ rs. record { state = state_at new 0; replies = rs }) (sym (replies_push answers a));
+    }
+
+-- a step of another namespace
+pub went_by : (limits : Limits) (n : ℕ) (steps : List (ℕ × Step)) (e : ℕ × Step) (answers : List Answer) (hub : Tenants) → Went limits n steps answers hub → e.0 ≢ n → Went limits n (steps ++ e ∷ []) answers hub
+went_by limits n steps e answers hub went other =
+    let same : mine (steps ++ e ∷ []) n ≡ mine steps n = mine-append steps (e ∷ []) n ∙ ap (λ b. mine steps n ++ (if b then e.1 ∷ [] else [])) (ne_eqb e.0 n other) ∙ append-nil (mine steps n) in
+    record {
+      exists = went.exists;
+      keeps = went.keeps;
+      many = went.many ∙ ap length (sym same);
+      ran = ap (λ xs. run_of limits opened (kept_alone xs answers)) same ∙ went.ran;
+    }
+
+-- all steps
+pub alone : (script : Draft) (limits : Limits) (n : ℕ) (answers : List Answer) (hub : Tenants) → Went limits n script.steps answers hub → slice_get (map (λ s. s.1) script.spaces) n ≡ Some limits → IsPlayedAlone script n answers
+alone script limits n answers hub went is = (went.many, by (slice_get script.spaces n) (sym (slice_get-map (λ (s : List ℕ × Limits). s.1) script.spaces n) ∙ is))
+  where
+    by : (r : Option (List ℕ × Limits)) → option_map (λ s. s.1) r ≡ Some limits → IfSome r (λ space. replies_alone answers ≡ lone space.1 (kept_alone (mine script.steps n) answers))
+    by None is = absurd (cc)
+    by (Some s) is =
+        let same : s.1 ≡ limits = cc in
+        sym (ap (λ (w : Run). w.replies) went.ran) ∙ ap (λ l. lone l (kept_alone (mine script.steps n) answers)) (sym same)
+
+-- nothing was run yet
+pub opens : (limits : Limits) (n frames : ℕ) (answers : List Answer) (hub : Tenants) → hub ≡ new_hub (limits ∷ []) frames → answers ≡ [] → Went limits n [] answers hub
+opens limits n frames answers hub is none = rw (is, none) (record { exists = omega arith; keeps = refl; many = refl; ran = refl })
+
+-- a text that broke off, of a script that was accepted
+pub cut_short : (old new : Output) (script : Draft) (read : Result Draft Refusal) (name : Option (List ℕ)) (only : Option ℕ) (answers told : List Answer) →
+    read ≡ Ok script → Names script name only → IsPlayedFor script only answers → told ≡ answers → IsCut old new (text script told only) →
+    IfAccepted read (λ s. (o : Option ℕ) × (xs : List Answer) × Names s name o × IsPlayedFor s o xs × IsCut old new (text s xs o))
+cut_short old new script read name only answers told is names played same cut =
+    rw is (only, answers, names, played, subst (λ xs. IsCut old new (text script xs only)) same cut)
+
+-- so many elements are all
+pub take_all : {A : Type 0} (xs : List A) {i : ℕ} → length xs ≤ i → take i xs ≡ xs
+take_all xs {i} past = sym (append-nil (take i xs)) ∙ (ap (λ r. take i xs ++ r) (sym (drop_of_length-le xs past)) ∙ take-append-drop i xs)

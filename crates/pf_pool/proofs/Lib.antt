@@ -1,0 +1,2 @@
+pub mod OwnedLaws
+pub mod PoolLaws

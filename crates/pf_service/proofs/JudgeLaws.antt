@@ -1,0 +1,99 @@
+-- A namespace's transcript, and those that aren't there.
+
+use Rattle.std.proofs.Common.{◌≡◌, ℕ, ◌+◌, ◌<◌, ◌≤◌, List, [], ◌∷◌, length, Bool, true, false, nat_eq, get_or, refl, ap, sym, ◌∙◌, subst, arith, if◌then◌else◌, zero-add}
+use Rattle.std.specs.Prelude.{All, slice_get, slice_index, option_map, Some, None, count_by}
+use Rattle.std.specs.List.{flat_map}
+use Rattle.std.proofs.lemmas.Bool.{ne_eqb, and_left, eq-eqb, and_from, le-ltb}
+use Rattle.std.proofs.lemmas.List.{get_or_past}
+use Rattle.std.proofs.lemmas.List.Elements.{All-nil, All-head, All-tail}
+use Rattle.std.proofs.lemmas.Option.{slice_get_read, slice_get_past, slice_get-get_or, get_or_from_slice_get}
+use Rattle.std.proofs.lemmas.List.Sums.{sum_by-cons}
+use Rattle.pf_base.specs.Limits.{Limits}
+use Rattle.pf_service.specs.declared.event.Event.{Event}
+use Rattle.pf_service.specs.Judged.{Fits, Agrees, IsClosed}
+use Rattle.pf_service.specs.Merge.{at, stands, Rises, IsMerge}
+use Rattle.pf_service.specs.Seats.{OneSeat, is_seat, lists_of, AreGiven, IsGiven}
+use Rattle.pf_service.specs.Transcripts.{OneTranscript, IsLone, transcript_at, no_transcript}
+use Rattle.pf_service.proofs.MergeLaws.{lists_of-other}
+
+-- one seat more
+counted : (ns k : ℕ) (s : OneSeat) (ss : List OneSeat) (b : Bool) → is_seat ns k s ≡ b → count_by (is_seat ns k) (s ∷ ss) ≡ (if b then 1 else 0) + count_by (is_seat ns k) ss
+counted ns k s ss b is = sum_by-cons (λ (v : OneSeat). if is_seat ns k v then 1 else 0) s ss ∙ ap (λ (t : Bool). (if t then 1 else 0) + count_by (is_seat ns k) ss) is
+
+-- no seat is of a namespace that isn't there
+pub none_of : (seats : List OneSeat) (number ns k : ℕ) → All (λ s. s.ns < number) seats → number ≤ ns → count_by (is_seat ns k) seats ≡ 0
+none_of [] number ns k all past = refl
+none_of (s ∷ ss) number ns k all past =
+    let here : s.ns < number = All-head (λ (v : OneSeat). v.ns < number) s ss all in
+    counted ns k s ss false (and_left (nat_eq s.ns ns) (nat_eq s.number k) (ne_eqb s.ns ns (λ e. omega (arith, e, here, past))))
+    ∙ zero-add (count_by (is_seat ns k) ss)
+    ∙ none_of ss number ns k (All-tail (λ (v : OneSeat). v.ns < number) s ss all) past
+
+pub none_given : (seats : List OneSeat) (number ns : ℕ) → All (λ s. s.ns < number) seats → number ≤ ns → IsGiven ns 0 seats
+none_given seats number ns all past k = none_of seats number ns k all past ∙ sym (ap (λ (b : Bool). if b then 1 else 0) (le-ltb k 0 (omega arith)))
+
+-- where none was given, there are no lists
+no_list : (ns : ℕ) (s : OneSeat) (ss : List OneSeat) (b : Bool) → nat_eq s.ns ns ≡ b → ((k : ℕ) → count_by (is_seat ns k) (s ∷ ss) ≡ 0)
+    → (((k : ℕ) → count_by (is_seat ns k) ss ≡ 0) → lists_of ns ss ≡ []) → lists_of ns (s ∷ ss) ≡ []
+no_list ns s ss true is none rest =
+    let one : count_by (is_seat ns s.number) (s ∷ ss) ≡ 1 + count_by (is_seat ns s.number) ss = counted ns s.number s ss true (and_from (nat_eq s.ns ns) (nat_eq s.number s.number) is (eq-eqb s.number s.number refl)) in
+    let nil : count_by (is_seat ns s.number) (s ∷ ss) ≡ 0 = none s.number in
+    absurd (omega (arith, one, nil))
+no_list ns s ss false is none rest =
+    lists_of-other ns s ss is
+    ∙ rest (λ k.
+    let same : count_by (is_seat ns k) (s ∷ ss) ≡ 0 + count_by (is_seat ns k) ss = counted ns k s ss false (and_left (nat_eq s.ns ns) (nat_eq s.number k) is) in
+    sym (zero-add (count_by (is_seat ns k) ss)) ∙ sym same ∙ none k)
+
+no_lists : (ns : ℕ) (seats : List OneSeat) → ((k : ℕ) → count_by (is_seat ns k) seats ≡ 0) → lists_of ns seats ≡ []
+no_lists ns [] none = refl
+no_lists ns (s ∷ ss) none = no_list ns s ss (nat_eq s.ns ns) refl none (no_lists ns ss)
+
+no_events : (i : ℕ) → at i (flat_map (λ (es : List Event). es) []) ≡ stands [] i
+no_events i = refl
+
+module _ (configs : List Limits) (ts : List OneTranscript) (seats : List OneSeat) where
+  pub fits_agrees : (n : ℕ) (t : OneTranscript) → n < length ts → t ≡ get_or ts n t → Fits configs t seats n → Agrees configs ts seats n
+  fits_agrees n t within is f =
+      let some : slice_get ts n ≡ Some t = slice_get_read ts (length ts) n t refl within is in
+      record {
+        limits = ap (option_map (λ (u : OneTranscript). u.limits)) some ∙ sym f.limits;
+        merge = subst (λ (u : OneTranscript). IsMerge u.entries (lists_of n seats)) (sym (get_or_from_slice_get ts n t no_transcript some)) f.merge;
+      }
+
+  pub agrees_fits : (n : ℕ) (t : OneTranscript) → n < length ts → t ≡ get_or ts n t → Agrees configs ts seats n → Fits configs t seats n
+  agrees_fits n t within is a =
+      let some : slice_get ts n ≡ Some t = slice_get_read ts (length ts) n t refl within is in
+      record {
+        limits = sym a.limits ∙ ap (option_map (λ (u : OneTranscript). u.limits)) some;
+        merge = subst (λ (u : OneTranscript). IsMerge u.entries (lists_of n seats)) (get_or_from_slice_get ts n t no_transcript some) a.merge;
+      }
+
+  -- a namespace without a transcript
+  pub too_few : length ts < length configs → Agrees configs ts seats (length ts) → ⊥
+  too_few lt a =
+      let none : slice_get ts (length ts) ≡ None = slice_get_past ts (length ts) (omega arith) in
+      let some : slice_get configs (length ts) ≡ Some (get_or configs (length ts) no_transcript.limits) = slice_get-get_or configs (length ts) no_transcript.limits lt in
+      let both : None ≡ Some (get_or configs (length ts) no_transcript.limits) = sym (ap (option_map (λ (u : OneTranscript). u.limits)) none) ∙ a.limits ∙ some in
+      absurd (cc)
+
+  -- a namespace that isn't there
+  pub past : (given : List ℕ) → AreGiven given seats → length ts ≡ length given → length configs ≤ length ts → (n : ℕ) → length ts ≤ n → Agrees configs ts seats n
+  past given all each few n over =
+      let none : (k : ℕ) → count_by (is_seat n k) seats ≡ 0 =
+      λ k. all n k ∙ ap (λ (b : Bool). if b then 1 else 0) (le-ltb k (slice_index given n) (omega (arith, get_or_past given n 0 (omega arith)))) in
+      record {
+        limits = ap (option_map (λ (u : OneTranscript). u.limits)) (slice_get_past ts n over) ∙ sym (slice_get_past configs n (omega arith));
+        merge =
+            subst (λ (u : OneTranscript). IsMerge u.entries (lists_of n seats)) (sym (get_or_past ts n no_transcript over))
+            (subst (λ (ls : List (List Event)). IsMerge [] ls) (sym (no_lists n seats none)) (record { rising = All-nil Rises; each = no_events }));
+      }
+
+-- what was compared is what was given and what comes back
+pub closed : (configs configs' : List Limits) (seats seats' : List OneSeat) (ts ts' : List OneTranscript) (given : List ℕ) → configs' ≡ configs → seats' ≡ seats → ts' ≡ ts
+    → ((n : ℕ) → Agrees configs' ts' seats' n) → ((n : ℕ) → IsLone (transcript_at ts' n)) → AreGiven given seats' → IsClosed configs seats ts
+closed configs configs' seats seats' ts ts' given c s t agree lone all = record {
+  agrees = λ n. subst (λ (cs : List Limits). Agrees cs ts seats n) c (subst (λ (ss : List OneSeat). Agrees configs' ts ss n) s (subst (λ (us : List OneTranscript). Agrees configs' us seats' n) t (agree n)));
+  alone = λ n. subst (λ (us : List OneTranscript). IsLone (transcript_at us n)) t (lone n);
+  given = (given, subst (AreGiven given) s all);
+}

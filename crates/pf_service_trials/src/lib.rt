@@ -1,0 +1,12 @@
+//! Tests of a service, through public calls: two tenants, callers on threads of their own, and all that is refused.
+//! Nothing stands here but tests, so that `pf_service` is proved once and not a second time with them.
+#![tactic(auto)]
+
+#[cfg(test)]
+mod faults;
+#[cfg(test)]
+mod services;
+#[cfg(test)]
+mod tenants;
+#[cfg(test)]
+mod threads;

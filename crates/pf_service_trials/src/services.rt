@@ -1,0 +1,150 @@
+//! A service of some namespaces, the steps of two tenants, and what those tenants are told.
+
+ghost use Rattle.std.specs.Prelude.{◌<◌};
+
+use pf_base::{ByteString, Config, Groups, Reply, Step};
+use pf_frame::Frame;
+use pf_service::{NoGate, Seat, Service, Transcript, Transcripts};
+use std::alloc::{AllocError, Global};
+use std::process::Abort;
+use std::sync::Wait;
+use std::test::Fail;
+
+// What the frames hold before anyone writes to them.
+const OLD: u8 = 0xA5;
+
+pub(crate) const RED: u32 = 0;
+
+pub(crate) const BLUE: u32 = 1;
+
+pub(crate) type Plain = Service<Global, NoGate>;
+
+fn old_frames(alloc: Global, count: usize) -> Result<Vec<Frame>, AllocError> {
+    let mut frames = Vec::with_capacity(alloc, count)?;
+    for _ in 0..count {
+        frames.push(Frame::filled(alloc, OLD)?)?;
+    }
+    Ok(frames)
+}
+
+// A service of so many namespaces, with 16 frames for each.
+pub(crate) fn service_of(alloc: Global, namespaces: usize) -> Option<Plain>
+    requires { namespaces < 65 }
+{
+    let config = Config::new(
+        16,
+        Config::DEFAULT_SOFT,
+        Config::DEFAULT_HARD,
+        Config::DEFAULT_MAX,
+    )
+    .ok()?;
+    let mut configs = Vec::with_capacity(alloc, namespaces).ok()?;
+    for _ in 0..namespaces {
+        configs.push((config, alloc)).ok()?;
+    }
+    let frames = old_frames(alloc, 16 * namespaces).ok()?;
+    Service::new(alloc, frames, configs, NoGate).ok()
+}
+
+pub(crate) fn spawn(alloc: Global) -> Step {
+    Step::Spawn {
+        uid: 5,
+        gid: 5,
+        groups: Groups::new(Vec::new(alloc)),
+        umask: 18,
+    }
+}
+
+fn write(alloc: Global, byte: u8, count: usize) -> Result<Step, AllocError> {
+    Ok(Step::Write {
+        pid: 1,
+        fd: 1,
+        payload: ByteString::new(Vec::from_elem(alloc, byte, count)?),
+    })
+}
+
+// A process fills its pipe with bytes 61, and exits.
+pub(crate) fn steps_of_red(alloc: Global) -> Result<Vec<Step>, AllocError> {
+    let mut steps = Vec::with_capacity(alloc, 4)?;
+    steps.push(spawn(alloc))?;
+    steps.push(Step::Pipe {
+        pid: 1,
+        nonblock: true,
+    })?;
+    steps.push(write(alloc, 0x61, 65_536)?)?;
+    steps.push(Step::Exit { pid: 1 })?;
+    Ok(steps)
+}
+
+// Another writes a byte 7a, and reads as many as there are.
+pub(crate) fn steps_of_blue(alloc: Global) -> Result<Vec<Step>, AllocError> {
+    let mut steps = Vec::with_capacity(alloc, 4)?;
+    steps.push(spawn(alloc))?;
+    steps.push(Step::Pipe {
+        pid: 1,
+        nonblock: true,
+    })?;
+    steps.push(write(alloc, 0x7A, 1)?)?;
+    steps.push(Step::Read {
+        pid: 1,
+        fd: 0,
+        n: 100,
+    })?;
+    Ok(steps)
+}
+
+// Makes the steps in turn. No seat comes back where one was refused.
+pub(crate) fn make<R: Wait>(
+    rt: &R,
+    service: &Plain,
+    mut seat: Seat,
+    steps: &[Step],
+) -> Option<Seat> {
+    for step in steps {
+        service.call(rt, &mut seat, step).ok()?;
+    }
+    Some(seat)
+}
+
+// Makes the steps in turn, many times.
+pub(crate) fn repeat<R: Wait>(
+    rt: &R,
+    service: &Plain,
+    mut seat: Seat,
+    steps: &[Step],
+    times: u32,
+) -> Option<Seat> {
+    for _ in 0..times {
+        seat = make(rt, service, seat, steps)?;
+    }
+    Some(seat)
+}
+
+fn replies_are<R: Abort>(rt: &R, transcript: &Transcript, replies: &[Reply]) {
+    let entries = transcript.entries();
+    assert_eq!(rt; entries.len(), replies.len());
+    for (entry, reply) in entries.iter().zip(replies) {
+        assert_eq!(rt; &entry.1, reply);
+    }
+}
+
+// The two tenants' transcripts: no frame shows what was in it before.
+pub(crate) fn told_alone<R: Abort>(
+    rt: &R,
+    alloc: Global,
+    transcripts: &Transcripts,
+) -> Result<(), Fail> {
+    let each = transcripts.as_slice();
+    assert_eq!(rt; each.len(), 2);
+    let red = [
+        Reply::Pid(1),
+        Reply::Fds(0, 1),
+        Reply::Num(65_536),
+        Reply::Num(0),
+    ];
+    replies_are(rt, &each[0], &red);
+    let byte = Reply::Bytes(ByteString::new(Vec::from_elem(alloc, 0x7A, 1)?));
+    let blue = [Reply::Pid(1), Reply::Fds(0, 1), Reply::Num(1), byte];
+    replies_are(rt, &each[1], &blue);
+    Ok(())
+}

@@ -1,0 +1,219 @@
+-- A call that waits, and one that is tried again: what the machine says of it, from what the tables did.
+
+use Rattle.std.proofs.Common.{◌≡◌, ◌≢◌, ◌⊎◌, inl, inr, ℕ, zero, suc, ◌+◌, ◌-◌, Bool, true, false, ◌&&◌, ◌||◌, List, length, Option, Some, None, is_some, Result, Ok, Err, refl, sym, ap, subst, ◌∙◌, arith, nat_eq, nat_lt, if◌then◌else◌}
+use Rattle.std.specs.Option.{option_map}
+use Rattle.std.proofs.lemmas.Bool.{ne_eqb}
+use Rattle.pf_machine.specs.Calls.{Transfer, Reading, Writing, Bringing, Call, Moving, made_by}
+use Rattle.pf_machine.specs.Counts.{named_in, names_of, names}
+use Rattle.pf_machine.specs.Numbered.{at, change_at, sum_of, weight, one_if, keep}
+use Rattle.pf_machine.proofs.NumberedLaws.{at_within, sum_of-set}
+use Rattle.pf_machine.specs.Progress.{moved}
+use Rattle.pf_machine.specs.Queue.{Queue}
+use Rattle.pf_machine.specs.Refusals.{◌>>=◌, ◌>>◌, refuse_if, or_refuse}
+use Rattle.pf_machine.specs.State.{State, Process, End, process, ready, reading_end, writing_end, change_process, waiting}
+use Rattle.pf_machine.specs.Sweep.{sweep, live_descriptions, live_pipes}
+use Rattle.pf_machine.specs.Transfers.{Tried, Ends, tried, two_ends, try_read, try_write, try_cross}
+use Rattle.pf_machine.specs.Attempts.{Finished, Waits, transfer_told, attempt, first, is_nonblocking, transfer}
+use Rattle.pf_base.specs.declared.TheConstants.{MAX_WRITE}
+use Rattle.pf_base.specs.declared.errno.Errno.{Errno}
+use Rattle.pf_base.specs.declared.errno.Errno.TheVariants.{ESRCH, EBUSY, EINVAL}
+use Rattle.pf_base.specs.declared.fault.Fault.{Fault}
+use Rattle.pf_base.specs.declared.progress.Crossing.{Crossing}
+use Rattle.pf_base.specs.declared.progress.Progress.{Progress}
+use Rattle.pf_base.specs.declared.progress.Progress.TheVariants.{Moved, WouldBlock, EndOfFile}
+use Rattle.pf_base.specs.declared.step.Reply.{Reply}
+use Rattle.pf_base.specs.declared.step.Reply.TheVariants as replies
+use Rattle.pf_frame.specs.Live.{Live}
+use Rattle.pf_parked.specs.UnfinishedWrite.{UnfinishedWrite}
+use Rattle.pf_tables.specs.Meaning.{Namespace, meaning}
+use Rattle.pf_tables.specs.Owns.{Owns}
+use Rattle.pf_tables.specs.Told.{Told, attempted, tried_call, flag_of, is_nonblocking_at, transferred, waits_in, settled}
+
+-- Another call of a process, which is no open: nothing that was swept comes back
+
+module _ {Q : Type 0} (s : State Q) (pid : ℕ) (p : Process) (stands : at s.processes (pid - 1) ≡ Some p) (bare : made_by p.parked ≡ None) (c : Option Call) (moving : made_by c ≡ None) where
+  same_names : (n : ℕ) → names (change_process (waiting c) s pid).processes n ≡ names s.processes n
+  same_names n =
+      let h : Process → ℕ = λ p. named_in n (names_of p) in
+      let y : Option Process = option_map (waiting c) (at s.processes (pid - 1)) in
+      let new : weight h y ≡ weight h (Some p) = ap (λ o. weight h (option_map (waiting c) o)) stands ∙ ap (λ o. weight (λ m. one_if (nat_eq m n)) o + sum_of (λ m. one_if (nat_eq m n)) p.descriptors) (moving ∙ sym bare) in
+      omega (arith, sum_of-set h s.processes (pid - 1) y (at_within s.processes (pid - 1) p stands), new, ap (weight h) stands)
+
+  pub sweep-waiting : sweep (change_process (waiting c) s pid) ≡ change_process (waiting c) (sweep s) pid
+  sweep-waiting =
+      let live : live_descriptions (change_process (waiting c) s pid).processes s.descriptions ≡ live_descriptions s.processes s.descriptions =
+      λ i. keep (λ n. nat_lt 0 (same_names n i)) s.descriptions in
+      λ i. record s { processes = change_at (waiting c) s.processes (pid - 1); descriptions = live i; pipes = live_pipes (live i) s.pipes }
+
+-- What was tried
+
+-- a transfer changes no process
+tried-processes : (s : State Queue) (p : Process) (t : Transfer) (r : Tried) → tried s p t ≡ Ok r → r.state.processes ≡ s.processes
+tried-processes s p (Reading fd n) r h = by_end (reading_end s p fd) h
+  where
+    by_end : (e : Result (End Queue) Errno) → (e >>= (λ e. Ok (try_read s e n))) ≡ Ok r → r.state.processes ≡ s.processes
+    by_end (Ok e) h = let same : try_read s e n ≡ r = cc in ap (λ (x : Tried). x.state.processes) (sym same)
+    by_end (Err e) h = absurd (cc)
+tried-processes s p (Writing fd x written) r h = by_end (writing_end s p fd) (nat_lt MAX_WRITE (length x)) h
+  where
+    by_end : (e : Result (End Queue) Errno) (b : Bool) → (e >>= (λ e. refuse_if b EINVAL >> Ok (try_write s e x written))) ≡ Ok r → r.state.processes ≡ s.processes
+    by_end (Ok e) false h = let same : try_write s e x written ≡ r = cc in ap (λ (x : Tried). x.state.processes) (sym same)
+    by_end (Ok e) true h = absurd (cc)
+    by_end (Err e) b h = absurd (cc)
+tried-processes s p (Bringing c source sink n) r h = by_end (two_ends s p source sink) h
+  where
+    by_end : (e : Result Ends Errno) → (e >>= (λ e. Ok (try_cross c s e n))) ≡ Ok r → r.state.processes ≡ s.processes
+    by_end (Ok e) h = let same : try_cross c s e n ≡ r = cc in ap (λ (x : Tried). x.state.processes) (sym same)
+    by_end (Err e) h = absurd (cc)
+
+-- who is ready stands in its place, and waits in no call
+pub record IsReady (s : State Queue) (pid : ℕ) (p : Process) : Type 0 where
+  pub stands : at s.processes (pid - 1) ≡ Some p
+  pub awake : p.parked ≡ None
+
+pub is_ready : (s : State Queue) (pid : ℕ) (p : Process) → ready s pid ≡ Ok p → IsReady s pid p
+is_ready s pid p h = by_row (process s pid) refl h
+  where
+    place : (m : ℕ) (q : Process) → process s m ≡ Some q → at s.processes (m - 1) ≡ Some q
+    place zero q g = absurd (cc)
+    place (suc i) q g = let same : suc i - 1 ≡ i = omega arith in ap (at s.processes) same ∙ g
+
+    by_call : (q : Process) (o : Option Call) → process s pid ≡ Some q → q.parked ≡ o → (refuse_if (is_some o) EBUSY >> Ok q) ≡ Ok p → IsReady s pid p
+    by_call q None g e h =
+        let same : q ≡ p = cc in
+        record { stands = place pid q g ∙ ap Some same; awake = ap (λ (x : Process). x.parked) (sym same) ∙ e }
+    by_call q (Some c) g e h = absurd (cc)
+
+    by_row : (o : Option Process) → process s pid ≡ o → (or_refuse ESRCH o >>= (λ q. refuse_if (is_some q.parked) EBUSY >> Ok q)) ≡ Ok p → IsReady s pid p
+    by_row None g h = absurd (cc)
+    by_row (Some q) g h = by_call q q.parked g refl h
+
+-- a process that is ready, and what its transfer came to
+pub record Tries (s : State Queue) (pid : ℕ) (t : Transfer) (r : Tried) : Type 0 where
+  pub p : Process
+  pub caller : ready s pid ≡ Ok p
+  pub is : tried s p t ≡ Ok r
+
+pub tries : (s : State Queue) (pid : ℕ) (t : Transfer) (r : Tried) → attempted s pid t ≡ Ok r → Tries s pid t r
+tries s pid t r h = by_caller (ready s pid) refl h
+  where
+    by_caller : (q : Result Process Errno) → ready s pid ≡ q → (q >>= (λ p. tried s p t)) ≡ Ok r → Tries s pid t r
+    by_caller (Ok p) c h = record { p = p; caller = c; is = h }
+    by_caller (Err e) c h = absurd (cc)
+
+-- so its call goes on from there
+pub called : (s : State Queue) (pid : ℕ) (nonblock : Bool) (t : Transfer) (r : Tried) → attempted s pid t ≡ Ok r → tried_call s pid nonblock t ≡ (transfer_told t r r.progress >>= first pid nonblock)
+called s pid nonblock t r h =
+    let w = tries s pid t r h in
+    ap (λ q. q >>= (λ p. attempt s pid p (Moving t) >>= first pid nonblock)) w.caller ∙ ap (λ q. (q >>= (λ x. transfer_told t x x.progress)) >>= first pid nonblock) w.is
+
+pub not_called : (s : State Queue) (pid : ℕ) (nonblock : Bool) (t : Transfer) (e : Errno) → attempted s pid t ≡ Err e → tried_call s pid nonblock t ≡ Err e
+not_called s pid nonblock t e h = by_caller (ready s pid) h
+  where
+    by_tried : (p : Process) (q : Result Tried Errno) → q ≡ Err e → ((q >>= (λ x. transfer_told t x x.progress)) >>= first pid nonblock) ≡ Err e
+    by_tried p (Ok x) g = absurd (cc)
+    by_tried p (Err x) g = let same : x ≡ e = cc in ap Err same
+
+    by_caller : (q : Result Process Errno) → (q >>= (λ p. tried s p t)) ≡ Err e → (q >>= (λ p. attempt s pid p (Moving t) >>= first pid nonblock)) ≡ Err e
+    by_caller (Ok p) g = by_tried p (tried s p t) g
+    by_caller (Err x) g = let same : x ≡ e = cc in ap Err same
+
+-- It parks
+
+module _ (f g : Live) (old mid new : Namespace) (pid : ℕ) (t : Transfer) (r : Tried) (is : attempted (meaning f old.state) pid t ≡ Ok r) (owns : Owns g mid) (limits : mid.limits ≡ old.limits) (state : meaning g mid.state ≡ sweep r.state)
+    (c : Call) (moving : made_by (Some c) ≡ None) (waits : transfer_told t r r.progress ≡ Ok (Waits r.state c)) (waits_now : new ≡ waits_in (Some c) mid pid) where
+  s : State Queue
+  s = meaning f old.state
+
+  w : Tries (meaning f old.state) pid t r
+  w = tries (meaning f old.state) pid t r is
+
+  here : IsReady (meaning f old.state) pid w.p
+  here = is_ready (meaning f old.state) pid w.p w.caller
+
+  now_waits : sweep (change_process (waiting (Some c)) r.state pid) ≡ change_process (waiting (Some c)) (sweep r.state) pid
+  now_waits =
+      sweep-waiting r.state pid w.p (ap (λ ps. at ps (pid - 1)) (tried-processes (meaning f old.state) w.p t r w.is) ∙ here.stands) (ap made_by here.awake) (Some c) moving
+
+  pub parks : Told f g old new (Ok replies.Parked) (tried_call (meaning f old.state) pid false t)
+  parks = record {
+    owns = subst (Owns g) (sym waits_now) (record { joined = owns.joined; reserve = owns.reserve });
+    limits = ap (λ (n : Namespace). n.limits) waits_now ∙ limits;
+    says =
+        ap settled (called (meaning f old.state) pid false t r is ∙ ap (λ a. a >>= first pid false) waits)
+        ∙ ap (λ (z : State Queue). Ok (record { state = z; reply = replies.Parked })) (now_waits ∙ ap (λ (z : State Queue). change_process (waiting (Some c)) z pid) (sym state))
+        ∙ ap (λ (n : Namespace). Ok (record { state = meaning g n.state; reply = replies.Parked })) (sym waits_now);
+  }
+
+-- It doesn't wait
+
+-- the descriptions say so
+pub flagged : (s : State Queue) (pid fd : ℕ) (p : Process) → ready s pid ≡ Ok p → is_nonblocking_at s pid fd ≡ is_nonblocking s p fd
+flagged s pid fd p h = ap (flag_of s fd) h
+
+pub read_flag : (s : State Queue) (pid fd n : ℕ) → tried_call s pid (is_nonblocking_at s pid fd) (Reading fd n) ≡ transferred s pid false (Reading fd n)
+read_flag s pid fd n = by_caller (ready s pid) refl
+  where
+    by_caller : (q : Result Process Errno) → ready s pid ≡ q
+        → (q >>= (λ p. attempt s pid p (Moving (Reading fd n)) >>= first pid (is_nonblocking_at s pid fd))) ≡ (q >>= (λ p. transfer s pid p false (Reading fd n)))
+    by_caller (Ok p) h = ap (λ b. attempt s pid p (Moving (Reading fd n)) >>= first pid b) (flagged s pid fd p h)
+    by_caller (Err e) h = refl
+
+pub write_flag : (s : State Queue) (pid fd : ℕ) (x : List ℕ) → tried_call s pid (is_nonblocking_at s pid fd) (Writing fd x 0) ≡ transferred s pid false (Writing fd x 0)
+write_flag s pid fd x = by_caller (ready s pid) refl
+  where
+    by_caller : (q : Result Process Errno) → ready s pid ≡ q
+        → (q >>= (λ p. attempt s pid p (Moving (Writing fd x 0)) >>= first pid (is_nonblocking_at s pid fd))) ≡ (q >>= (λ p. transfer s pid p false (Writing fd x 0)))
+    by_caller (Ok p) h = ap (λ b. attempt s pid p (Moving (Writing fd x 0)) >>= first pid b) (flagged s pid fd p h)
+    by_caller (Err e) h = refl
+
+pub cross_flag : (s : State Queue) (pid : ℕ) (flag : Bool) (c : Crossing) (source sink n : ℕ)
+    → tried_call s pid (flag || (is_nonblocking_at s pid source || is_nonblocking_at s pid sink)) (Bringing c source sink n) ≡ transferred s pid flag (Bringing c source sink n)
+cross_flag s pid flag c source sink n = by_caller (ready s pid) refl
+  where
+    by_caller : (q : Result Process Errno) → ready s pid ≡ q
+        → (q >>= (λ p. attempt s pid p (Moving (Bringing c source sink n)) >>= first pid (flag || (is_nonblocking_at s pid source || is_nonblocking_at s pid sink)))) ≡ (q >>= (λ p. transfer s pid p flag (Bringing c source sink n)))
+    by_caller (Ok p) h = λ i. attempt s pid p (Moving (Bringing c source sink n)) >>= first pid (flag || (flagged s pid source p h i || flagged s pid sink p h i))
+    by_caller (Err e) h = refl
+
+-- so a first tee, or a first splice, is told what the machine's is
+pub crossed_first : (f g : Live) (old new : Namespace) (result : Result Reply Fault) (pid : ℕ) (flag : Bool) (c : Crossing) (source sink n : ℕ)
+    → Told f g old new result (tried_call (meaning f old.state) pid (flag || (is_nonblocking_at (meaning f old.state) pid source || is_nonblocking_at (meaning f old.state) pid sink)) (Bringing c source sink n))
+    → Told f g old new result (transferred (meaning f old.state) pid flag (Bringing c source sink n))
+crossed_first f g old new result pid flag c source sink n = subst (Told f g old new result) (cross_flag (meaning f old.state) pid flag c source sink n)
+
+-- nobody asked for it
+pub not_asked : (b : Bool) {x : Bool} → x ≡ false → (b && x) ≡ false
+not_asked true h = h
+not_asked false h = refl
+
+pub nothing_asked : {b : Bool} (x : Bool) → b ≡ false → (b && x) ≡ false
+nothing_asked x h = ap (λ b. b && x) h
+
+-- A write goes on where bytes are left, and where none went in now
+pub goes_on : (r : Tried) (fd : ℕ) (x : List ℕ) (written n : ℕ) (rest : UnfinishedWrite) → written + n ≢ length x → rest ≡ record { bytes = x; written = written + n } → r.progress ≡ Moved n
+    → transfer_told (Writing fd x written) r r.progress ≡ Ok (Waits r.state (Moving (Writing fd rest.bytes rest.written)))
+goes_on r fd x written n rest left is moved =
+    ap (transfer_told (Writing fd x written) r) moved
+    ∙ ap (λ b. if b then Ok (Finished r.state (replies.Num (length x))) else Ok (Waits r.state (Moving (Writing fd x (written + n))))) (ne_eqb (written + n) (length x) left)
+    ∙ ap (λ (w : UnfinishedWrite). Ok (Waits r.state (Moving (Writing fd w.bytes w.written)))) (sym is)
+
+pub stays_waiting : (r : Tried) (fd : ℕ) (write rest : UnfinishedWrite) → rest ≡ write → (r.progress ≡ WouldBlock) ⊎ (r.progress ≡ EndOfFile)
+    → transfer_told (Writing fd write.bytes write.written) r r.progress ≡ Ok (Waits r.state (Moving (Writing fd rest.bytes rest.written)))
+stays_waiting r fd write rest is blocked =
+    elim blocked [
+      | inl none ↦ ap (transfer_told (Writing fd write.bytes write.written) r) none ∙ ap (λ (w : UnfinishedWrite). Ok (Waits r.state (Moving (Writing fd w.bytes w.written)))) (sym is)
+      | inr none ↦ ap (transfer_told (Writing fd write.bytes write.written) r) none ∙ ap (λ (w : UnfinishedWrite). Ok (Waits r.state (Moving (Writing fd w.bytes w.written)))) (sym is)
+    ]
+
+-- in other words
+pub blocked_as : {p q : Progress} → p ≡ q → (q ≡ WouldBlock) ⊎ (q ≡ EndOfFile) → (p ≡ WouldBlock) ⊎ (p ≡ EndOfFile)
+blocked_as e h = subst (λ p. (p ≡ WouldBlock) ⊎ (p ≡ EndOfFile)) (sym e) h
+
+-- a first write, where it is known whether it waits
+pub write_as : (s : State Queue) (pid fd : ℕ) (x : List ℕ) (b : Bool) → is_nonblocking_at s pid fd ≡ b → tried_call s pid b (Writing fd x 0) ≡ transferred s pid false (Writing fd x 0)
+write_as s pid fd x b is = ap (λ c. tried_call s pid c (Writing fd x 0)) (sym is) ∙ write_flag s pid fd x
+
+pub none_of : {X : Type 0} (o : Option X) → ((x : X) → o ≡ Some x → ⊥) → o ≡ None
+none_of None none = refl
+none_of (Some x) none = absurd (none x refl)

@@ -1,0 +1,160 @@
+-- What goes, in the meaning of the state that it leaves: a descriptor with whatever nobody can reach any more, and a
+-- process.
+
+use Rattle.std.proofs.Common.{◌≡◌, ℕ, zero, suc, ◌+◌, ◌-◌, ◌<◌, ◌≤◌, List, [], map, set, Option, Some, None, Ok, Err, refl, ap, sym, ◌∙◌, subst, arith}
+use Rattle.std.specs.Option.{option_map, option_and_then}
+use Rattle.std.proofs.lemmas.List.{map-set}
+use Rattle.pf_machine.specs.Refusals.{◌>>=◌, or_refuse}
+use Rattle.pf_machine.specs.FileMap.{Files}
+use Rattle.pf_base.specs.Limits.{Limits}
+use Rattle.pf_machine.specs.Numbered.{at, clear_at}
+use Rattle.pf_machine.proofs.NumberedLaws.{at-map}
+use Rattle.pf_machine.specs.Machine.{call_of}
+use Rattle.pf_machine.specs.State as machine
+use Rattle.pf_machine.specs.State.{Pipe, with_process, without_process}
+use Rattle.pf_machine.specs.Descriptors.{named, without_descriptor}
+use Rattle.pf_base.specs.declared.errno.Errno.{Errno}
+use Rattle.pf_base.specs.declared.errno.Errno.TheVariants.{EBADF}
+use Rattle.pf_machine.specs.Sweep.{sweep}
+use Rattle.pf_machine.proofs.SweepLaws.{with_processes}
+use Rattle.pf_base.specs.declared.TheConstants.{MAX_PROCESSES}
+use Rattle.pf_frame.specs.Live.{Live}
+use Rattle.pf_ring.specs.Ring.{Ring}
+use Rattle.pf_ring.specs.Windows.{Keeps, Stands}
+use Rattle.pf_ring.proofs.TableLaws.{no_source}
+use Rattle.pf_ring.specs.Table.{Joined}
+use Rattle.pf_limits.specs.Sums.{AreSumsOf}
+use Rattle.pf_limits.specs.UserPages.{UserPages, charged_to, Charges}
+use Rattle.pf_limits.proofs.SumLaws.{covers, gone as refunded}
+use Rattle.pf_tables.specs.Meaning.{Namespace, meaning, pipe_meaning, ring_or, rings_of}
+use Rattle.pf_tables.proofs.MeaningLaws.{sweep-meaning, pipes-without}
+use Rattle.pf_tables.specs.Owns.{Owns}
+use Rattle.pf_tables.proofs.OwnsLaws.{stands_at, joined_gone, others_written}
+use Rattle.pf_tables.specs.Rows as rows
+use Rattle.pf_tables.specs.Rows.{pipe_of, ProcessRows, DescriptionRows, PipeRows, Key, Process, process_in, ready_in, Lives, key_at, keys_of, process_of, processes_of, descriptions_of, pipes_of, state_of, Tied, Kept}
+use Rattle.pf_tables.specs.Tables.{closed, exited, descriptor, emptied, without_place, Left}
+use Rattle.pf_tables.specs.Told.{Becomes}
+use Rattle.pf_tables.proofs.Callers.{lives, lives_not, readies, place_is}
+use Rattle.pf_tables.proofs.DescriptorsLetGo.{descriptor_shown}
+use Rattle.pf_tables.proofs.RowsShown.{shown, none_was, set_same}
+use Rattle.pf_tables.proofs.TablesSettled.{changed-swept, within_same}
+use Rattle.pf_tables.proofs.ProcessTableEmpty.{gone}
+
+module _ {files : Files} {files_made : ℕ} (f : Live) (limits : Limits) (charges : UserPages) (ps : ProcessRows) (ds : DescriptionRows) (pipes : PipeRows) (k : Kept charges ps ds pipes)
+    (n : Namespace) (view : record { limits = limits; state = state_of ps ds pipes files files_made } ≡ n) (owns : Owns f n)
+    (i fd : ℕ) (ps' : ProcessRows) (ds' : DescriptionRows) (pipes' : PipeRows) (l : Left ps ds pipes ps' ds' pipes' i fd) where
+  abbrev new : Namespace
+  new = record { limits = limits; state = state_of ps' ds' pipes' files files_made }
+
+  owned : Owns f (record { limits = limits; state = state_of ps ds pipes files files_made })
+  owned = subst (Owns f) (sym view) owns
+
+  -- the state by the meaning of the one before, where the pipes that are left mean the same
+  away : (g : Live) → Owns g new → map (option_map (pipe_meaning g)) (pipes_of pipes') ≡ map (option_map (pipe_meaning f)) (pipes_of pipes') → Becomes f g n new (emptied (meaning f n.state) i fd)
+  away g own same =
+      subst (λ (m : Namespace). Becomes f g m new (emptied (meaning f m.state) i fd)) view
+      (record {
+        owns = own;
+        limits = refl;
+        state = ap (λ xs. record { processes = processes_of ps'; descriptions = descriptions_of ds'; pipes = xs; files = files; files_made = files_made }) same ∙ ap (meaning f) (l.state files files_made) ∙ sym (sweep-meaning f (emptied (state_of ps ds pipes files files_made) i fd));
+      })
+
+  -- No pipe went
+  module _ (same : pipes_of pipes' ≡ pipes_of pipes) where
+    pub pipes_stay : Becomes f f n new (emptied (meaning f n.state) i fd)
+    pipes_stay = away f (record { joined = subst (λ xs. Joined f (map ring_or xs)) (sym same) owned.joined; reserve = owned.reserve }) refl
+
+  -- A pipe went, and its ring was cleared
+  module _ (m : ℕ) (p : rows.Pipe) (there : at (pipes_of pipes) m ≡ Some (pipe_of (0, p))) (left : pipes_of pipes' ≡ clear_at (pipes_of pipes) m) where
+    pub gone_stands : Stands f p.ring.windows
+    gone_stands = stands_at f (state_of ps ds pipes files files_made) m _ owned.joined there
+
+    -- its pages are among its owner's
+    pub gone_covered : (owner pages : ℕ) → owner ≡ p.owner → pages ≡ p.ring.capacity → pages ≤ charged_to charges owner
+    gone_covered owner pages o e =
+        omega (arith, covers (λ (q : machine.Pipe Ring). q.owner) (λ (q : machine.Pipe Ring). q.queue.capacity) charges (pipes_of pipes) m _ k.charged there, e, ap (charged_to charges) o)
+
+    pub gone_kept : (charges' : UserPages) (owner pages : ℕ) → owner ≡ p.owner → pages ≡ p.ring.capacity → Charges charges' charges owner pages → Kept charges' ps' ds' pipes'
+    gone_kept charges' owner pages o e refunds =
+        let back : Charges charges' charges p.owner p.ring.capacity = subst (λ (n : ℕ). Charges charges' charges p.owner n) e (subst (λ (u : ℕ). Charges charges' charges u pages) o refunds) in
+        record {
+          tied = l.tied;
+          charged = subst (λ (xs : List (Option (machine.Pipe Ring))). AreSumsOf (λ (q : machine.Pipe Ring). q.owner) (λ (q : machine.Pipe Ring). q.queue.capacity) charges' xs) (sym left)
+              (refunded (λ (q : machine.Pipe Ring). q.owner) (λ (q : machine.Pipe Ring). q.queue.capacity) charges charges' (pipes_of pipes) k.charged m _ there back);
+        }
+
+    module _ (g : Live) (keeps : Keeps [] p.ring.windows [] f g) where
+      same_meaning : map (option_map (pipe_meaning g)) (clear_at (pipes_of pipes) m) ≡ map (option_map (pipe_meaning f)) (clear_at (pipes_of pipes) m)
+      same_meaning =
+          pipes-without f g (pipes_of pipes) m (others_written f g (state_of ps ds pipes files files_made) m _ (record { capacity = p.ring.capacity; windows = [] }) [] (no_source (rings_of (state_of ps ds pipes files files_made))) owned.joined there keeps)
+          ∙ sym (map-set (option_map (pipe_meaning f)) (pipes_of pipes) m None)
+
+      pub gone_becomes : Becomes f g n new (emptied (meaning f n.state) i fd)
+      gone_becomes =
+          away g
+          (record {
+            joined = subst (λ xs. Joined g (map ring_or xs)) (sym left) (joined_gone f g (state_of ps ds pipes files files_made) m _ (record { capacity = p.ring.capacity; windows = [] }) [] (no_source (rings_of (state_of ps ds pipes files files_made))) owned.joined there keeps refl);
+            reserve = owned.reserve ∙ sym keeps.reservation;
+          })
+          (subst (λ xs. map (option_map (pipe_meaning g)) xs ≡ map (option_map (pipe_meaning f)) xs) (sym left) same_meaning)
+
+-- A process that has no descriptors
+
+module _ {files : Files} {files_made : ℕ} (f : Live) (limits : Limits) (charges : UserPages) (ps : ProcessRows) (ds : DescriptionRows) (pipes : PipeRows) (k : Kept charges ps ds pipes)
+    (n : Namespace) (view : record { limits = limits; state = state_of ps ds pipes files files_made } ≡ n)
+    (i : ℕ) (i_in : i < MAX_PROCESSES) (bare : (fd : ℕ) → descriptor n.state i fd ≡ None) (awake : call_of n.state (i + 1) ≡ None) (ps' : ProcessRows) (is : ps' ≡ clear_at ps i) where
+  bare_key : (fd : ℕ) → key_at fd (at ps i) ≡ None
+  bare_key fd = none_was (λ (k : Key). k.serial) (key_at fd (at ps i)) (sym (descriptor_shown ps ds pipes files files_made i fd) ∙ ap (λ (m : Namespace). descriptor m.state i fd) view ∙ bare fd)
+
+  vacated : Tied ps' ds pipes
+  vacated = subst (λ x. Tied x ds pipes) (sym is) (by_place (at ps i) refl)
+    where
+      bare_all : (p : Process) → at ps i ≡ Some p → (m : ℕ) → at (keys_of p) m ≡ None
+      bare_all p e zero = let same : suc i ≡ i + 1 = omega arith in no_key p.parked (none_was rows.call_of p.parked (sym (ap (λ (o : Option machine.Process). option_and_then (λ (q : machine.Process). q.parked) o) (shown process_of ps i p e)) ∙ ap (λ (m : Namespace). option_and_then (λ (q : machine.Process). q.parked) (at m.state.processes i)) view ∙ ap (call_of n.state) same ∙ awake))
+        where
+          no_key : (o : Option (rows.Call Key)) → o ≡ None → rows.made_by o ≡ None
+          no_key None h = refl
+          no_key (Some call) h = absurd (cc)
+      bare_all p e (suc m) = sym (ap (key_at m) e) ∙ bare_key m
+
+      by_place : (o : Option Process) → at ps i ≡ o → Tied (clear_at ps i) ds pipes
+      by_place None e = subst (λ x. Tied x ds pipes) (sym (set_same ps i None (sym e))) k.tied
+      by_place (Some p) e = gone ps ds pipes k.tied i i_in p e (bare_all p e)
+
+  pub vacated-kept : Kept charges ps' ds pipes
+  vacated-kept = record { tied = vacated; charged = k.charged }
+
+  pub vacated-becomes : Owns f n → Becomes f f n (record { limits = limits; state = state_of ps' ds pipes files files_made }) (without_place (meaning f n.state) i)
+  vacated-becomes owns =
+      subst (λ (m : Namespace). Owns f m → Becomes f f m (record { limits = limits; state = state_of ps' ds pipes files files_made }) (without_place (meaning f m.state) i)) view
+      (λ o. record {
+        owns = record { joined = o.joined; reserve = o.reserve };
+        limits = refl;
+        state = ap (meaning f)
+            (changed-swept ps' ds pipes files files_made vacated (state_of ps ds pipes files files_made) (within_same (descriptions_of ds)) (within_same (pipes_of pipes))
+            ∙ ap (λ qs. sweep (with_processes (state_of ps ds pipes files files_made) qs)) (ap processes_of is ∙ map-set (option_map process_of) ps i None))
+            ∙ sym (sweep-meaning f (without_place (state_of ps ds pipes files files_made) i));
+      }) owns
+
+-- What the machine does, from what the tables find
+
+module _ {files : Files} {files_made : ℕ} (f : Live) (ps : ProcessRows) (ds : DescriptionRows) (pipes : PipeRows) (limits : Limits) (n : Namespace) (view : record { limits = limits; state = state_of ps ds pipes files files_made } ≡ n)
+    (pid : ℕ) (p : Process) (caller : ready_in ps pid ≡ Ok p) where
+  pub closed_is : (fd : ℕ) (k : Key) → at p.descriptors fd ≡ Some k → closed (meaning f n.state) pid fd ≡ Ok (emptied (meaning f n.state) (pid - 1) fd)
+  closed_is fd k h =
+      subst (λ (m : Namespace). closed (meaning f m.state) pid fd ≡ Ok (emptied (meaning f m.state) (pid - 1) fd)) view
+      (ap (λ r. r >>= (λ q. named q fd >>= (λ _. Ok (with_process (meaning f (state_of ps ds pipes files files_made)) pid (without_descriptor fd q))))) (readies f ps ds pipes files files_made pid p caller)
+      ∙ ap (λ o. or_refuse EBADF o >>= (λ _. Ok (with_process (meaning f (state_of ps ds pipes files files_made)) pid (without_descriptor fd (process_of p))))) (at-map (λ (k : Key). k.serial) p.descriptors fd ∙ ap (option_map (λ (k : Key). k.serial)) h)
+      ∙ ap (λ o. Ok (record (meaning f (state_of ps ds pipes files files_made)) { processes = set (processes_of ps) (pid - 1) (option_map (without_descriptor fd) o) })) (sym (shown process_of ps (pid - 1) p (place_is ps pid p caller))))
+
+module _ {files : Files} {files_made : ℕ} (f : Live) (ps : ProcessRows) (ds : DescriptionRows) (pipes : PipeRows) (limits : Limits) (n : Namespace) (view : record { limits = limits; state = state_of ps ds pipes files files_made } ≡ n)
+    (pid : ℕ) where
+  pub exited_is : Lives ps pid → exited (meaning f n.state) pid ≡ Ok (without_place (meaning f n.state) (pid - 1))
+  exited_is who =
+      subst (λ (m : Namespace). exited (meaning f m.state) pid ≡ Ok (without_place (meaning f m.state) (pid - 1))) view
+      (ap (λ r. r >>= (λ _. Ok (without_process (meaning f (state_of ps ds pipes files files_made)) pid))) (lives f ps ds pipes files files_made pid who.p who.is))
+
+  pub exited_not : (e : Errno) → process_in ps pid ≡ Err e → exited (meaning f n.state) pid ≡ Err e
+  exited_not e h =
+      subst (λ (m : Namespace). exited (meaning f m.state) pid ≡ Err e) view
+      (ap (λ r. r >>= (λ _. Ok (without_process (meaning f (state_of ps ds pipes files files_made)) pid))) (lives_not f ps ds pipes files files_made pid e h))

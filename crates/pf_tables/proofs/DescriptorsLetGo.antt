@@ -1,0 +1,143 @@
+-- A descriptor goes: a name is lost, and where it was the last its description, and perhaps the description's pipe. Each
+-- step of the code moves something into the hand or out of it.
+
+use Rattle.std.proofs.Common.{◌≡◌, ℕ, ◌-◌, ◌<◌, ◌≤◌, Bool, true, false, [], ◌∷◌, set, Option, Some, None, IsSome, is_some, IfSome, refl, sym, ap, subst, ◌∙◌, arith, if◌then◌else◌}
+use Rattle.std.specs.Option.{option_map, option_and_then}
+use Rattle.std.proofs.lemmas.List.{map-set}
+use Rattle.pf_machine.specs.FileMap.{Files}
+use Rattle.pf_machine.specs.Numbered.{at, put_at, clear_at, change_at, one_if}
+use Rattle.pf_machine.proofs.NumberedLaws.{at-map, at_within}
+use Rattle.pf_machine.specs.State as machine
+use Rattle.pf_machine.specs.Descriptors.{without_descriptor}
+use Rattle.pf_machine.specs.Sweep.{sweep}
+use Rattle.pf_machine.proofs.SweepLaws.{with_processes}
+use Rattle.pf_fds.specs.Registry.{find}
+use Rattle.pf_fds.specs.Descriptions.{names_of, one_less}
+use Rattle.pf_tables.specs.Rows.{ProcessRows, DescriptionRows, PipeRows, Key, Named, Process, Description, Pipe, call_of, key_at, without_key, with_fewer, is_used, left, gone, process_of, description_of, pipe_of, processes_of, descriptions_of, pipes_of, state_of, TiedWith, Tied, opens_at, opens_of}
+use Rattle.pf_tables.specs.Tables.{descriptor, Left, LetsGo, LetsGoOpens}
+use Rattle.pf_tables.proofs.CountersTied.{finds, once}
+use Rattle.pf_tables.proofs.Fifos.{opens_stay}
+use Rattle.pf_tables.proofs.RowsShown.{shown, find_at, set_same}
+use Rattle.pf_tables.proofs.SmallChanges.{taken, names_row, unnamed, unnamed_last, end_gone, enough}
+use Rattle.pf_tables.proofs.TablesSettled.{Within, within_row, within_same, changed-swept}
+
+-- what the tables show of a descriptor
+pub descriptor_shown : (ps : ProcessRows) (ds : DescriptionRows) (pipes : PipeRows) (files : Files) (files_made : ℕ) (i fd : ℕ) → descriptor (state_of ps ds pipes files files_made) i fd ≡ option_map (λ k. k.serial) (key_at fd (at ps i))
+descriptor_shown ps ds pipes files files_made i fd = ap (option_and_then (λ (p : machine.Process). at p.descriptors fd)) (at-map process_of ps i) ∙ by_place (at ps i)
+  where
+    by_place : (o : Option Process) → option_and_then (λ (p : machine.Process). at p.descriptors fd) (option_map process_of o) ≡ option_map (λ k. k.serial) (key_at fd o)
+    by_place None = refl
+    by_place (Some p) = at-map (λ (k : Key). k.serial) p.descriptors fd
+
+-- and of one that is emptied
+emptied_shown : (ps : ProcessRows) (i fd : ℕ) → processes_of (set ps i (without_key fd (at ps i))) ≡ change_at (without_descriptor fd) (processes_of ps) i
+emptied_shown ps i fd = map-set (option_map process_of) ps i (without_key fd (at ps i)) ∙ ap (set (processes_of ps) i) (by_place (at ps i) ∙ ap (option_map (without_descriptor fd)) (sym (at-map process_of ps i)))
+  where
+    by_place : (o : Option Process) → option_map process_of (without_key fd o) ≡ option_map (without_descriptor fd) (option_map process_of o)
+    by_place None = refl
+    by_place (Some p) = ap (λ xs. Some (record { cred = p.cred; descriptors = xs; parked = option_map call_of p.parked })) (map-set (option_map (λ (k : Key). k.serial)) p.descriptors fd None)
+
+module _ (ps : ProcessRows) (ds : DescriptionRows) (pipes : PipeRows) (t : Tied ps ds pipes) (i fd : ℕ) (ps' : ProcessRows) (is : ps' ≡ set ps i (without_key fd (at ps i))) where
+  leaves : (ds' : DescriptionRows) (pipes' : PipeRows) → Tied ps' ds' pipes' → Within (descriptions_of ds') (descriptions_of ds) → Within (pipes_of pipes') (pipes_of pipes) → Left ps ds pipes ps' ds' pipes' i fd
+  leaves ds' pipes' u d p = record {
+    tied = u;
+    state = λ files files_made. changed-swept ps' ds' pipes' files files_made u (state_of ps ds pipes files files_made) d p ∙ ap (λ qs. sweep (with_processes (state_of ps ds pipes files files_made) qs)) (ap processes_of is ∙ emptied_shown ps i fd);
+  }
+
+  -- there was none
+  pub absent : key_at fd (at ps i) ≡ None → Left ps ds pipes ps' ds pipes i fd
+  absent e = leaves ds pipes (subst (λ x. Tied x ds pipes) (sym (is ∙ set_same ps i (without_key fd (at ps i)) (same (at ps i) e))) t) (within_same (descriptions_of ds)) (within_same (pipes_of pipes))
+    where
+      same : (o : Option Process) → key_at fd o ≡ None → without_key fd o ≡ o
+      same None e = refl
+      same (Some p) e = ap (λ xs. Some (record p { descriptors = xs })) (set_same p.descriptors fd None (sym e))
+
+  module _ (key : Key) (e : key_at fd (at ps i) ≡ Some key) where
+    -- the key is in the hand
+    key_held : TiedWith (key ∷ []) [] ps' ds pipes
+    key_held = subst (λ x. TiedWith (key ∷ []) [] x ds pipes) (sym is) (by_place (at ps i) refl e)
+      where
+        by_place : (o : Option Process) → at ps i ≡ o → key_at fd o ≡ Some key → TiedWith (key ∷ []) [] (set ps i (without_key fd o)) ds pipes
+        by_place None h g = absurd (cc)
+        by_place (Some p) h g = taken [] [] ps ds pipes i fd p h (omega (arith, at_within p.descriptors fd key g, t.wide i p h)) key g t
+
+    row : (d : Named Description) × (at ds key.serial ≡ Some (key.slot, d))
+    row = finds ds key key_held.in_hand.0
+
+    row_found : find ds key.slot key.serial ≡ Some row.0
+    row_found = find_at ds key.slot key.serial row.0 row.1
+
+    pub has_names : 0 < names_of (find ds key.slot key.serial)
+    has_names = let r = names_row [] [] ps' ds pipes key row.0 row.1 key_held in rw row_found (omega (arith, r.0, r.1))
+
+    -- others name the description
+    pub still_named : (ds' : DescriptionRows) → 1 < names_of (find ds key.slot key.serial) → ds' ≡ change_at one_less ds key.serial → Left ps ds pipes ps' ds' pipes i fd
+    still_named ds' more less =
+        let at_row : ds' ≡ put_at ds key.serial (key.slot, record row.0 { names = row.0.names - 1 }) = less ∙ ap (λ (o : Option (ℕ × Named Description)). set ds key.serial (option_map one_less o)) row.1 in
+        let several : 1 < row.0.names = subst (λ (o : Option (Named Description)). 1 < names_of o) row_found more in
+        subst (λ x. Left ps ds pipes ps' x pipes i fd) (sym at_row)
+        (leaves _ pipes (unnamed [] [] ps' ds pipes key row.0 row.1 key_held (λ one. omega (arith, one, several)))
+        (within_row description_of ds key.serial (key.slot, row.0) _ row.1 (λ z h. let it : ◌≡◌ {A = ℕ × Named Description} (key.slot, record row.0 { names = row.0.names - 1 }) z = cc in ap description_of (sym it))) (within_same (pipes_of pipes)))
+
+    -- it was the last name: the description is in the hand
+    module _ (d : Description) (last : at ds key.serial ≡ Some (key.slot, once d)) (ds' : DescriptionRows) (cleared : ds' ≡ clear_at ds key.serial) where
+      end_held : TiedWith [] (d ∷ []) ps' ds' pipes
+      end_held = subst (λ x. TiedWith [] (d ∷ []) ps' x pipes) (sym cleared) (unnamed_last [] [] ps' ds pipes key (once d) last key_held refl)
+
+      pipe : (p : Pipe) × (at pipes d.pipe.serial ≡ Some (d.pipe.slot, p))
+      pipe = finds pipes d.pipe end_held.ends_in_hand.0.0
+
+      pipe_found : find pipes d.pipe.slot d.pipe.serial ≡ Some pipe.0
+      pipe_found = find_at pipes d.pipe.slot d.pipe.serial pipe.0 pipe.1
+
+      pub pipe_stands : IsSome (find pipes d.pipe.slot d.pipe.serial)
+      pipe_stands = ap is_some pipe_found
+
+      pub pipe_counts : IfSome (find pipes d.pipe.slot d.pipe.serial) (λ p. (one_if d.reads ≤ p.readers) × (one_if d.writes ≤ p.writers))
+      pipe_counts = rw pipe_found (enough [] [] ps' ds' pipes d pipe.0 pipe.1 end_held)
+
+      module _ (pipes' : PipeRows) (items : IfSome (find pipes d.pipe.slot d.pipe.serial) (λ p. pipes' ≡ set pipes d.pipe.serial (left d p))) where
+        items_are : pipes' ≡ set pipes d.pipe.serial (left d pipe.0)
+        items_are = subst (λ o. IfSome o (λ (p : Pipe). pipes' ≡ set pipes d.pipe.serial (left d p))) pipe_found items
+
+        pub ended : Left ps ds pipes ps' ds' pipes' i fd
+        ended =
+            leaves ds' pipes' (subst (λ x. Tied ps' ds' x) (sym items_are) (end_gone [] [] ps' ds' pipes d pipe.0 pipe.1 end_held))
+            (subst (λ x. Within (descriptions_of x) (descriptions_of ds)) (sym cleared) (within_row description_of ds key.serial (key.slot, once d) None last (λ z h. absurd (cc))))
+            (subst (λ x. Within (pipes_of x) (pipes_of pipes)) (sym items_are) (within_row pipe_of pipes d.pipe.serial (d.pipe.slot, pipe.0) _ pipe.1 (same (is_used (with_fewer d pipe.0)))))
+          where
+            same : (b : Bool) (z : ℕ × Pipe) → (if b then Some (d.pipe.slot, with_fewer d pipe.0) else None) ≡ Some z → pipe_of z ≡ pipe_of (d.pipe.slot, pipe.0)
+            same true z h = let it : ◌≡◌ {A = ℕ × Pipe} (d.pipe.slot, with_fewer d pipe.0) z = cc in ap pipe_of (sym it)
+            same false z h = absurd (cc)
+
+        -- the pipe goes where nobody uses it any more
+        pub went : (r : Option Pipe) → IfSome (find pipes d.pipe.slot d.pipe.serial) (λ p. r ≡ gone d p) → LetsGo (pipes_of pipes) (pipes_of pipes') r
+        went r is_gone =
+            subst (LetsGo (pipes_of pipes) (pipes_of pipes')) (sym (subst (λ o. IfSome o (λ (p : Pipe). r ≡ gone d p)) pipe_found is_gone)) (by_use (is_used (with_fewer d pipe.0)) refl)
+          where
+            by_use : (b : Bool) → is_used (with_fewer d pipe.0) ≡ b → LetsGo (pipes_of pipes) (pipes_of pipes') (if b then None else Some (with_fewer d pipe.0))
+            by_use true u =
+                ap pipes_of (items_are ∙ ap (λ b. set pipes d.pipe.serial (if b then Some (d.pipe.slot, with_fewer d pipe.0) else None)) u)
+                ∙ map-set (option_map pipe_of) pipes d.pipe.serial (Some (d.pipe.slot, with_fewer d pipe.0))
+                ∙ set_same (pipes_of pipes) d.pipe.serial (Some (pipe_of (d.pipe.slot, with_fewer d pipe.0))) (sym (shown pipe_of pipes d.pipe.serial (d.pipe.slot, pipe.0) pipe.1))
+            by_use false u = (
+              d.pipe.serial,
+              shown pipe_of pipes d.pipe.serial (d.pipe.slot, pipe.0) pipe.1,
+              ap pipes_of (items_are ∙ ap (λ b. set pipes d.pipe.serial (if b then Some (d.pipe.slot, with_fewer d pipe.0) else None)) u) ∙ map-set (option_map pipe_of) pipes d.pipe.serial None,
+            )
+
+        -- and its opens with it
+        pub went_opens : (r : Option Pipe) → IfSome (find pipes d.pipe.slot d.pipe.serial) (λ p. r ≡ gone d p) → LetsGoOpens (opens_of pipes) (opens_of pipes') r
+        went_opens r is_gone =
+            subst (LetsGoOpens (opens_of pipes) (opens_of pipes')) (sym (subst (λ o. IfSome o (λ (p : Pipe). r ≡ gone d p)) pipe_found is_gone)) (by_use (is_used (with_fewer d pipe.0)) refl)
+          where
+            by_use : (b : Bool) → is_used (with_fewer d pipe.0) ≡ b → LetsGoOpens (opens_of pipes) (opens_of pipes') (if b then None else Some (with_fewer d pipe.0))
+            by_use true u =
+                ap opens_of (items_are ∙ ap (λ b. set pipes d.pipe.serial (if b then Some (d.pipe.slot, with_fewer d pipe.0) else None)) u)
+                ∙ opens_stay pipes d.pipe.serial d.pipe.slot pipe.0 (with_fewer d pipe.0) pipe.1 refl
+            by_use false u = (
+              d.pipe.serial,
+              d.pipe.slot,
+              shown opens_at pipes d.pipe.serial (d.pipe.slot, pipe.0) pipe.1,
+              ap opens_of (items_are ∙ ap (λ b. set pipes d.pipe.serial (if b then Some (d.pipe.slot, with_fewer d pipe.0) else None)) u) ∙ map-set (option_map opens_at) pipes d.pipe.serial None,
+            )

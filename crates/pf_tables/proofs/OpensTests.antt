@@ -1,0 +1,150 @@
+-- Whether a FIFO may be opened, whether an open is over, and what its description is.
+
+use Rattle.std.proofs.Common.{◌≡◌, ℕ, ◌-◌, ◌^◌, ◌<◌, ◌≤◌, Bool, true, false, length, Option, Some, None, Result, Ok, Err, nat_lt, nat_le, refl, sym, ap, subst, ◌∙◌, arith}
+use Rattle.std.specs.Option.{option_map, option_and_then}
+use Rattle.std.proofs.lemmas.Bool.Decides.{nat_tests}
+use Rattle.std.proofs.lemmas.List.{length-map}
+use Rattle.pf_machine.specs.Refusals.{◌>>=◌, ◌>>◌, refuse_if, or_refuse}
+use Rattle.pf_machine.specs.FileMap.{Files}
+use Rattle.pf_base.specs.Limits.{Limits}
+use Rattle.pf_base.specs.Capacities.{new_capacity, told_as}
+use Rattle.pf_machine.specs.Numbered.{at, first_free}
+use Rattle.pf_machine.proofs.NumberedLaws.{first_free-map}
+use Rattle.pf_machine.specs.Opens.{Access}
+use Rattle.pf_machine.specs.Attempts.{open_told}
+use Rattle.pf_base.specs.Permissions.{is_privileged}
+use Rattle.pf_machine.specs.Pipes.{capacity_for, is_spent}
+use Rattle.pf_machine.specs.Queue.{Queue}
+use Rattle.pf_machine.specs.State.{State, ready}
+use Rattle.pf_base.specs.declared.TheConstants.{MAX_DESCRIPTORS}
+use Rattle.pf_base.specs.declared.errno.Errno.{Errno}
+use Rattle.pf_base.specs.declared.errno.Errno.TheVariants.{EMFILE, ENFILE, ENXIO, ENOMEM, EBADF, ESRCH}
+use Rattle.pf_base.specs.declared.fault.Fault.{Fault}
+use Rattle.pf_base.specs.declared.fault.Fault.TheVariants as faults
+use Rattle.pf_walk.specs.Told.{Told as Answered}
+use Rattle.pf_fds.specs.Descriptions.{value_of}
+use Rattle.pf_fds.specs.Registry.{find}
+use Rattle.pf_frame.specs.Live.{Live}
+use Rattle.pf_limits.specs.UserPages.{UserPages, charged_to}
+use Rattle.pf_parked.specs.declared.call.Call.TheVariants.{Open}
+use Rattle.pf_tables.specs.Meaning.{Namespace, meaning}
+use Rattle.pf_tables.specs.Opened.{lacks_readers, may_open, fifo_capacity, other_opens, IsOver}
+use Rattle.pf_tables.specs.Rows.{ProcessRows, DescriptionRows, PipeRows, Key, Named, Process, Description, Pipe, call_of, call_in, made_by, process_at, process_in, ready_in, process_of, description_of, pipe_of, state_of, Kept}
+use Rattle.pf_tables.proofs.Callers.{shown_in, readies, living_shown, place_of}
+use Rattle.pf_tables.proofs.Ends.{end_shown}
+use Rattle.pf_tables.proofs.CountersTied.{finds}
+use Rattle.pf_tables.proofs.PipesOpen.{total_is, charged_is}
+use Rattle.pf_tables.proofs.RowsShown.{find_at}
+
+-- a refusal goes on, and want of memory
+pub passed_on : {A B : Type 0} (fault : Fault) (answer : Result A Errno) (go : A → Result B Errno) → Answered (λ x. x) (Err fault) answer → Answered (λ (x : B). x) (Err fault) (answer >>= go)
+passed_on (faults.Errno e) answer go is = ap (λ r. r >>= go) is
+passed_on faults.NoMemory answer go is = tt
+
+module _ {files : Files} {files_made : ℕ} (f : Live) {charges : UserPages} {limits : Limits} {ps : ProcessRows} {ds : DescriptionRows} {pipes : PipeRows} (kept : Kept charges ps ds pipes)
+    {n : Namespace} (view : record { limits = limits; state = state_of ps ds pipes files files_made } ≡ n) (pid : ℕ) where
+  -- The refusals
+  module _ {p : Process} (is : ready_in ps pid ≡ Ok p) where
+    abbrev s : State Queue
+    s = meaning f n.state
+
+    opener : ready s pid ≡ Ok (process_of p)
+    opener = subst (λ (m : Namespace). ready (meaning f m.state) pid ≡ Ok (process_of p)) view (readies f ps ds pipes files files_made pid p is)
+
+    drawn_is : length s.descriptions ≡ length ds
+    drawn_is = sym (ap (λ (m : Namespace). length m.state.descriptions) view) ∙ length-map ds (option_map description_of)
+
+    pipes_drawn : length s.pipes ≡ length pipes
+    pipes_drawn = length-map n.state.pipes _ ∙ sym (ap (λ (m : Namespace). length m.state.pipes) view) ∙ length-map pipes (option_map pipe_of)
+
+    module _ (a : Access) (file : ℕ) (low : ℕ) (lowest : low ≡ first_free p.descriptors) where
+      free_is : first_free (process_of p).descriptors ≡ low
+      free_is = first_free-map (λ (k : Key). k.serial) p.descriptors ∙ sym lowest
+
+      judged : (full lacks spent : Bool) → nat_le MAX_DESCRIPTORS low ≡ full → lacks_readers s a file ≡ lacks → is_spent s.descriptions 1 ≡ spent
+          → may_open s pid a file ≡ (refuse_if full EMFILE >> (refuse_if lacks ENXIO >> refuse_if spent ENFILE))
+      judged full lacks spent x y z =
+          ap (λ r. r >>= (λ q. refuse_if (nat_le MAX_DESCRIPTORS (first_free q.descriptors)) EMFILE >> (refuse_if (lacks_readers s a file) ENXIO >> refuse_if (is_spent s.descriptions 1) ENFILE))) opener
+          ∙ (λ i. refuse_if ((ap (nat_le MAX_DESCRIPTORS) free_is ∙ x) i) EMFILE >> (refuse_if (y i) ENXIO >> refuse_if (z i) ENFILE))
+
+      pub full_refused : MAX_DESCRIPTORS ≤ low → may_open s pid a file ≡ Err EMFILE
+      full_refused past = judged true (lacks_readers s a file) (is_spent s.descriptions 1) (grind (arith, nat_tests)) refl refl
+
+      module _ (within : low < MAX_DESCRIPTORS) where
+        fits : nat_le MAX_DESCRIPTORS low ≡ false
+        fits = grind (arith, nat_tests)
+
+        pub lacking_refused : lacks_readers s a file ≡ true → may_open s pid a file ≡ Err ENXIO
+        lacking_refused lacks = judged false true (is_spent s.descriptions 1) fits lacks refl
+
+        pub spent_refused : lacks_readers s a file ≡ false → length ds ≡ 2 ^ 64 - 1 → may_open s pid a file ≡ Err ENFILE
+        spent_refused none all = judged false false true fits none (let number = drawn_is in grind (arith, nat_tests))
+
+        pub opens_it : lacks_readers s a file ≡ false → length ds < 2 ^ 64 - 1 → may_open s pid a file ≡ Ok tt
+        opens_it none some = judged false false false fits none (let number = drawn_is in grind (arith, nat_tests))
+
+    -- How many slots its pipe gets
+    module _ (same : limits ≡ charges.limits) where
+      capacity : (spent : Bool) → is_spent s.pipes 1 ≡ spent
+          → fifo_capacity n.limits s pid ≡ (refuse_if spent ENFILE >> told_as ENOMEM (new_capacity charges.limits (is_privileged p.cred) (charged_to charges p.cred.uid) charges.total))
+      capacity spent x =
+          ap (λ r. r >>= (λ q. refuse_if (is_spent s.pipes 1) ENFILE >> told_as ENOMEM (capacity_for n.limits s q.cred))) opener
+          ∙ (λ j. refuse_if (x j) ENFILE >> told_as ENOMEM (new_capacity ((sym (ap (λ (m : Namespace). m.limits) view) ∙ same) j) (is_privileged p.cred) (sym (charged_is f kept view p.cred.uid) j) (sym (total_is f kept view) j)))
+
+      pub capacity_is : length pipes < 2 ^ 64 - 1 → fifo_capacity n.limits s pid ≡ told_as ENOMEM (new_capacity charges.limits (is_privileged p.cred) (charged_to charges p.cred.uid) charges.total)
+      capacity_is some = capacity false (let number = pipes_drawn in grind (arith, nat_tests))
+
+      pub capacity_spent : length pipes ≡ 2 ^ 64 - 1 → fifo_capacity n.limits s pid ≡ Err ENFILE
+      capacity_spent all = capacity true (let number = pipes_drawn in grind (arith, nat_tests))
+
+  -- Whether an open is over
+  module _ (d : Key) (before : ℕ) (waits : call_in ps pid ≡ Some (Open d before)) where
+    sleeper : (p : Process) × (process_in ps pid ≡ Ok p) × (p.parked ≡ Some (Open d before))
+    sleeper = by_row (process_at ps pid) refl waits
+      where
+        by_row : (o : Option Process) → process_at ps pid ≡ o → option_and_then (λ (p : Process). p.parked) o ≡ Some (Open d before) → (p : Process) × (process_in ps pid ≡ Ok p) × (p.parked ≡ Some (Open d before))
+        by_row None h g = absurd (cc)
+        by_row (Some p) h g = (p, ap (or_refuse ESRCH) h, g)
+
+    pub row : (e : Named Description) × (at ds d.serial ≡ Some (d.slot, e))
+    row = finds ds d (kept.tied.finds (pid - 1) 0 sleeper.0 d (place_of ps pid sleeper.0 sleeper.1) (ap made_by sleeper.2))
+
+    pub pipe_row : (r : Pipe) × (at pipes row.0.value.pipe.serial ≡ Some (row.0.value.pipe.slot, r))
+    pipe_row = finds pipes row.0.value.pipe (kept.tied.is_end d.serial (d.slot, row.0) row.1).0
+
+    over_in_state : IsOver (meaning f (state_of ps ds pipes files files_made)) pid (nat_lt before (other_opens row.0.value.reads pipe_row.0))
+    over_in_state = record {
+      p = process_of sleeper.0;
+      n = d.serial;
+      before = before;
+      lives = living_shown f ps ds pipes files files_made pid ∙ ap shown_in sleeper.1;
+      waits = ap (option_map call_of) sleeper.2;
+      is = ap (λ o. or_refuse EBADF o >>= (λ e. Ok (open_told (meaning f (state_of ps ds pipes files files_made)) pid (process_of sleeper.0) d.serial before e)))
+          (end_shown f None ps ds pipes files files_made kept.tied pid 0 d row.0 pipe_row.0 row.1 pipe_row.1);
+    }
+
+    pub over_is : IsOver (meaning f n.state) pid (nat_lt before (other_opens row.0.value.reads pipe_row.0))
+    over_is = subst (λ (m : Namespace). IsOver (meaning f m.state) pid (nat_lt before (other_opens row.0.value.reads pipe_row.0))) view over_in_state
+
+    -- the code finds its description, and the pipe
+    row_found : option_map value_of (find ds d.slot d.serial) ≡ Some row.0.value
+    row_found = ap (option_map value_of) (find_at ds d.slot d.serial row.0 row.1)
+
+    pub not_gone : None ≡ option_map value_of (find ds d.slot d.serial) → ⊥
+    not_gone e = let there = row_found in absurd (cc)
+
+    module _ (end : Description) (is : Some end ≡ option_map value_of (find ds d.slot d.serial)) where
+      same_end : row.0.value ≡ end
+      same_end = let both : ◌≡◌ {A = Option Description} (Some row.0.value) (Some end) = sym row_found ∙ sym is in cc
+
+      pipe_found : find pipes end.pipe.slot end.pipe.serial ≡ Some pipe_row.0
+      pipe_found = subst (λ (x : Description). find pipes x.pipe.slot x.pipe.serial ≡ Some pipe_row.0) same_end (find_at pipes row.0.value.pipe.slot row.0.value.pipe.serial pipe_row.0 pipe_row.1)
+
+      pub pipe_not_gone : None ≡ find pipes end.pipe.slot end.pipe.serial → ⊥
+      pipe_not_gone e = let there = pipe_found in absurd (cc)
+
+      pub over_told : (p : Pipe) → Some p ≡ find pipes end.pipe.slot end.pipe.serial → (x : ℕ) → x ≡ other_opens end.reads p → IsOver (meaning f n.state) pid (nat_lt before x)
+      over_told p there x x_is =
+          let both : ◌≡◌ {A = Option Pipe} (Some pipe_row.0) (Some p) = sym pipe_found ∙ sym there in
+          let same : pipe_row.0 ≡ p = cc in
+          subst (λ (m : ℕ). IsOver (meaning f n.state) pid (nat_lt before m)) ((λ i. other_opens (same_end i).reads (same i)) ∙ sym x_is) over_is

@@ -1,0 +1,208 @@
+-- A call is over, or begins: what the tables keep and show of it.
+
+use Rattle.std.proofs.Common.{◌≡◌, ℕ, zero, suc, ◌-◌, Bool, true, false, [], ◌∷◌, set, map, Option, Some, None, IsOk, Result, Ok, Err, refl, sym, ap, subst, ◌∙◌, arith}
+use Rattle.std.specs.Option.{option_map, option_and_then}
+use Rattle.std.proofs.lemmas.List.{map-set, set-set}
+use Rattle.pf_machine.specs.FileMap.{Files}
+use Rattle.pf_base.specs.Limits.{Limits}
+use Rattle.pf_machine.specs.Numbered.{at, put_at, change_at, first_free}
+use Rattle.pf_machine.proofs.NumberedLaws.{at-map, at_within, at-put_same, at-first_free, first_free-map}
+use Rattle.pf_machine.specs.State as machine
+use Rattle.pf_machine.specs.Machine.{call_of as machine_call_of}
+use Rattle.pf_machine.specs.Refusals.{◌>>=◌, or_refuse}
+use Rattle.pf_machine.specs.State.{State, living, ready, waiting}
+use Rattle.pf_ring.specs.Ring.{Ring}
+use Rattle.pf_base.specs.declared.errno.Errno.{Errno}
+use Rattle.pf_base.specs.declared.errno.Errno.TheVariants.{ESRCH, EINVAL}
+use Rattle.pf_frame.specs.Live.{Live}
+use Rattle.pf_limits.specs.UserPages.{UserPages}
+use Rattle.pf_parked.specs.declared.call.Call.TheVariants.{Open, Read, Write, Cross}
+use Rattle.pf_tables.specs.Meaning.{Namespace, meaning}
+use Rattle.pf_tables.specs.Owns.{Owns}
+use Rattle.pf_tables.specs.Rows as rows
+use Rattle.pf_tables.specs.Rows.{ProcessRows, DescriptionRows, PipeRows, Key, Process, Call, call_of, made_by, keys_of, keys_to, names_it, IsSpare, Finds, process_in, ready_in, process_of, processes_of, descriptions_of, pipes_of, state_of, TiedWith, Tied, Kept}
+use Rattle.pf_tables.specs.Tables.{over, woken, awoken, is_open, waits_in_open, HasLowest}
+use Rattle.pf_tables.specs.Told.{Becomes, waits_in}
+use Rattle.pf_tables.proofs.Callers.{shown_in, living_shown, ready_shown, place_of, place_is, is_awake}
+use Rattle.pf_tables.proofs.CountersTied.{moved}
+use Rattle.pf_tables.proofs.Arrivals.{becomes}
+use Rattle.pf_tables.proofs.RowsShown.{shown}
+use Rattle.pf_tables.proofs.SmallChanges.{put}
+use Rattle.pf_tables.proofs.TablesSettled.{settled}
+
+-- Who lives for the machine lives in the tables
+pub who : (f : Live) (limits : Limits) (ps : ProcessRows) (ds : DescriptionRows) (pipes : PipeRows) (files : Files) (files_made : ℕ) (n : Namespace) → record { limits = limits; state = state_of ps ds pipes files files_made } ≡ n → (pid : ℕ)
+    → IsOk (living (meaning f n.state) pid) → rows.Lives ps pid
+who f limits ps ds pipes files files_made n view pid lives = found (process_in ps pid) refl (subst (λ r. IsOk r) (living_shown f ps ds pipes files files_made pid) (subst (λ (m : Namespace). IsOk (living (meaning f m.state) pid)) (sym view) lives))
+  where
+    found : (r : Result Process Errno) → process_in ps pid ≡ r → IsOk (shown_in r) → rows.Lives ps pid
+    found (Ok p) h g = record { p = p; is = h }
+    found (Err e) h g = absurd (cc)
+
+pub lives_in : (f : Live) (limits : Limits) (ps : ProcessRows) (ds : DescriptionRows) (pipes : PipeRows) (files : Files) (files_made : ℕ) (n : Namespace) → record { limits = limits; state = state_of ps ds pipes files files_made } ≡ n → (pid : ℕ)
+    → IsOk (living (meaning f n.state) pid) → IsOk (process_in ps pid)
+lives_in f limits ps ds pipes files files_made n view pid lives = let w = who f limits ps ds pipes files files_made n view pid lives in ap ok w.is
+  where
+    ok : Result Process Errno → Bool
+    ok (Ok p) = true
+    ok (Err e) = false
+
+-- its lowest free descriptor
+pub lowest_shown : (f : Live) (limits : Limits) (ps : ProcessRows) (ds : DescriptionRows) (pipes : PipeRows) (files : Files) (files_made : ℕ) (n : Namespace) → record { limits = limits; state = state_of ps ds pipes files files_made } ≡ n → (pid : ℕ)
+    → IsOk (living (meaning f n.state) pid) → (fd : ℕ) → rows.HasLowest ps pid fd → HasLowest (meaning f n.state) pid fd
+lowest_shown f limits ps ds pipes files files_made n view pid lives fd lowest q h =
+    let w = who f limits ps ds pipes files files_made n view pid lives in
+    let one : ◌≡◌ {A = Result machine.Process Errno} (Ok (process_of w.p)) (Ok q) =
+    sym (subst (λ (m : Namespace). living (meaning f m.state) pid ≡ Ok (process_of w.p)) view (living_shown f ps ds pipes files files_made pid ∙ ap shown_in w.is)) ∙ h in
+    let same : process_of w.p ≡ q = cc in
+    lowest w.p w.is ∙ sym (first_free-map (λ (k : Key). k.serial) w.p.descriptors) ∙ ap (λ (x : machine.Process). first_free x.descriptors) same
+
+-- what the machine sees of a process whose call is over
+woken_shown : (p : Process) → process_of (rows.woken p) ≡ woken (process_of p)
+woken_shown p = by_call p.parked
+  where
+    by_call : (o : Option (Call Key)) → process_of (rows.over o p) ≡ over (option_map call_of o) (process_of p)
+    by_call None = refl
+    by_call (Some (Read fd n)) = refl
+    by_call (Some (Write fd write)) = refl
+    by_call (Some (Cross crossing source sink n)) = refl
+    by_call (Some (Open key kept)) =
+        ap (λ xs. record { cred = p.cred; descriptors = xs; parked = None }) (map-set (option_map (λ (k : Key). k.serial)) p.descriptors (first_free p.descriptors) (Some key))
+        ∙ ap (λ m. record { cred = p.cred; descriptors = put_at (map (option_map (λ (k : Key). k.serial)) p.descriptors) m key.serial; parked = None }) (sym (first_free-map (λ (k : Key). k.serial) p.descriptors))
+
+module _ (ps : ProcessRows) (ds : DescriptionRows) (pipes : PipeRows) (t : Tied ps ds pipes) (i : ℕ) (p : Process) (stands : at ps i ≡ Some p) where
+  abbrev asleep : Process
+  asleep = record p { parked = None }
+
+  -- the call's key comes into the hand
+  in_hand : TiedWith (rows.holding (made_by p.parked) []) [] (put_at ps i asleep) ds pipes
+  in_hand = moved [] [] ps ds pipes i 0 p asleep stands (omega arith) None refl t
+
+  pub woken-tied : IsSpare p → Tied (put_at ps i (rows.woken p)) ds pipes
+  woken-tied spare = by_call p.parked refl in_hand
+    where
+      by_call : (o : Option (Call Key)) → p.parked ≡ o → TiedWith (rows.holding (made_by o) []) [] (put_at ps i asleep) ds pipes → Tied (put_at ps i (rows.over o p)) ds pipes
+      by_call None e u = u
+      by_call (Some (Read fd n)) e u = u
+      by_call (Some (Write fd write)) e u = u
+      by_call (Some (Cross crossing source sink n)) e u = u
+      by_call (Some (Open key kept)) e u =
+          subst (λ x. Tied x ds pipes) (set-set ps i (Some asleep) (Some (rows.over (Some (Open key kept)) p)))
+          (put [] [] (put_at ps i asleep) ds pipes i (first_free p.descriptors) asleep (at-put_same ps i (Some asleep) (at_within ps i p stands)) (spare key kept e) key (at-first_free p.descriptors) u)
+
+module _ {files : Files} {files_made : ℕ} (f : Live) (limits : Limits) (charges : UserPages) (ps : ProcessRows) (ds : DescriptionRows) (pipes : PipeRows) (k : Kept charges ps ds pipes)
+    (n : Namespace) (view : record { limits = limits; state = state_of ps ds pipes files files_made } ≡ n) (pid : ℕ) (lives : IsOk (living (meaning f n.state) pid))
+    (spare : (p : Process) → process_in ps pid ≡ Ok p → IsSpare p) (qs : ProcessRows) (are : qs ≡ change_at rows.woken ps (pid - 1)) where
+  w : rows.Lives ps pid
+  w = who f limits ps ds pipes files files_made n view pid lives
+
+  stands : at ps (pid - 1) ≡ Some w.p
+  stands = place_of ps pid w.p w.is
+
+  put_is : qs ≡ put_at ps (pid - 1) (rows.woken w.p)
+  put_is = are ∙ ap (λ o. set ps (pid - 1) (option_map rows.woken o)) stands
+
+  pub awoken-kept : Kept charges qs ds pipes
+  awoken-kept = record { tied = subst (λ x. Tied x ds pipes) (sym put_is) (woken-tied ps ds pipes k.tied (pid - 1) w.p stands (spare w.p w.is)); charged = k.charged }
+
+  now_shown : state_of qs ds pipes files files_made ≡ awoken (state_of ps ds pipes files files_made) pid
+  now_shown =
+      ap (λ x. state_of x ds pipes files files_made) put_is
+      ∙ ap (λ xs. record { processes = xs; descriptions = descriptions_of ds; pipes = pipes_of pipes; files = files; files_made = files_made })
+      (map-set (option_map process_of) ps (pid - 1) (Some (rows.woken w.p))
+      ∙ ap (λ x. put_at (processes_of ps) (pid - 1) x) (woken_shown w.p)
+      ∙ ap (λ o. set (processes_of ps) (pid - 1) (option_map woken o)) (sym (shown process_of ps (pid - 1) w.p stands)))
+
+  pub awoken-namespace : record { limits = limits; state = state_of qs ds pipes files files_made } ≡ record n { state = awoken n.state pid }
+  awoken-namespace = ap (λ (s : State Ring). record { limits = limits; state = s }) now_shown ∙ ap (λ (m : Namespace). record m { state = awoken m.state pid }) view
+
+  -- what the machine sees of the call
+  pub call-shown : (o : Option (Call Key)) → o ≡ rows.call_in ps pid → option_map call_of o ≡ machine_call_of (meaning f n.state) pid
+  call-shown o is = ap (option_map call_of) is ∙ by_pid pid ∙ ap (λ (m : Namespace). machine_call_of (meaning f m.state) pid) view
+    where
+      by_row : (x : Option Process) → option_map call_of (option_and_then (λ (p : Process). p.parked) x) ≡ option_and_then (λ (p : machine.Process). p.parked) (option_map process_of x)
+      by_row None = refl
+      by_row (Some p) = refl
+
+      by_pid : (m : ℕ) → option_map call_of (rows.call_in ps m) ≡ machine_call_of (meaning f (state_of ps ds pipes files files_made)) m
+      by_pid zero = refl
+      by_pid (suc i) = by_row (at ps i) ∙ ap (option_and_then (λ (p : machine.Process). p.parked)) (sym (at-map process_of ps i))
+
+  pub awoken-becomes : Owns f n → Becomes f f n (record { limits = limits; state = state_of qs ds pipes files files_made }) (awoken (meaning f n.state) pid)
+  awoken-becomes owns =
+      subst (λ (m : Namespace). Owns f m → Becomes f f m (record { limits = limits; state = state_of qs ds pipes files files_made }) (awoken (meaning f m.state) pid)) view
+      (λ o. becomes f f (record { limits = limits; state = state_of ps ds pipes files files_made }) (record { limits = limits; state = state_of qs ds pipes files files_made }) _ (record { joined = o.joined; reserve = o.reserve }) refl
+      (ap (meaning f) now_shown) (settled qs ds pipes files files_made awoken-kept.tied)) owns
+
+-- A call that is no open's begins
+
+module _ {files : Files} {files_made : ℕ} (f : Live) (limits : Limits) (charges : UserPages) (ps : ProcessRows) (ds : DescriptionRows) (pipes : PipeRows) (k : Kept charges ps ds pipes)
+    (n : Namespace) (view : record { limits = limits; state = state_of ps ds pipes files files_made } ≡ n) (pid : ℕ) (is_ready : IsOk (ready (meaning f n.state) pid)) where
+  -- who is ready for the machine is ready in the tables
+  pub ready_row : (p : Process) × (ready_in ps pid ≡ Ok p)
+  ready_row = found (ready_in ps pid) refl (subst (λ r. IsOk r) (ready_shown f ps ds pipes files files_made pid) (subst (λ (m : Namespace). IsOk (ready (meaning f m.state) pid)) (sym view) is_ready))
+    where
+      found : (r : Result Process Errno) → ready_in ps pid ≡ r → IsOk (shown_in r) → (p : Process) × (ready_in ps pid ≡ Ok p)
+      found (Ok p) h g = (p, h)
+      found (Err e) h g = absurd (cc)
+
+  pub is_ok : IsOk (ready_in ps pid)
+  is_ok = ap ok ready_row.1
+    where
+      ok : Result Process Errno → Bool
+      ok (Ok p) = true
+      ok (Err e) = false
+
+  pub may_wait : (call : Call Key) → made_by (Some call) ≡ None → rows.MayWait call (rows.process_at ps pid)
+  may_wait (Open key kept) none = absurd (cc)
+  may_wait (Read fd m) none = tt
+  may_wait (Write fd write) none = tt
+  may_wait (Cross crossing source sink m) none = tt
+
+  module _ (call : Call Key) (moving : made_by (Some call) ≡ None) (qs : ProcessRows) (are : qs ≡ change_at (rows.with_call (Some call)) ps (pid - 1)) where
+    abbrev q : Process
+    q = rows.with_call (Some call) ready_row.0
+
+    there : at ps (pid - 1) ≡ Some ready_row.0
+    there = place_is ps pid ready_row.0 ready_row.1
+
+    row_is : qs ≡ put_at ps (pid - 1) q
+    row_is = are ∙ ap (λ o. set ps (pid - 1) (option_map (rows.with_call (Some call)) o)) there
+
+    -- no key goes or comes
+    keys_same : keys_of q ≡ set (keys_of ready_row.0) 0 None
+    keys_same = ap (λ o. o ∷ ready_row.0.descriptors) moving
+
+    now_tied : Tied qs ds pipes
+    now_tied =
+        subst (λ x. Tied x ds pipes) (sym row_is)
+        (subst (λ o. TiedWith (rows.holding o []) [] (put_at ps (pid - 1) q) ds pipes) (ap made_by (is_awake ps pid ready_row.0 ready_row.1))
+        (moved [] [] ps ds pipes (pid - 1) 0 ready_row.0 q there (omega arith) None keys_same k.tied))
+
+    pub parked-kept : Kept charges qs ds pipes
+    parked-kept = record { tied = now_tied; charged = k.charged }
+
+    pub parked-namespace : record { limits = limits; state = state_of qs ds pipes files files_made } ≡ waits_in (Some (call_of call)) n pid
+    parked-namespace =
+        ap (λ x. record { limits = limits; state = state_of x ds pipes files files_made }) row_is
+        ∙ ap (λ xs. record { limits = limits; state = record { processes = xs; descriptions = descriptions_of ds; pipes = pipes_of pipes; files = files; files_made = files_made } })
+        (map-set (option_map process_of) ps (pid - 1) (Some q) ∙ ap (λ o. set (processes_of ps) (pid - 1) (option_map (waiting (Some (call_of call))) o)) (sym (shown process_of ps (pid - 1) ready_row.0 there)))
+        ∙ ap (λ (m : Namespace). waits_in (Some (call_of call)) m pid) view
+
+-- Whether it is an open's
+
+module _ (f : Live) (limits : Limits) (ps : ProcessRows) (ds : DescriptionRows) (pipes : PipeRows) (files : Files) (files_made : ℕ) (n : Namespace) (view : record { limits = limits; state = state_of ps ds pipes files files_made } ≡ n) (pid : ℕ) where
+  pub nobody_waits : (e : Errno) → process_in ps pid ≡ Err e → waits_in_open (meaning f n.state) pid ≡ Err e
+  nobody_waits e h =
+      subst (λ (m : Namespace). waits_in_open (meaning f m.state) pid ≡ Err e) view
+      (ap (λ r. r >>= (λ p. or_refuse EINVAL p.parked >>= (λ call. Ok (is_open call)))) (living_shown f ps ds pipes files files_made pid ∙ ap shown_in h))
+
+  pub some_wait : (w : rows.Lives ps pid) (o : Option (Call Key)) → rows.call_in ps pid ≡ o → waits_in_open (meaning f n.state) pid ≡ (or_refuse EINVAL (option_map call_of o) >>= (λ call. Ok (is_open call)))
+  some_wait w o h =
+      subst (λ (m : Namespace). waits_in_open (meaning f m.state) pid ≡ (or_refuse EINVAL (option_map call_of o) >>= (λ call. Ok (is_open call)))) view
+      (ap (λ r. r >>= (λ p. or_refuse EINVAL p.parked >>= (λ call. Ok (is_open call)))) (living_shown f ps ds pipes files files_made pid ∙ ap shown_in w.is)
+      ∙ ap (λ x. or_refuse EINVAL (option_map call_of x) >>= (λ call. Ok (is_open call))) (sym (parked_is (rows.process_at ps pid) w.is) ∙ h))
+    where
+      parked_is : (x : Option Process) → or_refuse ESRCH x ≡ Ok w.p → option_and_then (λ (p : Process). p.parked) x ≡ w.p.parked
+      parked_is None g = absurd (cc)
+      parked_is (Some p) g = let same : p ≡ w.p = cc in ap (λ (y : Process). y.parked) same
