@@ -13,9 +13,6 @@ pub(crate) enum Call {
     Fork(u32),
     // With O_NONBLOCK, so that no call on it waits.
     Pipe(u32),
-    WaitingPipe(u32),
-    Resume(u32),
-    Dup(u32, u32),
     Close(u32, u32),
     GetSize(u32, u32),
     SetSize(u32, u32, u64),
@@ -23,8 +20,6 @@ pub(crate) enum Call {
     Write(u32, u32, &'static [u8]),
     // This byte, so many times.
     Fill(u32, u32, u8, usize),
-    // From the second number's pipe to the third's, at most so many bytes.
-    Tee(u32, u32, u32, u64),
     Mkdir(&'static [u8], u32),
     Mkfifo(&'static [u8], u32),
     Stat(&'static [u8]),
@@ -43,8 +38,6 @@ pub(crate) enum Told {
     Names(&'static [u8]),
     // A file of the uid 5 and the gid 6.
     Known(Kind, u32),
-    // That the call waits.
-    Parked,
     Err(Errno),
 }
 
@@ -69,20 +62,6 @@ fn write(pid: u32, fd: u32, payload: ByteString) -> Step {
     Step::Write { pid, fd, payload }
 }
 
-fn pipe(pid: u32, nonblock: bool) -> Step {
-    Step::Pipe { pid, nonblock }
-}
-
-fn tee(pid: u32, source: u32, sink: u32, n: u64) -> Step {
-    Step::Tee {
-        pid,
-        source,
-        sink,
-        n,
-        nonblock: true,
-    }
-}
-
 fn make(kind: Kind, path: ByteString, mode: u32) -> Step {
     match kind {
         Kind::Directory => Step::Mkdir { pid: 1, path, mode },
@@ -96,17 +75,16 @@ pub(crate) fn step_of(alloc: Global, call: Call) -> Result<Step, AllocError> {
         Call::Spawn(uid, gid, groups) => spawn(alloc, uid, gid, groups)?,
         Call::Exit(pid) => Step::Exit { pid },
         Call::Fork(pid) => Step::Fork { pid },
-        Call::Pipe(pid) => pipe(pid, true),
-        Call::WaitingPipe(pid) => pipe(pid, false),
-        Call::Resume(pid) => Step::Resume { pid },
-        Call::Dup(pid, fd) => Step::Dup { pid, fd },
+        Call::Pipe(pid) => Step::Pipe {
+            pid,
+            nonblock: true,
+        },
         Call::Close(pid, fd) => Step::Close { pid, fd },
         Call::GetSize(pid, fd) => Step::GetSize { pid, fd },
         Call::SetSize(pid, fd, bytes) => Step::SetSize { pid, fd, bytes },
         Call::Read(pid, fd, n) => Step::Read { pid, fd, n },
         Call::Write(pid, fd, text) => write(pid, fd, bytes(alloc, text)?),
         Call::Fill(pid, fd, byte, count) => write(pid, fd, filled(alloc, byte, count)?),
-        Call::Tee(pid, source, sink, n) => tee(pid, source, sink, n),
         Call::Mkdir(path, mode) => make(Kind::Directory, bytes(alloc, path)?, mode),
         Call::Mkfifo(path, mode) => make(Kind::Fifo, bytes(alloc, path)?, mode),
         Call::Stat(path) => {
@@ -135,7 +113,6 @@ pub(crate) fn answer_of(alloc: Global, told: Told) -> Result<Answer, Fail> {
             uid: 5,
             gid: 6,
         }),
-        Told::Parked => Reply::Parked,
         Told::Err(errno) => Reply::Err(errno),
     };
     Ok(Answer::Done(reply))

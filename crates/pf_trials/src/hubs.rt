@@ -1,8 +1,7 @@
-//! Worked examples of two namespaces over one pool: none sees the other's bytes, or lacks a frame for them.
+//! How a hub is opened, and how it runs events.
 
 use crate::calls::{Call, Told, answer_of, step_of};
-use crate::hosts::frames;
-use pf_base::{Config, Errno, Step};
+use pf_base::{Config, Step};
 use pf_frame::{Frame, PoolFault};
 use pf_hub::{Hub, RunFault};
 use std::alloc::{AllocError, Global};
@@ -26,67 +25,14 @@ const PIPES: [Row; 4] = [
     (BLUE, Call::Pipe(1), Told::Fds(0, 1), (0, 0, 32)),
 ];
 
-// What red leaves in the frames, and what was in them before, blue does not read.
-const OLD_BYTES: [Row; 8] = [
-    (RED, SPAWN, Told::Pid(1), (0, 0, 32)),
-    (RED, Call::Pipe(1), Told::Fds(0, 1), (0, 0, 32)),
-    (
-        RED,
-        Call::Fill(1, 1, 0x61, 65_536),
-        Told::Num(65_536),
-        (16, 0, 16),
-    ),
-    (RED, Call::Exit(1), Told::Num(0), (0, 0, 32)),
-    (BLUE, SPAWN, Told::Pid(1), (0, 0, 32)),
-    (BLUE, Call::Pipe(1), Told::Fds(0, 1), (0, 0, 32)),
-    (BLUE, Call::Fill(1, 1, 0x7A, 1), Told::Num(1), (0, 1, 31)),
-    (
-        BLUE,
-        Call::Read(1, 0, 100),
-        Told::Filled(0x7A, 1),
-        (0, 0, 32),
-    ),
-];
-
-// Over 17 frames, of which blue has reserved one: its pipe has one slot.
-const FULL_NEIGHBOUR: [Row; 9] = [
-    (RED, SPAWN, Told::Pid(1), (0, 0, 17)),
-    (RED, Call::Pipe(1), Told::Fds(0, 1), (0, 0, 17)),
-    (BLUE, SPAWN, Told::Pid(1), (0, 0, 17)),
-    (
-        RED,
-        Call::Fill(1, 1, 0x61, 65_536),
-        Told::Num(65_536),
-        (16, 0, 1),
-    ),
-    (BLUE, Call::Pipe(1), Told::Fds(0, 1), (16, 0, 1)),
-    (RED, Call::Pipe(1), Told::Err(Errno::ENFILE), (16, 0, 1)),
-    (
-        BLUE,
-        Call::Fill(1, 1, 0x62, 4096),
-        Told::Num(4096),
-        (16, 1, 0),
-    ),
-    (
-        BLUE,
-        Call::Fill(1, 1, 0x62, 1),
-        Told::Err(Errno::EAGAIN),
-        (16, 1, 0),
-    ),
-    (BLUE, Call::Read(1, 0, 2), Told::Filled(0x62, 2), (16, 1, 0)),
-];
-
-// Over 33 frames, all reserved for red: two pipes, and a tee from one to the other. While one of the two has the
-// bytes still, their frame is held.
-const COPY: [Row; 7] = [
-    (RED, SPAWN, Told::Pid(1), (0, 0, 33)),
-    (RED, Call::Pipe(1), Told::Fds(0, 1), (0, 0, 33)),
-    (RED, Call::Pipe(1), Told::Fds(2, 3), (0, 0, 33)),
-    (RED, Call::Fill(1, 1, 0x61, 5), Told::Num(5), (1, 0, 32)),
-    (RED, Call::Tee(1, 0, 3, 5), Told::Num(5), (1, 0, 32)),
-    (RED, Call::Read(1, 0, 5), Told::Filled(0x61, 5), (1, 0, 32)),
-    (RED, Call::Read(1, 2, 5), Told::Filled(0x61, 5), (0, 0, 33)),
-];
+// So many frames of zeros.
+fn frames(alloc: Global, count: usize) -> Result<Vec<Frame>, AllocError> {
+    let mut frames = Vec::new(alloc);
+    for _ in 0..count {
+        frames.push(Frame::filled(alloc, 0)?)?;
+    }
+    Ok(frames)
+}
 
 // A hub with a namespace of each of these reservations.
 fn open(alloc: Global, frames: Vec<Frame>, reserves: &[u32]) -> Result<Hub<Global>, PoolFault> {
@@ -137,9 +83,9 @@ fn faults_come_in_order(rt: HostRuntime) -> Result<(), Fail> {
     let alloc = rt.alloc();
     let hub = open(alloc, Vec::new(alloc), &[1; 65]);
     assert_eq!(rt; hub.err(), Some(PoolFault::TooManyNamespaces));
-    let hub = open(alloc, frames(alloc, 65_537, Some(0))?, &[1]);
+    let hub = open(alloc, frames(alloc, 65_537)?, &[1]);
     assert_eq!(rt; hub.err(), Some(PoolFault::TooManyFrames));
-    let hub = open(alloc, frames(alloc, 32, Some(0))?, &[16, 17]);
+    let hub = open(alloc, frames(alloc, 32)?, &[16, 17]);
     let (sum, frames) = (33, 32);
     assert_eq!(rt; hub.err(), Some(PoolFault::ReservesExceed { sum, frames }));
     Ok(())
@@ -157,7 +103,7 @@ const RUN_TOLD: [Told; 4] = [Told::Pid(1), Told::Fds(0, 1), Told::Pid(1), Told::
 #[test]
 fn runs_answer_in_order(rt: HostRuntime) -> Result<(), Fail> {
     let alloc = rt.alloc();
-    let mut hub = open(alloc, frames(alloc, 32, Some(0))?, &[16, 16])?;
+    let mut hub = open(alloc, frames(alloc, 32)?, &[16, 16])?;
     let Ok(answers) = hub.run(&events_of(alloc, &RUN)?) else {
         panic!(rt; "the run ended early");
     };
@@ -172,7 +118,7 @@ fn runs_answer_in_order(rt: HostRuntime) -> Result<(), Fail> {
 #[test]
 fn no_step_is_made_where_an_event_names_no_namespace(rt: HostRuntime) -> Result<(), Fail> {
     let alloc = rt.alloc();
-    let mut hub = open(alloc, frames(alloc, 32, Some(0))?, &[16, 16])?;
+    let mut hub = open(alloc, frames(alloc, 32)?, &[16, 16])?;
     let at = match hub.run(&events_of(alloc, &[(RED, SPAWN), (2, SPAWN)])?) {
         Err(RunFault::NoSuchNamespace { at }) => Some(at),
         _ => None,
@@ -181,92 +127,4 @@ fn no_step_is_made_where_an_event_names_no_namespace(rt: HostRuntime) -> Result<
     assert_eq!(rt; (hub.held(RED), hub.held(BLUE), hub.held(2)), (0, 0, 0));
     // The first process of the namespace is still to come.
     play(&rt, alloc, &mut hub, &PIPES)
-}
-
-#[test]
-fn no_old_bytes_are_read(rt: HostRuntime) -> Result<(), Fail> {
-    let alloc = rt.alloc();
-    for fill in [Some(0), Some(165), Some(255), None] {
-        let mut hub = open(alloc, frames(alloc, 32, fill)?, &[16, 16])?;
-        play(&rt, alloc, &mut hub, &OLD_BYTES)?;
-    }
-    Ok(())
-}
-
-#[test]
-fn a_full_neighbour_takes_nothing(rt: HostRuntime) -> Result<(), Fail> {
-    let alloc = rt.alloc();
-    let mut hub = open(alloc, frames(alloc, 17, Some(0))?, &[16, 1])?;
-    play(&rt, alloc, &mut hub, &FULL_NEIGHBOUR)
-}
-
-#[test]
-fn frames_pass_to_a_neighbour_and_back(rt: HostRuntime) -> Result<(), Fail> {
-    let alloc = rt.alloc();
-    let mut hub = open(alloc, frames(alloc, 32, None)?, &[16, 16])?;
-    play(&rt, alloc, &mut hub, &PIPES)?;
-    // A full pipe, and an empty one again.
-    for round in 0..100u8 {
-        for (ns, byte, held) in [(RED, round, (16, 0, 16)), (BLUE, 255 - round, (0, 16, 16))] {
-            let write = Call::Fill(1, 1, byte, 65_536);
-            let read = Call::Read(1, 0, 65_536);
-            let told = Told::Filled(byte, 65_536);
-            let rows = [
-                (ns, write, Told::Num(65_536), held),
-                (ns, read, told, (0, 0, 32)),
-            ];
-            play(&rt, alloc, &mut hub, &rows)?;
-        }
-    }
-    Ok(())
-}
-
-// Both fill a pipe, so no frame is free, and then both read what they wrote.
-fn fill_both(red: u8, blue: u8) -> [Row; 4] {
-    let all = 65_536;
-    [
-        (
-            RED,
-            Call::Fill(1, 1, red, all),
-            Told::Num(65_536),
-            (16, 0, 16),
-        ),
-        (
-            BLUE,
-            Call::Fill(1, 1, blue, all),
-            Told::Num(65_536),
-            (16, 16, 0),
-        ),
-        (
-            RED,
-            Call::Read(1, 0, 65_536),
-            Told::Filled(red, all),
-            (0, 16, 16),
-        ),
-        (
-            BLUE,
-            Call::Read(1, 0, 65_536),
-            Told::Filled(blue, all),
-            (0, 0, 32),
-        ),
-    ]
-}
-
-#[test]
-fn every_frame_passes_through_every_tenant(rt: HostRuntime) -> Result<(), Fail> {
-    let alloc = rt.alloc();
-    let mut hub = open(alloc, frames(alloc, 32, None)?, &[16, 16])?;
-    play(&rt, alloc, &mut hub, &PIPES)?;
-    // What came back last goes out first, so each gets what the other had.
-    for round in 0..4u8 {
-        play(&rt, alloc, &mut hub, &fill_both(round, 255 - round))?;
-    }
-    Ok(())
-}
-
-#[test]
-fn a_copy_keeps_its_frame(rt: HostRuntime) -> Result<(), Fail> {
-    let alloc = rt.alloc();
-    let mut hub = open(alloc, frames(alloc, 33, None)?, &[33])?;
-    play(&rt, alloc, &mut hub, &COPY)
 }

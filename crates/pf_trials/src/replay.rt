@@ -1,6 +1,5 @@
 //! The replayer over readers and writers that fail, long inputs, and scripts that are refused.
 
-use crate::player::is_silent;
 use pf_base::MAX_NAMESPACES;
 use pf_play::{
     Collected, Failed, INPUT_LIMIT, MemoryBytes, Options, Reading, ReplayFault, Replayed, Sink,
@@ -150,95 +149,6 @@ impl<'a> Read for Stopping<'a> {
     }
 }
 
-/// Scripts that are refused for their lines before the steps, each with what is told. A `;` stands for a line feed.
-const REFUSED_OPENINGS: &str = "
-foo; | line 1: no pool
-pool 4 | line 1: cut short
-pool 4;# | line 2: cut short
-;# a;pool  4; | line 3: bad spacing
-pool 4 ; | line 1: bad spacing
- pool 4; | line 1: bad spacing
-space a 1; | line 1: no pool
-pool 4;pool 4; | line 2: second pool
-pool 4 4; | line 1: wrong words
-pool 0; | line 1: bad number
-pool 65537; | line 1: bad number
-pool 04; | line 1: bad number
-pool +4; | line 1: bad number
-pool 4;space Red 1; | line 2: bad name
-pool 4;space pool 1; | line 2: bad name
-pool 4;space retire 1; | line 2: bad name
-pool 4;space abcdefghijabcdefghijabcdefghijabc 1; | line 2: bad name
-pool 4;space a 1;space a x; | line 3: name twice
-pool 4;space a x; | line 2: bad number
-pool 4;space a 1 2 3 65536 5; | line 2: wrong words
-pool 4;space a 1 4294967296; | line 2: bad number
-pool 4;space a 1 2 03; | line 2: bad number
-pool 4;space a 5 2 3 65537; | line 2: bad number
-pool 4;space a 5 2 3 65536; | line 2: reservations 5 exceed pool 4
-pool 32;space a 33; | line 2: reservations 33 exceed pool 32
-pool 4;a exit 1; | line 2: unknown namespace
-pool 32;space a 16;space b 17; | line 3: reservations 33 exceed pool 32
-pool 16;space red 16;red spawn 5 5 02 | line 3: cut short
-pool 4;space a 1;space a 1; | line 3: name twice
-";
-
-/// Lines that are refused behind a pool line and the space line of `a`, each with what is told.
-const REFUSED_STEPS: &str = "
-b fork 1                        | unknown namespace
-admit b 1                       | unknown namespace
-a                               | wrong words
-a jump 1                        | unknown verb
-a jump                          | unknown verb
-a fork                          | wrong words
-a exit 1 1                      | wrong words
-a exit 4294967296               | bad number
-a exit 01                       | bad number
-a spawn 5 5 08                  | bad number
-a spawn 5 5 000777              | bad number
-a spawn 5 5 00777 5,            | bad number
-a pipe 1 m                      | bad flags
-a pipe x m                      | bad number
-a nonblock 1 0 yes              | bad flags
-a nonblock 1 x yes              | bad number
-a tee 1 0 3 5 m                 | bad flags
-a splice 1 0 3 x m              | bad number
-a read 1 0 18446744073709551616 | bad number
-a setsize 1 0                   | wrong words
-a getsize 1 0 0                 | wrong words
-a mkdir 1 /d 0800               | bad number
-a mkdir 1 /d 000755             | bad number
-a mkfifo 1 /d 10000             | bad number
-a list 1                        | wrong words
-a open 1 /f                     | wrong words
-a open 1 /f r n                 | wrong words
-a open 1 /f nr                  | bad flags
-a open 1 /f n                   | bad flags
-a open 1 /f wr                  | bad flags
-a open 1 /f rwnn                | bad flags
-a open 1 /f R                   | bad flags
-a open x /f nr                  | bad number
-a resume                        | wrong words
-a resume 1 1                    | wrong words
-a resume 01                     | bad number
-a write 1 1 abc                 | bad data
-a write 1 1 0*61                | bad data
-a write 1 1 2097153*61          | bad data
-a write 1 1 04*61               | bad data
-a write 1 1 4*6                 | bad data
-a write 1 1 4*61*61             | bad data
-a write 1 x abc                 | bad number
-";
-
-/// The script that these lines are of, where a `;` stands for a line feed.
-fn with_line_feeds(alloc: Global, lines: &str) -> Result<String, AllocError> {
-    let mut script = String::new(alloc);
-    for c in lines.chars() {
-        script.push(if c == ';' { '\n' } else { c })?;
-    }
-    Ok(script)
-}
-
 /// Whether a script is refused with this text, and nothing is written.
 pub(crate) fn is_refused(alloc: Global, script: &str, text: &str) -> Result<bool, Fail> {
     let mut reader = MemoryBytes::new(script.as_bytes());
@@ -247,37 +157,6 @@ pub(crate) fn is_refused(alloc: Global, script: &str, text: &str) -> Result<bool
         return Ok(false);
     };
     Ok(writer.as_slice().is_empty() && refusal.to_string(alloc)?.as_str() == text)
-}
-
-#[test]
-fn each_cause(rt: HostRuntime) -> Result<(), Fail> {
-    let alloc = rt.alloc();
-    for row in REFUSED_OPENINGS.split('\n') {
-        if !is_silent(row) {
-            let (lines, text) = row.split_once(" | ").unwrap_or((row, ""));
-            let script = with_line_feeds(alloc, lines)?;
-            assert!(rt; is_refused(alloc, script.as_str(), text)?, "{row}");
-        }
-    }
-    Ok(())
-}
-
-#[test]
-fn each_cause_of_a_step(rt: HostRuntime) -> Result<(), Fail> {
-    let alloc = rt.alloc();
-    for row in REFUSED_STEPS.split('\n') {
-        if !is_silent(row) {
-            let (line, text) = row.split_once(" | ").unwrap_or((row, ""));
-            let line = line.trim_end();
-            // the first faulty line decides
-            let script = format!(in alloc; "pool 4\nspace a 1\n{line}\nspace\n")?;
-            let text = format!(in alloc; "line 3: {text}")?;
-            assert!(rt; is_refused(alloc, script.as_str(), text.as_str())?, "{row}");
-        }
-    }
-    let late = "pool 4\nspace a 1\na fork 1\nspace b 1\n";
-    assert!(rt; is_refused(alloc, late, "line 4: late space")?);
-    Ok(())
 }
 
 #[test]
@@ -328,26 +207,6 @@ fn long_lines(rt: HostRuntime) -> Result<(), Fail> {
     for (count, is_ended, told) in LONG_LINES {
         let verdict = verdict_of(rt.alloc(), count, is_ended)?;
         assert_eq!(rt; verdict.as_str(), told, "{count}");
-    }
-    Ok(())
-}
-
-#[test]
-fn accepted_scripts(rt: HostRuntime) -> Result<(), Fail> {
-    let alloc = rt.alloc();
-    for (script, text) in [
-        ("", ""),
-        ("\n#\n", ""),
-        ("pool 4\n", ""),
-        ("# a\n\npool 4\nspace red_1 4\n", "== red_1\n"),
-    ] {
-        let mut reader = MemoryBytes::new(script.as_bytes());
-        let mut writer = Collected::new(alloc);
-        match replay(alloc, &mut reader, &mut writer, &OPTIONS) {
-            Ok(replayed) => assert_eq!(rt; replayed.nomem, 0),
-            Err(_) => assert!(rt; false, "refused: {script}"),
-        }
-        assert!(rt; writer.as_slice() == text.as_bytes());
     }
     Ok(())
 }

@@ -14,10 +14,10 @@ use std::process::Abort;
 use std::test::Fail;
 
 // A step, its answer, and how many frames are held after it.
-pub(crate) type Row = (Call, Told, u32);
+type Row = (Call, Told, u32);
 
 // What stands before most tables.
-pub(crate) const SPAWN: Row = (Call::Spawn(5, 5, &[]), Told::Pid(1), 0);
+const SPAWN: Row = (Call::Spawn(5, 5, &[]), Told::Pid(1), 0);
 
 const PIPE: Row = (Call::Pipe(1), Told::Fds(0, 1), 0);
 
@@ -115,21 +115,6 @@ const OF_33: [Row; 6] = [
     (Call::Fill(1, 5, 0x61, 65_536), Told::Num(4096), 17),
 ];
 
-// Behind 257 processes that were asked for.
-const LOWEST_PID: [Row; 2] = [
-    (Call::Exit(7), Told::Num(0), 0),
-    (Call::Spawn(5, 5, &[]), Told::Pid(7), 0),
-];
-
-// Behind 128 pipes.
-const LOWEST_DESCRIPTORS: [Row; 5] = [
-    (Call::Pipe(1), Told::Err(Errno::EMFILE), 0),
-    (Call::Close(1, 9), Told::Num(0), 0),
-    (Call::Pipe(1), Told::Err(Errno::EMFILE), 0),
-    (Call::Close(1, 4), Told::Num(0), 0),
-    (Call::Pipe(1), Told::Fds(4, 9), 0),
-];
-
 // A process with groups and descriptors comes twice, and each time has what its parent has.
 const CHILD: [Row; 9] = [
     (Call::Spawn(5, 6, &[7, 8, 9]), Told::Pid(1), 0),
@@ -193,7 +178,7 @@ fn answered(
 }
 
 // Plays rows in a namespace that is alone, over so many frames: each has its answer, and leaves so many held.
-pub(crate) fn play(
+fn play(
     rt: &impl Abort,
     alloc: Global,
     reserve: u32,
@@ -226,75 +211,20 @@ fn bytes_over_each_fill(rt: HostRuntime) -> Result<(), Fail> {
     Ok(())
 }
 
-#[test]
-fn tables_of_one_process(rt: HostRuntime) -> Result<(), Fail> {
-    for (reserve, rows) in [
-        (32, CAPACITIES.as_slice()),
-        (16, HELD.as_slice()),
-        (16, OF_16.as_slice()),
-        (17, OF_17.as_slice()),
-        (33, OF_33.as_slice()),
-        (16, CHILD.as_slice()),
-    ] {
-        play(&rt, rt.alloc(), reserve, 165, rows)?;
-    }
-    Ok(())
-}
-
-#[test]
-fn the_lowest_numbers_are_given(rt: HostRuntime) -> Result<(), Fail> {
-    let mut rows = Vec::new(rt.alloc());
-    for pid in 1..257 {
-        rows.push((Call::Spawn(5, 5, &[]), Told::Pid(pid), 0))?;
-    }
-    rows.push((Call::Spawn(5, 5, &[]), Told::Err(Errno::EAGAIN), 0))?;
-    rows.extend_from_slice(&LOWEST_PID)?;
-    play(&rt, rt.alloc(), 16, 165, &rows)
-}
-
-#[test]
-fn a_process_has_256_descriptors(rt: HostRuntime) -> Result<(), Fail> {
-    let mut rows = Vec::new(rt.alloc());
-    rows.push(SPAWN)?;
-    for pipe in 0..128 {
-        rows.push((Call::Pipe(1), Told::Fds(2 * pipe, 2 * pipe + 1), 0))?;
-    }
-    rows.extend_from_slice(&LOWEST_DESCRIPTORS)?;
-    play(&rt, rt.alloc(), 4096, 165, &rows)
-}
-
-// What 256 processes that come from one are told, each with 256 descriptors of one pipe that holds a byte.
-fn family(alloc: Global) -> Result<Vec<Row>, AllocError> {
-    let mut rows = Vec::from_slice(alloc, &[SPAWN, PIPE])?;
-    rows.push((Call::Write(1, 1, b"a"), Told::Num(1), 1))?;
-    for fd in 2..256 {
-        rows.push((Call::Dup(1, fd % 2), Told::Num(u64::from(fd)), 1))?;
-    }
-    rows.push((Call::Dup(1, 0), Told::Err(Errno::EMFILE), 1))?;
-    for child in 2..257 {
-        rows.push((Call::Fork(child / 2), Told::Pid(child), 1))?;
-    }
-    rows.push((Call::Fork(256), Told::Err(Errno::EAGAIN), 1))?;
-    Ok(rows)
-}
-
-// Behind 255 processes that went: the last one still reads what was written before the others came, and then
-// the pipe's pages are free again.
-const LAST_OF_THE_FAMILY: [Row; 5] = [
-    (Call::Read(156, 254, 9), Told::Bytes(b"a"), 0),
-    (Call::Exit(156), Told::Num(0), 0),
-    SPAWN,
-    PIPE,
-    (Call::GetSize(1, 0), Told::Num(65_536), 0),
+// Tables, each with how many frames it is over.
+const TABLES: [(u32, &[Row]); 6] = [
+    (32, &CAPACITIES),
+    (16, &HELD),
+    (16, &OF_16),
+    (17, &OF_17),
+    (33, &OF_33),
+    (16, &CHILD),
 ];
 
 #[test]
-fn a_family_shares_a_pipe(rt: HostRuntime) -> Result<(), Fail> {
-    let mut rows = family(rt.alloc())?;
-    // in another order than they came
-    for k in 0..255 {
-        rows.push((Call::Exit(k * 101 % 256 + 1), Told::Num(0), 1))?;
+fn tables_of_one_process(rt: HostRuntime) -> Result<(), Fail> {
+    for (reserve, rows) in TABLES {
+        play(&rt, rt.alloc(), reserve, 165, rows)?;
     }
-    rows.extend_from_slice(&LAST_OF_THE_FAMILY)?;
-    play(&rt, rt.alloc(), 16, 165, &rows)
+    Ok(())
 }

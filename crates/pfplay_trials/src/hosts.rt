@@ -20,6 +20,9 @@ pub(crate) trait Host: Drop {
 
     /// How many frames a namespace holds.
     fn held_by(&self, ns: u32) -> u32;
+
+    /// How many frames no namespace holds, where this form counts them.
+    fn free_frames(&self) -> Option<u32>;
 }
 
 impl Host for Hub<Global> {
@@ -41,6 +44,10 @@ impl Host for Hub<Global> {
     fn held_by(&self, ns: u32) -> u32 {
         self.held(ns)
     }
+
+    fn free_frames(&self) -> Option<u32> {
+        Some(self.free())
+    }
 }
 
 impl Host for Plain<Global> {
@@ -61,6 +68,10 @@ impl Host for Plain<Global> {
 
     fn held_by(&self, ns: u32) -> u32 {
         self.held(ns)
+    }
+
+    fn free_frames(&self) -> Option<u32> {
+        None
     }
 }
 
