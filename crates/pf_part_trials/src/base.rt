@@ -6,26 +6,29 @@ use pf_base::{
 use std::alloc::AllocError;
 use std::test::Fail;
 
+// A reservation, pipe-max-size, and why they are refused.
+const REFUSED: [(u32, u32, ConfigFault); 5] = [
+    (65_537, 1_048_576, ConfigFault::ReserveTooLarge),
+    (65_537, 0, ConfigFault::ReserveTooLarge),
+    (65_536, 65_535, ConfigFault::BadMax),
+    (0, 536_870_912, ConfigFault::BadMax),
+    (16, 65_537, ConfigFault::BadMax),
+];
+
 #[test]
 fn config_tests_the_reservation_first(rt: HostRuntime) {
-    for (reserve, max, want) in [
-        (65_537, 1_048_576, ConfigFault::ReserveTooLarge),
-        (65_537, 0, ConfigFault::ReserveTooLarge),
-        (65_536, 65_535, ConfigFault::BadMax),
-        (0, 536_870_912, ConfigFault::BadMax),
-        (16, 65_537, ConfigFault::BadMax),
-    ] {
-        assert_eq!(rt;
-            Config::new(reserve, 0, 0, max).err(),
-            Some(want),
-            "{reserve} {max}"
-        );
+    for (reserve, max, want) in REFUSED {
+        let fault = Config::new(reserve, 0, 0, max).err();
+        assert!(rt; fault == Some(want), "{reserve} {max}");
     }
 }
 
+// A reservation and pipe-max-size.
+const TAKEN: [(u32, u32); 3] = [(0, 65_536), (65_536, 268_435_456), (16, 1_048_576)];
+
 #[test]
 fn config_keeps_its_numbers(rt: HostRuntime) {
-    for (reserve, max) in [(0, 65_536), (65_536, 268_435_456), (16, 1_048_576)] {
+    for (reserve, max) in TAKEN {
         let read = Config::new(reserve, 17, 18, max).map(|c| (
             c.reserve(),
             c.soft(),
@@ -36,22 +39,23 @@ fn config_keeps_its_numbers(rt: HostRuntime) {
     }
 }
 
+const ERRORS: [(Errno, u32, &str, &str); 4] = [
+    (Errno::EPERM, 1, "EPERM", "operation not permitted"),
+    (
+        Errno::EAGAIN,
+        11,
+        "EAGAIN",
+        "resource temporarily unavailable",
+    ),
+    (Errno::EPIPE, 32, "EPIPE", "broken pipe"),
+    (Errno::ENOTEMPTY, 39, "ENOTEMPTY", "directory not empty"),
+];
+
 #[test]
 fn errors_have_their_numbers_and_texts(rt: HostRuntime) -> Result<(), Fail> {
-    for (error, code, name, text) in [
-        (Errno::EPERM, 1, "EPERM", "operation not permitted"),
-        (
-            Errno::EAGAIN,
-            11,
-            "EAGAIN",
-            "resource temporarily unavailable",
-        ),
-        (Errno::EPIPE, 32, "EPIPE", "broken pipe"),
-        (Errno::ENOTEMPTY, 39, "ENOTEMPTY", "directory not empty"),
-    ] {
-        assert_eq!(rt; error.code(), code);
-        assert_eq!(rt; error.name(), name);
-        assert_eq!(rt; format!(in rt.alloc(); "{error}")?.as_str(), text);
+    for (error, code, name, text) in ERRORS {
+        assert!(rt; error.code() == code && error.name() == name);
+        assert!(rt; format!(in rt.alloc(); "{error}")?.as_str() == text);
     }
     let fault = ConfigFault::ReserveTooLarge;
     assert_eq!(rt;
@@ -73,17 +77,24 @@ fn bytes_come_back(rt: HostRuntime) -> Result<(), Fail> {
     Ok(())
 }
 
+// How many groups, a umask, and whether they are valid.
+const CREDENTIALS: [(usize, u32, bool); 3] = [
+    (32, 0o777, true),
+    (33, 0o777, false),
+    (0, 0o1000, false),
+];
+
 #[test]
 fn credentials_have_at_most_32_groups(rt: HostRuntime) -> Result<(), Fail> {
-    for (count, umask, want) in [(32, 0o777, true), (33, 0o777, false), (0, 0o1000, false)] {
+    for (count, umask, want) in CREDENTIALS {
         let cred = Cred {
             uid: 5,
             gid: 5,
             groups: Groups::new(vec![in rt.alloc(); 7; count]?),
             umask,
         };
-        assert_eq!(rt; cred.is_valid(), want, "{count} {umask}");
-        assert_eq!(rt; cred.copy(rt.alloc())?, cred);
+        assert!(rt; cred.is_valid() == want, "{count} {umask}");
+        assert!(rt; cred.copy(rt.alloc())? == cred);
     }
     Ok(())
 }
@@ -121,18 +132,20 @@ fn progress_compares_by_value(rt: HostRuntime) {
     assert!(rt; Side::Read != Side::Write);
 }
 
+const PAGES: [(u64, u64); 7] = [
+    (0, 1),
+    (4_096, 1),
+    (4_097, 2),
+    (12_288, 4),
+    (1_048_577, 512),
+    (2_147_483_648, 524_288),
+    (u64::MAX, 1 << 52),
+];
+
 #[test]
 fn bytes_have_their_pages(rt: HostRuntime) {
-    for (bytes, pages) in [
-        (0, 1),
-        (4_096, 1),
-        (4_097, 2),
-        (12_288, 4),
-        (1_048_577, 512),
-        (2_147_483_648, 524_288),
-        (u64::MAX, 1 << 52),
-    ] {
-        assert_eq!(rt; pages_for(bytes), pages, "{bytes}");
+    for (bytes, pages) in PAGES {
+        assert!(rt; pages_for(bytes) == pages, "{bytes}");
     }
 }
 
@@ -149,57 +162,56 @@ fn limits_are_told_by_their_call(rt: HostRuntime) -> Result<(), Fail> {
     Ok(())
 }
 
+// Bits, and whether READ, WRITE and NONBLOCK are among them.
+const FLAGS: [(u32, bool, bool, bool); 6] = [
+    (0, false, false, false),
+    (1, true, false, false),
+    (2, false, true, false),
+    (5, true, false, true),
+    (7, true, true, true),
+    (4_294_967_288, false, false, false),
+];
+
 #[test]
 fn open_flags_are_three_bits(rt: HostRuntime) {
-    for (bits, reads, writes, nonblock) in [
-        (0, false, false, false),
-        (1, true, false, false),
-        (2, false, true, false),
-        (5, true, false, true),
-        (7, true, true, true),
-        (4_294_967_288, false, false, false),
-    ] {
+    for (bits, reads, writes, nonblock) in FLAGS {
         let flags = OpenFlags::from_bits_retain(bits);
-        assert_eq!(rt; flags.bits(), bits);
-        assert_eq!(rt; flags.contains(OpenFlags::READ), reads, "{bits}");
-        assert_eq!(rt; flags.contains(OpenFlags::WRITE), writes, "{bits}");
-        assert_eq!(rt; flags.contains(OpenFlags::NONBLOCK), nonblock, "{bits}");
+        assert!(rt; flags.bits() == bits);
+        assert!(rt; flags.contains(OpenFlags::READ) == reads, "{bits}");
+        assert!(rt; flags.contains(OpenFlags::WRITE) == writes, "{bits}");
+        assert!(rt; flags.contains(OpenFlags::NONBLOCK) == nonblock, "{bits}");
     }
 }
 
 #[test]
 fn copied_steps_are_the_same(rt: HostRuntime) -> Result<(), Fail> {
-    let payload = ByteString::new(vec![in rt.alloc(); 104, 101]?);
-    let path = ByteString::new(vec![in rt.alloc(); 47, 102]?);
-    for step in [
-        Step::Fork { pid: 3 },
-        Step::Resume { pid: 1 },
-        Step::Write {
-            pid: 2,
-            fd: 1,
-            payload,
-        },
-        Step::Open {
-            pid: 1,
-            path,
-            flags: OpenFlags::from_bits_retain(6),
-        },
-    ] {
-        assert_eq!(rt; step.copy(rt.alloc())?, step);
-    }
+    let fork = Step::Fork { pid: 3 };
+    assert!(rt; fork.copy(rt.alloc())? == fork);
+    let write = Step::Write {
+        pid: 2,
+        fd: 1,
+        payload: ByteString::new(vec![in rt.alloc(); 104, 101]?),
+    };
+    assert!(rt; write.copy(rt.alloc())? == write);
+    let open = Step::Open {
+        pid: 1,
+        path: ByteString::new(vec![in rt.alloc(); 47, 102]?),
+        flags: OpenFlags::from_bits_retain(6),
+    };
+    assert!(rt; open.copy(rt.alloc())? == open);
+    let resume = Step::Resume { pid: 1 };
+    assert!(rt; resume.copy(rt.alloc())? == resume);
     Ok(())
 }
 
 #[test]
 fn copied_replies_are_the_same(rt: HostRuntime) -> Result<(), Fail> {
-    let bytes = ByteString::new(vec![in rt.alloc(); 104, 101]?);
-    for reply in [
-        Reply::Fds(3, 4),
-        Reply::Bytes(bytes),
-        Reply::Parked,
-        Reply::Err(Errno::ENXIO),
-    ] {
-        assert_eq!(rt; reply.copy(rt.alloc())?, reply);
-    }
+    let bytes = Reply::Bytes(ByteString::new(vec![in rt.alloc(); 104, 101]?));
+    assert!(rt; bytes.copy(rt.alloc())? == bytes);
+    let fds = Reply::Fds(3, 4);
+    assert!(rt; fds.copy(rt.alloc())? == fds);
+    assert!(rt; Reply::Parked.copy(rt.alloc())? == Reply::Parked);
+    let refused = Reply::Err(Errno::ENXIO);
+    assert!(rt; refused.copy(rt.alloc())? == refused);
     Ok(())
 }

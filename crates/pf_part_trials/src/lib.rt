@@ -15,8 +15,6 @@ mod parked;
 #[cfg(test)]
 mod pipe;
 #[cfg(test)]
-mod ring;
-#[cfg(test)]
 mod tree;
 #[cfg(test)]
 mod walk;

@@ -4,7 +4,7 @@ use bumpalo::Bump;
 use pf_base::{Cred, Errno, Fault, File, Groups, Kind, Meta, Mode};
 use pf_tree::Tree;
 use pf_walk::{Purpose, chmod, list, make, resolve, rmdir, split, stat, unlink};
-use std::alloc::{AllocError, Allocator, Global};
+use std::alloc::{Allocator, Global};
 use std::test::Fail;
 
 fn user(alloc: Global, uid: u32) -> Cred {
@@ -28,7 +28,7 @@ fn rooted<A: Allocator>(alloc: A, mode: Mode) -> Tree<A> {
 }
 
 #[derive(Clone, Copy, Debug)]
-enum Call {
+pub(crate) enum Call {
     Mkdir,
     Mkfifo,
     Unlink,
@@ -40,15 +40,15 @@ enum Call {
 
 // A tree, and the user who calls. Where a growth is refused each call is made once more: it is to find the files as they were.
 #[derive(Drop)]
-struct Desk<A: Allocator> {
-    tree: Tree<A>,
+pub(crate) struct Desk<A: Allocator> {
+    pub(crate) tree: Tree<A>,
     text: Global,
     cred: Cred,
     made: u64,
 }
 
 impl<A: Allocator + Clone> Desk<A> {
-    fn new(alloc: A, text: Global, root: Mode, uid: u32) -> Self {
+    pub(crate) fn new(alloc: A, text: Global, root: Mode, uid: u32) -> Self {
         Desk {
             tree: rooted(alloc, root),
             text,
@@ -58,14 +58,15 @@ impl<A: Allocator + Clone> Desk<A> {
     }
 
     // What a call is told, with this mode where it takes one.
-    fn call(&mut self, call: Call, path: &[u8], mode: Mode) -> Option<Fault> {
+    pub(crate) fn call(&mut self, call: Call, path: &[u8], mode: Mode) -> Option<Fault> {
         match self.attempt(call, path, mode) {
             Some(Fault::NoMemory) => self.attempt(call, path, mode),
             told => told,
         }
     }
 
-    fn attempt(&mut self, call: Call, path: &[u8], mode: Mode) -> Option<Fault> {
+    // The same, once.
+    pub(crate) fn attempt(&mut self, call: Call, path: &[u8], mode: Mode) -> Option<Fault> {
         match call {
             Call::Mkdir => self.make(path, Kind::Directory, mode).err(),
             Call::Mkfifo => self.make(path, Kind::Fifo, mode).err(),
@@ -100,7 +101,7 @@ impl<A: Allocator + Clone> Desk<A> {
     }
 
     // The names in a directory.
-    fn list(&self, path: &[u8]) -> Result<Vec<u8>, Fault> {
+    pub(crate) fn list(&self, path: &[u8]) -> Result<Vec<u8>, Fault> {
         match list(self.text, &self.tree, &self.cred, path) {
             Err(Fault::NoMemory) => list(self.text, &self.tree, &self.cred, path),
             told => told,
@@ -108,7 +109,7 @@ impl<A: Allocator + Clone> Desk<A> {
     }
 
     // The number of a file, and how many names lead to it.
-    fn number(&self, path: &[u8]) -> Result<(u64, usize), Fault> {
+    pub(crate) fn number(&self, path: &[u8]) -> Result<(u64, usize), Fault> {
         let told = match resolve(self.text, &self.tree, &self.cred, path, Purpose::Target) {
             Err(Fault::NoMemory) => {
                 resolve(self.text, &self.tree, &self.cred, path, Purpose::Target)?

@@ -1,5 +1,5 @@
-//! Worked examples through public calls that no table of script lines can say: a namespace alone over frames of its own,
-//! memory that is refused, and readers and writers that fail. The tables are data of `pfplay_trials`.
+//! Worked examples through public calls that no table of script lines can say: a namespace alone over frames of its
+//! own, memory that is refused, and readers and writers that fail. The tables are data of `pfplay_trials`.
 //! Nothing stands here but tests, so that the crates below are proved once and not a second time with them.
 #![tactic(auto)]
 

@@ -5,7 +5,7 @@ use pf_play::{
     Collected, Failed, INPUT_LIMIT, MemoryBytes, Options, Reading, ReplayFault, Replayed, Sink,
     Source, Writing, frames_of, replay,
 };
-use std::alloc::{AllocError, Global};
+use std::alloc::Global;
 use std::io::{self, ErrorKind, Read};
 use std::test::Fail;
 
@@ -211,16 +211,14 @@ fn long_lines(rt: HostRuntime) -> Result<(), Fail> {
     Ok(())
 }
 
+/// What comes before the line feeds, and which read fails. The last script would be refused at its end for its first
+/// line.
+const BREAKS: [(&[u8], u32); 4] = [(b"", 1), (b"", 2), (b"", 70_000), (b"foo\n", 5)];
+
 #[test]
 fn readers_that_fail(rt: HostRuntime) -> Result<(), Fail> {
     let alloc = rt.alloc();
-    // the last one would be refused at its end for its first line
-    for (front, fails_at) in [
-        (b"".as_slice(), 1),
-        (b"".as_slice(), 2),
-        (b"".as_slice(), 70_000),
-        (b"foo\n".as_slice(), 5),
-    ] {
+    for (front, fails_at) in BREAKS {
         let mut reader = Breaking {
             front,
             fails_at,
@@ -271,10 +269,13 @@ fn a_reader_without_end(rt: HostRuntime) {
     assert!(rt; matches!(result, Err(ReplayFault::ReadFault)));
 }
 
+/// How many bytes are taken, and whether the next write fails or takes none.
+const ROOMS: [(u32, bool); 4] = [(0, true), (0, false), (3, true), (3, false)];
+
 #[test]
 fn writers_that_fail(rt: HostRuntime) -> Result<(), Fail> {
     let alloc = rt.alloc();
-    for (room, fails) in [(0, true), (0, false), (3, true), (3, false)] {
+    for (room, fails) in ROOMS {
         let mut reader = MemoryBytes::new(b"pool 4\nspace a 1\n");
         let mut writer = Full::new(b"== a\n", room, fails);
         let result = replay(alloc, &mut reader, &mut writer, &OPTIONS);
@@ -283,6 +284,9 @@ fn writers_that_fail(rt: HostRuntime) -> Result<(), Fail> {
     }
     Ok(())
 }
+
+/// Which read fails, and how many are asked for.
+const STOPS: [(u32, u32); 4] = [(1, 1), (2, 2), (100, 100), (1000, 182)];
 
 #[test]
 fn readers_of_std(rt: HostRuntime) -> Result<(), Fail> {
@@ -293,7 +297,7 @@ fn readers_of_std(rt: HostRuntime) -> Result<(), Fail> {
         script.push_str("a exit 1\n")?;
         whole.push_str(format!(in alloc; "{number}: err ESRCH\n")?.as_str())?;
     }
-    for (fails_at, asked) in [(1, 1), (2, 2), (100, 100), (1000, 182)] {
+    for (fails_at, asked) in STOPS {
         let mut stopping = Stopping {
             rest: script.as_bytes(),
             fails_at,

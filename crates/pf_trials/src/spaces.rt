@@ -178,13 +178,7 @@ fn answered(
 }
 
 // Plays rows in a namespace that is alone, over so many frames: each has its answer, and leaves so many held.
-fn play(
-    rt: &impl Abort,
-    alloc: Global,
-    reserve: u32,
-    fill: u8,
-    rows: &[Row],
-) -> Result<(), Fail> {
+fn play(rt: &impl Abort, alloc: Global, reserve: u32, fill: u8, rows: &[Row]) -> Result<(), Fail> {
     let config = Config::new(
         reserve,
         Config::DEFAULT_SOFT,

@@ -1,5 +1,5 @@
-//! The trials of `data`: tables of steps with their answers, which are played in each way, and scripts with what is told
-//! of them. A line tells of each file that all is as it says, or what isn't.
+//! The trials of `data`: tables of steps with their answers, which are played in each way, and scripts with what is
+//! told of them. A line says of each file how much it has, where all is as it says, or else what isn't.
 #![tactic(auto)]
 
 mod flaw;
@@ -14,10 +14,11 @@ use crate::player::play_file;
 use std::{fs, io};
 
 /// The files of tables.
-const TABLES: [&str; 11] = [
+const TABLES: [&str; 12] = [
     "pipes",
     "sharing",
     "transfers",
+    "rings",
     "parked",
     "waiting",
     "opens",

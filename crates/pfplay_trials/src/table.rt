@@ -3,8 +3,8 @@
 //! of the first namespace.
 //!
 //! A word `COUNT*HH` of an answer stands for so many times these two digits, and a `+` in any word joins two parts of
-//! it, each digits or of this kind. A step `both` stands for four in turn: a tee and a splice of its words, each without
-//! and with the flag `n`.
+//! it, each digits or of this kind. A step `both` stands for four in turn: a tee and a splice of its words, each
+//! without and with the flag `n`.
 
 use crate::flaw::Flaw;
 use crate::lines::{Line, lines_of};

@@ -1,2 +1,0 @@
-mod PipePairs
-mod RingPairs
