@@ -1,5 +1,19 @@
 -- Calls that may wait, attempted: a call is finished with a reply, or it waits. The first attempt is a step of its own;
 -- where it waits, its process parks, and each Resume makes the attempt again.
+--
+-- Eight definitions a Read passes, in this order, from its step to its reply:
+--     call       (Machine)    who calls: ESRCH, then EBUSY of a process that waits (`ready` in State)
+--     transfer   (here)       the first attempt, and whether it may wait
+--     attempt    (here)       what is tried, and what is told of how far it came
+--     tried      (Transfers)  the end that the descriptor names: EBADF (`reading_end` in State)
+--     try_read   (Transfers)  the pipe that it is an end of, and who writes it (`writers` in Counts)
+--     read_now   (Progress)   over the queue alone: how far it comes, and what is left
+--     read_told  (here)       so it is finished, with its bytes, or it waits
+--     first      (here)       its reply; or EAGAIN, or its process parks
+-- Then a refusal is made the reply, with the state as it was (`settle` in State), and what nobody can reach goes
+-- (`swept` in Machine). A Write passes try_write, write_now and write_told in place of those of a read; a Tee and a
+-- Splice try_cross, cross_now and cross_told. An Open comes in at `first` (Opens). A Resume makes `attempt` anew, and
+-- then `again`.
 
 use Rattle.std.specs.Prelude.{ℕ, ◌+◌, Bool, false, ◌||◌, List, [], length, Some, None, nat_eq, nat_lt, if◌then◌else◌, Result, Ok, Err}
 use Rattle.pf_machine.specs.Refusals.{◌>>=◌, or_refuse}
