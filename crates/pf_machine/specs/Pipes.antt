@@ -23,7 +23,7 @@ first_descriptor p = first_free p.descriptors
 abbrev pub second_descriptor : Process → ℕ
 second_descriptor p = first_free (put_at p.descriptors (first_descriptor p) 0)
 
--- so many more numbers would pass 2 ^ 64 - 1, the last one to draw
+-- with so many more, more than 2 ^ 64 - 1 numbers would have been drawn
 abbrev pub is_spent : {X : Type 0} → List (Option X) → ℕ → Bool
 is_spent xs more = nat_lt (2 ^ 64 - 1) (length xs + more)
 

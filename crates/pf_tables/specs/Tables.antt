@@ -122,7 +122,7 @@ abbrev pub FindsTwo : State Queue → ℕ → Result (ℕ × ℕ) Errno → Type
 FindsTwo s pid (Ok free) = HasTwo s pid free
 FindsTwo s pid (Err e) = (ready s pid >>= (λ p. refuse_if (nat_le MAX_DESCRIPTORS (second_descriptor p)) EMFILE)) ≡ Err e
 
--- two more descriptions, or one more pipe, would pass the last number to draw
+-- with two more descriptions, or one more pipe, more than 2 ^ 64 - 1 would have been drawn
 abbrev pub is_spent_for_pipe : {Q : Type 0} → State Q → Bool
 is_spent_for_pipe s = is_spent s.descriptions 2 || is_spent s.pipes 1
 
