@@ -49,7 +49,7 @@ OutSound o = SoundState o.state
 change-put : (f : Process → Process) (ps : List (Option Process)) (k : ℕ) (p : Process) → at ps k ≡ Some p → change_at f ps k ≡ put_at ps k (f p)
 change-put f ps k p e = ap (λ o. set ps k (option_map f o)) e
 
-put-put : (f : Process → Process) (ps : List (Option Process)) (k : ℕ) (p q : Process) → at ps k ≡ Some p → change_at f (put_at ps k q) k ≡ put_at ps k (f q)
+pub put-put : (f : Process → Process) (ps : List (Option Process)) (k : ℕ) (p q : Process) → at ps k ≡ Some p → change_at f (put_at ps k q) k ≡ put_at ps k (f q)
 put-put f ps k p q e = change-put f (put_at ps k q) k q (at-put_same ps k (Some q) (at_within ps k p e)) ∙ set-set ps k (Some q) (Some (f q))
 
 -- places with nothing in them name nothing, and nobody waits there

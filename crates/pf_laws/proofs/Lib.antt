@@ -11,5 +11,8 @@ mod NumberLaws
 mod EndLaws
 mod ApartLaws
 mod ApartSteps
+mod WaitLaws
+mod WaitSteps
+mod RefusalLaws
 mod StayLaws
 mod WorkedStreams

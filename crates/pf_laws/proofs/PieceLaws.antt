@@ -666,7 +666,7 @@ module _ (c : Limits) (pid fd : ℕ) (x : List ℕ) (P : List (List ℕ) → Typ
 
 -- In a run from the opening state
 
-at-replicate : {X : Type 0} (n m : ℕ) → at {X = X} (replicate n None) m ≡ None
+pub at-replicate : {X : Type 0} (n m : ℕ) → at {X = X} (replicate n None) m ≡ None
 at-replicate zero m = refl
 at-replicate (suc n) zero = refl
 at-replicate (suc n) (suc m) = at-replicate n m

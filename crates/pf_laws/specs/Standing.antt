@@ -7,12 +7,17 @@ use Rattle.pf_machine.specs.FileMap.{Path, find}
 use Rattle.pf_machine.specs.Queue.{Queue}
 use Rattle.pf_machine.specs.Numbered.{at, weight, sum_of, keep, one_if}
 use Rattle.pf_machine.specs.Calls.{Call, made_by}
-use Rattle.pf_machine.specs.State.{State, Process, Description, Pipe, opening}
+use Rattle.pf_machine.specs.State.{State, Process, Description, Pipe, opening, change_process, waiting}
 use Rattle.pf_machine.specs.Counts.{named_in, readers, writers}
 use Rattle.pf_machine.specs.Opens.{fifo_pipe}
+use Rattle.pf_machine.specs.Machine.{call_of, step_of}
 use Rattle.pf_machine.specs.Runs.{run_of}
+use Rattle.pf_base.specs.declared.errno.Errno.{Errno}
+use Rattle.pf_base.specs.declared.errno.Errno.TheVariants.{EPIPE}
 use Rattle.pf_base.specs.declared.meta.File.{File}
+use Rattle.pf_base.specs.declared.step.Reply.TheVariants as replies
 use Rattle.pf_base.specs.declared.step.Step.{Step}
+use Rattle.pf_base.specs.declared.step.Step.TheVariants as steps
 
 -- the state to which a list of steps leads
 abbrev pub reached : Limits → List Step → State Queue
@@ -69,3 +74,22 @@ pub record EndsApart (s : State Queue) : Type 0 where
   pub reading : (p : ℕ) → readers s p ≡ apart_count (reads_it p) s
   pub writing : (p : ℕ) → writers s p ≡ apart_count (writes_it p) s
   pub own : (n : ℕ) → (opening_it s.processes n ≡ 0) ⊎ ((opening_it s.processes n ≡ 1) × (held s.processes n ≡ 0))
+
+-- Refusals
+
+-- what a Resume leaves that is told an error, by the call in which its process waits. In none: it is refused, and the
+-- state is as it was. In one: the error is the reply to that call, EPIPE alone. The call is over, and nothing else has
+-- changed
+abbrev pub AfterResume : State Queue → ℕ → Errno → State Queue → Option Call → Type 0
+AfterResume old pid e new None = new ≡ old
+AfterResume old pid e new (Some call) = (e ≡ EPIPE) × (new ≡ change_process (waiting None) old pid)
+
+-- what any step leaves that is told an error: if it is no Resume, the state as it was
+abbrev pub AfterError : State Queue → Step → Errno → State Queue → Type 0
+AfterError old (steps.Resume pid) e new = AfterResume old pid e new (call_of old pid)
+AfterError old _ e new = new ≡ old
+
+-- the next step, whichever it is, leaves that where it is told an error; its sweep takes nothing
+abbrev pub RefusalsChangeNothing : Limits → State Queue → Type 0
+RefusalsChangeNothing c s =
+    (step : Step) (e : Errno) → (step_of c s step).reply ≡ replies.Err e → AfterError s step e (step_of c s step).state

@@ -3,7 +3,7 @@
 #![tactic(auto)]
 
 ghost use Rattle.pf_laws.specs.Laws.{PutAdds, TakeParts, TeeCopies, TransfersMove, AmpleKeepsAll, FilesStay};
-ghost use Rattle.pf_laws.specs.Standing.{EndsApart, NumbersApart, OneFifoEach, reached};
+ghost use Rattle.pf_laws.specs.Standing.{EndsApart, NumbersApart, OneFifoEach, RefusalsChangeNothing, reached};
 ghost use Rattle.pf_laws.specs.Streams.{StreamLaw};
 
 use pf_base::{Config, Step};
@@ -72,6 +72,16 @@ pub fn numbers_apart(config: &Config, steps: &[Step])
 /// for that side that some descriptor names, and the opens for it that are parked.
 pub fn ends_apart(config: &Config, steps: &[Step])
     ensures { EndsApart (reached config.now steps.now) }
+{
+    let _config = config;
+    let _steps = steps;
+}
+
+/// Wherever a list of steps leads from the opening state, a next step that is told an error leaves the state exactly
+/// as it was. One such error is no refusal: EPIPE, told to the Resume of a process that waits in a call. It is the
+/// reply to that call, which is over then, and nothing else changes.
+pub fn refusals_change_nothing(config: &Config, steps: &[Step])
+    ensures { RefusalsChangeNothing config.now (reached config.now steps.now) }
 {
     let _config = config;
     let _steps = steps;

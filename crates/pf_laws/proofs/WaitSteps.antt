@@ -1,0 +1,498 @@
+-- Each step keeps that whoever waits in a call can try it again; and what a step but Resume comes to is no error.
+
+use Rattle.std.proofs.Common.{◌≡◌, ℕ, zero, suc, ◌+◌, ◌-◌, Bool, true, false, not, ◌&&◌, ◌||◌, List, [], ◌∷◌, ◌++◌, length, set, Option, Some, None, Ok, Err, refl, sym, ap, ◌∙◌, subst, ◌⊎◌, inl, inr, ⊎_elim, arith, nat_eq, nat_le, nat_lt, if◌then◌else◌}
+use Rattle.std.specs.Prelude.{Result, ⊤, is_some}
+use Rattle.std.specs.Option.{option_map, option_and_then}
+use Rattle.pf_machine.specs.Refusals.{◌>>=◌, ◌>>◌, refuse_if, or_refuse}
+use Rattle.pf_base.specs.Limits.{Limits}
+use Rattle.pf_machine.specs.Queue.{Queue, empty}
+use Rattle.pf_machine.specs.Numbered.{at, put_at, change_at, first_free}
+use Rattle.pf_machine.proofs.NumberedLaws.{at-put_same, at-push_new, at_within}
+use Rattle.pf_machine.specs.Calls.{Transfer, Reading, Writing, Bringing, Call, Opening, Moving, written_of}
+use Rattle.pf_machine.specs.State.{State, Process, Description, Pipe, End, Outcome, holding, living, ready, end_at, end_of, reading_end, writing_end, change_pipe, change_process, waiting, told, done, vacant, with_process, with_queue, with_descriptor}
+use Rattle.pf_machine.specs.Counts.{readers, writers}
+use Rattle.pf_base.specs.Capacities.{told_as}
+use Rattle.pf_machine.specs.Descriptors.{dup, close, set_nonblock, named}
+use Rattle.pf_machine.specs.Processes.{spawn, fork, exit}
+use Rattle.pf_machine.specs.Pipes.{pipe, set_size, reading, writing, new_pipe, opened, first_descriptor, second_descriptor, with_two, capacity_for, is_spent}
+use Rattle.pf_machine.specs.Transfers.{Tried, tried, try_read, try_write, two_ends, try_cross}
+use Rattle.pf_machine.specs.Attempts.{Attempt, Finished, Waits, transfer_told, given, other_opens, open_told, attempt, first, nonblocking, transfer, again, resume}
+use Rattle.pf_machine.specs.Opens.{Access, access_of, is_waiting, openable, fifo_pipe, fifo_readers, Found, pipe_of, counted, kept_by, open_pipe, open_fifo, open_path}
+use Rattle.pf_machine.specs.Machine.{call}
+use Rattle.pf_base.specs.declared.TheConstants.{MAX_DESCRIPTORS, MAX_WRITE}
+use Rattle.pf_base.specs.declared.cred.Cred.{Cred}
+use Rattle.pf_base.specs.declared.errno.Errno.{Errno}
+use Rattle.pf_base.specs.declared.errno.Errno.TheVariants.{ESRCH, EBUSY, EBADF, EAGAIN, EINVAL, EMFILE, ENFILE, ENOMEM, ENXIO, EPIPE}
+use Rattle.pf_base.specs.declared.progress.Crossing.TheVariants as crossings
+use Rattle.pf_base.specs.declared.progress.Progress.{Progress}
+use Rattle.pf_base.specs.declared.progress.Progress.TheVariants.{Moved, EndOfFile, NoReader, WouldBlock}
+use Rattle.pf_base.specs.declared.step.Reply.{Reply}
+use Rattle.pf_base.specs.declared.step.Reply.TheVariants as replies
+use Rattle.pf_base.specs.declared.step.Step.{Step}
+use Rattle.pf_base.specs.declared.step.Step.TheVariants as steps
+use Rattle.pf_machine.proofs.HoldsLaws.{Holds, goes, carries, passes, found}
+use Rattle.pf_laws.proofs.ApartSteps.{put-put}
+use Rattle.pf_laws.proofs.FifoLaws.{found_at}
+use Rattle.pf_laws.proofs.WaitLaws.{IsOk, Follows, Like, CanTry, try-follows, rewritten, AllCanTry, StandsStill, end_of-follows, Pipes, Lasting, lasting-same, lasting-changed, lasting-drawn, lasting-piped, lasting-flagged, at-set-either}
+
+-- a reply that is no error
+abbrev pub IsNoError : Reply → Type 0
+IsNoError (replies.Err e) = ⊥
+IsNoError _ = ⊤
+
+module _ (s : State Queue) (is : AllCanTry s) where
+  -- what stood in s stands
+  abbrev pub Lasts : State Queue → Type 0
+  Lasts t = Lasting s.descriptions s.pipes t.descriptions t.pipes
+
+  still : (t : State Queue) → Lasts t → (n : ℕ) → StandsStill s t n
+  still t l n = record { described = λ d e. l.described n d e; piped = λ d e x f. l.piped d.pipe x f }
+
+  -- a process that has the same descriptors may try what p may
+  tries : (t : State Queue) (p q : Process) → Lasts t → q.descriptors ≡ p.descriptors → (o : Option Call)
+      → CanTry s p o → CanTry t q o
+  tries t p q l same o h =
+      try-follows s t p q o (λ fd. subst (λ (fds : List (Option ℕ)). Follows Like (end_of s p fd)
+      (or_refuse EBADF (option_and_then (end_at t) (at fds fd)))) (sym same)
+      (end_of-follows s t p (λ n named. still t l n) fd)) (λ n e. still t l n) h
+
+  -- who waits in t waited before, or may try
+  all-either : (t : State Queue) → Lasts t → ((k : ℕ) (p : Process) → at t.processes k ≡ Some p
+      → (at s.processes k ≡ Some p) ⊎ CanTry t p p.parked) → AllCanTry t
+  all-either t l h = record {
+    each = λ k p e. ⊎_elim (λ before. tries t p p l refl p.parked (is.each k p before))
+        (λ now. now) (h k p e);
+  }
+
+  all-same : (t : State Queue) → Lasts t → t.processes ≡ s.processes → AllCanTry t
+  all-same t l same = all-either t l (λ k p e. inl (ap (λ qs. at qs k) (sym same) ∙ e))
+
+  -- another process, or none, in one place
+  all-set : (t : State Queue) → Lasts t → (k : ℕ) (y : Option Process) → t.processes ≡ set s.processes k y
+      → ((q : Process) → y ≡ Some q → CanTry t q q.parked) → AllCanTry t
+  all-set t l k y same h = all-either t l (λ j p e. ⊎_elim (λ before. inl before) (λ new. inr (h p new))
+      (at-set-either s.processes k j y p (ap (λ qs. at qs j) (sym same) ∙ e)))
+
+  free-can : (t : State Queue) (q : Process) → q.parked ≡ None → CanTry t q q.parked
+  free-can t q free = subst (λ (o : Option Call). CanTry t q o) (sym free) tt
+
+  -- an outcome in which whoever waits may try, and that is no error
+  pub record Good (o : Outcome) : Type 0 where
+    pub can_try : AllCanTry o.state
+    pub told : IsNoError o.reply
+
+  good-same : (t : State Queue) (r : Reply) → Lasts t → t.processes ≡ s.processes → IsNoError r
+      → Good (record { state = t; reply = r })
+  good-same t r l same fine = record { can_try = all-same t l same; told = fine }
+
+  good-put : (t : State Queue) (r : Reply) (k : ℕ) (q : Process) → Lasts t → t.processes ≡ set s.processes k (Some q)
+      → q.parked ≡ None → IsNoError r → Good (record { state = t; reply = r })
+  good-put t r k q l same free fine = record {
+    can_try = all-set t l k (Some q) same (λ x e. let both : q ≡ x = cc in
+        subst (λ (y : Process). CanTry t y y.parked) both (free-can t q free));
+    told = fine;
+  }
+
+  good-clear : (t : State Queue) (r : Reply) (k : ℕ) → Lasts t → t.processes ≡ set s.processes k None → IsNoError r
+      → Good (record { state = t; reply = r })
+  good-clear t r k l same fine = record { can_try = all-set t l k None same (λ x e. absurd (cc)); told = fine }
+
+  lasts-s : Lasting s.descriptions s.pipes s.descriptions s.pipes
+  lasts-s = lasting-same s.descriptions s.pipes
+
+  no_error : ⊤
+  no_error = tt
+
+  -- the process of a pid is another one, that waits in no call
+  put : (pid : ℕ) (q : Process) (r : Reply) → q.parked ≡ None → IsNoError r
+      → Good (record { state = with_process s pid q; reply = r })
+  put pid q r free fine = good-put (with_process s pid q) r (pid - 1) q lasts-s refl free fine
+
+  born : (q : Process) → q.parked ≡ None → Good (told (with_process s (first_free s.processes + 1) q)
+      (replies.Pid (first_free s.processes + 1)))
+  born q free = put (first_free s.processes + 1) q (replies.Pid (first_free s.processes + 1)) free tt
+
+  -- Who makes a step
+
+  pub record Stands (k : ℕ) (p : Process) : Type 0 where
+    pub at_place : at s.processes k ≡ Some p
+
+  pub record Free (k : ℕ) (p : Process) : Type 0 where
+    pub at_place : at s.processes k ≡ Some p
+    pub free : p.parked ≡ None
+
+  living-stands : (q : ℕ) → Holds (Stands (q - 1)) (living s q)
+  living-stands zero = tt
+  living-stands (suc i) = by_process (at s.processes i) refl
+    where
+      by_process : (o : Option Process) → at s.processes i ≡ o → Holds (Stands (suc i - 1)) (or_refuse ESRCH o)
+      by_process None e = tt
+      by_process (Some p) e = let same : suc i - 1 ≡ i = omega arith in
+          record { at_place = ap (λ k. at s.processes k) same ∙ e }
+
+  ready-free : (q : ℕ) → Holds (Free (q - 1)) (ready s q)
+  ready-free q = goes (Stands (q - 1)) (Free (q - 1)) (living s q) (λ p. refuse_if (is_some p.parked) EBUSY >> Ok p)
+      (living-stands q) (λ p h. by_call p h.at_place p.parked refl)
+    where
+      by_call : (p : Process) → at s.processes (q - 1) ≡ Some p → (o : Option Call) → p.parked ≡ o
+          → Holds (Free (q - 1)) (refuse_if (is_some o) EBUSY >> Ok p)
+      by_call p e None f = record { at_place = e; free = f }
+      by_call p e (Some call) f = tt
+
+  by_ready : (q : ℕ) (f : Process → Result Outcome Errno) → ((p : Process) → Free (q - 1) p → Holds Good (f p))
+      → Holds Good (ready s q >>= f)
+  by_ready q f h = goes (Free (q - 1)) Good (ready s q) f (ready-free q) h
+
+  -- Calls that don't wait
+
+  spawn-good : (cred : Cred) → Holds Good (spawn s cred)
+  spawn-good cred = let made = born (record { cred = cred; descriptors = vacant; parked = None }) refl in
+      search (passes, made) depth 16
+
+  fork-good : (p : Process) → p.parked ≡ None → Holds Good (fork s p)
+  fork-good p free = let made = born p free in search (passes, made) depth 16
+
+  close-good : (q : ℕ) (p : Process) (fd : ℕ) → p.parked ≡ None → Holds Good (close s q p fd)
+  close-good q p fd free = search (carries, put, free) depth 16
+
+  dup-good : (q : ℕ) (p : Process) (fd : ℕ) → p.parked ≡ None → Holds Good (dup s q p fd)
+  dup-good q p fd free = search (carries, passes, put, free) depth 16
+
+  -- two more descriptions, of one more pipe
+  pipe-good : (c : Limits) (q : ℕ) (p : Process) (nonblock : Bool) → p.parked ≡ None
+      → Holds Good (pipe c s q p nonblock)
+  pipe-good c q p nonblock free = search (passes, carries, made) depth 16
+    where
+      made : (slots : ℕ) → Good (told (opened s q nonblock (empty slots) p)
+          (replies.Fds (first_descriptor p) (second_descriptor p)))
+      made slots =
+          good-put (opened s q nonblock (empty slots) p) (replies.Fds (first_descriptor p) (second_descriptor p))
+          (q - 1) (with_two (length s.descriptions) p)
+          (lasting-piped s.descriptions _ s.pipes s.pipes (Some (new_pipe (empty slots) p.cred.uid None) ∷ [])
+          (lasting-drawn s.descriptions s.descriptions (Some (reading (length s.pipes) nonblock) ∷ Some
+          (writing (length s.pipes) nonblock) ∷ []) s.pipes s.pipes lasts-s))
+          refl free tt
+
+  set_nonblock-good : (p : Process) (fd : ℕ) (on : Bool) → Holds Good (set_nonblock s p fd on)
+  set_nonblock-good p fd on = carries Good (named p fd) _ (λ n. good-same _ (replies.Num 0)
+      (lasting-flagged s.descriptions s.pipes on n) refl tt)
+
+  set_size-good : (c : Limits) (p : Process) (fd bytes : ℕ) → Holds Good (set_size c s p fd bytes)
+  set_size-good c p fd bytes = search (passes, carries, made) depth 16
+    where
+      made : (n k : ℕ) (x : Queue) → Good (done (with_queue s n x) k)
+      made n k x = good-same (with_queue s n x) (replies.Num k)
+          (lasting-changed s.descriptions s.descriptions s.pipes s.pipes (holding x) n lasts-s) refl tt
+
+  -- Transfers
+
+  -- as many processes as before, and what stood stands
+  pub record Level (t : State Queue) : Type 0 where
+    pub lasts : Lasts t
+    pub people : t.processes ≡ s.processes
+
+  level-s : Level s
+  level-s = record { lasts = lasts-s; people = refl }
+
+  level-held : (t : State Queue) (n : ℕ) (x : Queue) → Level t → Level (with_queue t n x)
+  level-held t n x l = record {
+    lasts = lasting-changed s.descriptions t.descriptions s.pipes t.pipes
+        (holding x) n l.lasts;
+    people = l.people;
+  }
+
+  abbrev LevelTried : Tried → Type 0
+  LevelTried t = Level t.state
+
+  tried-level : (p : Process) (call : Transfer) → Holds LevelTried (tried s p call)
+  tried-level p (Reading fd n) =
+      carries LevelTried (reading_end s p fd) (λ e. Ok (try_read s e n))
+      (λ e. level-held s e.description.pipe _ level-s)
+  tried-level p (Writing fd x written) =
+      carries LevelTried (writing_end s p fd) (λ e. refuse_if (nat_lt MAX_WRITE (length x)) EINVAL >> Ok
+      (try_write s e x written))
+      (λ e. passes LevelTried (refuse_if (nat_lt MAX_WRITE (length x)) EINVAL) (Ok (try_write s e x written))
+      (level-held s e.description.pipe _ level-s))
+  tried-level p (Bringing c source sink n) =
+      carries LevelTried (two_ends s p source sink) (λ e. Ok (try_cross c s e n))
+      (λ e. level-held (with_queue s e.sink.description.pipe _) e.source.description.pipe _
+      (level-held s e.sink.description.pipe _ level-s))
+
+  -- an attempt is finished with no error, or it waits in a call that may be tried
+  module _ (p : Process) where
+    abbrev pub Tells : Attempt → Type 0
+    Tells (Finished t reply) = Level t × IsNoError reply
+    Tells (Waits t call) = Level t × CanTry s p (Some call)
+
+    -- one refusal alone comes of trying
+    abbrev pub Told : Result Attempt Errno → Type 0
+    Told (Ok a) = Tells a
+    Told (Err e) = e ≡ EPIPE
+
+    told-tells : (call : Transfer) (t : Tried) (r : Progress) → LevelTried t → IsOk (tried s p call)
+        → Told (transfer_told call t r)
+    told-tells (Reading fd n) t (Moved k) l h = (l, tt)
+    told-tells (Reading fd n) t EndOfFile l h = (l, tt)
+    told-tells (Reading fd n) t NoReader l h = (l, tt)
+    told-tells (Reading fd n) t WouldBlock l h = (l, h)
+    told-tells (Writing fd x written) t (Moved k) l h = by_rest (nat_eq (written + k) (length x))
+      where
+        by_rest : (b : Bool) → Told (if b then Ok (Finished t.state (replies.Num (length x))) else Ok
+            (Waits t.state (Moving (Writing fd x (written + k)))))
+        by_rest true = (l, tt)
+        by_rest false = (l, rewritten s p fd x written (written + k) h)
+    told-tells (Writing fd x written) t EndOfFile l h = (l, h)
+    told-tells (Writing fd x written) t NoReader l h = by_none (nat_eq written 0)
+      where
+        by_none : (b : Bool) → Told (if b then Err EPIPE else Ok (Finished t.state (replies.Num written)))
+        by_none true = refl
+        by_none false = (l, tt)
+    told-tells (Writing fd x written) t WouldBlock l h = (l, h)
+    told-tells (Bringing c source sink n) t (Moved k) l h = (l, tt)
+    told-tells (Bringing c source sink n) t EndOfFile l h = (l, tt)
+    told-tells (Bringing c source sink n) t NoReader l h = refl
+    told-tells (Bringing c source sink n) t WouldBlock l h = (l, h)
+
+    -- what may be tried is refused with EPIPE alone
+    pub attempt-told : (pid : ℕ) (call : Transfer) → IsOk (tried s p call) → Told (attempt s pid p (Moving call))
+    attempt-told pid call = by_tried (tried s p call) (tried-level p call) (λ h. h)
+      where
+        by_tried : (r : Result Tried Errno) → Holds LevelTried r → (IsOk r → IsOk (tried s p call)) → IsOk r
+            → Told (r >>= (λ t. transfer_told call t t.progress))
+        by_tried (Ok t) l k h = told-tells call t t.progress l (k h)
+        by_tried (Err e) l k h = absurd h
+
+    attempt-tells : (pid : ℕ) (call : Transfer) → Holds Tells (attempt s pid p (Moving call))
+    attempt-tells pid call = by_tried (tried s p call) (tried-level p call) (λ h. h)
+      where
+        holds : (r : Result Attempt Errno) → Told r → Holds Tells r
+        holds (Ok a) h = h
+        holds (Err e) h = tt
+
+        by_tried : (r : Result Tried Errno) → Holds LevelTried r → (IsOk r → IsOk (tried s p call))
+            → Holds Tells (r >>= (λ t. transfer_told call t t.progress))
+        by_tried (Ok t) l k = holds (transfer_told call t t.progress) (told-tells call t t.progress l (k tt))
+        by_tried (Err e) l k = tt
+
+  -- who waited in a place, or was free, waits in a call now that may be tried
+  waits-all : (q : ℕ) (o : Option Call) (p : Process) (t : State Queue) → at s.processes (q - 1) ≡ Some p → Level t
+      → CanTry s p o → AllCanTry (change_process (waiting o) t q)
+  waits-all q o p t e l h = all-set (change_process (waiting o) t q) l.lasts (q - 1) (Some (waiting o p)) same can
+    where
+      same : change_at (waiting o) t.processes (q - 1) ≡ set s.processes (q - 1) (Some (waiting o p))
+      same = ap (λ (qs : List (Option Process)). change_at (waiting o) qs (q - 1)) l.people
+          ∙ ap (λ (x : Option Process). set s.processes (q - 1) (option_map (waiting o) x)) e
+
+      can : (x : Process) → Some (waiting o p) ≡ Some x → CanTry (change_process (waiting o) t q) x x.parked
+      can x f =
+          let both : waiting o p ≡ x = cc in
+          subst (λ (y : Process). CanTry (change_process (waiting o) t q) y y.parked) both
+          (tries (change_process (waiting o) t q) p (waiting o p) l.lasts refl o h)
+
+  first-good : (q : ℕ) (p : Process) → at s.processes (q - 1) ≡ Some p → (b : Bool) (a : Attempt) → Tells p a
+      → Holds Good (first q b a)
+  first-good q p e b (Finished t reply) h = good-same t reply h.0.lasts h.0.people h.1
+  first-good q p e false (Waits t call) h = record { can_try = waits-all q (Some call) p t e h.0 h.1; told = tt }
+  first-good q p e true (Waits t call) h = by_none (nat_eq (written_of call) 0)
+    where
+      by_none : (b : Bool) → Holds Good (if b then Err EAGAIN else Ok (told t (replies.Num (written_of call))))
+      by_none true = tt
+      by_none false = good-same t (replies.Num (written_of call)) h.0.lasts h.0.people tt
+
+  transfer-good : (q : ℕ) (p : Process) → Free (q - 1) p → (flag : Bool) (call : Transfer)
+      → Holds Good (transfer s q p flag call)
+  transfer-good q p f flag call =
+      goes (Tells p) Good (attempt s q p (Moving call)) (first q (flag || nonblocking s p call))
+      (attempt-tells p q call) (λ a h. first-good q p f.at_place (flag || nonblocking s p call) a h)
+
+  -- Resume
+
+  again-all : (q : ℕ) (p : Process) → at s.processes (q - 1) ≡ Some p → (r : Result Attempt Errno) → Holds (Tells p) r
+      → AllCanTry (again s q r).state
+  again-all q p e (Ok (Finished t reply)) h = waits-all q None p t e h.0 tt
+  again-all q p e (Ok (Waits t call)) h = waits-all q (Some call) p t e h.0 h.1
+  again-all q p e (Err x) h = waits-all q None p s e level-s tt
+
+  -- an open has its descriptor, or waits on
+  opening-all : (q : ℕ) (p : Process) (n kept : ℕ) → at s.processes (q - 1) ≡ Some p
+      → CanTry s p (Some (Opening n kept)) → AllCanTry (again s q (attempt s q p (Opening n kept))).state
+  opening-all q p n kept e can = by_end (or_refuse EBADF (end_at s n))
+    where
+      y : Process
+      y = with_descriptor (first_free p.descriptors) n p
+
+      same : change_at (waiting None) (put_at s.processes (q - 1) y) (q - 1) ≡ set s.processes (q - 1)
+          (Some (waiting None y))
+      same = put-put (waiting None) s.processes (q - 1) p y e
+
+      by_came : (b : Bool) → AllCanTry (again s q (Ok (if b then given s q p n else Waits s (Opening n kept)))).state
+      by_came true = (good-put (change_process (waiting None) (with_process s q y) q) (replies.Num 0) (q - 1)
+          (waiting None y) lasts-s same refl tt).can_try
+      by_came false = waits-all q (Some (Opening n kept)) p s e level-s can
+
+      by_end : (r : Result (End Queue) Errno) → AllCanTry (again s q (r >>= (λ e. Ok (open_told s q p n kept e)))).state
+      by_end (Err x) = waits-all q None p s e level-s tt
+      by_end (Ok x) = by_came (nat_lt kept (other_opens x))
+
+  abbrev Keeps : Outcome → Type 0
+  Keeps o = AllCanTry o.state
+
+  resume-all : (q : ℕ) (p : Process) → at s.processes (q - 1) ≡ Some p → Holds Keeps (resume s q p)
+  resume-all q p e = found Keeps EINVAL p.parked (λ call. Ok (again s q (attempt s q p call))) by_call
+    where
+      by_call : (call : Call) → p.parked ≡ Some call → AllCanTry (again s q (attempt s q p call)).state
+      by_call (Opening n kept) w = opening-all q p n kept e (subst (λ (o : Option Call). CanTry s p o) w
+          (is.each (q - 1) p e))
+      by_call (Moving call) w = again-all q p e (attempt s q p (Moving call)) (attempt-tells p q call)
+
+  -- Open
+
+  -- a pipe that is found stands
+  pub record IsThere (f : Found) : Type 0 where
+    pub level : Level f.state
+    pub pipe : Pipe Queue
+    pub stands : at f.state.pipes f.pipe ≡ Some pipe
+
+  pipe_of-there : (c : Limits) (p : Process) (file : ℕ) (o : Option ℕ) → fifo_pipe s file ≡ o
+      → Holds IsThere (pipe_of c s p file o)
+  pipe_of-there c p file (Some n) e = by_pipe (at s.pipes n) refl (found_at file s.pipes n e)
+    where
+      by_pipe : (o : Option (Pipe Queue)) → at s.pipes n ≡ o
+          → option_and_then (λ (x : Pipe Queue). x.file) o ≡ Some file → IsThere (record { state = s; pipe = n })
+      by_pipe None f g = absurd (cc)
+      by_pipe (Some x) f g = record { level = level-s; pipe = x; stands = f }
+  pipe_of-there c p file None e =
+      passes IsThere (refuse_if (is_spent s.pipes 1) ENFILE) _ (carries IsThere
+      (told_as ENOMEM (capacity_for c s p.cred)) _ (λ slots.
+      let x = new_pipe (empty slots) p.cred.uid (Some file) in
+      record {
+        level = record {
+          lasts = lasting-piped s.descriptions s.descriptions s.pipes s.pipes
+              (Some x ∷ []) lasts-s;
+          people = refl;
+        };
+        pipe = x;
+        stands = at-push_new s.pipes (Some x);
+      }))
+
+  open_pipe-good : (t : State Queue) → Level t → (q : ℕ) (p : Process) → Free (q - 1) p
+      → (a : Access) (n : ℕ) (x : Pipe Queue) → at t.pipes n ≡ Some x → Holds Good (first q false (open_pipe t q p a n))
+  open_pipe-good t l q p f a n x stands = by_other (is_waiting a (readers t n) (writers t n))
+    where
+      d : Description
+      d = record { pipe = n; reads = a.reads; writes = a.writes; nonblocking = a.nonblock }
+
+      made : State Queue
+      made = change_pipe (counted a) (record t { descriptions = t.descriptions ++ Some d ∷ [] }) n
+
+      lasts : Lasts made
+      lasts = lasting-changed s.descriptions made.descriptions s.pipes t.pipes (counted a) n
+          (lasting-drawn s.descriptions t.descriptions (Some d ∷ []) s.pipes t.pipes l.lasts)
+
+      -- the description that is made is an end of the pipe
+      is_end : IsOk (or_refuse EBADF (end_at made (length t.descriptions)))
+      is_end =
+          subst (λ (o : Option Description). IsOk {A = End Queue} (or_refuse EBADF
+          (option_and_then (λ d. option_map (λ (y : Pipe Queue). record { description = d; pipe = y })
+          (at made.pipes d.pipe)) o)))
+          (sym (at-push_new t.descriptions (Some d)))
+          (subst (λ (o : Option (Pipe Queue)). IsOk {A = End Queue} (or_refuse EBADF
+          (option_map (λ (y : Pipe Queue). record { description = d; pipe = y }) o)))
+          (sym (at-put_same t.pipes n (option_map (counted a) (at t.pipes n)) (at_within t.pipes n x stands)
+          ∙ ap (option_map (counted a)) stands)) tt)
+
+      waits : (kept : ℕ) → Good (told (change_process (waiting (Some (Opening (length t.descriptions) kept))) made q)
+          replies.Parked)
+      waits kept = record { can_try = all-set u lasts (q - 1) (Some w) same can; told = tt }
+        where
+          w : Process
+          w = waiting (Some (Opening (length t.descriptions) kept)) p
+
+          u : State Queue
+          u = change_process (waiting (Some (Opening (length t.descriptions) kept))) made q
+
+          same : u.processes ≡ set s.processes (q - 1) (Some w)
+          same =
+              ap (λ (qs : List (Option Process)). change_at (waiting (Some (Opening (length t.descriptions) kept))) qs
+              (q - 1)) l.people
+              ∙ ap (λ (y : Option Process). set s.processes (q - 1) (option_map
+              (waiting (Some (Opening (length t.descriptions) kept))) y)) f.at_place
+
+          can : (y : Process) → Some w ≡ Some y → CanTry u y y.parked
+          can y e = let both : w ≡ y = cc in subst (λ (z : Process). CanTry u z z.parked) both is_end
+
+      has : Good (told (with_process made q (with_descriptor (first_free p.descriptors) (length t.descriptions) p))
+          (replies.Num (first_free p.descriptors)))
+      has =
+          let y = with_descriptor (first_free p.descriptors) (length t.descriptions) p in
+          good-put (with_process made q y) (replies.Num (first_free p.descriptors)) (q - 1) y lasts
+          (ap (λ (qs : List (Option Process)). put_at qs (q - 1) y) l.people) f.free tt
+
+      by_other : (b : Bool) → Holds Good (first q false
+          (if b then Waits made (Opening (length t.descriptions) (kept_by a (at t.pipes n))) else given made q p
+          (length t.descriptions)))
+      by_other true = waits (kept_by a (at t.pipes n))
+      by_other false = has
+
+  open-good : (c : Limits) (q : ℕ) (p : Process) → Free (q - 1) p → (path : List ℕ) (a : Access)
+      → Holds Good (open_path c s q p path a)
+  open-good c q p f path a = carries Good (openable s.files p.cred path a) (λ file. open_fifo c s q p a file.number)
+      (λ file. of_file file.number)
+    where
+      of_file : (file : ℕ) → Holds Good (open_fifo c s q p a file)
+      of_file file =
+          passes Good (refuse_if (nat_le MAX_DESCRIPTORS (first_free p.descriptors)) EMFILE) _
+          (passes Good (refuse_if (a.writes && not a.reads && a.nonblock && nat_eq
+          (fifo_readers s (fifo_pipe s file)) 0) ENXIO) _
+          (passes Good (refuse_if (is_spent s.descriptions 1) ENFILE) _
+          (goes IsThere Good (pipe_of c s p file (fifo_pipe s file)) (λ found. first q false
+          (open_pipe found.state q p a found.pipe))
+          (pipe_of-there c p file (fifo_pipe s file) refl)
+          (λ found h. open_pipe-good found.state h.level q p f a found.pipe h.pipe h.stands))))
+
+  -- Steps
+
+  -- a call of files, or one that looks
+  looks : (t : State Queue) (r : Reply) → t.descriptions ≡ s.descriptions → t.pipes ≡ s.pipes
+      → t.processes ≡ s.processes → IsNoError r → Good (told t r)
+  looks t r e f g fine = good-same t r (subst (λ (ps : Pipes). Lasting s.descriptions s.pipes t.descriptions ps)
+      (sym f) (subst (λ (ds : List (Option Description)). Lasting s.descriptions s.pipes ds s.pipes) (sym e) lasts-s))
+      g fine
+
+  -- what a Resume comes to may be an error, that of its call
+  abbrev pub GoodOf : Step → Outcome → Type 0
+  GoodOf (steps.Resume pid) o = AllCanTry o.state
+  GoodOf _ o = Good o
+
+  pub good : (c : Limits) (step : Step) → Holds (GoodOf step) (call c s step)
+  good c (steps.Spawn uid gid groups umask) =
+      spawn-good (record { uid = uid; gid = gid; groups = groups; umask = umask })
+  good c (steps.Exit pid) = carries Good (living s pid) (λ p. exit s pid)
+      (λ p. good-clear _ (replies.Num 0) (pid - 1) lasts-s refl tt)
+  good c (steps.Resume pid) = goes (Stands (pid - 1)) Keeps (living s pid) (λ p. resume s pid p) (living-stands pid)
+      (λ p h. resume-all pid p h.at_place)
+  good c (steps.Fork pid) = by_ready pid _ (λ p f. fork-good p f.free)
+  good c (steps.Mkdir pid path mode) = search (carries, looks) depth 16
+  good c (steps.Mkfifo pid path mode) = search (carries, looks) depth 16
+  good c (steps.Unlink pid path) = search (carries, looks) depth 16
+  good c (steps.Rmdir pid path) = search (carries, looks) depth 16
+  good c (steps.Chmod pid path mode) = search (carries, looks) depth 16
+  good c (steps.Stat pid path) = search (carries, looks) depth 16
+  good c (steps.List pid path) = search (carries, looks) depth 16
+  good c (steps.Open pid path flags) = by_ready pid _ (λ p f. open-good c pid p f path (access_of flags.0))
+  good c (steps.Pipe pid nonblock) = by_ready pid _ (λ p f. pipe-good c pid p nonblock f.free)
+  good c (steps.Dup pid fd) = by_ready pid _ (λ p f. dup-good pid p fd f.free)
+  good c (steps.Close pid fd) = by_ready pid _ (λ p f. close-good pid p fd f.free)
+  good c (steps.Read pid fd n) = by_ready pid _ (λ p f. transfer-good pid p f false (Reading fd n))
+  good c (steps.Write pid fd payload) = by_ready pid _ (λ p f. transfer-good pid p f false (Writing fd payload 0))
+  good c (steps.Tee pid source sink n nonblock) =
+      by_ready pid _ (λ p f. transfer-good pid p f nonblock (Bringing crossings.Tee source sink n))
+  good c (steps.Splice pid source sink n nonblock) =
+      by_ready pid _ (λ p f. transfer-good pid p f nonblock (Bringing crossings.Splice source sink n))
+  good c (steps.SetSize pid fd bytes) = by_ready pid _ (λ p f. set_size-good c p fd bytes)
+  good c (steps.GetSize pid fd) = search (carries, looks) depth 16
+  good c (steps.SetNonblock pid fd on) = by_ready pid _ (λ p f. set_nonblock-good p fd on)
+
+  pub can-try : (step : Step) (o : Outcome) → GoodOf step o → AllCanTry o.state
+  can-try (steps.Resume pid) o h = h
+  can-try step o h = h.can_try
