@@ -54,7 +54,7 @@ impl<A: Allocator + Clone> LoggedHub<A> {
     ghost use Rattle.pf_frame.specs.Faults.{IsFault};
     ghost use Rattle.pf_hub.specs.Opening.{first_fault};
     ghost use Rattle.pf_hub.specs.Tenants.{limits_at, state_at, tenant_at};
-    ghost use Rattle.pf_machine.specs.Replies.{reply_length};
+    ghost use Rattle.pf_machine.specs.Replies.{reply_length, most_of};
     ghost use Rattle.pf_service.specs.Logs.{entries_at, new_logs, IsApplyFault};
     ghost use Rattle.pf_service.specs.Transcripts.{steps_in, replies_in, transcript_at, IsLone};
     ghost use Rattle.pf_service.specs.declared.TheConstants.{MAX_ENTRIES};
@@ -119,11 +119,12 @@ impl<A: Allocator + Clone> LoggedHub<A> {
         Ok(place as u64)
     }
 
-    /// A number of bytes that the vector of the reply to a namespace's step is no longer than.
+    /// A number of bytes that the vector of the reply to a namespace's step is no longer than (`Hub::reply_bound`).
     pub fn reply_bound(&self, ns: u32, step: &Step) -> usize
         requires exists { ns < length self.now.hub.tenants }
-        ensures { reply_length
+        ensures covers { reply_length
             (step_of (limits_at self.now.hub ns) (state_at self.now.hub ns) step.now).reply ≤ result }
+        ensures most { result ≤ most_of step.now }
     {
         self.hub.reply_bound(ns, step)
     }
