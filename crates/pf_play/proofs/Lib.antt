@@ -1,1 +1,2 @@
 pub mod EngineLaws
+pub mod TextLaws

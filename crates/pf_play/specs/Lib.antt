@@ -1,3 +1,4 @@
 pub mod Filled
 pub mod Played
 pub mod Replays
+pub mod Texts
