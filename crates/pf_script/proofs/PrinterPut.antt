@@ -1,6 +1,7 @@
 -- One text after another.
 
 use Rattle.std.proofs.Common.{◌≡◌, ℕ, List, [], ◌++◌, Bool, true, false, refl, ap, append_assoc, length-append, sym, ◌∙◌, arith, rules, subst}
+use Rattle.std.specs.Prelude.{Result, Ok, Err, OnOk, OnErr}
 use Rattle.std.proofs.lemmas.List.{append-nil}
 use Rattle.std.specs.Io.KnownBytes.{Appends}
 use Rattle.pf_script.specs.Ports.{Output, IsWritten, IsCut, one_more}
@@ -83,3 +84,16 @@ cut_by false a b c v x p e =
 -- or a write of it was refused
 pub cut_off : {a b : Output} {q : Queued} {x : List ℕ} (c : Output) → Puts a (record { waiting = []; failed = false }) b q x → FailsBy q.failed b q.waiting c → IsCut a c x
 cut_off {a} {b} {q} {x} c h e = cut_by q.failed a b c q.waiting x h.by e
+
+-- the same by what a printer's end answers
+pub ended_well : {T E : Type 0} {a b : Output} {q : Queued} {x : List ℕ} (r : Result T E) (c : Output) →
+    Puts a (record { waiting = []; failed = false }) b q x → OnOk r (EndsBy q.failed b q.waiting c) →
+    OnOk r (IsWritten a c x)
+ended_well (Ok u) c h ends = ended c h ends
+ended_well (Err e) c h ends = tt
+
+pub cut_off_by : {T E : Type 0} {a b : Output} {q : Queued} {x : List ℕ} (r : Result T E) (c : Output) →
+    Puts a (record { waiting = []; failed = false }) b q x → OnErr r (FailsBy q.failed b q.waiting c) →
+    OnErr r (IsCut a c x)
+cut_off_by (Ok u) c h fails = tt
+cut_off_by (Err e) c h fails = cut_off c h fails

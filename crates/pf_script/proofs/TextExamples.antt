@@ -1,6 +1,6 @@
 -- A run's text, by computation.
 
-use Rattle.std.proofs.Common.{◌≡◌, List, [], ◌∷◌, refl}
+use Rattle.std.proofs.Common.{◌≡◌, ℕ, List, [], ◌∷◌, refl}
 use Rattle.std.proofs.Common.{arith}
 use Rattle.std.proofs.lemmas.Fmt.{decimal_digit}
 use Rattle.std.specs.Prelude.{codes}
@@ -10,6 +10,11 @@ use Rattle.pf_base.specs.declared.step.Reply.TheVariants as kinds
 use Rattle.pf_script.specs.Text.{print, line_text, lines_text, answers_of, sections, octal_text, number_of_names, names_text}
 use Rattle.pf_script.proofs.ScriptExamples.{hello_draft}
 use Rattle.hex.specs.Hex.{encode_with}
+use Rattle.std.specs.Fmt.{digits}
+use Rattle.std.specs.Borrow.{Bor}
+use Rattle.pf_script.specs.declared.refusal.Cause.TheVariants as causes
+use Rattle.pf_script.specs.declared.notice.Notice.TheVariants as notices
+use Rattle.pf_script.specs.Notices.{notice_line}
 
 abbrev pub hello_answers : List Answer
 hello_answers = Done (kinds.Pid 1) ∷ Done (kinds.Fds 0 1) ∷ Done (kinds.Num 5) ∷ Done (kinds.Bytes (codes "hel")) ∷ Done (kinds.Bytes (codes "lo")) ∷ Done (kinds.Num 0) ∷ Done (kinds.Bytes []) ∷ Done (kinds.Num 0) ∷ []
@@ -36,3 +41,14 @@ two_names = refl
 
 two : number_of_names (codes "ab/c/") ≡ 2
 two = refl
+
+-- what is told of a refusal
+refused : notice_line (notices.Refused (record { line = 3; cause = causes.ReservationsExceed 33 32 })) ≡
+    codes "line 3: reservations 33 exceed pool 32\n"
+unfolding digits
+refused = refl
+
+-- of a name that no namespace has
+unknown : (name : Bor (List ℕ)) → name.now ≡ codes "green" → notice_line (notices.NoNamespace name) ≡
+    codes "no namespace green\n"
+unknown name is = rw is refl

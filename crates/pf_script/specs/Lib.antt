@@ -10,3 +10,4 @@ pub mod Places
 pub mod Sound
 pub mod Text
 pub mod Puts
+pub mod Notices

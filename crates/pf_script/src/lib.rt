@@ -1,5 +1,5 @@
 //! Scripts: the grammar of the calls and the text of their answers. A script is read from any reader, and the answers
-//! to its steps are printed to any writer.
+//! to its steps are printed to any writer; where there are none, a line that says why.
 #![tactic(auto)]
 
 mod adapters;
@@ -7,6 +7,7 @@ mod arguments;
 mod cut;
 mod fault;
 mod memory;
+mod notice;
 mod port;
 mod printer;
 mod read;
@@ -21,6 +22,7 @@ mod words;
 pub use adapters::{Reading, Writing};
 pub use fault::ScriptFault;
 pub use memory::{Collected, MemoryBytes};
+pub use notice::{Notice, print_notice};
 pub use port::{Failed, INPUT_LIMIT, Sink, Source, WriteFault};
 pub use read::read_script;
 pub use refusal::{Cause, Refusal};

@@ -1,69 +1,117 @@
 ghost use Rattle.pf_script.specs.Script.{FirstFaultDecides};
 
-use thiserror::Error;
+use std::error::Error;
+use std::fmt;
+use std::fmt::{Display, Formatter};
 
 /// Why a line of a script is refused. `Display` writes the words that a user is told.
-#[derive(Clone, Copy, Debug, PartialEq, Eq, Error)]
+#[derive(Clone, Copy, Debug, PartialEq, Eq)]
 pub enum Cause {
     /// More than 2,200,000 bytes, the line feed not counted.
-    #[error("too long")]
     TooLong,
     /// The last line has bytes and no line feed.
-    #[error("cut short")]
     CutShort,
     /// An empty word: two spaces in a row, or one at an end.
-    #[error("bad spacing")]
     BadSpacing,
     /// A line of words stands before the pool line.
-    #[error("no pool")]
     NoPool,
     /// There is a pool line already.
-    #[error("second pool")]
     SecondPool,
     /// Too few words, or too many.
-    #[error("wrong words")]
     WrongWords,
     /// A word is no number of its range.
-    #[error("bad number")]
     BadNumber,
     /// A space line after a step line.
-    #[error("late space")]
     LateSpace,
     /// A word is no name.
-    #[error("bad name")]
     BadName,
     /// There is a namespace of this name already.
-    #[error("name twice")]
     NameTwice,
     /// There are as many namespaces as may be.
-    #[error("too many namespaces")]
     TooManyNamespaces,
     /// The reservations up to this line are more than the pool's frames.
-    #[error("reservations {sum} exceed pool {frames}")]
     ReservationsExceed { sum: u64, frames: u32 },
     /// No space line has this name.
-    #[error("unknown namespace")]
     UnknownNamespace,
     /// No call has this name.
-    #[error("unknown verb")]
     UnknownVerb,
     /// FLAGS that are none, a last word that is not `n`, or neither `on` nor `off`.
-    #[error("bad flags")]
     BadFlags,
     /// Neither `-` nor hexadecimal digits in pairs nor COUNT*HH.
-    #[error("bad data")]
     BadData,
 }
 
+impl Cause {
+    ghost use Rattle.std.specs.Prelude.{◌≡◌};
+    ghost use Rattle.pf_script.specs.Notices.{cause_words};
+
+    /// What is wrong in words, without the numbers of `ReservationsExceed`.
+    pub fn words(self) -> &'static str
+        ensures { result.now ≡ cause_words self }
+    {
+        match self {
+            Cause::TooLong => "too long",
+            Cause::CutShort => "cut short",
+            Cause::BadSpacing => "bad spacing",
+            Cause::NoPool => "no pool",
+            Cause::SecondPool => "second pool",
+            Cause::WrongWords => "wrong words",
+            Cause::BadNumber => "bad number",
+            Cause::LateSpace => "late space",
+            Cause::BadName => "bad name",
+            Cause::NameTwice => "name twice",
+            Cause::TooManyNamespaces => "too many namespaces",
+            Cause::ReservationsExceed { .. } => "reservations",
+            Cause::UnknownNamespace => "unknown namespace",
+            Cause::UnknownVerb => "unknown verb",
+            Cause::BadFlags => "bad flags",
+            Cause::BadData => "bad data",
+        }
+    }
+}
+
+impl Display for Cause {
+    ghost use Rattle.std.specs.Prelude.{Some};
+    ghost use Rattle.pf_script.specs.Notices.{cause_text};
+
+    ghost output = { λ cause. Some (cause_text cause) };
+
+    fn fmt<W: fmt::Write>(&self, f: &mut Formatter<W>) -> fmt::Result {
+        let words = self.words();
+        match self {
+            Cause::ReservationsExceed { sum, frames } => {
+                write!(f, "{words} {sum} exceed pool {frames}")
+            }
+            _ => write!(f, "{words}"),
+        }
+    }
+}
+
+impl Error for Cause {}
+
 /// The first faulty line of a script, counted from 1, and the first fault in it.
-#[derive(Clone, Copy, Debug, PartialEq, Eq, Error)]
-#[error("line {line}: {cause}")]
+#[derive(Clone, Copy, Debug, PartialEq, Eq)]
 pub struct Refusal {
     /// The line's number, the first is 1.
     pub line: u64,
     /// What is wrong with it.
     pub cause: Cause,
 }
+
+impl Display for Refusal {
+    ghost use Rattle.std.specs.Prelude.{Some};
+    ghost use Rattle.pf_script.specs.Notices.{refusal_text};
+
+    ghost output = { λ refusal. Some (refusal_text refusal) };
+
+    fn fmt<W: fmt::Write>(&self, f: &mut Formatter<W>) -> fmt::Result {
+        let line = self.line;
+        let cause = self.cause;
+        write!(f, "line {line}: {cause}")
+    }
+}
+
+impl Error for Refusal {}
 
 /// The first faulty line decides what a script is refused for, whatever stands behind it. This function
 /// computes nothing: its contract is the law.

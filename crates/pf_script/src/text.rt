@@ -41,7 +41,7 @@ fn put_digits<W: Sink>(out: &mut Printer, writer: &mut W, bytes: &[u8])
 }
 
 /// Puts a number in decimal.
-fn put_number<W: Sink>(out: &mut Printer, writer: &mut W, n: u64)
+pub fn put_number<W: Sink>(out: &mut Printer, writer: &mut W, n: u64)
     ensures { Puts (W.output writer.old) out.old (W.output writer.new) out.new (decimal n) }
 {
     let mut buffer = Buffer::new();
