@@ -18,6 +18,9 @@ pub(crate) enum Flaw {
     /// The namespaces of the table that begins at a line can't be opened.
     #[error("line {0}: no namespaces: {1}")]
     NoHost(u64, PoolFault),
+    /// The script of the table that begins at a line has another number of steps than the table has answers.
+    #[error("line {0}: {1} steps have {2} answers")]
+    Steps(u64, usize, usize),
     /// A step is answered otherwise: the first letters of its answer.
     #[error("line {0}: answered: {1}")]
     Answer(u64, String),

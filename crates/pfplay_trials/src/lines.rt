@@ -95,5 +95,8 @@ pub(crate) fn lines_of(alloc: Global, file: &str) -> Result<Vec<Line>, Flaw> {
             }
         }
     }
-    Ok(lines)
+    match block.first() {
+        Some(line) => Err(Flaw::NoRow(line.number)),
+        None => Ok(lines),
+    }
 }

@@ -78,11 +78,15 @@ fn count_frames<H: Host>(host: &H, event: &Event, frames: u32, held: &[u32]) -> 
     Ok(())
 }
 
-/// Plays a table step by step: each has its answer, and leaves its namespace so many frames, and each other as many
-/// as it had.
+/// Plays a table step by step: it has as many answers as steps, and each step has its answer, and leaves its namespace
+/// so many frames, and each other as many as it had.
 fn play_over<H: Host>(alloc: Global, table: &Table, fill: Option<u8>) -> Result<(), Flaw> {
     let one = script_of(alloc, 0, "pool 1\nspace red 1\nred exit 1\n")?;
     let script = script_of(alloc, table.number, table.script()?.as_str())?;
+    let (steps, answers) = (script.steps().len(), table.events.len());
+    if steps != answers {
+        return Err(Flaw::Steps(table.number, steps, answers));
+    }
     let mut host = opened::<H>(alloc, table.number, &script, fill)?;
     let mut held = vec![in alloc; 0u32; script.count_spaces()]?;
     for ((ns, step), event) in script.steps().iter().zip(&table.events) {

@@ -110,6 +110,9 @@ impl Table {
         let told = columns.next().unwrap_or("").trim();
         let held = columns.next().unwrap_or("").trim();
         let held = held.parse::<u32>().map_err(|_| Flaw::NoRow(number))?;
+        if columns.next().is_some() {
+            return Err(Flaw::NoRow(number));
+        }
         let Some(words) = line.strip_prefix("both") else {
             self.push((number, name, line), told, held)?;
             return Ok(());
