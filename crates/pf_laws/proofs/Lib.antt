@@ -15,4 +15,6 @@ mod WaitLaws
 mod WaitSteps
 mod RefusalLaws
 mod StayLaws
+mod TakenLaws
+mod CountLaws
 mod WorkedStreams

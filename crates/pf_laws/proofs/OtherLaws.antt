@@ -1,15 +1,16 @@
 -- A process that waits stays as it is, but for its own Resume and Exit.
 
-use Rattle.std.proofs.Common.{◌≡◌, ◌≢◌, ℕ, ◌+◌, ◌-◌, Bool, true, false, ◌||◌, List, [], ◌∷◌, ◌++◌, length, set, Option, Some, None, Ok, Err, refl, ap, ◌∙◌, arith, nat_eq, nat_lt, if◌then◌else◌}
-use Rattle.std.specs.Prelude.{Result}
+use Rattle.std.proofs.Common.{◌≡◌, ◌≢◌, ℕ, zero, suc, ◌+◌, ◌-◌, Bool, true, false, ◌||◌, List, [], ◌∷◌, ◌++◌, length, set, Option, Some, None, Ok, Err, refl, sym, ap, ◌∙◌, subst, ◌⊎◌, inl, inr, arith, nat_eq, nat_lt, if◌then◌else◌}
+use Rattle.std.proofs.lemmas.Bool.{eqb-true, eqb-false}
+use Rattle.std.specs.Prelude.{Result, is_some, ⊤}
 use Rattle.std.specs.Option.{option_map}
-use Rattle.pf_machine.specs.Refusals.{◌>>=◌, or_refuse}
+use Rattle.pf_machine.specs.Refusals.{◌>>=◌, ◌>>◌, refuse_if, or_refuse}
 use Rattle.pf_base.specs.Limits.{Limits}
 use Rattle.pf_machine.specs.Queue.{Queue}
 use Rattle.pf_machine.specs.Numbered.{at, first_free}
-use Rattle.pf_machine.proofs.NumberedLaws.{at-put_other, at-first_free}
+use Rattle.pf_machine.proofs.NumberedLaws.{at-put_same, at-put_other, at_within, at-first_free}
 use Rattle.pf_machine.specs.Calls.{Transfer, Reading, Writing, Bringing, Call, Opening, Moving, written_of}
-use Rattle.pf_machine.specs.State.{State, Process, Outcome, settle, end_at, change_process, change_pipe, waiting, told}
+use Rattle.pf_machine.specs.State.{State, Process, Outcome, settle, living, ready, without_process, end_at, change_process, change_pipe, waiting, told}
 use Rattle.pf_machine.specs.Processes.{born, spawn, fork, exit}
 use Rattle.pf_machine.specs.Descriptors.{dup, close, set_nonblock}
 use Rattle.pf_machine.specs.Pipes.{pipe, set_size, get_size}
@@ -17,14 +18,20 @@ use Rattle.pf_machine.specs.Counts.{readers, writers}
 use Rattle.pf_machine.specs.Transfers.{Tried, tried, two_ends, try_cross}
 use Rattle.pf_machine.specs.Attempts.{Attempt, Finished, Waits, read_told, write_told, cross_told, transfer_told, given, other_opens, open_told, attempt, first, again, nonblocking, transfer, resume}
 use Rattle.pf_machine.specs.Files.{make, unlink, rmdir, chmod, stat, list}
-use Rattle.pf_machine.specs.Opens.{Access, Found, open_path, open_fifo, open_pipe, pipe_of, fifo_pipe, is_waiting, counted, kept_by}
+use Rattle.pf_machine.specs.Opens.{Access, access_of, Found, open_path, open_fifo, open_pipe, pipe_of, fifo_pipe, is_waiting, counted, kept_by}
+use Rattle.pf_machine.specs.Machine.{call, act}
+use Rattle.pf_laws.specs.Streams.{in_call, is_parked}
 use Rattle.pf_base.specs.declared.cred.Cred.{Cred}
 use Rattle.pf_base.specs.declared.errno.Errno.{Errno}
-use Rattle.pf_base.specs.declared.errno.Errno.TheVariants.{EBADF, EAGAIN, EINVAL, EPIPE}
+use Rattle.pf_base.specs.declared.errno.Errno.TheVariants.{ESRCH, EBUSY, EBADF, EAGAIN, EINVAL, EPIPE}
 use Rattle.pf_base.specs.declared.meta.Kind.{Kind}
+use Rattle.pf_base.specs.declared.meta.Kind.TheVariants as kinds
+use Rattle.pf_base.specs.declared.progress.Crossing.TheVariants as crossings
 use Rattle.pf_base.specs.declared.progress.Progress.{Progress}
 use Rattle.pf_base.specs.declared.progress.Progress.TheVariants.{Moved, WouldBlock, EndOfFile, NoReader}
 use Rattle.pf_base.specs.declared.step.Reply.TheVariants as replies
+use Rattle.pf_base.specs.declared.step.Step.{Step}
+use Rattle.pf_base.specs.declared.step.Step.TheVariants as steps
 use Rattle.pf_machine.proofs.HoldsLaws.{Holds, carries, goes, passes}
 
 module _ (s : State Queue) (i : ℕ) where
@@ -196,3 +203,132 @@ module _ (s : State Queue) (i : ℕ) where
 
     pub fork-stays : (p : Process) → Holds Stays (fork s p)
     fork-stays p = born-stays p
+
+-- Steps
+
+-- the process in place i waits in a transfer
+pub record InCall (s : State Queue) (i : ℕ) (call : Transfer) : Type 0 where
+  pub who : Process
+  pub stands : at s.processes i ≡ Some who
+  pub waits : who.parked ≡ Some (Moving call)
+
+pub in_call-parked : {s : State Queue} {i : ℕ} {call : Transfer} → InCall s i call → is_parked s (suc i) ≡ true
+in_call-parked w = ap in_call w.stands ∙ ap (λ (o : Option Call). is_some o) w.waits
+
+pub in_call-same : {s : State Queue} {i : ℕ} {call : Transfer} (t : State Queue) → InCall s i call
+    → at t.processes i ≡ at s.processes i → InCall t i call
+in_call-same t w e = record { who = w.who; stands = e ∙ w.stands; waits = w.waits }
+
+-- who calls while it waits is refused, others change it not
+ready-stays : (s : State Queue) (i : ℕ) (w : Process) (q : ℕ) (f : Process → Result Outcome Errno)
+    → at s.processes i ≡ Some w → is_some w.parked ≡ true → ((p : Process) → i ≢ q - 1 → Holds (Stays s i) (f p))
+    → Holds (Stays s i) (ready s q >>= f)
+ready-stays s i w zero f here busy h = tt
+ready-stays s i w (suc j) f here busy h = by_process (at s.processes j) refl
+  where
+    by_test : (p : Process) (b : Bool) → (b ≡ false → i ≢ suc j - 1) → Holds (Stays s i)
+        ((refuse_if b EBUSY >> Ok p) >>= f)
+    by_test p true k = tt
+    by_test p false k = h p (k refl)
+
+    by_process : (o : Option Process) → at s.processes j ≡ o → Holds (Stays s i)
+        ((or_refuse ESRCH o >>= (λ p. refuse_if (is_some p.parked) EBUSY >> Ok p)) >>= f)
+    by_process None e = tt
+    by_process (Some p) e = by_test p (is_some p.parked) apart
+      where
+        apart : is_some p.parked ≡ false → i ≢ suc j - 1
+        apart free same =
+            let one : i ≡ j = omega (arith, same) in
+            let who : p ≡ w = let here' : at s.processes j ≡ Some w =
+            ap (λ k. at s.processes k) (sym one) ∙ here in cc in
+            let both : is_some p.parked ≡ true = ap (λ (r : Process). is_some r.parked) who ∙ busy in
+            cc
+
+living-stays : (s : State Queue) (i q : ℕ) (f : Process → Result Outcome Errno) → nat_eq q (suc i) ≡ false
+    → ((p : Process) → i ≢ q - 1 → Holds (Stays s i) (f p)) → Holds (Stays s i) (living s q >>= f)
+living-stays s i zero f other h = tt
+living-stays s i (suc j) f other h =
+    carries (Stays s i) (or_refuse ESRCH (at s.processes j)) f
+    (λ p. h p (λ same. eqb-false (suc j) (suc i) other (omega (arith, same))))
+
+-- it is as it was, or it waits no more
+abbrev pub Left : State Queue → ℕ → Outcome → Type 0
+Left s i o = Same s i o.state.processes ⊎ (is_parked o.state (suc i) ≡ false)
+
+-- a step that is not the Resume of a process
+abbrev pub IsNoResumeOf : ℕ → Step → Type 0
+IsNoResumeOf pid (steps.Resume q) = nat_eq q pid ≡ false
+IsNoResumeOf pid _ = ⊤
+
+module _ {s : State Queue} {i : ℕ} {waited : Transfer} (w : InCall s i waited) where
+  stays-on : (c : Limits) (y : Step) → Holds (Stays s i) (call c s y) → Left s i (act c s y)
+  stays-on c y h = inl (settle-stays s i (call c s y) h)
+
+  busy : is_some w.who.parked ≡ true
+  busy = ap (λ (o : Option Call). is_some o) w.waits
+
+  by_ready : (q : ℕ) (f : Process → Result Outcome Errno) → ((p : Process) → i ≢ q - 1 → Holds (Stays s i) (f p))
+      → Holds (Stays s i) (ready s q >>= f)
+  by_ready q f h = ready-stays s i w.who q f w.stands busy h
+
+  exit-leaves : (c : Limits) (q : ℕ) → Left s i (act c s (steps.Exit q))
+  exit-leaves c q = elim (nat_eq q (suc i)) as (λ b. nat_eq q (suc i) ≡ b → Left s i (act c s (steps.Exit q))) [
+    | true ↦ λ e. subst (λ q. Left s i (act c s (steps.Exit q))) (sym (eqb-true q (suc i) e)) gone
+    | false ↦ λ e. stays-on c (steps.Exit q) (living-stays s i q (λ p. exit s q) e (λ p apart. exit-stays s i q apart))
+  ] refl
+    where
+      cleared : at (without_process s (suc i)).processes i ≡ None
+      cleared = let same : suc i - 1 ≡ i = omega arith in ap (λ k. at (set s.processes k None) i) same
+          ∙ at-put_same s.processes i None (at_within s.processes i w.who w.stands)
+
+      gone : Left s i (act c s (steps.Exit (suc i)))
+      gone = subst (λ (o : Option Process). Left s i (settle s (or_refuse ESRCH o >>= (λ p. exit s (suc i)))))
+          (sym w.stands) (inr (ap in_call cleared))
+
+  pub others-leave : (c : Limits) (y : Step) → IsNoResumeOf (suc i) y → Left s i (act c s y)
+  others-leave c (steps.Spawn uid gid groups umask) h =
+      stays-on c (steps.Spawn uid gid groups umask)
+      (spawn-stays s i w.who w.stands (record { uid = uid; gid = gid; groups = groups; umask = umask }))
+  others-leave c (steps.Exit q) h = exit-leaves c q
+  others-leave c (steps.Resume q) h =
+      stays-on c (steps.Resume q) (living-stays s i q (λ p. resume s q p) h (λ p apart. resume-stays s i q apart p))
+  others-leave c (steps.Fork q) h =
+      stays-on c (steps.Fork q) (by_ready q _ (λ p apart. fork-stays s i w.who w.stands p))
+  others-leave c (steps.Mkdir q path mode) h =
+      stays-on c (steps.Mkdir q path mode) (by_ready q _ (λ p apart. make-stays s i kinds.Directory p path mode))
+  others-leave c (steps.Mkfifo q path mode) h =
+      stays-on c (steps.Mkfifo q path mode) (by_ready q _ (λ p apart. make-stays s i kinds.Fifo p path mode))
+  others-leave c (steps.Rmdir q path) h =
+      stays-on c (steps.Rmdir q path) (by_ready q _ (λ p apart. rmdir-stays s i p path))
+  others-leave c (steps.Chmod q path mode) h =
+      stays-on c (steps.Chmod q path mode) (by_ready q _ (λ p apart. chmod-stays s i p path mode))
+  others-leave c (steps.Stat q path) h =
+      stays-on c (steps.Stat q path) (by_ready q _ (λ p apart. stat-stays s i p path))
+  others-leave c (steps.List q path) h =
+      stays-on c (steps.List q path) (by_ready q _ (λ p apart. list-stays s i p path))
+  others-leave c (steps.Dup q g) h = stays-on c (steps.Dup q g) (by_ready q _ (λ p apart. dup-stays s i q apart p g))
+  others-leave c (steps.Unlink q path) h =
+      stays-on c (steps.Unlink q path) (by_ready q _ (λ p apart. unlink-stays s i p path))
+  others-leave c (steps.Open q path flags) h =
+      stays-on c (steps.Open q path flags)
+      (by_ready q _ (λ p apart. open_path-stays s i q apart c p path (access_of flags.0)))
+  others-leave c (steps.Pipe q nonblock) h =
+      stays-on c (steps.Pipe q nonblock) (by_ready q _ (λ p apart. pipe-stays s i q apart c p nonblock))
+  others-leave c (steps.Close q g) h =
+      stays-on c (steps.Close q g) (by_ready q _ (λ p apart. close-stays s i q apart p g))
+  others-leave c (steps.SetSize q g bytes) h =
+      stays-on c (steps.SetSize q g bytes) (by_ready q _ (λ p apart. set_size-stays s i c p g bytes))
+  others-leave c (steps.GetSize q g) h =
+      stays-on c (steps.GetSize q g) (by_ready q _ (λ p apart. get_size-stays s i p g))
+  others-leave c (steps.SetNonblock q g on) h =
+      stays-on c (steps.SetNonblock q g on) (by_ready q _ (λ p apart. set_nonblock-stays s i p g on))
+  others-leave c (steps.Read q g n) h =
+      stays-on c (steps.Read q g n) (by_ready q _ (λ p apart. transfer-stays s i q apart p false (Reading g n)))
+  others-leave c (steps.Write q g y) h =
+      stays-on c (steps.Write q g y) (by_ready q _ (λ p apart. transfer-stays s i q apart p false (Writing g y 0)))
+  others-leave c (steps.Tee q a b n nonblock) h =
+      stays-on c (steps.Tee q a b n nonblock)
+      (by_ready q _ (λ p apart. transfer-stays s i q apart p nonblock (Bringing crossings.Tee a b n)))
+  others-leave c (steps.Splice q a b n nonblock) h =
+      stays-on c (steps.Splice q a b n nonblock)
+      (by_ready q _ (λ p apart. transfer-stays s i q apart p nonblock (Bringing crossings.Splice a b n)))

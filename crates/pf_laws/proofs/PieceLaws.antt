@@ -1,7 +1,7 @@
 -- The pieces that a Write puts in: one after the other they are the front of its bytes, and of at most PIPE_BUF bytes
 -- there is one piece, all of them, or none.
 
-use Rattle.std.proofs.Common.{◌≡◌, ◌≢◌, ℕ, zero, suc, ◌+◌, ◌-◌, ◌<◌, ◌≤◌, Bool, true, false, ◌||◌, List, [], ◌∷◌, ◌++◌, length, take, drop, set, Option, Some, None, Ok, Err, refl, sym, ap, ◌∙◌, subst, ◌⊎◌, inl, inr, ⊎_elim, arith, nat_eq, nat_le, nat_lt, if◌then◌else◌, append-nil, length-drop}
+use Rattle.std.proofs.Common.{◌≡◌, ◌≢◌, ℕ, zero, suc, ◌+◌, ◌-◌, ◌<◌, ◌≤◌, Bool, true, false, ◌||◌, List, [], ◌∷◌, ◌++◌, length, take, drop, Option, Some, None, Ok, Err, refl, sym, ap, ◌∙◌, subst, ◌⊎◌, inl, inr, ⊎_elim, arith, nat_eq, nat_le, nat_lt, if◌then◌else◌, append-nil, length-drop}
 use Rattle.std.proofs.lemmas.Bool.{eqb-true, eqb-false, eq-eqb, le-leb}
 use Rattle.std.proofs.lemmas.List.{take_all, drop-drop}
 use Rattle.std.proofs.Math.Seq.{take-add}
@@ -17,35 +17,31 @@ use Rattle.pf_machine.proofs.NumberedLaws.{at-put_same, at_within}
 use Rattle.pf_base.specs.declared.TheConstants.{PIPE_BUF, MAX_WRITE, MAX_PROCESSES}
 use Rattle.pf_base.specs.declared.errno.Errno.{Errno}
 use Rattle.pf_base.specs.declared.errno.Errno.TheVariants.{ESRCH, EBUSY, EINVAL, EAGAIN, EPIPE}
-use Rattle.pf_base.specs.declared.meta.Kind.TheVariants as kinds
-use Rattle.pf_base.specs.declared.progress.Crossing.TheVariants as crossings
 use Rattle.pf_base.specs.declared.progress.Progress.{Progress}
 use Rattle.pf_base.specs.declared.progress.Progress.TheVariants.{Moved, WouldBlock, EndOfFile, NoReader}
-use Rattle.pf_machine.specs.Calls.{Reading, Writing, Bringing, Call, Moving}
-use Rattle.pf_machine.specs.State.{State, Process, End, Outcome, settle, vacant, opening, living, ready, writing_end, change_process, without_process, waiting, told}
-use Rattle.pf_machine.specs.Processes as processes
+use Rattle.pf_machine.specs.Calls.{Writing, Call, Moving}
+use Rattle.pf_machine.specs.State.{State, Process, End, Outcome, settle, vacant, opening, living, ready, writing_end, change_process, waiting, told}
 use Rattle.pf_machine.specs.Counts.{readers}
 use Rattle.pf_machine.specs.Transfers.{Tried, tried, try_write}
 use Rattle.pf_machine.specs.Attempts.{Finished, Waits, write_told, transfer_told, attempt, first, again, nonblocking, transfer, resume}
 use Rattle.pf_machine.specs.Machine.{call, act, step_of}
-use Rattle.pf_machine.specs.Opens.{access_of}
 use Rattle.pf_laws.specs.Streams.{transfer_of, tried_call, in_call, is_parked, call_at, beginning, Gift, gift, gift_into, gift_of, gifts, given, given_by, joined, IsInOrder, IsWhole, IsWrite}
 use Rattle.pf_base.specs.declared.step.Reply.TheVariants as replies
 use Rattle.pf_base.specs.declared.step.Step.{Step}
 use Rattle.pf_base.specs.declared.step.Step.TheVariants as steps
 use Rattle.pf_laws.proofs.QueueTransfers.{branch}
 use Rattle.pf_machine.proofs.HoldsLaws.{Holds, carries, passes}
-use Rattle.pf_laws.proofs.OtherLaws.{Same, Stays, settle-stays, transfer-stays, resume-stays, close-stays, pipe-stays, open_path-stays, exit-stays, set_nonblock-stays, set_size-stays, get_size-stays, make-stays, unlink-stays, rmdir-stays, chmod-stays, stat-stays, list-stays, dup-stays, spawn-stays, fork-stays}
+use Rattle.pf_laws.proofs.OtherLaws.{Same, Stays, settle-stays, transfer-stays, InCall, in_call-parked, in_call-same, Left, others-leave}
 
 -- Pieces
 
 -- what a transfer put into whatever pipe
-abbrev put_any : Result Tried Errno → List ℕ
+abbrev pub put_any : Result Tried Errno → List ℕ
 put_any (Err e) = []
 put_any (Ok t) = if is_some t.into then t.bytes else []
 
 -- some bytes are one piece, none are no piece
-abbrev member : List ℕ → List (List ℕ)
+abbrev pub member : List ℕ → List (List ℕ)
 member [] = []
 member (b ∷ x) = (b ∷ x) ∷ []
 
@@ -58,7 +54,8 @@ by-same : (k n : ℕ) (x : List ℕ) (gs : List Gift) → given_by k (gift k n x
 by-same k n [] gs = refl
 by-same k n (b ∷ x) gs = ap (λ t. map (λ g. g.bytes) (if t then record { call = k; pipe = n; bytes = b ∷ x } ∷ filter (λ g. nat_eq g.call k) gs else filter (λ g. nat_eq g.call k) gs)) (eq-eqb k k refl)
 
-by-gift_of : (k : ℕ) (r : Result Tried Errno) (gs : List Gift) → given_by k (gift_of k r ++ gs) ≡ member (put_any r) ++ given_by k gs
+pub by-gift_of : (k : ℕ) (r : Result Tried Errno) (gs : List Gift) → given_by k (gift_of k r ++ gs) ≡ member
+    (put_any r) ++ given_by k gs
 by-gift_of k (Err e) gs = refl
 by-gift_of k (Ok t) gs = by_pipe t.into
   where
@@ -66,7 +63,8 @@ by-gift_of k (Ok t) gs = by_pipe t.into
     by_pipe None = refl
     by_pipe (Some n) = by-same k n t.bytes gs
 
-by-other : (k j : ℕ) (r : Result Tried Errno) (gs : List Gift) → nat_eq j k ≡ false → given_by k (gift_of j r ++ gs) ≡ given_by k gs
+pub by-other : (k j : ℕ) (r : Result Tried Errno) (gs : List Gift) → nat_eq j k ≡ false
+    → given_by k (gift_of j r ++ gs) ≡ given_by k gs
 by-other k j (Err e) gs apart = refl
 by-other k j (Ok t) gs apart = by_pipe t.into
   where
@@ -79,7 +77,9 @@ by-other k j (Ok t) gs apart = by_pipe t.into
     by_pipe (Some n) = by_bytes n t.bytes
 
 -- who waits in no call gives nothing by Resume
-resume-none : (s : State Queue) (began : ℕ → ℕ) (k q : ℕ) (gs : List Gift) → (is_parked s q ≡ true → nat_eq (began q) k ≡ false) → given_by k (gift_of (began q) (transfer_of s (steps.Resume q)) ++ gs) ≡ given_by k gs
+pub resume-none : (s : State Queue) (began : ℕ → ℕ) (k q : ℕ) (gs : List Gift)
+    → (is_parked s q ≡ true → nat_eq (began q) k ≡ false)
+    → given_by k (gift_of (began q) (transfer_of s (steps.Resume q)) ++ gs) ≡ given_by k gs
 resume-none s began k zero gs h = refl
 resume-none s began k (suc j) gs h = by_process (at s.processes j) refl
   where
@@ -92,30 +92,11 @@ resume-none s began k (suc j) gs h = by_process (at s.processes j) refl
     by_process (Some p) e = by_call p p.parked (λ t. h (ap in_call e ∙ t))
 
 -- a step of another call gives nothing to this one
-step-none : (s : State Queue) (began : ℕ → ℕ) (k i : ℕ) (y : Step) (gs : List Gift) → nat_eq i k ≡ false → ((q : ℕ) → is_parked s q ≡ true → nat_eq (began q) k ≡ false)
+pub step-none : (s : State Queue) (began : ℕ → ℕ) (k i : ℕ) (y : Step) (gs : List Gift) → nat_eq i k ≡ false
+    → ((q : ℕ) → is_parked s q ≡ true → nat_eq (began q) k ≡ false)
     → given_by k (gift_of (call_at began i y) (transfer_of s y) ++ gs) ≡ given_by k gs
 step-none s began k i (steps.Resume q) gs apart h = resume-none s began k q gs (h q)
-step-none s began k i (steps.Spawn uid gid groups umask) gs apart h = by-other k i (transfer_of s (steps.Spawn uid gid groups umask)) gs apart
-step-none s began k i (steps.Exit q) gs apart h = by-other k i (transfer_of s (steps.Exit q)) gs apart
-step-none s began k i (steps.Fork q) gs apart h = by-other k i (transfer_of s (steps.Fork q)) gs apart
-step-none s began k i (steps.Mkdir q path mode) gs apart h = by-other k i (transfer_of s (steps.Mkdir q path mode)) gs apart
-step-none s began k i (steps.Rmdir q path) gs apart h = by-other k i (transfer_of s (steps.Rmdir q path)) gs apart
-step-none s began k i (steps.Chmod q path mode) gs apart h = by-other k i (transfer_of s (steps.Chmod q path mode)) gs apart
-step-none s began k i (steps.Stat q path) gs apart h = by-other k i (transfer_of s (steps.Stat q path)) gs apart
-step-none s began k i (steps.List q path) gs apart h = by-other k i (transfer_of s (steps.List q path)) gs apart
-step-none s began k i (steps.Dup q fd) gs apart h = by-other k i (transfer_of s (steps.Dup q fd)) gs apart
-step-none s began k i (steps.Mkfifo q path mode) gs apart h = by-other k i (transfer_of s (steps.Mkfifo q path mode)) gs apart
-step-none s began k i (steps.Unlink q path) gs apart h = by-other k i (transfer_of s (steps.Unlink q path)) gs apart
-step-none s began k i (steps.Open q path flags) gs apart h = by-other k i (transfer_of s (steps.Open q path flags)) gs apart
-step-none s began k i (steps.Pipe q nonblock) gs apart h = by-other k i (transfer_of s (steps.Pipe q nonblock)) gs apart
-step-none s began k i (steps.Close q fd) gs apart h = by-other k i (transfer_of s (steps.Close q fd)) gs apart
-step-none s began k i (steps.Read q fd n) gs apart h = by-other k i (transfer_of s (steps.Read q fd n)) gs apart
-step-none s began k i (steps.Write q fd z) gs apart h = by-other k i (transfer_of s (steps.Write q fd z)) gs apart
-step-none s began k i (steps.Tee q a b n nonblock) gs apart h = by-other k i (transfer_of s (steps.Tee q a b n nonblock)) gs apart
-step-none s began k i (steps.Splice q a b n nonblock) gs apart h = by-other k i (transfer_of s (steps.Splice q a b n nonblock)) gs apart
-step-none s began k i (steps.SetSize q fd bytes) gs apart h = by-other k i (transfer_of s (steps.SetSize q fd bytes)) gs apart
-step-none s began k i (steps.GetSize q fd) gs apart h = by-other k i (transfer_of s (steps.GetSize q fd)) gs apart
-step-none s began k i (steps.SetNonblock q fd on) gs apart h = by-other k i (transfer_of s (steps.SetNonblock q fd on)) gs apart
+step-none s began k i y gs apart h = by-other k i (transfer_of s y) gs apart
 
 -- nor does one of another process to the call of a process that waits
 own-step : (s : State Queue) (began : ℕ → ℕ) (k i j : ℕ) (y : Step) (gs : List Gift) → nat_eq i k ≡ false → began (suc j) ≡ k → ((q : ℕ) → nat_eq q (suc j) ≡ false → is_parked s q ≡ true → nat_eq (began q) k ≡ false)
@@ -126,65 +107,13 @@ own-step s began k i j (steps.Resume q) gs apart here h = elim (nat_eq q (suc j)
       ap (λ m. given_by k (gift_of m (transfer_of s (steps.Resume q)) ++ gs)) same ∙ by-gift_of k (transfer_of s (steps.Resume q)) gs
   | false ↦ λ e. resume-none s began k q gs (h q e)
 ] refl
-own-step s began k i j (steps.Spawn uid gid groups umask) gs apart here h = by-other k i (transfer_of s (steps.Spawn uid gid groups umask)) gs apart
-own-step s began k i j (steps.Exit q) gs apart here h = by-other k i (transfer_of s (steps.Exit q)) gs apart
-own-step s began k i j (steps.Fork q) gs apart here h = by-other k i (transfer_of s (steps.Fork q)) gs apart
-own-step s began k i j (steps.Mkdir q path mode) gs apart here h = by-other k i (transfer_of s (steps.Mkdir q path mode)) gs apart
-own-step s began k i j (steps.Rmdir q path) gs apart here h = by-other k i (transfer_of s (steps.Rmdir q path)) gs apart
-own-step s began k i j (steps.Chmod q path mode) gs apart here h = by-other k i (transfer_of s (steps.Chmod q path mode)) gs apart
-own-step s began k i j (steps.Stat q path) gs apart here h = by-other k i (transfer_of s (steps.Stat q path)) gs apart
-own-step s began k i j (steps.List q path) gs apart here h = by-other k i (transfer_of s (steps.List q path)) gs apart
-own-step s began k i j (steps.Dup q fd) gs apart here h = by-other k i (transfer_of s (steps.Dup q fd)) gs apart
-own-step s began k i j (steps.Mkfifo q path mode) gs apart here h = by-other k i (transfer_of s (steps.Mkfifo q path mode)) gs apart
-own-step s began k i j (steps.Unlink q path) gs apart here h = by-other k i (transfer_of s (steps.Unlink q path)) gs apart
-own-step s began k i j (steps.Open q path flags) gs apart here h = by-other k i (transfer_of s (steps.Open q path flags)) gs apart
-own-step s began k i j (steps.Pipe q nonblock) gs apart here h = by-other k i (transfer_of s (steps.Pipe q nonblock)) gs apart
-own-step s began k i j (steps.Close q fd) gs apart here h = by-other k i (transfer_of s (steps.Close q fd)) gs apart
-own-step s began k i j (steps.Read q fd n) gs apart here h = by-other k i (transfer_of s (steps.Read q fd n)) gs apart
-own-step s began k i j (steps.Write q fd z) gs apart here h = by-other k i (transfer_of s (steps.Write q fd z)) gs apart
-own-step s began k i j (steps.Tee q a b n nonblock) gs apart here h = by-other k i (transfer_of s (steps.Tee q a b n nonblock)) gs apart
-own-step s began k i j (steps.Splice q a b n nonblock) gs apart here h = by-other k i (transfer_of s (steps.Splice q a b n nonblock)) gs apart
-own-step s began k i j (steps.SetSize q fd bytes) gs apart here h = by-other k i (transfer_of s (steps.SetSize q fd bytes)) gs apart
-own-step s began k i j (steps.GetSize q fd) gs apart here h = by-other k i (transfer_of s (steps.GetSize q fd)) gs apart
-own-step s began k i j (steps.SetNonblock q fd on) gs apart here h = by-other k i (transfer_of s (steps.SetNonblock q fd on)) gs apart
+own-step s began k i j y gs apart here h = by-other k i (transfer_of s y) gs apart
 
 -- Waiting
 
 -- the process in place i waits in a write of which so much is done
-pub record Waiting (s : State Queue) (i fd : ℕ) (x : List ℕ) (d : ℕ) : Type 0 where
-  pub who : Process
-  pub stands : at s.processes i ≡ Some who
-  pub waits : who.parked ≡ Some (Moving (Writing fd x d))
-
-waiting-parked : {s : State Queue} {i fd : ℕ} {x : List ℕ} {d : ℕ} → Waiting s i fd x d → is_parked s (suc i) ≡ true
-waiting-parked w = ap in_call w.stands ∙ ap (λ (o : Option Call). is_some o) w.waits
-
-waiting-same : {s : State Queue} {i fd : ℕ} {x : List ℕ} {d : ℕ} (t : State Queue) → Waiting s i fd x d → at t.processes i ≡ at s.processes i → Waiting t i fd x d
-waiting-same t w e = record { who = w.who; stands = e ∙ w.stands; waits = w.waits }
-
--- who calls while it waits is refused, others change it not
-ready-stays : (s : State Queue) (i : ℕ) (w : Process) (q : ℕ) (f : Process → Result Outcome Errno) → at s.processes i ≡ Some w → is_some w.parked ≡ true → ((p : Process) → i ≢ q - 1 → Holds (Stays s i) (f p)) → Holds (Stays s i) (ready s q >>= f)
-ready-stays s i w zero f here busy h = tt
-ready-stays s i w (suc j) f here busy h = by_process (at s.processes j) refl
-  where
-    by_test : (p : Process) (b : Bool) → (b ≡ false → i ≢ suc j - 1) → Holds (Stays s i) ((refuse_if b EBUSY >> Ok p) >>= f)
-    by_test p true k = tt
-    by_test p false k = h p (k refl)
-
-    by_process : (o : Option Process) → at s.processes j ≡ o → Holds (Stays s i) ((or_refuse ESRCH o >>= (λ p. refuse_if (is_some p.parked) EBUSY >> Ok p)) >>= f)
-    by_process None e = tt
-    by_process (Some p) e = by_test p (is_some p.parked) apart
-      where
-        apart : is_some p.parked ≡ false → i ≢ suc j - 1
-        apart free same =
-            let one : i ≡ j = omega (arith, same) in
-            let who : p ≡ w = let here' : at s.processes j ≡ Some w = ap (λ k. at s.processes k) (sym one) ∙ here in cc in
-            let both : is_some p.parked ≡ true = ap (λ (r : Process). is_some r.parked) who ∙ busy in
-            cc
-
-living-stays : (s : State Queue) (i q : ℕ) (f : Process → Result Outcome Errno) → nat_eq q (suc i) ≡ false → ((p : Process) → i ≢ q - 1 → Holds (Stays s i) (f p)) → Holds (Stays s i) (living s q >>= f)
-living-stays s i zero f other h = tt
-living-stays s i (suc j) f other h = carries (Stays s i) (or_refuse ESRCH (at s.processes j)) f (λ p. h p (λ same. eqb-false (suc j) (suc i) other (omega (arith, same))))
+abbrev pub Waiting : State Queue → ℕ → ℕ → List ℕ → ℕ → Type 0
+Waiting s i fd x d = InCall s i (Writing fd x d)
 
 -- where a step leaves a write that waits: so many of its bytes more went in, and it waits on or has ended
 pub record Goes (t : State Queue) (i fd : ℕ) (x : List ℕ) (d : ℕ) (ps : List (List ℕ)) : Type 0 where
@@ -196,7 +125,13 @@ pub record Goes (t : State Queue) (i fd : ℕ) (x : List ℕ) (d : ℕ) (ps : Li
 goes-nowhere : {s : State Queue} {i fd : ℕ} {x : List ℕ} {d : ℕ} (t : State Queue) → Waiting s i fd x d → Same s i t.processes → Goes t i fd x d []
 goes-nowhere {s} {i} {fd} {x} {d} t w h =
     let same : d ≡ d + 0 = omega arith in
-    record { more = 0; put = refl; next = inl (subst (λ n. Waiting t i fd x n) same (waiting-same t w h.is)); whole = λ a b. inl refl }
+    record {
+      more = 0;
+      put = refl;
+      next = inl (subst (λ n. Waiting t i fd x n) same (in_call-same t w h.is));
+      whole =
+          λ a b. inl refl;
+    }
 
 -- What a try of it does
 
@@ -222,7 +157,8 @@ tried-writes s p fd x d = carries (Writes s x d) (writing_end s p fd) (λ e. ref
     whole e short =
         subst (λ b. let r = write_now e.pipe.queue (readers s e.description.pipe) b (drop d x) in (moved r.progress ≡ 0) ⊎ (moved r.progress ≡ length (drop d x))) (sym (le-leb (length x) PIPE_BUF short)) (write_now-whole e.pipe.queue (readers s e.description.pipe) (drop d x))
 
-at-change : (f : Process → Process) (ps : List (Option Process)) (i : ℕ) (w : Process) → at ps i ≡ Some w → at (change_at f ps (suc i - 1)) i ≡ Some (f w)
+pub at-change : (f : Process → Process) (ps : List (Option Process)) (i : ℕ) (w : Process) → at ps i ≡ Some w
+    → at (change_at f ps (suc i - 1)) i ≡ Some (f w)
 at-change f ps i w e =
     let same : suc i - 1 ≡ i = omega arith in
     ap (λ k. at (change_at f ps k) i) same ∙ at-put_same ps i (option_map f (at ps i)) (at_within ps i w e) ∙ ap (option_map f) e
@@ -305,90 +241,52 @@ module _ (s : State Queue) (i fd : ℕ) (x : List ℕ) (d : ℕ) (w : Waiting s 
       (goes-parked w.who.parked (sym w.waits))
 
   -- any step
-  stays-on : (c : Limits) (y : Step) → Holds (Stays s i) (call c s y) → Goes (act c s y).state i fd x d []
-  stays-on c y h = goes-nowhere (act c s y).state w (settle-stays s i (call c s y) h)
-
-  busy : is_some w.who.parked ≡ true
-  busy = ap (λ (o : Option Call). is_some o) w.waits
-
-  by_ready : (q : ℕ) (f : Process → Result Outcome Errno) → ((p : Process) → i ≢ q - 1 → Holds (Stays s i) (f p)) → Holds (Stays s i) (ready s q >>= f)
-  by_ready q f h = ready-stays s i w.who q f w.stands busy h
-
-  goes-exit : (c : Limits) (q : ℕ) → Goes (act c s (steps.Exit q)).state i fd x d []
-  goes-exit c q = elim (nat_eq q (suc i)) as (λ b. nat_eq q (suc i) ≡ b → Goes (act c s (steps.Exit q)).state i fd x d []) [
-    | true ↦ λ e. subst (λ q. Goes (act c s (steps.Exit q)).state i fd x d []) (sym (eqb-true q (suc i) e)) gone
-    | false ↦ λ e. stays-on c (steps.Exit q) (living-stays s i q (λ p. processes.exit s q) e (λ p apart. exit-stays s i q apart))
-  ] refl
-    where
-      left : State Queue
-      left = without_process s (suc i)
-
-      cleared : at left.processes i ≡ None
-      cleared = let same : suc i - 1 ≡ i = omega arith in ap (λ k. at (set s.processes k None) i) same ∙ at-put_same s.processes i None (at_within s.processes i w.who w.stands)
-
-      gone : Goes (act c s (steps.Exit (suc i))).state i fd x d []
-      gone = subst (λ (o : Option Process). Goes (settle s (or_refuse ESRCH o >>= (λ p. processes.exit s (suc i)))).state i fd x d []) (sym w.stands)
-          (record { more = 0; put = refl; next = inr (ap in_call cleared); whole = λ short none. inl refl })
+  goes-left : (o : Outcome) → Left s i o → Goes o.state i fd x d []
+  goes-left o left =
+      ⊎_elim (λ stays. goes-nowhere o.state w stays)
+      (λ gone. record { more = 0; put = refl; next = inr gone; whole = λ short none. inl refl }) left
 
   goes-act : (c : Limits) (y : Step) → Goes (act c s y).state i fd x d (own s (suc i) y)
-  goes-act c (steps.Spawn uid gid groups umask) = stays-on c (steps.Spawn uid gid groups umask) (spawn-stays s i w.who w.stands (record { uid = uid; gid = gid; groups = groups; umask = umask }))
-  goes-act c (steps.Exit q) = goes-exit c q
   goes-act c (steps.Resume q) = elim (nat_eq q (suc i)) as (λ b. nat_eq q (suc i) ≡ b → Goes (act c s (steps.Resume q)).state i fd x d (if b then member (put_any (transfer_of s (steps.Resume q))) else [])) [
     | true ↦ λ e. subst (λ q. Goes (act c s (steps.Resume q)).state i fd x d (member (put_any (transfer_of s (steps.Resume q))))) (sym (eqb-true q (suc i) e)) goes-resume
-    | false ↦ λ e. stays-on c (steps.Resume q) (living-stays s i q (λ p. resume s q p) e (λ p apart. resume-stays s i q apart p))
+    | false ↦ λ e. goes-left (act c s (steps.Resume q)) (others-leave w c (steps.Resume q) e)
   ] refl
-  goes-act c (steps.Fork q) = stays-on c (steps.Fork q) (by_ready q _ (λ p apart. fork-stays s i w.who w.stands p))
-  goes-act c (steps.Mkdir q path mode) = stays-on c (steps.Mkdir q path mode) (by_ready q _ (λ p apart. make-stays s i kinds.Directory p path mode))
-  goes-act c (steps.Mkfifo q path mode) = stays-on c (steps.Mkfifo q path mode) (by_ready q _ (λ p apart. make-stays s i kinds.Fifo p path mode))
-  goes-act c (steps.Rmdir q path) = stays-on c (steps.Rmdir q path) (by_ready q _ (λ p apart. rmdir-stays s i p path))
-  goes-act c (steps.Chmod q path mode) = stays-on c (steps.Chmod q path mode) (by_ready q _ (λ p apart. chmod-stays s i p path mode))
-  goes-act c (steps.Stat q path) = stays-on c (steps.Stat q path) (by_ready q _ (λ p apart. stat-stays s i p path))
-  goes-act c (steps.List q path) = stays-on c (steps.List q path) (by_ready q _ (λ p apart. list-stays s i p path))
-  goes-act c (steps.Dup q g) = stays-on c (steps.Dup q g) (by_ready q _ (λ p apart. dup-stays s i q apart p g))
-  goes-act c (steps.Unlink q path) = stays-on c (steps.Unlink q path) (by_ready q _ (λ p apart. unlink-stays s i p path))
-  goes-act c (steps.Open q path flags) = stays-on c (steps.Open q path flags) (by_ready q _ (λ p apart. open_path-stays s i q apart c p path (access_of flags.0)))
-  goes-act c (steps.Pipe q nonblock) = stays-on c (steps.Pipe q nonblock) (by_ready q _ (λ p apart. pipe-stays s i q apart c p nonblock))
-  goes-act c (steps.Close q g) = stays-on c (steps.Close q g) (by_ready q _ (λ p apart. close-stays s i q apart p g))
-  goes-act c (steps.SetSize q g bytes) = stays-on c (steps.SetSize q g bytes) (by_ready q _ (λ p apart. set_size-stays s i c p g bytes))
-  goes-act c (steps.GetSize q g) = stays-on c (steps.GetSize q g) (by_ready q _ (λ p apart. get_size-stays s i p g))
-  goes-act c (steps.SetNonblock q g on) = stays-on c (steps.SetNonblock q g on) (by_ready q _ (λ p apart. set_nonblock-stays s i p g on))
-  goes-act c (steps.Read q g n) = stays-on c (steps.Read q g n) (by_ready q _ (λ p apart. transfer-stays s i q apart p false (Reading g n)))
-  goes-act c (steps.Write q g y) = stays-on c (steps.Write q g y) (by_ready q _ (λ p apart. transfer-stays s i q apart p false (Writing g y 0)))
-  goes-act c (steps.Tee q a b n nonblock) = stays-on c (steps.Tee q a b n nonblock) (by_ready q _ (λ p apart. transfer-stays s i q apart p nonblock (Bringing crossings.Tee a b n)))
-  goes-act c (steps.Splice q a b n nonblock) = stays-on c (steps.Splice q a b n nonblock) (by_ready q _ (λ p apart. transfer-stays s i q apart p nonblock (Bringing crossings.Splice a b n)))
+  goes-act c y = goes-left (act c s y) (others-leave w c y tt)
 
 -- Where calls began
 
-apart-above : (i k : ℕ) → k < i → nat_eq i k ≡ false
+pub apart-above : (i k : ℕ) → k < i → nat_eq i k ≡ false
 apart-above i k l = elim (nat_eq i k) as (λ b. nat_eq i k ≡ b → nat_eq i k ≡ false) [
   | true ↦ λ e. absurd (omega (arith, l, eqb-true i k e))
   | false ↦ λ e. e
 ] refl
 
-apart-below : (i k : ℕ) → i < k → nat_eq i k ≡ false
+pub apart-below : (i k : ℕ) → i < k → nat_eq i k ≡ false
 apart-below i k l = elim (nat_eq i k) as (λ b. nat_eq i k ≡ b → nat_eq i k ≡ false) [
   | true ↦ λ e. absurd (omega (arith, l, eqb-true i k e))
   | false ↦ λ e. e
 ] refl
 
-began-next : (s : State Queue) (began : ℕ → ℕ) (k i q : ℕ) → nat_eq i k ≡ false → (is_parked s q ≡ true → nat_eq (began q) k ≡ false) → nat_eq (beginning s began i q) k ≡ false
+pub began-next : (s : State Queue) (began : ℕ → ℕ) (k i q : ℕ) → nat_eq i k ≡ false
+    → (is_parked s q ≡ true → nat_eq (began q) k ≡ false) → nat_eq (beginning s began i q) k ≡ false
 began-next s began k i q apart h = by_test (is_parked s q) h
   where
     by_test : (b : Bool) → (b ≡ true → nat_eq (began q) k ≡ false) → nat_eq (if b then began q else i) k ≡ false
     by_test true h = h refl
     by_test false h = apart
 
-began-kept : (s : State Queue) (began : ℕ → ℕ) (i q : ℕ) → is_parked s q ≡ true → beginning s began i q ≡ began q
+pub began-kept : (s : State Queue) (began : ℕ → ℕ) (i q : ℕ) → is_parked s q ≡ true → beginning s began i q ≡ began q
 began-kept s began i q t = ap (λ b. if b then began q else i) t
 
 -- Lists of steps
 
-joined-member : (x : List ℕ) (xs : List (List ℕ)) → joined (member x ++ xs) ≡ x ++ joined xs
+pub joined-member : (x : List ℕ) (xs : List (List ℕ)) → joined (member x ++ xs) ≡ x ++ joined xs
 joined-member [] xs = refl
 joined-member (b ∷ x) xs = refl
 
 -- a call in which nobody waits any more gives nothing
-ended-none : (c : Limits) (xs : List Step) (s : State Queue) (began : ℕ → ℕ) (k i : ℕ) → k < i → ((q : ℕ) → is_parked s q ≡ true → nat_eq (began q) k ≡ false) → given_by k (gifts c s began i xs) ≡ []
+pub ended-none : (c : Limits) (xs : List Step) (s : State Queue) (began : ℕ → ℕ) (k i : ℕ) → k < i
+    → ((q : ℕ) → is_parked s q ≡ true → nat_eq (began q) k ≡ false) → given_by k (gifts c s began i xs) ≡ []
 ended-none c [] s began k i l h = refl
 ended-none c (y ∷ ys) s began k i l h =
     let apart : nat_eq i k ≡ false = apart-above i k l in
@@ -407,10 +305,11 @@ nothing-front : (x : List ℕ) (ps : List (List ℕ)) → ps ≡ [] → IsInOrde
 nothing-front x ps e = (0, ap joined e)
 
 -- no parked call but that of this process began at k
-abbrev Alone : State Queue → (ℕ → ℕ) → ℕ → ℕ → Type 0
+abbrev pub Alone : State Queue → (ℕ → ℕ) → ℕ → ℕ → Type 0
 Alone s began k j = (q : ℕ) → nat_eq q (suc j) ≡ false → is_parked s q ≡ true → nat_eq (began q) k ≡ false
 
-all-ended : (s t : State Queue) (began : ℕ → ℕ) (k i j : ℕ) → nat_eq i k ≡ false → Alone s began k j → is_parked t (suc j) ≡ false → (q : ℕ) → is_parked t q ≡ true → nat_eq (beginning s began i q) k ≡ false
+pub all-ended : (s t : State Queue) (began : ℕ → ℕ) (k i j : ℕ) → nat_eq i k ≡ false → Alone s began k j
+    → is_parked t (suc j) ≡ false → (q : ℕ) → is_parked t q ≡ true → nat_eq (beginning s began i q) k ≡ false
 all-ended s t began k i j apart alone e q here = elim (nat_eq q (suc j)) as (λ b. nat_eq q (suc j) ≡ b → nat_eq (beginning s began i q) k ≡ false) [
   | true ↦ λ same. absurd (let both : is_parked t (suc j) ≡ true = ap (is_parked t) (sym (eqb-true q (suc j) same)) ∙ here in cc)
   | false ↦ λ other. began-next s began k i q apart (alone q other)
@@ -422,7 +321,9 @@ later-front c (y ∷ ys) s began k i j fd x d l w here alone =
     subst (λ ps. IsInOrder (drop d x) ps) (sym (own-step s began k i j y rest apart here alone))
     (front-after x d g.more (own s (suc j) y) (given_by k rest) g.put
     (⊎_elim
-    (λ v. later-front c ys t (beginning s began i) k (suc i) j fd x (d + g.more) (omega (arith, l)) (waiting-same t v refl) (began-kept s began i (suc j) (waiting-parked w) ∙ here) (λ q other p. began-next s began k i q apart (alone q other)))
+    (λ v. later-front c ys t (beginning s began i) k (suc i) j fd x (d + g.more) (omega (arith, l))
+    (in_call-same t v refl) (began-kept s began i (suc j) (in_call-parked w) ∙ here)
+    (λ q other p. began-next s began k i q apart (alone q other)))
     (λ e. nothing-front (drop (d + g.more) x) (given_by k rest) (ended-none c ys t (beginning s began i) k (suc i) (omega (arith, l)) (all-ended s t began k i j apart alone e)))
     g.next))
   where
@@ -459,7 +360,10 @@ later-whole c (y ∷ ys) s began k i j fd x short l w here alone =
     subst (λ ps. IsWhole x ps) (sym (own-step s began k i j y rest apart here alone))
     (⊎_elim
     (λ zero. none-before x g.more (own s (suc j) y) (given_by k rest) g.put zero (⊎_elim
-    (λ v. later-whole c ys t (beginning s began i) k (suc i) j fd x short (omega (arith, l)) (waiting-same t (let same : 0 + g.more ≡ 0 = omega (arith, zero) in subst (λ n. Waiting (act c s y).state j fd x n) same v) refl) (began-kept s began i (suc j) (waiting-parked w) ∙ here) (λ q other p. began-next s began k i q apart (alone q other)))
+    (λ v. later-whole c ys t (beginning s began i) k (suc i) j fd x short (omega (arith, l))
+    (in_call-same t (let same : 0 + g.more ≡ 0 = omega (arith, zero) in subst
+    (λ n. Waiting (act c s y).state j fd x n) same v) refl) (began-kept s began i (suc j) (in_call-parked w)
+    ∙ here) (λ q other p. began-next s began k i q apart (alone q other)))
     (λ e. inl (over e))
     g.next))
     (λ all. whole-after x g.more (own s (suc j) y) (given_by k rest) g.put all.0 (over all.1))
@@ -483,7 +387,7 @@ later-whole c (y ∷ ys) s began k i j fd x short l w here alone =
 -- Where the Write itself leads
 
 -- whoever waits after it waited before
-abbrev Over : State Queue → State Queue → ℕ → Type 0
+abbrev pub Over : State Queue → State Queue → ℕ → Type 0
 Over s t i = is_parked t (suc i) ≡ true → is_parked s (suc i) ≡ true
 
 -- it waits in its call, which is a new one, or it has ended
@@ -609,7 +513,8 @@ module _ (c : Limits) (fd : ℕ) (x : List ℕ) (s : State Queue) (began : ℕ �
         (⊎_elim
         (λ v.
         let same : g.more ≡ 0 + g.more = omega arith in
-        later-front c ys after (beginning s began i) i (suc i) j fd x (0 + g.more) (omega arith) (subst (λ n. Waiting after j fd x n) same (waiting-same after v.0 refl)) (here v.1) alone)
+        later-front c ys after (beginning s began i) i (suc i) j fd x (0 + g.more) (omega arith)
+        (subst (λ n. Waiting after j fd x n) same (in_call-same after v.0 refl)) (here v.1) alone)
         (λ over. nothing-front (drop (0 + g.more) x) (given_by i later) (over-none over))
         g.next))
 
@@ -618,7 +523,8 @@ module _ (c : Limits) (fd : ℕ) (x : List ℕ) (s : State Queue) (began : ℕ �
         subst (λ ps. IsWhole x ps) (sym own-write)
         (⊎_elim
         (λ zero. none-before x g.more (member (put_any (transfer_of s (steps.Write (suc j) fd x)))) (given_by i later) g.put zero (⊎_elim
-        (λ v. later-whole c ys after (beginning s began i) i (suc i) j fd x short (omega arith) (subst (λ n. Waiting after j fd x n) zero (waiting-same after v.0 refl)) (here v.1) alone)
+        (λ v. later-whole c ys after (beginning s began i) i (suc i) j fd x short (omega arith)
+        (subst (λ n. Waiting after j fd x n) zero (in_call-same after v.0 refl)) (here v.1) alone)
         (λ over. inl (over-none over))
         g.next))
         (λ all. whole-after x g.more (member (put_any (transfer_of s (steps.Write (suc j) fd x)))) (given_by i later) g.put all.0 (over-none all.1))
@@ -642,7 +548,8 @@ module _ (c : Limits) (fd : ℕ) (x : List ℕ) (s : State Queue) (began : ℕ �
 
 -- Every place of a run
 
-began-earlier : (s : State Queue) (began : ℕ → ℕ) (i : ℕ) → ((q : ℕ) → is_parked s q ≡ true → began q < i) → (q : ℕ) → beginning s began i q < suc i
+pub began-earlier : (s : State Queue) (began : ℕ → ℕ) (i : ℕ) → ((q : ℕ) → is_parked s q ≡ true → began q < i)
+    → (q : ℕ) → beginning s began i q < suc i
 began-earlier s began i h q = by_test (is_parked s q) (h q)
   where
     by_test : (b : Bool) → (b ≡ true → began q < i) → (if b then began q else i) < suc i
@@ -671,7 +578,7 @@ at-replicate zero m = refl
 at-replicate (suc n) zero = refl
 at-replicate (suc n) (suc m) = at-replicate n m
 
-nobody_waits : (q : ℕ) → is_parked opening q ≡ true → 0 < 0
+pub nobody_waits : (q : ℕ) → is_parked opening q ≡ true → 0 < 0
 unfolding vacant
 nobody_waits zero t = absurd (cc)
 nobody_waits (suc m) t = absurd (let none : is_parked opening (suc m) ≡ false = ap in_call (at-replicate MAX_PROCESSES m) in cc)

@@ -37,7 +37,7 @@ pub record Settled (s : State Queue) : Type 0 where
   pub swept : sweep s ≡ s
 
 module _ (s : State Queue) (is : Settled s) where
-  step-settled : (c : Limits) (step : Step) → Settled (step_of c s step).state
+  pub step-settled : (c : Limits) (step : Step) → Settled (step_of c s step).state
   step-settled c step = record {
     can_try = sweep-all (act c s step).state (by_call (call c s step) (good s is.can_try c step));
     swept = sweep-sweep (act c s step).state (act c s step).state.processes (act c s step).state.processes
@@ -164,7 +164,7 @@ run-settled c s [] h = h
 run-settled c s (x ∷ xs) h = run-settled c (step_of c s x).state xs (step-settled s h c x)
 
 -- nobody lives
-opening-settled : Settled opening
+pub opening-settled : Settled opening
 unfolding vacant
 opening-settled = record {
   can_try = record {

@@ -1,20 +1,24 @@
--- What went through a pipe in a run (pipe(7)): what each step put in, and what the steps took out.
+-- What went through a pipe in a run (pipe(7)): what each step put in, what the steps took out, and what the replies say of
+-- both.
 
-use Rattle.std.specs.Prelude.{◌≡◌, ℕ, suc, ◌⊎◌, List, [], ◌∷◌, ◌++◌, take, map, filter, Option, Some, None, is_some, nat_eq, if◌then◌else◌, Result, Ok, Err, Bool, false, ◌≤◌, length}
+use Rattle.std.specs.Prelude.{◌≡◌, ℕ, suc, ◌⊎◌, List, [], ◌∷◌, ◌++◌, take, map, filter, Option, Some, None, is_some, nat_eq, if◌then◌else◌, Result, Ok, Err, Bool, true, false, ◌≤◌, length, All, ⊤}
 use Rattle.std.specs.List.{flat_map}
+use Rattle.std.specs.Option.{option_and_then}
 use Rattle.pf_machine.specs.Refusals.{◌>>=◌, or_refuse}
 use Rattle.pf_base.specs.Limits.{Limits}
-use Rattle.pf_machine.specs.Queue.{Queue, bytes_of}
+use Rattle.pf_machine.specs.Queue.{Queue, bytes_of, taken}
 use Rattle.pf_machine.specs.Numbered.{at}
 use Rattle.pf_base.specs.declared.TheConstants.{PIPE_BUF}
-use Rattle.pf_machine.specs.Calls.{Call, Opening, Moving, Reading, Writing, Bringing}
-use Rattle.pf_machine.specs.State.{State, Process, Pipe, opening, process, living, ready}
+use Rattle.pf_machine.specs.Calls.{Transfer, Call, Opening, Moving, Reading, Writing, Bringing}
+use Rattle.pf_machine.specs.State.{State, Process, Pipe, End, opening, process, living, ready, end_at}
 use Rattle.pf_machine.specs.Transfers.{Tried, tried}
-use Rattle.pf_machine.specs.Machine.{step_of}
+use Rattle.pf_machine.specs.Machine.{call_of, step_of}
 use Rattle.pf_machine.specs.Runs.{run_of}
 use Rattle.pf_base.specs.declared.errno.Errno.{Errno}
 use Rattle.pf_base.specs.declared.errno.Errno.TheVariants.{EINVAL}
 use Rattle.pf_base.specs.declared.progress.Crossing.TheVariants as crossings
+use Rattle.pf_base.specs.declared.step.Reply.{Reply}
+use Rattle.pf_base.specs.declared.step.Reply.TheVariants as replies
 use Rattle.pf_base.specs.declared.step.Step.{Step}
 use Rattle.pf_base.specs.declared.step.Step.TheVariants as steps
 
@@ -120,6 +124,83 @@ took_from c s (x ∷ xs) p = taken_out p (transfer_of s x) ++ took_from c (step_
 abbrev pub took : Limits → List Step → ℕ → List ℕ
 took c xs p = took_from c opening xs p
 
+-- What the replies say was taken out
+
+-- the end that a descriptor of the process of a pid names, if it names one
+abbrev pub end_named : State Queue → ℕ → ℕ → Option (End Queue)
+end_named s pid fd = option_and_then (λ p. option_and_then (end_at s) (at p.descriptors fd)) (process s pid)
+
+-- bytes out of the pipe of an end, if it is this pipe; they may depend on what it holds
+abbrev pub out_of : ℕ → Option (End Queue) → (Queue → List ℕ) → List ℕ
+out_of p None x = []
+out_of p (Some e) x = if nat_eq e.description.pipe p then x e.pipe.queue else []
+
+-- a read is told the bytes that it took, and a splice how many; these are the first ones of its source. Whoever is told
+-- anything else took none
+abbrev pub says_taken : ℕ → State Queue → ℕ → Transfer → Reply → List ℕ
+says_taken p s pid (Reading fd n) (replies.Bytes x) = out_of p (end_named s pid fd) (λ q. x)
+says_taken p s pid (Bringing crossings.Splice source sink n) (replies.Num k) =
+    out_of p (end_named s pid source) (λ q. taken q k)
+says_taken p s pid _ _ = []
+
+-- a Resume is told what the call is in which its process waits
+abbrev pub says_again : ℕ → State Queue → ℕ → Option Call → Reply → List ℕ
+says_again p s pid (Some (Moving transfer)) reply = says_taken p s pid transfer reply
+says_again p s pid _ reply = []
+
+abbrev pub says_out : ℕ → State Queue → Step → Reply → List ℕ
+says_out p s (steps.Read pid fd n) reply = says_taken p s pid (Reading fd n) reply
+says_out p s (steps.Splice pid source sink n nonblock) reply =
+    says_taken p s pid (Bringing crossings.Splice source sink n) reply
+says_out p s (steps.Resume pid) reply = says_again p s pid (call_of s pid) reply
+says_out p s _ reply = []
+
+-- What the replies say was given
+
+-- a reply, and the place in the list of steps where the call began that is told it
+pub record Told : Type 0 where
+  pub call : ℕ
+  pub reply : Reply
+
+-- a Resume of a process that waits is told for the call in which it waits; any other step begins its own
+abbrev pub told_at : State Queue → (ℕ → ℕ) → ℕ → Step → ℕ
+told_at s began i (steps.Resume pid) = beginning s began i pid
+told_at s began i _ = i
+
+-- what the steps from place i on are told
+abbrev pub tells : Limits → State Queue → (ℕ → ℕ) → ℕ → List Step → List Told
+tells c s began i [] = []
+tells c s began i (x ∷ xs) =
+    record { call = told_at s began i x; reply = (step_of c s x).reply }
+    ∷ tells c (step_of c s x).state (beginning s began i) (suc i) xs
+
+-- in a run from the opening state
+abbrev pub told : Limits → List Step → List Told
+told c xs = tells c opening (λ pid. 0) 0 xs
+
+-- what one call was told: Parked as often as it waited, and then what ended it
+abbrev pub told_to : ℕ → List Told → List Reply
+told_to k ts = map (λ t. t.reply) (filter (λ t. nat_eq t.call k) ts)
+
+-- a call that is told this gave so many bytes in all: a number says how many, an error that there were none, and Parked
+-- says nothing yet
+abbrev pub Counts : ℕ → Reply → Type 0
+Counts m (replies.Num n) = m ≡ n
+Counts m (replies.Err e) = m ≡ 0
+Counts m replies.Parked = ⊤
+Counts m _ = ⊥
+
+-- a step that gives bytes, if it isn't refused
+abbrev pub gives : Step → Bool
+gives (steps.Write pid fd payload) = true
+gives (steps.Tee pid source sink n nonblock) = true
+gives (steps.Splice pid source sink n nonblock) = true
+gives _ = false
+
+-- the step at a place is one that gives
+abbrev pub IsGiving : List Step → ℕ → Type 0
+IsGiving xs k = (x : Step) × ((at (map Some xs) k ≡ Some x) × (gives x ≡ true))
+
 -- The law
 
 -- what was taken from a pipe, and then what it holds, is what was given to it, in order
@@ -139,8 +220,13 @@ abbrev pub IsWrite : List Step → ℕ → List ℕ → Type 0
 IsWrite xs k x = (pid : ℕ) × (fd : ℕ) × (at (map Some xs) k ≡ Some (steps.Write pid fd x))
 
 -- in a run from the opening state each pipe at its end is a stream; what a Write gives stands in its order, and what a
--- Write of at most PIPE_BUF bytes gives is one piece or none
+-- Write of at most PIPE_BUF bytes gives is one piece or none. The replies say so: in any state a step takes out of each
+-- pipe what its reply says; and in the run a Write, a Tee or a Splice gives in all as many bytes as it is told
 pub record StreamLaw (c : Limits) (xs : List Step) : Type 0 where
   pub stream : (n : ℕ) (p : Pipe Queue) → at (run_of c opening xs).state.pipes n ≡ Some p → IsStream c xs n p
   pub in_order : (k : ℕ) (x : List ℕ) → IsWrite xs k x → IsInOrder x (given_by k (given c xs))
   pub whole : (k : ℕ) (x : List ℕ) → IsWrite xs k x → length x ≤ PIPE_BUF → IsWhole x (given_by k (given c xs))
+  pub taken_told : (s : State Queue) (x : Step) (n : ℕ)
+      → taken_out n (transfer_of s x) ≡ says_out n s x (step_of c s x).reply
+  pub given_told : (k : ℕ) → IsGiving xs k
+      → All (Counts (length (joined (given_by k (given c xs))))) (told_to k (told c xs))

@@ -42,7 +42,9 @@ pub fn files_stay()
 
 /// Whatever a list of steps does from the opening state: what was taken from a pipe, followed by what it holds,
 /// is what was given to it; what a write gives stands in its order, and what a write of at most `PIPE_BUF` bytes
-/// gives is one piece or none.
+/// gives is one piece or none. The replies say so: a read, or the Resume of one, is told exactly the bytes that it took
+/// out of the pipe, a splice how many; and a write, a tee or a splice that is told a number, by its own step or by the
+/// last Resume, has given so many bytes in all, and none where it is told an error.
 pub fn stream(config: &Config, steps: &[Step])
     ensures { StreamLaw config.now steps.now }
 {
