@@ -13,13 +13,13 @@ pub fn put_adds()
     ensures { PutAdds }
 {}
 
-/// What a take gives and what it leaves are what the queue held; the room grows by whole pages.
+/// What a take gives and what it leaves are what the queue held. While a byte is left the room grows by a page for each
+/// segment that was emptied; otherwise it is that of all slots.
 pub fn take_parts()
     ensures { TakeParts }
 {}
 
-/// A tee copies the front of a queue to the end of another, as far as there are slots; a splice takes it away
-/// too.
+/// A tee copies a front of a queue, at most the bytes asked for, to the end of another; a splice takes it away too.
 pub fn tee_copies()
     ensures { TeeCopies }
 {}
