@@ -3,6 +3,7 @@
 
 pub mod space;
 
-/// The laws of the lone machine's definitions, of which `stream` speaks of every run.
+/// The laws of the lone machine's definitions. `pf_space::laws::stream` speaks of every run: of what goes through its
+/// pipes, and of what the replies say of it.
 pub use pf_laws as laws;
 pub use space::Space;

@@ -8,7 +8,7 @@ ghost use Rattle.pf_tables.specs.Owns.{Owns};
 use crate::calls::{Call, Told, answer_of, step_of};
 use pf_base::{Answer, ByteString, Config, Errno, Reply, Step};
 use pf_frame::{Frame, Frames, OwnFrames};
-use pf_space::Space;
+use pf_space::{Space, laws};
 use std::alloc::{AllocError, Global};
 use std::process::Abort;
 use std::test::Fail;
@@ -193,6 +193,19 @@ fn play(rt: &impl Abort, alloc: Global, reserve: u32, fill: u8, rows: &[Row]) ->
         assert_eq!(rt; answer, answer_of(alloc, *told)?, "{call:?}");
         assert_eq!(rt; frames.credits(), reserve.saturating_sub(*held), "{call:?}");
     }
+    Ok(())
+}
+
+// A namespace's crate hands on the law of its streams, which computes nothing.
+#[test]
+fn law_of_streams_is_handed_on(rt: HostRuntime) -> Result<(), Fail> {
+    let config = Config::new(
+        16,
+        Config::DEFAULT_SOFT,
+        Config::DEFAULT_HARD,
+        Config::DEFAULT_MAX,
+    )?;
+    laws::stream(&config, &[step_of(rt.alloc(), Call::Exit(1))?]);
     Ok(())
 }
 
