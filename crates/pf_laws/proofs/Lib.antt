@@ -16,5 +16,6 @@ mod WaitSteps
 mod RefusalLaws
 mod StayLaws
 mod TakenLaws
+mod BytesLaws
 mod CountLaws
 mod WorkedStreams

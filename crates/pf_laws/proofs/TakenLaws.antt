@@ -29,7 +29,7 @@ use Rattle.pf_laws.specs.Streams.{transfer_of, tried_call, taken_out, end_named,
 module _ (p : ℕ) (s : State Queue) where
   -- Replies that say nothing of bytes
 
-  abbrev IsSilent : Reply → Type 0
+  abbrev pub IsSilent : Reply → Type 0
   IsSilent y = (y ≡ replies.Parked) ⊎ ((e : Errno) × (y ≡ replies.Err e))
 
   silent-says : (pid : ℕ) (call : Transfer) (y : Reply) → IsSilent y → says_taken p s pid call y ≡ []
@@ -55,7 +55,7 @@ module _ (p : ℕ) (s : State Queue) where
     pub waits : (t : State Queue) (call : Call) → written_of call ≡ 0 → IsSilent (tell (Ok (Waits t call)))
     pub refused : (e : Errno) → tell (Err e) ≡ replies.Err e
 
-  telling-first : (pid : ℕ) (b : Bool) → Telling (λ r. (settle s (r >>= first pid b)).reply)
+  pub telling-first : (pid : ℕ) (b : Bool) → Telling (λ r. (settle s (r >>= first pid b)).reply)
   telling-first pid b = record { finished = λ t y. refl; waits = waits b; refused = λ e. refl }
     where
       none : (t : State Queue) (n : ℕ) → n ≡ 0 → IsSilent (settle s (unwaiting t n)).reply
@@ -66,7 +66,7 @@ module _ (p : ℕ) (s : State Queue) where
       waits true t call e = none t (written_of call) e
       waits false t call e = inl refl
 
-  telling-again : (pid : ℕ) → Telling (λ r. (again s pid r).reply)
+  pub telling-again : (pid : ℕ) → Telling (λ r. (again s pid r).reply)
   telling-again pid = record { finished = λ t y. refl; waits = λ t call e. inl refl; refused = λ e. refl }
 
   -- One transfer

@@ -155,6 +155,10 @@ says_out p s (steps.Splice pid source sink n nonblock) reply =
 says_out p s (steps.Resume pid) reply = says_again p s pid (call_of s pid) reply
 says_out p s _ reply = []
 
+-- exactly these bytes went out of one pipe at a step
+abbrev pub Took : State Queue → Step → List ℕ → Type 0
+Took s x y = (n : ℕ) × (taken_out n (transfer_of s x) ≡ y)
+
 -- What the replies say was given
 
 -- a reply, and the place in the list of steps where the call began that is told it
@@ -221,12 +225,14 @@ IsWrite xs k x = (pid : ℕ) × (fd : ℕ) × (at (map Some xs) k ≡ Some (step
 
 -- in a run from the opening state each pipe at its end is a stream; what a Write gives stands in its order, and what a
 -- Write of at most PIPE_BUF bytes gives is one piece or none. The replies say so: in any state a step takes out of each
--- pipe what its reply says; and in the run a Write, a Tee or a Splice gives in all as many bytes as it is told
+-- pipe what its reply says, and whoever is told bytes took these; and in the run a Write, a Tee or a Splice gives in all
+-- as many bytes as it is told
 pub record StreamLaw (c : Limits) (xs : List Step) : Type 0 where
   pub stream : (n : ℕ) (p : Pipe Queue) → at (run_of c opening xs).state.pipes n ≡ Some p → IsStream c xs n p
   pub in_order : (k : ℕ) (x : List ℕ) → IsWrite xs k x → IsInOrder x (given_by k (given c xs))
   pub whole : (k : ℕ) (x : List ℕ) → IsWrite xs k x → length x ≤ PIPE_BUF → IsWhole x (given_by k (given c xs))
   pub taken_told : (s : State Queue) (x : Step) (n : ℕ)
       → taken_out n (transfer_of s x) ≡ says_out n s x (step_of c s x).reply
+  pub bytes_told : (s : State Queue) (x : Step) (y : List ℕ) → (step_of c s x).reply ≡ replies.Bytes y → Took s x y
   pub given_told : (k : ℕ) → IsGiving xs k
       → All (Counts (length (joined (given_by k (given c xs))))) (told_to k (told c xs))
