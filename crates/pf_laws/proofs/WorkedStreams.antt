@@ -1,6 +1,6 @@
 -- Examples by computation: what goes through a pipe, and what the replies say of it.
 
-use Rattle.std.specs.Prelude.{◌≡◌, false, List, [], ◌∷◌, length, refl, replicate}
+use Rattle.std.specs.Prelude.{◌≡◌, ℕ, false, List, [], ◌∷◌, length, refl, replicate}
 use Rattle.std.proofs.Common.{arith}
 use Rattle.pf_base.specs.Limits.{Limits}
 use Rattle.pf_base.specs.Capacities.{pages_for}
@@ -8,7 +8,7 @@ use Rattle.pf_machine.specs.Queue.{Queue}
 use Rattle.pf_machine.specs.State.{State, vacant}
 use Rattle.pf_machine.specs.Machine.{step_of}
 use Rattle.pf_laws.specs.Standing.{reached}
-use Rattle.pf_laws.specs.Streams.{transfer_of, taken_out, given, took, given_to, given_by, joined, says_out, told, told_to, Counts, IsGiving}
+use Rattle.pf_laws.specs.Streams.{transfer_of, taken_out, given, took, given_to, given_by, joined, says_out, Took, told, told_to, Counts, IsGiving}
 use Rattle.pf_base.specs.declared.errno.Errno.TheVariants.{EPIPE}
 use Rattle.pf_base.specs.declared.step.Reply.TheVariants.{Num, Bytes, Parked, Err as Refused}
 use Rattle.pf_base.specs.declared.step.Step.{Step}
@@ -148,6 +148,11 @@ read-says e = cc
 elsewhere : says_out 1 met (Resume 2) (Bytes (97 ∷ 98 ∷ 99 ∷ [])) ≡ []
 unfolding vacant pages_for
 elsewhere = refl
+
+-- at a descriptor that names nothing no bytes are to be had
+invented : Took met (Read 1 7 1) (97 ∷ []) → ⊥
+unfolding vacant pages_for
+invented e = let none : ◌≡◌ {A = List ℕ} [] (97 ∷ []) = e.1 in cc
 
 -- a splice that is told 2 took the first two; a tee took none
 spliced-says : says_out 0 met (Splice 1 0 3 2 false) (Num 2) ≡ taken_out 0 (transfer_of met (Splice 1 0 3 2 false))

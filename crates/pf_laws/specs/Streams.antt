@@ -1,5 +1,5 @@
--- What went through a pipe in a run (pipe(7)): what each step put in, what the steps took out, and what the replies say of
--- both.
+-- What went through a pipe in a run (pipe(7)): what each step put in, what the steps took out, and what the replies
+-- say of both.
 
 use Rattle.std.specs.Prelude.{◌≡◌, ℕ, suc, ◌⊎◌, List, [], ◌∷◌, ◌++◌, take, map, filter, Option, Some, None, is_some, nat_eq, if◌then◌else◌, Result, Ok, Err, Bool, true, false, ◌≤◌, length, All, ⊤}
 use Rattle.std.specs.List.{flat_map}
@@ -225,8 +225,8 @@ IsWrite xs k x = (pid : ℕ) × (fd : ℕ) × (at (map Some xs) k ≡ Some (step
 
 -- in a run from the opening state each pipe at its end is a stream; what a Write gives stands in its order, and what a
 -- Write of at most PIPE_BUF bytes gives is one piece or none. The replies say so: in any state a step takes out of each
--- pipe what its reply says, and whoever is told bytes took these; and in the run a Write, a Tee or a Splice gives in all
--- as many bytes as it is told
+-- pipe what its reply says, and whoever is told bytes took these; and in the run a Write, a Tee or a Splice gives in
+-- all as many bytes as it is told
 pub record StreamLaw (c : Limits) (xs : List Step) : Type 0 where
   pub stream : (n : ℕ) (p : Pipe Queue) → at (run_of c opening xs).state.pipes n ≡ Some p → IsStream c xs n p
   pub in_order : (k : ℕ) (x : List ℕ) → IsWrite xs k x → IsInOrder x (given_by k (given c xs))
