@@ -18,6 +18,10 @@ unnamed_idle f s e = record {
   counts = λ q. omega (arith, s.most q);
 }
 
+-- loans that hold no frame are all vacant
+pub unheld_idle : (l : Loans) → held_of l ≡ 0 → IsIdle (reserved_of l) (loans_live l)
+unheld_idle l e = unnamed_idle (loans_live l) (loans_sound l) ((loans_sound l).none e)
+
 unnamed_none : (ls : List Loans) → sum_by shares_of ls ≡ 0 → sum_by held_of ls ≡ 0
 unnamed_none [] e = refl
 unnamed_none (l ∷ ls) e = omega (arith, sum_by-cons shares_of l ls, sum_by-cons held_of l ls, (loans_sound l).spread, unnamed_none ls (omega (arith, sum_by-cons shares_of l ls)))

@@ -4,13 +4,12 @@ use Rattle.std.proofs.Common.{◌≡◌, ◌≢◌, ℕ, zero, suc, ◌+◌, ◌
 use Rattle.std.specs.Prelude.{Option, Some, None, IsSome}
 use Rattle.std.proofs.lemmas.List.{get_or-map, map-set, length-map, length-replicate}
 use Rattle.std.proofs.lemmas.Bool.{cases_eq}
-use Rattle.pf_base.specs.declared.TheConstants.{PAGE_SIZE}
 use Rattle.pf_frame.specs.declared.frame.Frame.{Frame}
 use Rattle.pf_frame.specs.Bytes.{filled}
 use Rattle.pf_frame.specs.Counted.{positives, live_by}
-use Rattle.pf_frame.specs.Sound.{positives-le-length, counted_within, page_shown, is_sound}
+use Rattle.pf_frame.specs.Sound.{counted_within, page_shown}
 use Rattle.pf_frame.proofs.CountedLaws.{positives_less}
-use Rattle.pf_frame.specs.Live.{IsSound, Takes, Shares, Releases, Fills, IsIdle}
+use Rattle.pf_frame.specs.Live.{Takes, Shares, Releases, Fills, IsIdle}
 use Rattle.pf_frame.proofs.LiveLaws.{is_taken, is_released, is_filled, shares_as, releases_as, none_at, is_idle}
 use Rattle.pf_frame.specs.Pages.{page_of}
 use Rattle.pf_depot.specs.Places.{page_at, AreLent}

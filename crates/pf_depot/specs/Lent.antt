@@ -1,18 +1,13 @@
 -- Why what the loans of a namespace show is sound: each live place has its frame.
 
-use Rattle.std.proofs.Common.{◌≡◌, ◌≢◌, ℕ, zero, suc, ◌+◌, ◌-◌, ◌<◌, List, [], length, map, slice_index, slice_index_or, slice_set, ◌==◌, if◌then◌else◌, refl, arith, sym, subst, ap, ◌∙◌, inl, inr, get_or-set_same, get_or-set_other, length-set, replicate}
+use Rattle.std.proofs.Common.{◌≡◌, ℕ, ◌<◌, List, [], length, map, arith}
 use Rattle.std.specs.Prelude.{Option, Some, None, IsSome}
-use Rattle.std.proofs.lemmas.List.{get_or-map, map-set, length-map, length-replicate}
-use Rattle.std.proofs.lemmas.Bool.{cases_eq}
+use Rattle.std.proofs.lemmas.List.{get_or-map}
 use Rattle.pf_base.specs.declared.TheConstants.{PAGE_SIZE}
 use Rattle.pf_frame.specs.declared.frame.Frame.{Frame}
-use Rattle.pf_frame.specs.Bytes.{filled}
-use Rattle.pf_frame.specs.Counted.{positives, live_by}
-use Rattle.pf_frame.specs.Sound.{positives-le-length, counted_within, page_shown, is_sound}
-use Rattle.pf_frame.proofs.CountedLaws.{positives_less}
-use Rattle.pf_frame.specs.Live.{IsSound, Takes, Shares, Releases, Fills, IsIdle}
-use Rattle.pf_frame.proofs.LiveLaws.{is_taken, is_released, is_filled, shares_as, releases_as, none_at, is_idle}
-use Rattle.pf_frame.specs.Pages.{page_of}
+use Rattle.pf_frame.specs.Counted.{live_by}
+use Rattle.pf_frame.specs.Sound.{positives-le-length, counted_within, is_sound}
+use Rattle.pf_frame.specs.Live.{IsSound}
 use Rattle.pf_depot.specs.Places.{page_at, AreLent}
 
 page_whole : (p : Option Frame) → IsSome p → length (page_at p) ≡ PAGE_SIZE

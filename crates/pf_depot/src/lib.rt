@@ -1,15 +1,21 @@
 //! Frames on loan: a depot of free frames, the loans of each namespace, and the door over both.
 #![tactic(auto)]
 
+pub mod allotment;
+pub mod book;
 pub mod depot;
 pub mod door;
 pub mod lender;
 pub mod loans;
+pub mod shared;
 #[cfg(test)]
 mod tests;
 
+pub use allotment::Allotment;
+pub use book::DepotBook;
 pub use depot::Depot;
 pub use door::LoanDoor;
 pub use lender::Lender;
 pub use loans::Loans;
 pub use pf_frame::PoolFault;
+pub use shared::SharedDepot;
