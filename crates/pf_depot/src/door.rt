@@ -10,8 +10,8 @@ use pf_frame::{FrameNo, Frames};
 /// take back as many as it holds. Only a `take`, and a `release` at count 1, reach the lender.
 #[derive(Drop)]
 pub struct LoanDoor<'a, D: Lender> {
-    pub(crate) lender: &'a mut D,
-    pub(crate) loans: &'a mut Loans,
+    lender: &'a mut D,
+    loans: &'a mut Loans,
 }
 
 impl<'a, D: Lender> LoanDoor<'a, D> {

@@ -8,8 +8,6 @@ pub mod door;
 pub mod lender;
 pub mod loans;
 pub mod shared;
-#[cfg(test)]
-mod tests;
 
 pub use allotment::Allotment;
 pub use book::DepotBook;

@@ -1,5 +1,5 @@
-use Rattle.pf_depot.proofs.Pairs.{first_idle, second_idle}
-use Rattle.pf_depot.proofs.tests.pair.Goals as goal
+use Rattle.pf_depot_trials.proofs.Pairs.{first_idle, second_idle}
+use Rattle.pf_depot_trials.proofs.own.pair.Goals as goal
 
 pub returns-clause-first : goal.returns-clause-first
 returns-clause-first c =

@@ -2,7 +2,7 @@
 use Rattle.std.proofs.Common.{◌≡◌, ◌+◌}
 use Rattle.pf_depot.specs.AllLoans.{held_of, reserved_of}
 use Rattle.pf_depot.specs.Depot.{free_of, frames_of}
-use Rattle.pf_depot.proofs.tests.frames_pass_between_tenants.Given as goal
+use Rattle.pf_depot_trials.proofs.own.frames_pass_between_tenants.Given as goal
 
 abbrev pub invariant-loop-round : goal.invariant-loop-round
 invariant-loop-round g l = record {
