@@ -2,6 +2,7 @@ pub mod TenantLaws
 pub mod StepLemmas
 pub mod DepotLemmas
 pub mod OpeningLemmas
+pub mod NeedLemmas
 pub mod RunLemmas
 pub mod HubBounds
 pub mod WorkedWorlds

@@ -5,15 +5,17 @@ use Rattle.std.specs.Prelude.{Some, None, nat_le, nat_eq}
 use Rattle.std.specs.List.{position_from}
 use Rattle.std.proofs.lemmas.Bool.{eqb-true, eqb-false, leb-false}
 use Rattle.pf_base.specs.Limits.{Limits}
-use Rattle.pf_machine.specs.Machine.{Answers}
+use Rattle.pf_machine.specs.Machine.{Answers, may_want_memory}
 use Rattle.pf_machine.specs.Runs.{Run, run_of, lone}
 use Rattle.pf_machine.specs.Events.{kept, replies}
 use Rattle.pf_machine.proofs.EventLaws.{told-own, told-other, kept-mine}
 use Rattle.pf_base.specs.declared.step.Step.{Step}
 use Rattle.pf_base.specs.declared.step.Answer.{Answer}
+use Rattle.pf_base.specs.declared.step.Answer.TheVariants.{NoMemory}
 use Rattle.pf_hub.specs.Tenants.{Tenants, Tenant, limits_at, state_at}
 use Rattle.pf_hub.specs.Stepped.{Stepped}
 use Rattle.pf_hub.specs.Isolation.{Ran, first_missing, AreAlone, TwoWorlds}
+use Rattle.pf_hub.proofs.NeedLemmas.{needed_next, may_want}
 
 -- one more event was answered
 pub at_next : (old mid new : Tenants) (es : List (ℕ × Step)) (e : ℕ × Step) (as' : List Answer) (a : Answer)
@@ -23,6 +25,7 @@ at_next old mid new es e as' a so made = record {
   tenants = made.number ∙ so.tenants;
   frames = made.frames ∙ so.frames;
   limits = λ n. by_own (λ n. limits_at new n ≡ limits_at old n) (made.limits ∙ so.limits e.0) (λ m ne. ap (λ (t : Tenant). t.limits) (made.others m ne) ∙ so.limits m) n;
+  needed = λ n. needed_next (limits_at old n) (state_at old n) es as' n so.number e a (so.needed n) (needs n);
   own = λ n. by_own (λ n. run_of (limits_at old n) (state_at old n) (kept (es ++ e ∷ []) (as' ++ a ∷ []) n) ≡ record { state = state_at new n; replies = replies (es ++ e ∷ []) (as' ++ a ∷ []) n }) own_next others_next n;
 }
   where
@@ -34,6 +37,17 @@ at_next old mid new es e as' a so made = record {
     own_next =
         told-own (limits_at old e.0) (state_at old e.0) (state_at mid e.0) (state_at new e.0) es e as' a e.0 (sym so.number) refl (so.own e.0)
         (subst (λ (c : Limits). Answers c a (state_at mid e.0) e.1 (state_at new e.0)) (so.limits e.0) made.answers)
+
+    May : ℕ → Type 0
+    May n =
+        may_want_memory (limits_at old n) (run_of (limits_at old n) (state_at old n) (kept es as' n)).state e.1 ≡ true
+
+    needs : (n : ℕ) → e.0 ≡ n → a ≡ NoMemory → May n
+    needs n is none =
+        subst May is
+        (ap (λ (r : Run). may_want_memory (limits_at old e.0) r.state e.1) (so.own e.0)
+        ∙ ap (λ (c : Limits). may_want_memory c (state_at mid e.0) e.1) (sym (so.limits e.0))
+        ∙ may_want (may_want_memory (limits_at mid e.0) (state_at mid e.0) e.1) a none made.succeeds)
 
     others_next : (n : ℕ) → n ≢ e.0 → run_of (limits_at old n) (state_at old n) (kept (es ++ e ∷ []) (as' ++ a ∷ []) n) ≡ record { state = state_at new n; replies = replies (es ++ e ∷ []) (as' ++ a ∷ []) n }
     others_next n ne =

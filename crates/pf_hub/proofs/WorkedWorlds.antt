@@ -1,9 +1,10 @@
 -- Two worlds that tell one namespace different things: the same spawn, for which memory was wanted in one of them.
 
-use Rattle.std.proofs.Common.{◌≡◌, ℕ, zero, suc, List, [], ◌∷◌, refl, arith}
+use Rattle.std.proofs.Common.{◌≡◌, ℕ, zero, suc, List, [], ◌∷◌, refl, arith, subst, true}
 use Rattle.std.proofs.lemmas.Bool.{ne_eqb}
+use Rattle.std.proofs.lemmas.Option.{same_Some}
 use Rattle.pf_base.specs.Limits.{Limits}
-use Rattle.pf_machine.specs.Machine.{step_of}
+use Rattle.pf_machine.specs.Machine.{step_of, may_want_memory}
 use Rattle.pf_machine.specs.Runs.{run_of}
 use Rattle.pf_machine.specs.Events.{kept, replies}
 use Rattle.pf_machine.specs.State.{State, Outcome, opening}
@@ -11,7 +12,7 @@ use Rattle.pf_machine.specs.Queue.{Queue}
 use Rattle.pf_base.specs.declared.step.Step.{Step}
 use Rattle.pf_base.specs.declared.step.Step.TheVariants.{Spawn}
 use Rattle.pf_base.specs.declared.step.Answer.TheVariants.{Done, NoMemory}
-use Rattle.pf_hub.specs.Isolation.{Ran, MemoryMatters}
+use Rattle.pf_hub.specs.Isolation.{Ran, NoWantWithoutNeed, MemoryMatters}
 use Rattle.pf_hub.specs.Tenants.{Tenants, limits_at, state_at}
 
 abbrev limits : Limits
@@ -30,9 +31,13 @@ hub s = record { tenants = record { limits = limits; state = s; held = 0 } ∷ [
 abbrev events : List (ℕ × Step)
 events = (0, spawn) ∷ []
 
+-- the step of an event may want memory at the opening
+abbrev May : ℕ × Step → Type 0
+May e = may_want_memory (limits_at (hub opening) e.0) (state_at (hub opening) e.0) e.1 ≡ true
+
 -- both are runs, of the one step and of none
 made : Ran (hub opening) events (Done told.reply ∷ []) (hub told.state)
-made = record { number = refl; tenants = refl; frames = refl; limits = same; own = own }
+made = record { number = refl; tenants = refl; frames = refl; limits = same; own = own; needed = needed }
   where
     same : (n : ℕ) → limits_at (hub told.state) n ≡ limits_at (hub opening) n
     same zero = refl
@@ -42,12 +47,22 @@ made = record { number = refl; tenants = refl; frames = refl; limits = same; own
     own zero = refl
     own (suc n) = rw (ne_eqb 0 (suc n) (λ (e : 0 ≡ suc n). omega arith)) refl
 
+    needed : (n : ℕ) →
+        NoWantWithoutNeed (limits_at (hub opening) n) (state_at (hub opening) n) events (Done told.reply ∷ []) n
+    needed n zero step at at' = absurd (cc)
+    needed n (suc place) step at at' = absurd (cc)
+
 refused : Ran (hub opening) events (NoMemory ∷ []) (hub opening)
-refused = record { number = refl; tenants = refl; frames = refl; limits = λ n. refl; own = own }
+refused = record { number = refl; tenants = refl; frames = refl; limits = λ n. refl; own = own; needed = needed }
   where
     own : (n : ℕ) → run_of (limits_at (hub opening) n) (state_at (hub opening) n) (kept events (NoMemory ∷ []) n) ≡ record { state = state_at (hub opening) n; replies = replies events (NoMemory ∷ []) n }
     own zero = refl
     own (suc n) = rw (ne_eqb 0 (suc n) (λ (e : 0 ≡ suc n). omega arith)) refl
+
+    needed : (n : ℕ) →
+        NoWantWithoutNeed (limits_at (hub opening) n) (state_at (hub opening) n) events (NoMemory ∷ []) n
+    needed n zero step at at' = subst May (same_Some _ _ at) refl
+    needed n (suc place) step at at' = absurd (cc)
 
 -- a reply in the one, and none in the other
 pub memory_matters : MemoryMatters

@@ -1,13 +1,17 @@
 -- The isolation theorem: what each namespace is told is what its lone machine is told on its own steps alone.
 
-use Rattle.std.specs.Prelude.{◌≡◌, ℕ, ◌≤◌, List, length, take, nat_le, Some, Option, None, ⊤}
+use Rattle.std.specs.Prelude.{◌≡◌, ℕ, ◌≤◌, true, List, length, take, nat_le, slice_get, Some, Option, None, ⊤}
 use Rattle.std.specs.List.{position_from}
-use Rattle.pf_machine.specs.State.{opening}
+use Rattle.pf_base.specs.Limits.{Limits}
+use Rattle.pf_machine.specs.Queue.{Queue}
+use Rattle.pf_machine.specs.State.{State, opening}
+use Rattle.pf_machine.specs.Machine.{may_want_memory}
 use Rattle.pf_machine.specs.Runs.{run_of, lone}
 use Rattle.pf_machine.specs.Events.{mine, kept, replies}
 use Rattle.pf_machine.specs.Events.{IsAmple}
 use Rattle.pf_base.specs.declared.step.Step.{Step}
 use Rattle.pf_base.specs.declared.step.Answer.{Answer}
+use Rattle.pf_base.specs.declared.step.Answer.TheVariants as answered
 use Rattle.pf_hub.specs.Tenants.{Tenants, limits_at, state_at, frames_in}
 use Rattle.pf_hub.specs.declared.hub.RunFault.{RunFault}
 use Rattle.pf_hub.specs.declared.hub.RunFault.TheVariants.{NoSuchNamespace, NoMemory}
@@ -16,8 +20,19 @@ use Rattle.pf_hub.specs.declared.hub.RunFault.TheVariants.{NoSuchNamespace, NoMe
 abbrev pub first_missing : ℕ → List (ℕ × Step) → Option ℕ
 first_missing number events = position_from (λ e. nat_le number e.0) 0 events
 
--- an answer for each event; no frame comes or goes; and each namespace's replies and its end state are those of the
--- lone machine's run, from the state that it was in, on its own steps but for those that memory was wanted for
+-- the state that n's event at this place meets, where n began in this one: n's kept steps before it led there
+abbrev pub met_at : Limits → State Queue → List (ℕ × Step) → List Answer → ℕ → ℕ → State Queue
+met_at c begun events answers n place = (run_of c begun (kept (take place events) answers n)).state
+
+-- no want without need: each step of n that memory was wanted for may want it, in the state that it met
+abbrev pub NoWantWithoutNeed : Limits → State Queue → List (ℕ × Step) → List Answer → ℕ → Type 0
+NoWantWithoutNeed c begun events answers n = (place : ℕ) (step : Step) →
+    slice_get events place ≡ Some (n, step) → slice_get answers place ≡ Some answered.NoMemory →
+    may_want_memory c (met_at c begun events answers n place) step ≡ true
+
+-- an answer for each event; no frame comes or goes; each namespace's replies and its end state are those of
+-- the lone machine's run, from the state that it was in, on its own steps but for those that memory was
+-- wanted for; and these are steps that may want it
 pub record Ran (old : Tenants) (events : List (ℕ × Step)) (answers : List Answer) (new : Tenants) : Type 0 where
   pub number : length answers ≡ length events
   pub tenants : length new.tenants ≡ length old.tenants
@@ -25,6 +40,7 @@ pub record Ran (old : Tenants) (events : List (ℕ × Step)) (answers : List Ans
   pub limits : (n : ℕ) → limits_at new n ≡ limits_at old n
   pub own : (n : ℕ) → run_of (limits_at old n) (state_at old n) (kept events answers n)
       ≡ record { state = state_at new n; replies = replies events answers n }
+  pub needed : (n : ℕ) → NoWantWithoutNeed (limits_at old n) (state_at old n) events answers n
 
 -- a namespace that was at its opening state is told what its lone machine is told
 abbrev pub AreAlone : Tenants → List (ℕ × Step) → List Answer → Type 0
