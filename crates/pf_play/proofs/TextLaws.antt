@@ -93,7 +93,7 @@ told : (script : Draft) (answers : List Answer) (n : ℕ) (space : List ℕ × L
 told script answers n space played none is =
     let here = rw is at (played.1 n) in
     let all = kept-mine script.steps answers n (ample script.steps answers n played.0 none) in
-    own_done script.steps answers n none ∙ ap (map Done) (here ∙ ap (lone space.1) all)
+    own_done script.steps answers n none ∙ ap (map Done) (here.0 ∙ ap (lone space.1) all)
 
 -- and in a run of its own
 told_alone : (script : Draft) (answers : List Answer) (n : ℕ) (space : List ℕ × Limits) →
@@ -102,7 +102,7 @@ told_alone : (script : Draft) (answers : List Answer) (n : ℕ) (space : List �
 told_alone script answers n space played none is =
     let here = rw is at played.1 in
     let all = all_kept (mine script.steps n) answers played.0 none in
-    all_done answers none ∙ ap (map Done) (here ∙ ap (lone space.1) all)
+    all_done answers none ∙ ap (map Done) (here.0 ∙ ap (lone space.1) all)
 
 -- Sections
 

@@ -10,7 +10,7 @@ use thiserror::Error;
 /// What a run met.
 #[derive(Debug, Clone, Copy, Drop)]
 pub struct Replayed {
-    /// How many steps were answered that memory was wanted.
+    /// How many steps were answered that memory was wanted. Each may want it, in the state that it met.
     pub nomem: u64,
 }
 

@@ -23,7 +23,8 @@ loop-event-preserved c =
         limits,
         c.loop-event.invariant.1,
         rw (w.hub-is, w.answers-is, w.in_ok-push.ensures.items, taken)
-            (went_on limits c.args.ns _ e _ w.step.result _ w.step.new.self went w.if-event-ns.true w.step.ensures.number w.step.ensures.limits w.step.ensures.answers),
+            (went_on limits c.args.ns _ e _ w.step.result _ w.step.new.self went w.if-event-ns.true
+            w.step.ensures.number w.step.ensures.limits w.step.ensures.answers w.step.ensures.succeeds),
       )
       | else-event-ns w ↦ (
         limits,
