@@ -1,6 +1,7 @@
 pub mod TenantLaws
 pub mod StepLemmas
 pub mod DepotLemmas
+pub mod OwnerLemmas
 pub mod OpeningLemmas
 pub mod NeedLemmas
 pub mod RunLemmas

@@ -4,3 +4,4 @@ pub mod Shared
 pub mod Stepped
 pub mod Isolation
 pub mod Opening
+pub mod Owners

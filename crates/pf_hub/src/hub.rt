@@ -5,6 +5,7 @@ ghost use Rattle.pf_depot.specs.Loans.{loans_live};
 ghost use Rattle.pf_hub.specs.Stepped.{Moved};
 ghost use Rattle.pf_tables.specs.Owns.{Owns};
 
+use crate::parts::HubParts;
 use pf_base::{Answer, Config, MAX_FRAMES, MAX_NAMESPACES, Step};
 use pf_depot::{Depot, Lender, LoanDoor, Loans};
 use pf_frame::{Frame, PoolFault};
@@ -138,6 +139,7 @@ impl<A: Allocator + Clone> Hub<A> {
     ghost use Rattle.pf_hub.specs.Tenants.{tenant_at, limits_at, state_at, held_at, frames_in};
     ghost use Rattle.pf_hub.specs.Covered.{IsCovered};
     ghost use Rattle.pf_hub.specs.Opening.{new_hub, limits_of, first_fault};
+    ghost use Rattle.pf_hub.specs.Owners.{AreOwned};
     ghost use Rattle.pf_hub.specs.Stepped.{Stepped};
     ghost use Rattle.pf_hub.specs.Isolation.{Ran, first_missing, IsRunFault, AreAlone};
 
@@ -204,6 +206,21 @@ impl<A: Allocator + Clone> Hub<A> {
         ensures { result ≡ self.now.free }
     {
         self.depot.free()
+    }
+
+    /// What the hub is made of, as it stands. Nothing is computed, and nothing is copied.
+    ///
+    /// Its clause is what carries the isolation: each frame is free in the depot or lies at one place of one namespace,
+    /// its owner; its count there is the number of the owner's windows on it; and each window holds the bytes of its
+    /// segment, in its owner's queue.
+    pub fn parts(&self) -> HubParts<'_, A>
+        ensures owned { AreOwned self.now result.depot.now result.loans.now result.spaces.now }
+    {
+        HubParts {
+            depot: &self.depot,
+            loans: &self.loans,
+            spaces: &self.spaces,
+        }
     }
 
     /// One step of one namespace. No other namespace is told, or has, anything else for it.

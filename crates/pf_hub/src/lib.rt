@@ -3,5 +3,7 @@
 
 pub mod hub;
 pub mod laws;
+pub mod parts;
 
 pub use hub::{Hub, RunFault};
+pub use parts::HubParts;
