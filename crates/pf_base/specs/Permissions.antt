@@ -3,6 +3,7 @@
 use Rattle.std.specs.Prelude.{ℕ, ◌+◌, Bool, ◌||◌, nat_eq, nat_lt, bit_and, if◌then◌else◌, Result, Ok, Err}
 use Rattle.std.specs.List.{list_any}
 use Rattle.std.specs.Int.{bit_at, bit_not, w32}
+use Rattle.pf_base.specs.declared.TheConstants.{MAX_MODE}
 use Rattle.pf_base.specs.declared.cred.Cred.{Cred}
 use Rattle.pf_base.specs.declared.errno.Errno.{Errno}
 use Rattle.pf_base.specs.declared.errno.Errno.TheVariants.{EINVAL}
@@ -14,7 +15,7 @@ use Rattle.pf_base.specs.declared.permissions.Want.TheVariants.{Read, Write, Sea
 
 -- the mode of a number of permission bits, of which there are nine
 abbrev pub mode_of : ℕ → Result ℕ Errno
-mode_of bits = if nat_lt 511 bits then Err EINVAL else Ok bits
+mode_of bits = if nat_lt MAX_MODE bits then Err EINVAL else Ok bits
 
 -- a mode without the bits of a umask (POSIX.1-2017, umask())
 abbrev pub masked : ℕ → ℕ → ℕ

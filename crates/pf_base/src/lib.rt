@@ -58,6 +58,21 @@ pub const MAX_GROUPS: usize = 32;
 /// The largest umask: the nine permission bits (POSIX.1-2017, umask()).
 pub const MAX_UMASK: u32 = 0o777;
 
+/// The largest mode: the nine permission bits. The set-user-ID, set-group-ID and sticky bits aren't kept.
+pub const MAX_MODE: u32 = 0o777;
+
+/// The most bytes of a name: {NAME_MAX}.
+pub const MAX_NAME: usize = 255;
+
+/// The most bytes of a path, all its slashes counted: {PATH_MAX} is 1,024, with a byte 0 behind the path.
+pub const MAX_PATH: usize = 1_023;
+
+/// The most files of a namespace at once, the root not counted (this profile's limit).
+pub const MAX_FILES: usize = 10_000;
+
+/// How many files, pipes and open file descriptions each a namespace may ever make (this profile's limit).
+pub const MAX_MADE: u64 = u64::MAX;
+
 /// The longest write in bytes (this profile's limit).
 pub const MAX_WRITE: usize = 1_048_576;
 

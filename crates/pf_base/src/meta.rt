@@ -1,6 +1,8 @@
 ghost use Rattle.std.specs.Prelude.{◌≡◌, ◌≤◌};
 ghost use Rattle.pf_base.specs.Permissions.{mode_of, masked, grants};
+ghost use Rattle.pf_base.specs.declared.TheConstants.{MAX_MODE};
 
+use crate::MAX_MODE;
 use crate::errno::Errno;
 use crate::permissions::{Class, Want};
 use std::marker::Model;
@@ -21,19 +23,20 @@ pub struct Mode {
 
 impl Model for Mode {
     ghost use Rattle.std.specs.Prelude.{ℕ, ◌≤◌};
+    ghost use Rattle.pf_base.specs.declared.TheConstants.{MAX_MODE};
 
     ghost Value = { ℕ };
 
     ghost view = { λ m. m.bits };
 
-    ghost invariant = { λ m. m.bits ≤ 511 };
+    ghost invariant = { λ m. m.bits ≤ MAX_MODE };
 
     ghost inverse = { λ n. record { bits = n } };
 }
 
 impl Mode {
     /// The largest mode: all permissions for all. The set-user-ID, set-group-ID and sticky bits aren't kept.
-    pub const MOST: u32 = 0o777;
+    pub const MOST: u32 = MAX_MODE;
 
     /// The mode of these bits; EINVAL where there are others than the permission bits.
     pub fn new(bits: u32) -> Result<Self, Errno>
@@ -48,7 +51,7 @@ impl Mode {
     /// The bits, at most 0777.
     pub fn bits(self) -> u32
         ensures value { result ≡ self }
-        ensures most { result ≤ 511 }
+        ensures most { result ≤ MAX_MODE }
     {
         self.bits
     }

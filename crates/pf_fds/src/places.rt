@@ -42,7 +42,7 @@ impl<T> Places<T> {
 
     /// No place has a value.
     pub fn new(alloc: Global) -> Result<Self, AllocError>
-        ensures { IfOk result (λ p. p ≡ vacant) }
+        ensures { IfOk result (λ p. p ≡ vacant PLACES) }
     {
         let mut values = Vec::with_capacity(alloc, PLACES)?;
         for n in 0..PLACES {

@@ -30,7 +30,7 @@ impl Model for FdTable {
 impl FdTable {
     /// No descriptor.
     pub fn new(alloc: Global) -> Result<FdTable, AllocError>
-        ensures { IfOk result (λ table. table ≡ vacant) }
+        ensures { IfOk result (λ table. table ≡ vacant MAX_DESCRIPTORS) }
     {
         let keys = Places::new(alloc)?;
         Ok(FdTable { keys })

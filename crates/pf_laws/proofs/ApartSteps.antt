@@ -57,15 +57,15 @@ sum_of-vacant : {X : Type 0} (h : X → ℕ) (m : ℕ) → sum_of h (replicate m
 sum_of-vacant h zero = refl
 sum_of-vacant h (suc m) = omega (arith, sum_of-vacant h m)
 
-none_named : (n : ℕ) → named_in n (vacant {X = ℕ}) ≡ 0
+none_named : (n : ℕ) → named_in n (vacant {X = ℕ} MAX_DESCRIPTORS) ≡ 0
 unfolding vacant
-none_named n = sum_of-vacant (λ m. one_if (nat_eq m n)) MAX_PROCESSES
+none_named n = sum_of-vacant (λ m. one_if (nat_eq m n)) MAX_DESCRIPTORS
 
-none_opening : (n : ℕ) → opening_it (vacant {X = Process}) n ≡ 0
+none_opening : (n : ℕ) → opening_it (vacant {X = Process} MAX_PROCESSES) n ≡ 0
 unfolding vacant
 none_opening n = sum_of-vacant (λ (p : Process). opens n p.parked) MAX_PROCESSES
 
-none_held : (n : ℕ) → held (vacant {X = Process}) n ≡ 0
+none_held : (n : ℕ) → held (vacant {X = Process} MAX_PROCESSES) n ≡ 0
 unfolding vacant
 none_held n = sum_of-vacant (λ (p : Process). named_in n p.descriptors) MAX_PROCESSES
 
@@ -110,7 +110,7 @@ module _ (s : State Queue) (is : SoundState s) where
   spawn-sound cred = search (passes, born-sound) depth 16
     where
       q : Process
-      q = record { cred = cred; descriptors = vacant; parked = None }
+      q = record { cred = cred; descriptors = vacant MAX_DESCRIPTORS; parked = None }
 
       born-sound : Holds OutSound (born s q)
       born-sound =

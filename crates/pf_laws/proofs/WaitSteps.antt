@@ -146,7 +146,7 @@ module _ (s : State Queue) (is : AllCanTry s) where
   -- Calls that don't wait
 
   spawn-good : (cred : Cred) → Holds Good (spawn s cred)
-  spawn-good cred = let made = born (record { cred = cred; descriptors = vacant; parked = None }) refl in
+  spawn-good cred = let made = born (record { cred = cred; descriptors = vacant MAX_DESCRIPTORS; parked = None }) refl in
       search (passes, made) depth 16
 
   fork-good : (p : Process) → p.parked ≡ None → Holds Good (fork s p)

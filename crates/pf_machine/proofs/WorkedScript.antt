@@ -14,7 +14,7 @@ use Rattle.pf_machine.specs.Calls.{Writing}
 use Rattle.pf_machine.specs.Transfers.{Tried, try_write}
 use Rattle.pf_machine.specs.Attempts.{write_told, first, nonblocking, transfer}
 use Rattle.pf_machine.specs.Machine.{act, step_of, swept, call_of, is_parked, may_want_memory}
-use Rattle.pf_base.specs.declared.TheConstants.{PIPE_BUF, MAX_WRITE}
+use Rattle.pf_base.specs.declared.TheConstants.{PIPE_BUF, MAX_WRITE, MAX_DESCRIPTORS}
 use Rattle.pf_machine.specs.Runs.{run_of, lone}
 use Rattle.pf_base.specs.declared.progress.Progress.TheVariants.{Moved, NoReader}
 use Rattle.pf_base.specs.declared.step.Step.TheVariants.{Spawn, Exit, Pipe, Close, Read, Write, Tee, Splice}
@@ -120,7 +120,7 @@ no-reader s pid p fd x e is some most none =
 
 -- the process, and its end that writes to the pipe
 abbrev writer : Process
-writer = record { cred = record { uid = 5; gid = 5; groups = []; umask = 18 }; descriptors = slice_set (slice_set (slice_set vacant 0 (Some 0)) 1 (Some 1)) 0 None; parked = None }
+writer = record { cred = record { uid = 5; gid = 5; groups = []; umask = 18 }; descriptors = slice_set (slice_set (slice_set (vacant MAX_DESCRIPTORS) 0 (Some 0)) 1 (Some 1)) 0 None; parked = None }
 
 abbrev unread-end : End Queue
 unread-end = record { description = writing 0 false; pipe = new_pipe (empty 16) 5 None }

@@ -6,6 +6,7 @@ use Rattle.pf_machine.specs.Refusals.{◌>>=◌, ◌>>◌, refuse_if, or_refuse}
 use Rattle.pf_base.specs.Permissions.{allows, is_privileged, masked}
 use Rattle.pf_machine.specs.FileMap.{Files, Path, find, insert, remove, set_mode, names_below, listed, is_directory}
 use Rattle.pf_machine.specs.Paths.{Resolved, Last, Nothing, Dot, DotDot, Named, target, entry, is_nonempty}
+use Rattle.pf_base.specs.declared.TheConstants.{MAX_FILES, MAX_MADE}
 use Rattle.pf_base.specs.declared.cred.Cred.{Cred}
 use Rattle.pf_base.specs.declared.errno.Errno.{Errno}
 use Rattle.pf_base.specs.declared.errno.Errno.TheVariants.{EPERM, ENOENT, EACCES, EBUSY, EEXIST, ENOTDIR, EINVAL, ENOSPC, ENOTEMPTY}
@@ -44,9 +45,9 @@ abbrev pub is_fifo : Kind → Bool
 is_fifo Fifo = true
 is_fifo Directory = false
 
--- no room for another file (10,000 besides the root), or no number for it (this profile's limits)
+-- no room for another file besides the root, or no number for it (this profile's limits)
 abbrev pub is_full : Files → ℕ → Bool
-is_full files made = nat_lt 10000 (length files) || nat_le 18446744073709551615 made
+is_full files made = nat_lt MAX_FILES (length files) || nat_le MAX_MADE made
 
 -- a file as a process makes it: its own, with the mode that its umask leaves, and the next number
 abbrev pub made_by : Cred → Kind → ℕ → ℕ → File

@@ -6,6 +6,7 @@ use Rattle.std.specs.List.{list_any, slice_split}
 use Rattle.pf_machine.specs.Refusals.{◌>>=◌, ◌>>◌, refuse_if, or_refuse}
 use Rattle.pf_base.specs.Permissions.{allows}
 use Rattle.pf_machine.specs.FileMap.{Files, Name, Path, find, front, is_directory, same_name}
+use Rattle.pf_base.specs.declared.TheConstants.{MAX_NAME, MAX_PATH}
 use Rattle.pf_base.specs.declared.cred.Cred.{Cred}
 use Rattle.pf_base.specs.declared.errno.Errno.{Errno}
 use Rattle.pf_base.specs.declared.errno.Errno.TheVariants.{ENOENT, ENOTDIR, EACCES, EINVAL, ENAMETOOLONG}
@@ -36,12 +37,12 @@ pub record Words : Type 0 where
   pub slash : Bool
 
 -- what is refused before the walk: a byte 0 (this profile's EINVAL), an empty path, and more bytes than {NAME_MAX} and
--- {PATH_MAX} allow, which here are 255 and, with a byte 0 behind the path, 1,024
+-- {PATH_MAX} allow, which has a byte 0 behind the path
 abbrev pub words_of : List ℕ → Result Words Errno
 words_of bs = do
   refuse_if (list_any (λ b. nat_eq b 0) bs) EINVAL
   refuse_if (nat_eq (length bs) 0) ENOENT
-  refuse_if (nat_lt 1023 (length bs) || list_any (λ n. nat_lt 255 (length n)) (components bs)) ENAMETOOLONG
+  refuse_if (nat_lt MAX_PATH (length bs) || list_any (λ n. nat_lt MAX_NAME (length n)) (components bs)) ENAMETOOLONG
   Ok (record { names = components bs; slash = ends_in_slash bs && is_nonempty (components bs) })
 
 -- The walk

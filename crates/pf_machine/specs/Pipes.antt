@@ -1,6 +1,6 @@
 -- Pipes: Pipe (pipe(2)), SetSize and GetSize (fcntl(2), F_SETPIPE_SZ and F_GETPIPE_SZ).
 
-use Rattle.std.specs.Prelude.{ℕ, ◌+◌, ◌-◌, ◌*◌, ◌^◌, Bool, true, false, not, ◌&&◌, ◌||◌, [], ◌∷◌, ◌++◌, length, Option, Some, None, List, nat_lt, nat_le, if◌then◌else◌, Result, Ok}
+use Rattle.std.specs.Prelude.{ℕ, ◌+◌, ◌-◌, ◌*◌, Bool, true, false, not, ◌&&◌, ◌||◌, [], ◌∷◌, ◌++◌, length, Option, Some, None, List, nat_lt, nat_le, if◌then◌else◌, Result, Ok}
 use Rattle.pf_machine.specs.Refusals.{◌>>=◌, ◌>>◌, refuse_if}
 use Rattle.pf_base.specs.Limits.{Limits}
 use Rattle.pf_machine.specs.Queue.{Queue, empty, with_capacity}
@@ -9,7 +9,7 @@ use Rattle.pf_machine.specs.Numbered.{put_at, first_free}
 use Rattle.pf_machine.specs.State.{State, Process, Description, Pipe, Outcome, end_of, with_queue, with_descriptor, told, done}
 use Rattle.pf_machine.specs.Counts.{charged, total}
 use Rattle.pf_base.specs.Permissions.{is_privileged}
-use Rattle.pf_base.specs.declared.TheConstants.{PAGE_SIZE, MAX_DESCRIPTORS, MAX_SIZE}
+use Rattle.pf_base.specs.declared.TheConstants.{PAGE_SIZE, MAX_DESCRIPTORS, MAX_SIZE, MAX_MADE}
 use Rattle.pf_base.specs.declared.capacity.LimitFault.{LimitFault}
 use Rattle.pf_base.specs.declared.cred.Cred.{Cred}
 use Rattle.pf_base.specs.declared.errno.Errno.{Errno}
@@ -25,7 +25,7 @@ second_descriptor p = first_free (put_at p.descriptors (first_descriptor p) 0)
 
 -- with so many more, more than 2 ^ 64 - 1 numbers would have been drawn
 abbrev pub is_spent : {X : Type 0} → List (Option X) → ℕ → Bool
-is_spent xs more = nat_lt (2 ^ 64 - 1) (length xs + more)
+is_spent xs more = nat_lt MAX_MADE (length xs + more)
 
 -- a pipe that nobody has opened yet
 abbrev pub new_pipe : {Q : Type 0} → Q → ℕ → Option ℕ → Pipe Q

@@ -6,7 +6,7 @@ use Rattle.pf_machine.specs.Queue.{Queue}
 use Rattle.pf_base.specs.Credentials.{is_valid}
 use Rattle.pf_machine.specs.Numbered.{first_free}
 use Rattle.pf_machine.specs.State.{State, Process, Outcome, vacant, with_process, without_process, told, done}
-use Rattle.pf_base.specs.declared.TheConstants.{MAX_PROCESSES}
+use Rattle.pf_base.specs.declared.TheConstants.{MAX_PROCESSES, MAX_DESCRIPTORS}
 use Rattle.pf_base.specs.declared.cred.Cred.{Cred}
 use Rattle.pf_base.specs.declared.errno.Errno.{Errno}
 use Rattle.pf_base.specs.declared.errno.Errno.TheVariants.{EAGAIN, EINVAL}
@@ -22,7 +22,7 @@ born s p = do
 abbrev pub spawn : State Queue → Cred → Result Outcome Errno
 spawn s cred = do
   refuse_if (not (is_valid cred)) EINVAL
-  born s (record { cred = cred; descriptors = vacant; parked = None })
+  born s (record { cred = cred; descriptors = vacant MAX_DESCRIPTORS; parked = None })
 
 -- with the same credentials, and descriptors that name the same descriptions. Who forks waits in no call
 abbrev pub fork : State Queue → Process → Result Outcome Errno

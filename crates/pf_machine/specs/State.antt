@@ -53,13 +53,13 @@ pub record Outcome : Type 0 where
   pub state : State Queue
   pub reply : Reply
 
--- places with nothing in them: as many as a namespace has pids, which a process has descriptors too
-unfoldable pub vacant : {X : Type 0} → List (Option X)
-vacant = replicate MAX_PROCESSES None
+-- so many places with nothing in them
+unfoldable pub vacant : {X : Type 0} → ℕ → List (Option X)
+vacant n = replicate n None
 
 -- the opening state: nothing but the root directory, and numbers to draw
 abbrev pub opening : {Q : Type 0} → State Q
-opening = record { processes = vacant; descriptions = []; pipes = []; files = root_alone; files_made = 0 }
+opening = record { processes = vacant MAX_PROCESSES; descriptions = []; pipes = []; files = root_alone; files_made = 0 }
 
 -- Outcomes
 

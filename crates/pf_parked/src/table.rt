@@ -37,7 +37,7 @@ impl<D> Model for ParkedTable<D> {
 impl<D> ParkedTable<D> {
     /// No process waits.
     pub fn new(alloc: Global) -> Result<Self, AllocError>
-        ensures { IfOk result (λ table. table ≡ vacant) }
+        ensures { IfOk result (λ table. table ≡ vacant MAX_PROCESSES) }
     {
         let mut calls = Vec::with_capacity(alloc, MAX_PROCESSES)?;
         for n in 0..MAX_PROCESSES {

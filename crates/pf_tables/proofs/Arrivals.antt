@@ -10,7 +10,7 @@ use Rattle.pf_machine.specs.Numbered.{at, put_at, first_free}
 use Rattle.pf_machine.proofs.NumberedLaws.{at-first_free, first_free-map}
 use Rattle.pf_machine.specs.State.{State, vacant, with_process}
 use Rattle.pf_machine.specs.Sweep.{sweep}
-use Rattle.pf_base.specs.declared.TheConstants.{MAX_PROCESSES}
+use Rattle.pf_base.specs.declared.TheConstants.{MAX_PROCESSES, MAX_DESCRIPTORS}
 use Rattle.pf_frame.specs.Live.{Live}
 use Rattle.pf_limits.specs.UserPages.{UserPages}
 use Rattle.pf_tables.specs.Meaning.{Namespace, meaning}
@@ -32,7 +32,7 @@ spawned-free ps pid lowest = let place : pid - 1 ≡ first_free ps = omega (arit
 -- A process under the lowest free pid
 
 module _ (charges : UserPages) (ps : ProcessRows) (ds : DescriptionRows) (pipes : PipeRows) (files : Files) (files_made : ℕ) (k : Kept charges ps ds pipes)
-    (pid : ℕ) (lowest : pid ≡ first_free (processes_of ps) + 1) (within : pid ≤ MAX_PROCESSES) (p : Process) (empty : p.descriptors ≡ vacant) (asleep : p.parked ≡ None) where
+    (pid : ℕ) (lowest : pid ≡ first_free (processes_of ps) + 1) (within : pid ≤ MAX_PROCESSES) (p : Process) (empty : p.descriptors ≡ vacant MAX_DESCRIPTORS) (asleep : p.parked ≡ None) where
   place : pid - 1 ≡ first_free ps
   place = omega (arith, first_free-map process_of ps)
 
@@ -41,24 +41,24 @@ module _ (charges : UserPages) (ps : ProcessRows) (ds : DescriptionRows) (pipes 
 
   bare : (m : ℕ) → at (keys_of p) m ≡ None
   bare zero = ap made_by asleep
-  bare (suc m) = ap (λ xs. at xs m) empty ∙ vacant_at m
+  bare (suc m) = ap (λ xs. at xs m) empty ∙ vacant_at MAX_DESCRIPTORS m
 
   pub spawned-kept : (ps' : ProcessRows) → ps' ≡ after → Kept charges ps' ds pipes
   spawned-kept ps' is =
       subst (λ x. Kept charges x ds pipes) (sym is) (record {
-        tied = made ps ds pipes k.tied (pid - 1) (omega arith) (ap (at ps) place ∙ at-first_free ps) p bare (ap length empty ∙ length-vacant Key);
+        tied = made ps ds pipes k.tied (pid - 1) (omega arith) (ap (at ps) place ∙ at-first_free ps) p bare (ap length empty ∙ length-vacant Key MAX_DESCRIPTORS);
         charged = k.charged;
       })
 
-  spawned-shown : state_of after ds pipes files files_made ≡ with_process (state_of ps ds pipes files files_made) pid (record { cred = p.cred; descriptors = vacant; parked = None })
+  spawned-shown : state_of after ds pipes files files_made ≡ with_process (state_of ps ds pipes files files_made) pid (record { cred = p.cred; descriptors = vacant MAX_DESCRIPTORS; parked = None })
   spawned-shown =
       ap (λ qs. record { processes = qs; descriptions = descriptions_of ds; pipes = pipes_of pipes; files = files; files_made = files_made })
       (map-set (option_map process_of) ps (pid - 1) (Some p)
-      ∙ (λ i. put_at (processes_of ps) (pid - 1) (record { cred = p.cred; descriptors = (ap (map (option_map (λ (k : Key). k.serial))) empty ∙ map-vacant (λ (k : Key). k.serial)) i; parked = option_map call_of (asleep i) })))
+      ∙ (λ i. put_at (processes_of ps) (pid - 1) (record { cred = p.cred; descriptors = (ap (map (option_map (λ (k : Key). k.serial))) empty ∙ map-vacant (λ (k : Key). k.serial) MAX_DESCRIPTORS) i; parked = option_map call_of (asleep i) })))
 
   pub spawned-becomes : (f : Live) (limits : Limits) (n : Namespace) → record { limits = limits; state = state_of ps ds pipes files files_made } ≡ n → Owns f n → (ps' : ProcessRows) → ps' ≡ after
-      → Becomes f f n (record { limits = limits; state = state_of ps' ds pipes files files_made }) (with_process (meaning f n.state) pid (record { cred = p.cred; descriptors = vacant; parked = None }))
+      → Becomes f f n (record { limits = limits; state = state_of ps' ds pipes files files_made }) (with_process (meaning f n.state) pid (record { cred = p.cred; descriptors = vacant MAX_DESCRIPTORS; parked = None }))
   spawned-becomes f limits n view owns ps' is =
-      subst (λ (m : Namespace). Owns f m → Becomes f f m (record { limits = limits; state = state_of ps' ds pipes files files_made }) (with_process (meaning f m.state) pid (record { cred = p.cred; descriptors = vacant; parked = None }))) view
+      subst (λ (m : Namespace). Owns f m → Becomes f f m (record { limits = limits; state = state_of ps' ds pipes files files_made }) (with_process (meaning f m.state) pid (record { cred = p.cred; descriptors = vacant MAX_DESCRIPTORS; parked = None }))) view
       (λ o. becomes f f (record { limits = limits; state = state_of ps ds pipes files files_made }) (record { limits = limits; state = state_of ps' ds pipes files files_made }) _ (record { joined = o.joined; reserve = o.reserve }) refl
       (ap (λ x. meaning f (state_of x ds pipes files files_made)) is ∙ ap (meaning f) spawned-shown) (settled ps' ds pipes files files_made (spawned-kept ps' is).tied)) owns

@@ -59,19 +59,19 @@ first_free-seated (Some p ∷ ps) (c ∷ calls) = ap suc (first_free-seated ps c
 
 -- No process
 
-module _ (ps : List (Option Stored)) (calls : List (Option (Call Key))) (bare : ps ≡ vacant) (quiet : calls ≡ vacant) where
+module _ (ps : List (Option Stored)) (calls : List (Option (Call Key))) (bare : ps ≡ vacant MAX_PROCESSES) (quiet : calls ≡ vacant MAX_PROCESSES) where
   pub vacant-seated : IsSeated ps calls
   vacant-seated = record {
-    places = ap length bare ∙ length-vacant Stored;
-    calls_too = ap length quiet ∙ length-vacant (Call Key);
-    beside = λ i _. ap (λ xs. at xs i) quiet ∙ vacant_at i;
-    spare = λ i p description kept there waits. let gap : at ps i ≡ None = ap (λ xs. at xs i) bare ∙ vacant_at i in absurd (cc);
+    places = ap length bare ∙ length-vacant Stored MAX_PROCESSES;
+    calls_too = ap length quiet ∙ length-vacant (Call Key) MAX_PROCESSES;
+    beside = λ i _. ap (λ xs. at xs i) quiet ∙ vacant_at MAX_PROCESSES i;
+    spare = λ i p description kept there waits. let gap : at ps i ≡ None = ap (λ xs. at xs i) bare ∙ vacant_at MAX_PROCESSES i in absurd (cc);
   }
 
-  pub seated-vacant : seated_rows ps calls ≡ vacant
+  pub seated-vacant : seated_rows ps calls ≡ vacant MAX_PROCESSES
   seated-vacant =
-      same_at (seated_rows ps calls) vacant (length-seated ps calls ∙ ap length bare ∙ length-vacant Stored ∙ sym (length-vacant Process))
-      (λ k. at-seated ps calls k ∙ ap (option_map (λ p. seated p (at calls k))) (ap (λ xs. at xs k) bare ∙ vacant_at k) ∙ sym (vacant_at k))
+      same_at (seated_rows ps calls) (vacant MAX_PROCESSES) (length-seated ps calls ∙ ap length bare ∙ length-vacant Stored MAX_PROCESSES ∙ sym (length-vacant Process MAX_PROCESSES))
+      (λ k. at-seated ps calls k ∙ ap (option_map (λ p. seated p (at calls k))) (ap (λ xs. at xs k) bare ∙ vacant_at MAX_PROCESSES k) ∙ sym (vacant_at MAX_PROCESSES k))
 
 -- What stays
 

@@ -15,18 +15,18 @@ use Rattle.pf_tables.specs.Meaning.{AreCharged}
 use Rattle.pf_tables.specs.Rows.{ProcessRows, DescriptionRows, PipeRows, Process, process_of, pipes_of, state_of, keys_of, keys_to, names_it, Tied}
 use Rattle.pf_tables.proofs.CountersTied.{reseated}
 
-pub vacant_at : {X : Type 0} (k : ℕ) → at {X = X} vacant k ≡ None
+pub vacant_at : {X : Type 0} (n k : ℕ) → at {X = X} (vacant n) k ≡ None
 unfolding vacant
-vacant_at {X} k = elim (cases_lt k 256) [ inl l ↦ get_or-replicate 256 k None None l | inr past ↦ at_past {X = X} (replicate 256 None) k (omega (arith, length-replicate {A = Option X} 256 None)) ]
+vacant_at {X} n k = elim (cases_lt k n) [ inl l ↦ get_or-replicate n k None None l | inr past ↦ at_past {X = X} (replicate n None) k (omega (arith, length-replicate {A = Option X} n None)) ]
 
-pub length-vacant : (X : Type 0) → length (vacant {X = X}) ≡ 256
+pub length-vacant : (X : Type 0) (n : ℕ) → length (vacant {X = X} n) ≡ n
 unfolding vacant
-length-vacant X = length-replicate {A = Option X} 256 None
+length-vacant X n = length-replicate {A = Option X} n None
 
-pub map-vacant : {X Y : Type 0} (f : X → Y) → map (option_map f) vacant ≡ vacant
-map-vacant {X} {Y} f =
-    same_at (map (option_map f) vacant) vacant (length-map (vacant {X = X}) (option_map f) ∙ length-vacant X ∙ sym (length-vacant Y))
-    (λ k. at-map f vacant k ∙ ap (option_map f) (vacant_at k) ∙ sym (vacant_at k))
+pub map-vacant : {X Y : Type 0} (f : X → Y) (n : ℕ) → map (option_map f) (vacant n) ≡ vacant n
+map-vacant {X} {Y} f n =
+    same_at (map (option_map f) (vacant n)) (vacant n) (length-map (vacant {X = X} n) (option_map f) ∙ length-vacant X n ∙ sym (length-vacant Y n))
+    (λ k. at-map f (vacant n) k ∙ ap (option_map f) (vacant_at n k) ∙ sym (vacant_at n k))
 
 -- no key in any of its places
 abbrev pub IsBare : Process → Type 0
@@ -46,17 +46,17 @@ module _ (ps : ProcessRows) (ds : DescriptionRows) (pipes : PipeRows) (t : Tied 
 
 -- Nothing at all
 
-module _ (ps : ProcessRows) (ds : DescriptionRows) (pipes : PipeRows) (bare : ps ≡ vacant) (none : ds ≡ []) (no_pipe : pipes ≡ []) where
+module _ (ps : ProcessRows) (ds : DescriptionRows) (pipes : PipeRows) (bare : ps ≡ vacant MAX_PROCESSES) (none : ds ≡ []) (no_pipe : pipes ≡ []) where
   pub nothing_tied : Tied ps ds pipes
-  nothing_tied = subst (λ xs. Tied xs ds pipes) (sym bare) (subst (λ ys. Tied vacant ys pipes) (sym none) (subst (λ zs. Tied vacant [] zs) (sym no_pipe) nothing))
+  nothing_tied = subst (λ xs. Tied xs ds pipes) (sym bare) (subst (λ ys. Tied (vacant MAX_PROCESSES) ys pipes) (sym none) (subst (λ zs. Tied (vacant MAX_PROCESSES) [] zs) (sym no_pipe) nothing))
     where
-      nothing : Tied vacant [] []
+      nothing : Tied (vacant MAX_PROCESSES) [] []
       nothing = record {
-        places = length-vacant Process;
-        wide = λ i p h. let gap = vacant_at {X = Process} i in absurd (cc);
-        finds = λ i m p k h g. let gap = vacant_at {X = Process} i in absurd (cc);
+        places = length-vacant Process MAX_PROCESSES;
+        wide = λ i p h. let gap = vacant_at {X = Process} MAX_PROCESSES i in absurd (cc);
+        finds = λ i m p k h g. let gap = vacant_at {X = Process} MAX_PROCESSES i in absurd (cc);
         in_hand = tt;
-        names = λ n. omega (arith, sum_of-none (keys_to n) vacant (λ i p h. let gap = vacant_at {X = Process} i in absurd (cc)));
+        names = λ n. omega (arith, sum_of-none (keys_to n) (vacant MAX_PROCESSES) (λ i p h. let gap = vacant_at {X = Process} MAX_PROCESSES i in absurd (cc)));
         is_end = λ n e h. absurd (cc);
         ends_in_hand = tt;
         uses = λ n. (refl, refl);
@@ -70,6 +70,6 @@ module _ (ps : ProcessRows) (ds : DescriptionRows) (pipes : PipeRows) (bare : ps
 
   pub nothing_shown : {files : Files} → files ≡ root_alone → state_of ps ds pipes files 0 ≡ opening
   nothing_shown {files} alone =
-      ap (λ xs. state_of xs ds pipes files 0) bare ∙ ap (λ ys. state_of vacant ys pipes files 0) none ∙ ap (λ zs. state_of vacant [] zs files 0) no_pipe
-      ∙ ap (λ fs. state_of vacant [] [] fs 0) alone
-      ∙ ap (λ xs. record { processes = xs; descriptions = []; pipes = []; files = root_alone; files_made = 0 }) (map-vacant process_of)
+      ap (λ xs. state_of xs ds pipes files 0) bare ∙ ap (λ ys. state_of (vacant MAX_PROCESSES) ys pipes files 0) none ∙ ap (λ zs. state_of (vacant MAX_PROCESSES) [] zs files 0) no_pipe
+      ∙ ap (λ fs. state_of (vacant MAX_PROCESSES) [] [] fs 0) alone
+      ∙ ap (λ xs. record { processes = xs; descriptions = []; pipes = []; files = root_alone; files_made = 0 }) (map-vacant process_of MAX_PROCESSES)

@@ -1,11 +1,12 @@
 //! The files of a namespace, within this profile's limits.
 
-ghost use Rattle.std.specs.Prelude.{◌≡◌, ℕ, ◌+◌, ◌<◌, ◌≤◌, ◌^◌, List, length, IfOk};
+ghost use Rattle.std.specs.Prelude.{◌≡◌, ℕ, ◌+◌, ◌*◌, ◌<◌, ◌≤◌, ◌^◌, List, length, IfOk};
 ghost use Rattle.pf_machine.specs.FileMap.{Path, root_alone, names_below, listed};
 ghost use Rattle.pf_machine.specs.FileCalls.{make, unlink, rmdir, chmod};
+ghost use Rattle.pf_base.specs.declared.TheConstants.{MAX_FILES, MAX_NAME};
 ghost use Rattle.pf_walk.specs.Told.{Changed};
 
-use pf_base::{Cred, Fault, File, Kind, Mode};
+use pf_base::{Cred, Fault, File, Kind, MAX_NAME, Mode};
 use pf_tree::Tree;
 use std::alloc::{Allocator, Global};
 use std::marker::Model;
@@ -48,14 +49,14 @@ impl<A: Allocator> FileTree<A> {
         &self.tree
     }
 
-    /// A number of bytes that no list of names is longer than: a name of 255 bytes with a slash for each file but the root. It
+    /// A number of bytes that no list of names is longer than: a name of the most bytes with a slash for each file but the root. It
     /// costs constant time.
     pub fn list_bound(&self) -> usize
         ensures covers { (path : Path) → length (listed (names_below path self.now)) ≤ result }
-        ensures most { result ≤ 2560000 }
+        ensures most { result ≤ MAX_FILES * (MAX_NAME + 1) }
     {
         let _root = self.tree.root();
-        (self.tree.count() - 1) * 256
+        (self.tree.count() - 1) * (MAX_NAME + 1)
     }
 
     /// `pf_walk::unlink` on them.

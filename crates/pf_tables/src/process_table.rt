@@ -43,7 +43,7 @@ impl Model for ProcessTable {
 impl ProcessTable {
     /// No process lives.
     pub fn new(alloc: Global) -> Result<Self, AllocError>
-        ensures { IfOk result (λ table. table ≡ vacant) }
+        ensures { IfOk result (λ table. table ≡ vacant MAX_PROCESSES) }
     {
         let places = Places::new(alloc)?;
         let calls = ParkedTable::new(alloc)?;

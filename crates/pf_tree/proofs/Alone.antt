@@ -9,7 +9,7 @@ use Rattle.pf_machine.specs.FileMap.{Name, Path, Files, name_cmp, path_cmp, find
 use Rattle.pf_machine.proofs.FileLaws.{path_itself, front-has_names}
 use Rattle.pf_tree.specs.Subtrees.{under, subtree}
 use Rattle.pf_tree.proofs.Names.{same}
-use Rattle.pf_tree.specs.SubtreeLaws.{find_under}
+use Rattle.pf_tree.proofs.SubtreeLaws.{find_under}
 
 -- Below a name the paths still rise
 

@@ -15,7 +15,7 @@ use Rattle.pf_tree.specs.Subtrees.{under}
 use Rattle.pf_tree.specs.Node.{After, Before, Rises, below, all_below, IsSorted, Rooted, HasRoot, IsDeeper, file_of, files_of_body, files_of}
 use Rattle.pf_tree.proofs.Names.{itself, later}
 use Rattle.pf_tree.proofs.Places.{IsAt, is_at, set_split}
-use Rattle.pf_tree.specs.SubtreeLaws.{find_under}
+use Rattle.pf_tree.proofs.SubtreeLaws.{find_under}
 use Rattle.pf_tree.proofs.Levels.{child_found, child_absent, child_rooted}
 
 pub find_nothing : (p : Path) → find p [] ≡ None

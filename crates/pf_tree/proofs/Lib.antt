@@ -1,3 +1,4 @@
+pub mod SubtreeLaws
 pub mod Names
 pub mod Places
 pub mod Levels

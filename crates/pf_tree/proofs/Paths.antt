@@ -3,7 +3,7 @@ use Rattle.std.proofs.Common.{◌≡◌, ℕ, zero, suc, ◌<◌, ◌≤◌, Lis
 use Rattle.std.specs.Borrow.{Bor}
 use Rattle.pf_machine.specs.FileMap.{Name, Path, Files, find, front}
 use Rattle.pf_tree.specs.Subtrees.{under, subtree, path_of}
-use Rattle.pf_tree.specs.SubtreeLaws.{find_subtree}
+use Rattle.pf_tree.proofs.SubtreeLaws.{find_subtree}
 
 pub subtree_nothing : (p : Path) → subtree p [] ≡ []
 subtree_nothing [] = refl

@@ -16,7 +16,7 @@ use Rattle.pf_base.specs.declared.meta.Kind.TheVariants.{Directory as DirectoryK
 use Rattle.std.specs.Prelude.{if◌then◌else◌}
 use Rattle.pf_tree.proofs.Names.{itself}
 use Rattle.pf_tree.proofs.Locals.{IsLocal}
-use Rattle.pf_tree.specs.SubtreeLaws.{find_under}
+use Rattle.pf_tree.proofs.SubtreeLaws.{find_under}
 
 remove_past : (n m : Name) (p : Path) (v ys : Files) → is_eq (name_cmp n m) ≡ false → remove (n ∷ p) (below m v ++ ys) ≡ below m v ++ remove (n ∷ p) ys
 remove_past n m p [] ys e = refl

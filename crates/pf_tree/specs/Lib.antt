@@ -1,5 +1,4 @@
 pub mod Subtrees
-pub mod SubtreeLaws
 pub mod Node
 pub mod NodeFalls
 pub mod Place

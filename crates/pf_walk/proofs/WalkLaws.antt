@@ -4,7 +4,7 @@ use Rattle.std.specs.Borrow.{Bor}
 use Rattle.pf_machine.specs.FileMap.{Name, Path, Files, find}
 use Rattle.pf_base.specs.declared.meta.File.{File}
 use Rattle.pf_tree.specs.Subtrees.{under, subtree, path_of}
-use Rattle.pf_tree.specs.SubtreeLaws.{find_subtree, subtree_append}
+use Rattle.pf_tree.proofs.SubtreeLaws.{find_subtree, subtree_append}
 use Rattle.pf_walk.specs.Walks.{Stands}
 
 pub stands_down : (fs : Files) (ns : List (Bor Name)) (ds : List (Bor Files)) (n : Bor Name) (d : Bor Files) → Stands fs ns ds → d.now ≡ under n.now (subtree (path_of ns) fs) → Stands fs (ns ++ n ∷ []) (ds ++ d ∷ [])

@@ -11,12 +11,9 @@ ghost use Rattle.pf_walk.specs.Resolutions.{placed};
 
 use crate::resolution::{Last, Purpose, Resolved, resolve};
 use crate::walk::{append, is_directory};
-use pf_base::{Cred, Errno, Fault, File, Kind, Meta, Mode, Want, may};
+use pf_base::{Cred, Errno, Fault, File, Kind, MAX_FILES, MAX_MADE, Meta, Mode, Want, may};
 use pf_tree::Tree;
 use std::alloc::{Allocator, Global};
-
-/// The most files of a namespace, the root not counted (this profile's limit).
-pub const MAX_FILES: usize = 10_000;
 
 // An entry: the names that lead to it, its directory, and whether the path ends in a slash.
 #[derive(Drop)]
@@ -122,7 +119,7 @@ pub fn make<A: Allocator + Clone>(
         return Err(Fault::Errno(Errno::ENOENT));
     }
     may_change(cred, &place.directory)?;
-    if tree.count() > MAX_FILES || made == u64::MAX {
+    if tree.count() > MAX_FILES || made == MAX_MADE {
         return Err(Fault::Errno(Errno::ENOSPC));
     }
     let meta = Meta {

@@ -2,19 +2,14 @@
 
 ghost use Rattle.std.specs.Prelude.{◌≡◌, IfOk, length, nat_lt};
 ghost use Rattle.std.specs.List.{list_any};
+ghost use Rattle.pf_base.specs.declared.TheConstants.{MAX_NAME};
 ghost use Rattle.pf_machine.specs.Paths.{components, words_of, ends_in_slash};
 ghost use Rattle.pf_tree.specs.Subtrees.{path_of};
 ghost use Rattle.pf_walk.specs.Told.{Told};
 ghost use Rattle.pf_walk.specs.Resolutions.{words};
 
-use pf_base::{Errno, Fault};
+use pf_base::{Errno, Fault, MAX_NAME, MAX_PATH};
 use std::alloc::{AllocError, Global};
-
-/// The most bytes of a path, all its slashes counted: {PATH_MAX} is 1,024, with a byte 0 behind the path.
-pub const MAX_PATH: usize = 1_023;
-
-/// The most bytes of a name: {NAME_MAX}.
-pub const MAX_NAME: usize = 255;
 
 /// A path, cut at its slashes. Slashes that meet are as one.
 #[derive(Debug, Drop)]
@@ -36,7 +31,7 @@ fn components(alloc: Global, path: &[u8]) -> Result<Vec<&[u8]>, AllocError>
 
 // Whether a name has more bytes than a name may have.
 fn has_long_name(names: &[&[u8]]) -> bool
-    ensures { result ≡ list_any (λ n. nat_lt 255 (length n)) (path_of names.now) }
+    ensures { result ≡ list_any (λ n. nat_lt MAX_NAME (length n)) (path_of names.now) }
 {
     for name in names {
         if name.len() > MAX_NAME {

@@ -1,17 +1,19 @@
 //! What is known of a reply before its step is made, and of a write that waits: numbers, which take no memory.
 
-ghost use Rattle.std.specs.Prelude.{◌≡◌, ℕ, ◌≤◌, List};
+ghost use Rattle.std.specs.Prelude.{◌≡◌, ℕ, ◌+◌, ◌*◌, ◌≤◌, List};
 ghost use Rattle.pf_machine.specs.Machine.{call_of};
 ghost use Rattle.pf_base.specs.declared.step.Step.TheVariants.{Read, Resume, List as Lists};
 ghost use Rattle.pf_tables.specs.Bounds.{Covers};
+ghost use Rattle.pf_base.specs.declared.TheConstants.{MAX_FILES, MAX_NAME};
 ghost use Rattle.pf_machine.specs.Replies.{most_of, written_in};
 
 use super::{Tables, reading_end};
+use pf_base::{MAX_FRAMES, PAGE_SIZE};
 use pf_parked::Call;
 use std::alloc::Allocator;
 
 // All bytes that the frames of the largest reservation hold.
-const MOST_BYTES: usize = 268_435_456;
+const MOST_BYTES: usize = MAX_FRAMES * PAGE_SIZE;
 
 impl<A: Allocator> Tables<A> {
     /// How many bytes of its write went in before a process waited; 0 where it waits in no write.
@@ -39,10 +41,10 @@ impl<A: Allocator> Tables<A> {
         pipe.len().min(n as usize)
     }
 
-    /// How many bytes a list of names hands out at most, whoever asks for whichever: 256 for each file but the root.
+    /// How many bytes a list of names hands out at most, whoever asks for whichever: the longest name and a slash for each file but the root.
     pub fn list_bound(&self) -> usize
         ensures covers { (pid : ℕ) (path : List ℕ) → Covers self.now (Lists pid path) result }
-        ensures most { result ≤ 2560000 }
+        ensures most { result ≤ MAX_FILES * (MAX_NAME + 1) }
     {
         self.files.list_bound()
     }

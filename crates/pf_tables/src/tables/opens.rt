@@ -21,7 +21,7 @@ use super::pipes::insert_named;
 use super::{Description, Tables};
 use crate::process_table::ProcessTable;
 use bitflags::Flags;
-use pf_base::{Errno, Fault, MAX_DESCRIPTORS, OpenFlags, Side};
+use pf_base::{Errno, Fault, MAX_DESCRIPTORS, MAX_MADE, OpenFlags, Side};
 use pf_fds::{Descriptions, Key, Registry};
 use pf_frame::Frames;
 use pf_limits::UserPages;
@@ -222,7 +222,7 @@ impl<A: Allocator> Tables<A> {
         if self.lacks_readers(door, file, access) {
             return Err(Errno::ENXIO);
         }
-        if self.descriptions.drawn() == u64::MAX {
+        if self.descriptions.drawn() == MAX_MADE {
             return Err(Errno::ENFILE);
         }
         Ok(())
@@ -261,7 +261,7 @@ impl<A: Allocator> Tables<A> {
     {
         let _door = door;
         let cred = &self.processes.ready(pid)?.cred;
-        if self.pipes.drawn() == u64::MAX {
+        if self.pipes.drawn() == MAX_MADE {
             return Err(Errno::ENFILE);
         }
         match self.pages.new_capacity(cred.uid, cred.is_privileged()) {

@@ -11,7 +11,7 @@ ghost use Rattle.pf_tables.specs.Owns.{Owns};
 ghost use Rattle.pf_tables.specs.Tables.{HasTwo, FindsTwo, Opens, Resizing, HasResized, is_spent_for_pipe, capacity_of_caller, size_of_end, sized};
 
 use super::{Description, Tables, end};
-use pf_base::{Config, Errno, Fault, MAX_DESCRIPTORS, MAX_SIZE, PAGE_SIZE, Side, pages_for};
+use pf_base::{Config, Errno, Fault, MAX_DESCRIPTORS, MAX_MADE, MAX_SIZE, PAGE_SIZE, Side, pages_for};
 use pf_fds::{Descriptions, Key};
 use pf_frame::Frames;
 use pf_limits::UserPages;
@@ -110,7 +110,7 @@ impl<A: Allocator> Tables<A> {
         ensures { result ≡ is_spent_for_pipe (meaning (F.live door.now) self.now.state) }
     {
         let _door = door;
-        self.descriptions.drawn() > u64::MAX - 2 || self.pipes.drawn() > u64::MAX - 1
+        self.descriptions.drawn() > MAX_MADE - 2 || self.pipes.drawn() > MAX_MADE - 1
     }
 
     /// How many slots a new pipe of a process gets, or why it gets none.

@@ -18,7 +18,7 @@ use pf_frame::Frames;
 use std::alloc::{AllocError, Allocator, Global};
 
 // Gives each description that descriptors name one name more for each of them. The names can be counted: so far there
-// are at most those of 256 processes with 256 descriptors each.
+// are at most those of MAX_PROCESSES processes, each with MAX_DESCRIPTORS descriptors and a parked open.
 fn name_all(descriptions: &mut Descriptions<Description>, descriptors: &FdTable)
     requires wide { length descriptors.now ≡ MAX_DESCRIPTORS }
     requires stand { AllFind descriptors.now descriptions.old.items }
@@ -59,7 +59,7 @@ impl<A: Allocator> Tables<A> {
         requires within { pid ≤ MAX_PROCESSES }
         ensures made { OnOk result (Becomes (F.live door.now) (F.live door.now) self.old self.new
             (with_process (meaning (F.live door.now) self.old.state) pid
-            (record { cred = cred; descriptors = vacant; parked = None }))) }
+            (record { cred = cred; descriptors = vacant MAX_DESCRIPTORS; parked = None }))) }
         ensures refused { OnErr result (self.new ≡ self.old) }
     {
         let _door = door;
