@@ -21,8 +21,9 @@ use std::sync::ledger::{Blank, Book, Ledger, Share};
 /// their credits, and how many they hold.
 ///
 /// A ledger is the whole service's. A namespace has a share of each: its credits, and the number of its frames on loan.
-/// A book has the sum of all shares. Each free frame is there for a credit, or is reserved for nobody, so whoever has a
-/// credit finds one. As that is true of every value, it is true whenever the lock around one is free.
+/// A book has the sum of all shares, and there is one of each ledger, so no other depot can come in the place of this
+/// one. Each free frame is there for a credit, or is reserved for nobody, so whoever has a credit finds one. As that is
+/// true of every value, it is true whenever the lock around one is free.
 ///
 /// A contract sees the numbers alone.
 #[derive(Drop)]

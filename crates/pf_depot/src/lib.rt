@@ -1,4 +1,5 @@
-//! Frames on loan: a depot of free frames, the loans of each namespace, and the door over both.
+//! Frames on loan: a depot of free frames, the loans of each namespace, and the door over both; and a depot that
+//! namespaces on threads of their own share behind a lock.
 #![tactic(auto)]
 
 pub mod allotment;

@@ -13,14 +13,14 @@ use std::sync::{Mutex, Wait};
 /// A take and a give are one holding of the depot's lock each. A call may wait for the lock, and is over before another
 /// namespace gets it.
 #[derive(Drop)]
-pub struct SharedDepot<'a, R: Wait, C: Ledger, H: Ledger> {
+pub struct SharedDepot<'a, R, C: Ledger, H: Ledger> {
     rt: &'a R,
     book: &'a Mutex<DepotBook<C, H>>,
     credits: &'a mut Share<C>,
     held: &'a mut Share<H>,
 }
 
-impl<'a, R: Wait, C: Ledger, H: Ledger> SharedDepot<'a, R, C, H> {
+impl<'a, R, C: Ledger, H: Ledger> SharedDepot<'a, R, C, H> {
     /// The way of the namespace that has these shares.
     pub fn new(
         rt: &'a R,
