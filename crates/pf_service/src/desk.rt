@@ -6,6 +6,7 @@ use crate::copies::copy_into;
 use crate::event::Event;
 use crate::fault::ServiceFault;
 use crate::gate::Gate;
+use crate::gated::GatedHub;
 use crate::logged::LoggedHub;
 use crate::receipt::Receipt;
 use crate::seat::Seat;
@@ -20,7 +21,7 @@ use std::alloc::{Allocator, Global};
 #[derive(Drop)]
 pub(crate) struct Desk<A: Allocator> {
     alloc: Global,
-    logged: LoggedHub<A>,
+    logged: GatedHub<A>,
     given: Vec<u32>,
 
     pub ghost each: { length given.items ≡ 64 },
@@ -45,7 +46,7 @@ impl<A: Allocator + Clone> Desk<A> {
     {
         Desk {
             alloc,
-            logged,
+            logged: GatedHub::new(logged),
             given,
         }
     }
@@ -54,7 +55,7 @@ impl<A: Allocator + Clone> Desk<A> {
     pub(crate) fn namespaces(&self) -> usize
         ensures { result ≡ length self.now.logged.hub.tenants }
     {
-        self.logged.namespaces()
+        self.logged.get_ref().namespaces()
     }
 
     /// One more seat of a namespace, with the next number.
@@ -93,6 +94,7 @@ impl<A: Allocator + Clone> Desk<A> {
         ensures logged { IfOk result (λ r. entries_at self.new.logged seat.old.ns
             ≡ entries_at self.old.logged seat.old.ns ++ (step.now, r.reply) ∷ []) }
         ensures told { IfOk result (λ r. Told step.now r.place r.reply) }
+        ensures passed { IfOk result (λ r. G.passed gate.now r.ns r.place) }
         ensures others { (m : ℕ) → m ≢ seat.old.ns →
             (tenant_at self.new.logged.hub m ≡ tenant_at self.old.logged.hub m)
             × (transcript_at self.new.logged.transcripts m ≡ transcript_at self.old.logged.transcripts m) }
@@ -102,12 +104,12 @@ impl<A: Allocator + Clone> Desk<A> {
         ensures unchanged { OnErr result (self.new.logged ≡ self.old.logged) }
     {
         let ns = seat.ns();
-        let place = self.logged.place(ns)?;
+        let place = self.logged.get_ref().place(ns)?;
         seat.reserve()?;
         let asked = step.copy(self.alloc)?;
-        let room = Vec::with_capacity(self.alloc, self.logged.reply_bound(ns, step))?;
+        let room = Vec::with_capacity(self.alloc, self.logged.get_ref().reply_bound(ns, step))?;
         gate.pass(ns, place);
-        let reply = self.logged.apply(ns, step)?;
+        let reply = self.logged.apply(gate, ns, step)?;
         let told = copy_into(self.alloc, room, &reply);
         seat.keep(Event {
             place,

@@ -7,6 +7,7 @@ mod desk;
 pub mod event;
 pub mod fault;
 pub mod gate;
+mod gated;
 pub mod given;
 pub mod judge;
 pub mod logged;

@@ -116,6 +116,7 @@ impl<A: Allocator + Clone, G: Gate> Service<A, G> {
     ) -> Result<Receipt, ServiceFault>
         ensures kept { IfOk result (λ r. Gains seat.old seat.new (event_at r.place step.now r.reply ∷ [])) }
         ensures told { IfOk result (λ r. (r.ns ≡ seat.old.ns) × Told step.now r.place r.reply) }
+        ensures passed { IfOk result (λ r. (gate : G) × G.passed gate r.ns r.place) }
         ensures missing { length self.now ≤ seat.old.ns → result ≡ Err ServiceFault.NoSuchNamespace }
         ensures fault { IfErr result (λ e. e ≢ ServiceFault.TooManySeats) }
         ensures refused { OnErr result (Gains seat.old seat.new []) }
