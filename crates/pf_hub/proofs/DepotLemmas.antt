@@ -14,12 +14,14 @@ use Rattle.pf_depot.proofs.AllLoansLaws.{live_sound, held_at as loans_held_at, r
 use Rattle.pf_depot.specs.Depot.{free_of, frames_of}
 use Rattle.pf_depot.specs.Door.{IsCovered as IsCoveredBy}
 use Rattle.pf_depot.specs.Loans.{loans_live}
+use Rattle.pf_space.specs.declared.placed.Placed.{Placed}
 use Rattle.pf_tables.specs.Meaning.{Namespace}
 use Rattle.pf_tables.specs.Owns.{Owns}
 use Rattle.pf_hub.specs.Covered.{IsCovered}
-use Rattle.pf_hub.specs.Tenants.{Tenants, Tenant, tenants_of, held_at, frames_in}
-use Rattle.pf_hub.specs.Shared.{IsShared, space_at, no_space, hub_of}
+use Rattle.pf_hub.specs.Tenants.{Tenants, Housed, Tenant, tenants_of, held_at, frames_in}
+use Rattle.pf_hub.specs.Shared.{IsShared, space_at, no_space, spaces_in, hub_of, housed}
 use Rattle.pf_hub.specs.Stepped.{Moved, Stepped}
+use Rattle.pf_hub.proofs.PlacedLaws.{space_found, spaces_set, is_place, world_same}
 use Rattle.pf_hub.proofs.StepLemmas.{owned_after, stepped}
 use Rattle.pf_hub.proofs.TenantLaws.{Fits, length-tenants_from, map-tenants, tenants-at, covered}
 
@@ -107,7 +109,45 @@ module _ {d : Depot} {ls : List Loans} {ss : List Namespace} {n : ℕ} {was : Lo
         (stepped (live_at ls) (live_at (slice_set ls n is)) ss here others own (free_of d) (free_of e) (fits d ls ss shared) (fits e (slice_set ls n is) (slice_set ss n new) shared_after)
         (frames_are e (slice_set ls n is) (slice_set ss n new) shared_after ∙ all ∙ sym (frames_are d ls ss shared)) (hub_covered e (slice_set ls n is) (slice_set ss n new) shared_after))
 
-  -- the hub is the same where they are the same
-  pub hub_same : (e : Depot) (is : Loans) (new : Namespace) {h : Tenants} → new ≡ old → e ≡ d → is ≡ was → hub_of d ls ss ≡ h → hub_of e (slice_set ls n is) (slice_set ss n new) ≡ h
-  hub_same e is new {h} s f l same =
-      (λ i. hub_of (f i) ((ap (λ (x : Loans). slice_set ls n x) (l ∙ loans) ∙ set-get_or ls n was) i) ((ap (λ (x : Namespace). slice_set ss n x) (s ∙ space) ∙ set-get_or ss n old) i)) ∙ same
+-- The same of namespaces that stand beside their allocators
+
+module _ {Z : Type 0} {d : Depot} {ls : List Loans} (ps : List (Placed Z)) {h : Housed Z} {n : ℕ}
+    (shared : IsShared d ls (spaces_in ps)) (view : housed d ls ps ≡ h) (exists : n < length h.world.tenants) where
+  pub space_here : n < length (spaces_in ps)
+  space_here = here shared (world_same view) exists
+
+  pub placed_here : n < length ps
+  placed_here = is_place ps space_here
+
+  module _ {was : Loans} {old : Placed Z} (loans : was ≡ get_or ls n was) (placed : old ≡ get_or ps n old) where
+    space : old.space ≡ get_or (spaces_in ps) n old.space
+    space = space_found ps n placed
+
+    pub placed_covered : IsCoveredBy (loans_live was) (free_of d) (frames_of d - free_of d)
+    placed_covered = covered_before space_here shared loans space
+
+    pub placed_owned : Owns (loans_live was) old.space
+    placed_owned = owned_before space_here shared loans space
+
+    module _ (e : Depot) (is : Loans) (new : Placed Z) {step : Step} {a : Answer}
+        (all : frames_of e ≡ frames_of d) (spare : free_of e + held_of is ≡ free_of d + held_of was)
+        (reserved : reserved_of is ≡ reserved_of was)
+        (moved : Moved (loans_live was) (loans_live is) old.space new.space step a) where
+      pub placed_shared : IsShared e (slice_set ls n is) (spaces_in (slice_set ps n new))
+      placed_shared =
+          subst (IsShared e (slice_set ls n is)) (sym (spaces_set ps n new))
+          (shared_after space_here shared loans space e is all spare reserved moved)
+
+      pub placed_stepped : Stepped h.world (hub_of e (slice_set ls n is) (spaces_in (slice_set ps n new))) n step a
+      placed_stepped =
+          subst (λ (ss : List Namespace). Stepped h.world (hub_of e (slice_set ls n is) ss) n step a)
+          (sym (spaces_set ps n new))
+          (hub_stepped space_here shared loans space e is all spare reserved moved (world_same view))
+
+    -- the hub is the same where they are the same
+    pub placed_same : (e : Depot) (is : Loans) (new : Placed Z) → new ≡ old → e ≡ d → is ≡ was →
+        housed e (slice_set ls n is) (slice_set ps n new) ≡ h
+    placed_same e is new p f l =
+        let same_loans = ap (λ (x : Loans). slice_set ls n x) (l ∙ loans) ∙ set-get_or ls n was in
+        let same_places = ap (λ (x : Placed Z). slice_set ps n x) (p ∙ placed) ∙ set-get_or ps n old in
+        (λ i. housed (f i) (same_loans i) (same_places i)) ∙ view

@@ -1,5 +1,6 @@
 pub mod TenantLaws
 pub mod StepLemmas
+pub mod PlacedLaws
 pub mod DepotLemmas
 pub mod OwnerLemmas
 pub mod OpeningLemmas

@@ -23,7 +23,7 @@ pub record IsRising (t : Tenant) : Type 0 where
 abbrev pub unspent : Tenant → ℕ
 unspent t = t.limits.reserve - t.held
 
--- each namespace is so, and as many frames as all of them together may still take are held by nobody
+-- each namespace is so, and at least as many frames are held by nobody as all of them together may still take
 pub record IsCovered (h : Tenants) : Type 0 where
   pub each : (n : ℕ) → IsRising (tenant_at h n)
   pub credits : sum (map unspent h.tenants) ≤ h.free

@@ -5,6 +5,7 @@ use Rattle.pf_base.specs.Limits.{Limits}
 use Rattle.pf_machine.specs.State.{opening}
 use Rattle.pf_frame.specs.declared.fault.PoolFault.{PoolFault}
 use Rattle.pf_frame.specs.Faults.{fault_of}
+use Rattle.pf_space.specs.declared.placed.Placed.{Placed}
 use Rattle.pf_tables.specs.Meaning.{Namespace}
 use Rattle.pf_hub.specs.Tenants.{Tenant, Tenants}
 
@@ -12,9 +13,17 @@ use Rattle.pf_hub.specs.Tenants.{Tenant, Tenants}
 abbrev pub limits_of : {Z : Type 0} → List (Limits × Z) → List Limits
 limits_of configs = map (λ e. e.0) configs
 
+-- and the allocators alone
+abbrev pub allocators_of : {Z : Type 0} → List (Limits × Z) → List Z
+allocators_of configs = map (λ e. e.1) configs
+
 -- a namespace of these limits that nothing has happened to
 abbrev pub new_space : Limits → Namespace
 new_space limits = record { limits = limits; state = opening }
+
+-- and its files stand in memory of the allocator beside them
+abbrev pub new_placed : {Z : Type 0} → Limits × Z → Placed Z
+new_placed e = record { space = new_space e.0; allocator = e.1 }
 
 -- the same, as a contract sees it: it holds no frame
 abbrev pub new_tenant : Limits → Tenant

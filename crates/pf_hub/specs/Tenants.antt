@@ -18,6 +18,11 @@ pub record Tenants : Type 0 where
   pub tenants : List Tenant
   pub free : ℕ
 
+-- a hub: its world, and by number the allocator whose memory each namespace's files stand in
+pub record Housed (Z : Type 0) : Type 0 where
+  pub world : Tenants
+  pub allocators : List Z
+
 -- a namespace that isn't there
 abbrev pub nobody : Tenant
 nobody = record { limits = record { reserve = 0; soft = 0; hard = 0; max = 0 }; state = opening; held = 0 }

@@ -1,5 +1,5 @@
 ghost use Rattle.std.specs.Prelude.{◌≡◌, ◌+◌, ◌-◌, ◌≤◌, length, map, sum, IfOk};
-ghost use Rattle.pf_hub.specs.Opening.{new_space, limits_of, first_fault};
+ghost use Rattle.pf_hub.specs.Opening.{new_placed, limits_of, first_fault};
 ghost use Rattle.pf_depot.specs.Door.{IsCovered as IsCoveredBy};
 ghost use Rattle.pf_depot.specs.Loans.{loans_live};
 ghost use Rattle.pf_hub.specs.Stepped.{Moved};
@@ -9,7 +9,7 @@ use crate::parts::HubParts;
 use pf_base::{Answer, Config, MAX_FRAMES, MAX_NAMESPACES, Step};
 use pf_depot::{Depot, Lender, LoanDoor, Loans};
 use pf_frame::{Frame, PoolFault};
-use pf_space::Space;
+use pf_space::Placed;
 use std::alloc::{AllocError, Allocator, Global};
 use std::marker::Model;
 
@@ -17,25 +17,25 @@ use std::marker::Model;
 /// value of its own.
 ///
 /// A contract sees each namespace's limits, the state of the lone machine that it is in, and how many frames it
-/// holds; and how many frames nobody holds.
+/// holds; how many frames nobody holds; and the allocator whose memory each namespace's files stand in.
 #[derive(Drop)]
 pub struct Hub<A: Allocator> {
     alloc: Global,
     depot: Depot,
     loans: Vec<Loans>,
-    spaces: Vec<Space<A>>,
+    spaces: Vec<Placed<A>>,
 }
 
 impl<A: Allocator> Model for Hub<A> {
-    ghost use Rattle.pf_hub.specs.Tenants.{Tenants};
+    ghost use Rattle.pf_hub.specs.Tenants.{Housed};
 
-    ghost Value = { Tenants };
+    ghost Value = { Housed A };
 
-    ghost use Rattle.pf_hub.specs.Shared.{hub_of, IsShared};
+    ghost use Rattle.pf_hub.specs.Shared.{housed, spaces_in, IsShared};
 
-    ghost view = { λ h. hub_of h.depot h.loans.items h.spaces.items };
+    ghost view = { λ h. housed h.depot h.loans.items h.spaces.items };
 
-    ghost invariant = { λ h. IsShared h.depot h.loans.items h.spaces.items };
+    ghost invariant = { λ h. IsShared h.depot h.loans.items (spaces_in h.spaces.items) };
 }
 
 /// Why a run of events ended early.
@@ -86,16 +86,16 @@ fn reserves_of<A: Allocator>(alloc: Global, configs: &[(Config, A)]) -> Result<V
         .collect(alloc)
 }
 
-// The namespaces of some limits, each at its opening state, with its files in memory of its own allocator.
+// The namespaces of some limits, each at its opening state, with its files in memory of the allocator beside them.
 fn spaces_of<A: Allocator + Clone>(
     alloc: Global,
     configs: Vec<(Config, A)>,
-) -> Result<Vec<Space<A>>, AllocError>
-    ensures { IfOk result (λ v. v.items ≡ map (λ e. new_space e.0) configs.items) }
+) -> Result<Vec<Placed<A>>, AllocError>
+    ensures { IfOk result (λ v. v.items ≡ map new_placed configs.items) }
 {
     let mut spaces = Vec::with_capacity(alloc, configs.len())?;
-    for (config, tree) in configs {
-        let space = Space::new(alloc, tree, config)?;
+    for (config, allocator) in configs {
+        let space = Placed::new(alloc, allocator, config)?;
         spaces.push_reserved(space);
     }
     Ok(spaces)
@@ -105,14 +105,14 @@ fn spaces_of<A: Allocator + Clone>(
 // answer is copied once more on its way out.
 #[inline(always)]
 fn step_over<A: Allocator + Clone, D: Lender>(
-    space: &mut Space<A>,
+    placed: &mut Placed<A>,
     lender: &mut D,
     loans: &mut Loans,
     step: &Step,
 ) -> Answer
     requires fact { D.fact lender.old }
     requires covered { IsCoveredBy (loans_live loans.old) (D.ready lender.old) (D.out lender.old) }
-    requires owns { Owns (loans_live loans.old) space.old }
+    requires owns { Owns (loans_live loans.old) placed.old.space }
     ensures fact { D.fact lender.new }
     ensures covered { IsCoveredBy (loans_live loans.new) (D.ready lender.new) (D.out lender.new) }
     ensures rest { D.rest lender.new ≡ D.rest lender.old }
@@ -122,12 +122,14 @@ fn step_over<A: Allocator + Clone, D: Lender>(
         ≡ D.ready lender.old + (loans_live loans.old).held }
     ensures owed { D.out lender.new - (loans_live loans.new).held
         ≡ D.out lender.old - (loans_live loans.old).held }
-    ensures moved { Moved (loans_live loans.old) (loans_live loans.new) space.old space.new step.now result }
+    ensures moved { Moved (loans_live loans.old) (loans_live loans.new) placed.old.space placed.new.space
+        step.now result }
+    ensures allocator { placed.new.allocator ≡ placed.old.allocator }
     ensures unchanged { result ≡ Answer.NoMemory
-        → (space.new ≡ space.old) × (lender.new ≡ lender.old) × (loans.new ≡ loans.old) }
+        → (placed.new ≡ placed.old) × (lender.new ≡ lender.old) × (loans.new ≡ loans.old) }
 {
     let mut door = LoanDoor::new(lender, loans);
-    space.step(&mut door, step)
+    placed.step(&mut door, step)
 }
 
 impl<A: Allocator + Clone> Hub<A> {
@@ -138,8 +140,9 @@ impl<A: Allocator + Clone> Hub<A> {
     ghost use Rattle.pf_machine.specs.Replies.{reply_length, most_of};
     ghost use Rattle.pf_hub.specs.Tenants.{tenant_at, limits_at, state_at, held_at, frames_in};
     ghost use Rattle.pf_hub.specs.Covered.{IsCovered};
-    ghost use Rattle.pf_hub.specs.Opening.{new_hub, limits_of, first_fault};
+    ghost use Rattle.pf_hub.specs.Opening.{new_hub, limits_of, allocators_of, first_fault};
     ghost use Rattle.pf_hub.specs.Owners.{AreOwned};
+    ghost use Rattle.pf_hub.specs.Shared.{spaces_in, allocators_in};
     ghost use Rattle.pf_hub.specs.Stepped.{Stepped};
     ghost use Rattle.pf_hub.specs.Isolation.{Ran, first_missing, IsRunFault, AreAlone};
 
@@ -154,8 +157,10 @@ impl<A: Allocator + Clone> Hub<A> {
         configs: Vec<(Config, A)>,
     ) -> Result<Self, PoolFault>
         ensures tested { IsOk result → first_fault (length frames.items) (limits_of configs.items) ≡ None }
-        ensures opened { IfOk result (λ hub. hub ≡ new_hub (limits_of configs.items) (length frames.items)) }
-        ensures covered { IfOk result IsCovered }
+        ensures opened { IfOk result
+            (λ hub. hub.world ≡ new_hub (limits_of configs.items) (length frames.items)) }
+        ensures allocators { IfOk result (λ hub. hub.allocators ≡ allocators_of configs.items) }
+        ensures covered { IfOk result (λ hub. IsCovered hub.world) }
         // the first test that fails, and want of memory only where none does
         ensures fault { IfErr result (IsFault (first_fault (length frames.items) (limits_of configs.items))) }
     {
@@ -175,8 +180,10 @@ impl<A: Allocator + Clone> Hub<A> {
         configs: Vec<(Config, A)>,
     ) -> Result<Self, AllocError>
         requires { first_fault (length frames.items) (limits_of configs.items) ≡ None }
-        ensures opened { IfOk result (λ hub. hub ≡ new_hub (limits_of configs.items) (length frames.items)) }
-        ensures covered { IfOk result IsCovered }
+        ensures opened { IfOk result
+            (λ hub. hub.world ≡ new_hub (limits_of configs.items) (length frames.items)) }
+        ensures allocators { IfOk result (λ hub. hub.allocators ≡ allocators_of configs.items) }
+        ensures covered { IfOk result (λ hub. IsCovered hub.world) }
     {
         let reserves = reserves_of(alloc, &configs)?;
         let Ok((depot, loans)) = Depot::new(alloc, frames, reserves) else {
@@ -193,7 +200,7 @@ impl<A: Allocator + Clone> Hub<A> {
 
     /// How many frames a namespace holds, 0 where there is none of this number.
     pub fn held(&self, ns: u32) -> u32
-        ensures { result ≡ held_at self.now ns }
+        ensures { result ≡ held_at self.now.world ns }
     {
         match self.loans.get(ns as usize) {
             Some(loans) => loans.held(),
@@ -203,7 +210,7 @@ impl<A: Allocator + Clone> Hub<A> {
 
     /// How many frames nobody holds.
     pub fn free(&self) -> u32
-        ensures { result ≡ self.now.free }
+        ensures { result ≡ self.now.world.free }
     {
         self.depot.free()
     }
@@ -214,7 +221,8 @@ impl<A: Allocator + Clone> Hub<A> {
     /// its owner; its count there is the number of the owner's windows on it; and each window holds the bytes of its
     /// segment, in its owner's queue.
     pub fn parts(&self) -> HubParts<'_, A>
-        ensures owned { AreOwned self.now result.depot.now result.loans.now result.spaces.now }
+        ensures owned { AreOwned self.now.world result.depot.now result.loans.now (spaces_in result.spaces.now) }
+        ensures allocators { allocators_in result.spaces.now ≡ self.now.allocators }
     {
         HubParts {
             depot: &self.depot,
@@ -225,19 +233,20 @@ impl<A: Allocator + Clone> Hub<A> {
 
     /// One step of one namespace. No other namespace is told, or has, anything else for it.
     pub fn step(&mut self, ns: u32, step: &Step) -> Answer
-        requires exists { ns < length self.old.tenants }
-        ensures number { length self.new.tenants ≡ length self.old.tenants }
-        ensures frames { frames_in self.new ≡ frames_in self.old }
-        ensures limits { limits_at self.new ns ≡ limits_at self.old ns }
+        requires exists { ns < length self.old.world.tenants }
+        ensures number { length self.new.world.tenants ≡ length self.old.world.tenants }
+        ensures frames { frames_in self.new.world ≡ frames_in self.old.world }
+        ensures limits { limits_at self.new.world ns ≡ limits_at self.old.world ns }
         // its answer and its state are the lone machine's, and nobody else is told, or has, anything else
-        ensures answers { Answers (limits_at self.old ns) result
-            (state_at self.old ns) step.now (state_at self.new ns) }
-        ensures others { (m : ℕ) → m ≢ ns → tenant_at self.new m ≡ tenant_at self.old m }
+        ensures answers { Answers (limits_at self.old.world ns) result
+            (state_at self.old.world ns) step.now (state_at self.new.world ns) }
+        ensures others { (m : ℕ) → m ≢ ns → tenant_at self.new.world m ≡ tenant_at self.old.world m }
         // want of memory changes nothing, and comes of no step that needs none
         ensures unchanged { result ≡ Answer.NoMemory → self.new ≡ self.old }
-        ensures succeeds { may_want_memory (limits_at self.old ns) (state_at self.old ns) step.now ≡ false
+        ensures succeeds { may_want_memory (limits_at self.old.world ns) (state_at self.old.world ns) step.now ≡ false
             → IsDone result }
-        ensures covered { IsCovered self.new }
+        ensures allocators { self.new.allocators ≡ self.old.allocators }
+        ensures covered { IsCovered self.new.world }
     {
         self.step_in(ns, step)
     }
@@ -245,8 +254,9 @@ impl<A: Allocator + Clone> Hub<A> {
     // The same, as one fact.
     #[inline(always)]
     fn step_in(&mut self, ns: u32, step: &Step) -> Answer
-        requires exists { ns < length self.old.tenants }
-        ensures stepped { Stepped self.old self.new ns step.now result }
+        requires exists { ns < length self.old.world.tenants }
+        ensures stepped { Stepped self.old.world self.new.world ns step.now result }
+        ensures allocators { self.new.allocators ≡ self.old.allocators }
         ensures unchanged { result ≡ Answer.NoMemory → self.new ≡ self.old }
     {
         step_over(
@@ -259,9 +269,9 @@ impl<A: Allocator + Clone> Hub<A> {
 
     /// A number of bytes that the vector of the reply to a namespace's step is no longer than, as `Space::reply_bound` says.
     pub fn reply_bound(&self, ns: u32, step: &Step) -> usize
-        requires exists { ns < length self.now.tenants }
+        requires exists { ns < length self.now.world.tenants }
         ensures covers { reply_length
-            (step_of (limits_at self.now ns) (state_at self.now ns) step.now).reply ≤ result }
+            (step_of (limits_at self.now.world ns) (state_at self.now.world ns) step.now).reply ≤ result }
         ensures most { result ≤ most_of step.now }
     {
         self.spaces[ns as usize].reply_bound(step)
@@ -269,14 +279,14 @@ impl<A: Allocator + Clone> Hub<A> {
 
     /// How many namespaces there are.
     pub fn namespaces(&self) -> usize
-        ensures { result ≡ length self.now.tenants }
+        ensures { result ≡ length self.now.world.tenants }
     {
         self.spaces.len()
     }
 
     // The place of the first event that names no namespace.
     fn missing(&self, events: &[(u32, Step)]) -> Option<usize>
-        ensures { result ≡ first_missing (length self.now.tenants) events.now }
+        ensures { result ≡ first_missing (length self.now.world.tenants) events.now }
     {
         let number = self.namespaces();
         events.iter().position(|event| event.0 as usize >= number)
@@ -284,11 +294,12 @@ impl<A: Allocator + Clone> Hub<A> {
 
     /// Events in turn.
     pub fn run(&mut self, events: &[(u32, Step)]) -> Result<Vec<Answer>, RunFault>
-        ensures exist { IsOk result → first_missing (length self.old.tenants) events.now ≡ None }
-        ensures ran { IfOk result (λ answers. Ran self.old events.now answers.items self.new) }
-        ensures alone { IfOk result (λ answers. AreAlone self.old events.now answers.items) }
-        ensures fault { IfErr result (IsRunFault self.old events.now self.new) }
-        ensures covered { IsCovered self.new }
+        ensures exist { IsOk result → first_missing (length self.old.world.tenants) events.now ≡ None }
+        ensures ran { IfOk result (λ answers. Ran self.old.world events.now answers.items self.new.world) }
+        ensures alone { IfOk result (λ answers. AreAlone self.old.world events.now answers.items) }
+        ensures fault { IfErr result (IsRunFault self.old.world events.now self.new.world) }
+        ensures allocators { self.new.allocators ≡ self.old.allocators }
+        ensures covered { IsCovered self.new.world }
     {
         let alloc = self.alloc;
         if let Some(at) = self.missing(events) {

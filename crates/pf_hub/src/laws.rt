@@ -2,13 +2,13 @@
 
 ghost use Rattle.pf_hub.specs.Isolation.{TwoWorlds, MemoryMatters};
 
-/// Two worlds: whatever the other namespaces do, a namespace with the same limits and the same steps is told the
-/// same, if no step of its own met want of memory.
+/// Two worlds: whatever the other namespaces do, a namespace that begins at its opening state with the same limits, and
+/// makes the same steps, is told the same, if no step of its own met want of memory in either world.
 pub fn two_worlds()
     ensures { TwoWorlds }
 {}
 
-/// Memory matters: it is not so where memory was wanted for a step of its own in one of the two worlds.
+/// Memory matters: without that last premise two worlds are not always told the same.
 pub fn memory_matters()
     ensures { MemoryMatters }
 {}

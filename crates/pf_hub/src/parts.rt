@@ -1,5 +1,5 @@
 use pf_depot::{Depot, Loans};
-use pf_space::Space;
+use pf_space::Placed;
 use std::alloc::Allocator;
 
 /// What a hub is made of, by its namespaces' numbers.
@@ -12,6 +12,6 @@ pub struct HubParts<'a, A: Allocator> {
     pub depot: &'a Depot,
     /// The frames that each namespace holds, at their places, and the count of each.
     pub loans: &'a [Loans],
-    /// Each namespace's own state: its pipes are rings of windows.
-    pub spaces: &'a [Space<A>],
+    /// Each namespace's own state, beside the allocator of its files: its pipes are rings of windows.
+    pub spaces: &'a [Placed<A>],
 }

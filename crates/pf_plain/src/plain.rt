@@ -10,7 +10,7 @@ use std::marker::Model;
 
 /// Many namespaces over one array of frames, each with a door to its own.
 ///
-/// A contract sees of it what it sees of a hub, and a step has the same promise.
+/// A contract sees of it what it sees of a hub's world, and a step has the same promise. It doesn't see the allocators.
 #[derive(Drop)]
 pub struct Plain<A: Allocator> {
     pool: FramePool,

@@ -45,7 +45,7 @@ pub fn with_allocators(
 /// limits, so nothing but want of memory stops it.
 fn hub_of(alloc: Global, script: &Script, frames: Vec<Frame>) -> Result<Hub<Global>, AllocError>
     requires { length frames.items ≡ script.now.frames }
-    ensures { IfOk result (λ hub. hub ≡ new_hub (map (λ s. s.1) script.now.spaces) script.now.frames) }
+    ensures { IfOk result (λ hub. hub.world ≡ new_hub (map (λ s. s.1) script.now.spaces) script.now.frames) }
 {
     let limits = script.configs(alloc)?;
     let configs = with_allocators(alloc, limits.as_slice())?;
@@ -60,7 +60,7 @@ fn hub_of(alloc: Global, script: &Script, frames: Vec<Frame>) -> Result<Hub<Glob
 fn lone_hub(alloc: Global, config: Config, frames: Vec<Frame>) -> Result<Hub<Global>, AllocError>
     requires small { length frames.items ≤ MAX_FRAMES }
     requires fits { config.reserve ≤ length frames.items }
-    ensures { IfOk result (λ hub. hub ≡ new_hub (config ∷ []) (length frames.items)) }
+    ensures { IfOk result (λ hub. hub.world ≡ new_hub (config ∷ []) (length frames.items)) }
 {
     let configs = vec![in alloc; (config, alloc)]?;
     match Hub::new(alloc, frames, configs) {

@@ -28,9 +28,9 @@ impl<A: Allocator> Model for LoggedHub<A> {
 
     ghost Value = { Logs };
 
-    ghost view = { λ l. record { hub = l.hub; transcripts = l.transcripts.items } };
+    ghost view = { λ l. record { hub = l.hub.world; transcripts = l.transcripts.items } };
 
-    ghost invariant = { λ l. AreLogs l.hub l.transcripts.items };
+    ghost invariant = { λ l. AreLogs l.hub.world l.transcripts.items };
 }
 
 // An empty transcript for each of these limits.

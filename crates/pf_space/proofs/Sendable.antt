@@ -6,6 +6,7 @@ use Rattle.std.proofs.Crossing.{crosses}
 use Rattle.std.specs.declared.alloc.Allocator as Allocator
 use Rattle.pf_tables.proofs.Sendable.{tables_send}
 use Rattle.pf_tables.specs.contracts.tables.Tables as Tables
+use Rattle.pf_space.specs.contracts.placed.Placed as Placed
 use Rattle.pf_space.specs.contracts.space.Space as Space
 use Rattle.pf_space.specs.contracts.space.Space.TheInside as in_space
 
@@ -15,3 +16,8 @@ module _ (A : RattleType) (g : Allocator.Ghosts A.Denot) (s : IsSend A) (f : Fre
 
   pub space_send : IsSend (Space.the_row A g)
   space_send = view_send (in_space.the_row A g) _ _ _ _ in_space_send
+
+  pub placed_send : IsSend (Placed.the_row A g)
+  placed_send =
+      let space = as_row_send (Space.the_field A g) space_send in
+      declared_send (Placed.the_type A g) (space, (search (sendable, s) depth 20, tt))

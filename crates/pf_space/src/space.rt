@@ -44,6 +44,7 @@ impl<A: Allocator + Clone> Space<A> {
     ghost use Rattle.pf_tables.specs.Told.{Told};
 
     /// A namespace at its opening state, with its files in memory of an allocator of their own. Nothing else stands there.
+    /// No clause names this allocator: `Placed` is a namespace beside one that clauses name.
     pub fn new(alloc: Global, tree: A, config: Config) -> Result<Self, AllocError>
         ensures { IfOk result (λ s. s ≡ record { limits = config; state = opening }) }
     {

@@ -5,6 +5,14 @@ use Rattle.pf_hub.proofs.hub.step_over.Goals as goal
 
 pub returns-clause-moved : goal.returns-clause-moved
 returns-clause-moved g c =
-    let moved : Moved (loans_live c.new-door.result.loans.now) (loans_live c.step.new.door.loans.now) c.args.space.now c.step.new.self c.args.step.now c.step.result = record { owns = c.step.ensures.owns; limits = c.step.ensures.limits; answers = c.step.ensures.answers; succeeds = c.step.ensures.succeeds } in
+    let before = loans_live c.new-door.result.loans.now in
+    let after = loans_live c.step.new.door.loans.now in
+    let moved : Moved before after c.args.placed.now.space c.step.new.self.space c.args.step.now c.step.result =
+    record {
+      owns = c.step.ensures.owns;
+      limits = c.step.ensures.limits;
+      answers = c.step.ensures.answers;
+      succeeds = c.step.ensures.succeeds;
+    } in
     let here = rw c.new-door.ensures.loans at moved in
     search (here, rules)

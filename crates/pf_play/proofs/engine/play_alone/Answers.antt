@@ -23,7 +23,7 @@ loop-event-preserved c =
         limits,
         c.loop-event.invariant.1,
         rw (w.hub-is, w.answers-is, w.in_ok-push.ensures.items, taken)
-            (went_on limits c.args.ns _ e _ w.step.result _ w.step.new.self went w.if-event-ns.true
+            (went_on limits c.args.ns _ e _ w.step.result _ w.step.new.self.world went w.if-event-ns.true
             w.step.ensures.number w.step.ensures.limits w.step.ensures.answers w.step.ensures.succeeds),
       )
       | else-event-ns w ↦ (
@@ -37,4 +37,5 @@ pub returns : goal.returns
 returns c =
     let all = take_all c.steps-event-items.result.now c.loop-event-test.false in
     let went = rw (all, c.steps-event-items.ensures.steps) at c.loop-event.invariant.2 in
-    alone c.args.script.now c.loop-event.invariant.0 c.args.ns c.loop-event.answers.items c.loop-event.hub went c.loop-event.invariant.1
+    alone c.args.script.now c.loop-event.invariant.0 c.args.ns c.loop-event.answers.items c.loop-event.hub.world went
+    c.loop-event.invariant.1

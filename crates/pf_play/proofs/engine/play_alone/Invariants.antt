@@ -8,4 +8,4 @@ abbrev pub invariant-loop-event : goal.invariant-loop-event
 invariant-loop-event l =
     (limits : Limits)
     × (slice_get (map (λ s. s.1) l.script.spaces) l.ns ≡ Some limits)
-    × Went limits l.ns (take l.event-index l.event-items) l.answers.items l.hub
+    × Went limits l.ns (take l.event-index l.event-items) l.answers.items l.hub.world

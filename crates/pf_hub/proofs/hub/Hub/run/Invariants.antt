@@ -7,8 +7,9 @@ use Rattle.pf_hub.proofs.hub.Hub.run.Given as goal
 
 abbrev pub invariant-loop-event : goal.invariant-loop-event
 invariant-loop-event g l = record {
-  ran : Ran l.fn.self (take l.event-index l.events) l.answers.items l.self;
+  ran : Ran l.fn.self.world (take l.event-index l.events) l.answers.items l.self.world;
   made : length l.answers.items ≡ l.event-index;
   room : vec_capacity l.answers ≡ length l.events;
-  covered : IsCovered l.self;
+  allocators : l.self.allocators ≡ l.fn.self.allocators;
+  covered : IsCovered l.self.world;
 }

@@ -23,7 +23,7 @@ invariant_of-self-2 g c =
     ∙ ap (λ (es : List (Step × Reply)). es ++ (c.in_ok-asked.asked, c.copy_into-told.result) ∷ []) c.reserve.ensures.items
     ∙ ap (λ (s : Step). old ++ (s, c.copy_into-told.result) ∷ []) c.in_ok-asked.ensures
     ∙ ap (λ (r : Reply). old ++ (step, r) ∷ []) c.copy_into-told.ensures in
-    next c.self.inside.hub c.step.new.self ts n step reply _ c.self.invariant within
+    next c.self.inside.hub.world c.step.new.self.world ts n step reply _ c.self.invariant within
     c.step.ensures.number c.step.ensures.limits c.in-Done.ensures.answers c.step.ensures.others
     (ap (λ (es : List (Step × Reply)). let t : OneTranscript = record { limits = c.entries.inside.config; entries = es } in t) more
     ∙ ap (λ (t : OneTranscript). longer t step reply) before)

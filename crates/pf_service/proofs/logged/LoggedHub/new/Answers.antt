@@ -6,8 +6,8 @@ use Rattle.pf_service.proofs.logged.LoggedHub.new.Goals as goal
 
 pub invariant_of-result : goal.invariant_of-result
 invariant_of-result g c =
-    are_opened c.in_ok-hub.hub c.in-Ok.transcripts.items (limits_of c.args.configs.items) (length c.args.frames.items)
-    c.in_ok-hub.ensures.opened (made c.args.configs.items c.deref.result.now c.in-Ok.transcripts.items c.in-Ok.ensures c.deref.ensures.value)
+    are_opened c.in_ok-hub.hub.world c.in-Ok.transcripts.items (limits_of c.args.configs.items)
+    (length c.args.frames.items) c.in_ok-hub.ensures.opened (made c.args.configs.items c.deref.result.now c.in-Ok.transcripts.items c.in-Ok.ensures c.deref.ensures.value)
 
 pub returns-clause-opened : goal.returns-clause-opened
 returns-clause-opened g c = λ i. record {

@@ -1,0 +1,69 @@
+//! A namespace beside the allocator of its files, where a contract sees it.
+
+use crate::space::Space;
+use pf_base::{Answer, Config, Step};
+use pf_frame::Frames;
+use std::alloc::{AllocError, Allocator, Global};
+
+/// A namespace, and the allocator whose memory its files stand in. A contract sees both.
+///
+/// What a contract sees of a `Space`, of its tables and of its tree has no allocator: each is made with one value of a
+/// type that it knows nothing of, and is never handed another, so its files can stand only where that value or a clone
+/// of it puts them. Which value that was is told here, for all three. It is for the host to give an allocator whose
+/// clones share its memory, as those of the global one and of a reference do.
+#[derive(Drop)]
+pub struct Placed<A: Allocator> {
+    space: Space<A>,
+    allocator: A,
+}
+
+impl<A: Allocator> Placed<A> {
+    ghost use Rattle.std.specs.Prelude.{◌≡◌, ◌≤◌};
+    ghost use Rattle.pf_machine.specs.Replies.{most_of};
+    ghost use Rattle.pf_tables.specs.Bounds.{Covers};
+
+    /// A number of bytes that the vector of a step's reply is no longer than, as `Space::reply_bound` says.
+    pub fn reply_bound(&self, step: &Step) -> usize
+        ensures covers { Covers self.now.space step.now result }
+        ensures most { result ≤ most_of step.now }
+    {
+        self.space.reply_bound(step)
+    }
+}
+
+impl<A: Allocator + Clone> Placed<A> {
+    ghost use Rattle.std.specs.Prelude.{◌≡◌, IfOk, false};
+    ghost use Rattle.pf_machine.specs.State.{opening};
+    ghost use Rattle.pf_machine.specs.Machine.{Answers, may_want_memory};
+    ghost use Rattle.pf_machine.specs.Events.{IsDone};
+    ghost use Rattle.pf_tables.specs.Meaning.{meaning};
+    ghost use Rattle.pf_tables.specs.Owns.{Owns};
+
+    /// A namespace at its opening state, with its files in memory of this allocator. They get clones of it.
+    pub fn new(alloc: Global, allocator: A, config: Config) -> Result<Self, AllocError>
+        ensures space { IfOk result (λ p. p.space ≡ record { limits = config; state = opening }) }
+        ensures allocator { IfOk result (λ p. p.allocator ≡ allocator) }
+    {
+        let space = Space::new(alloc, allocator.clone()?, config)?;
+        Ok(Placed { space, allocator })
+    }
+
+    /// One step, as `Space::step` says. The files stay with the same allocator.
+    #[inline(always)]
+    pub fn step<F: Frames>(&mut self, door: &mut F, step: &Step) -> Answer
+        requires fact { F.fact door.old }
+        requires owns { Owns (F.live door.old) self.old.space }
+        ensures fact { F.fact door.new }
+        ensures rest { F.rest door.new ≡ F.rest door.old }
+        ensures owns { Owns (F.live door.new) self.new.space }
+        ensures limits { self.new.space.limits ≡ self.old.space.limits }
+        ensures answers { Answers self.old.space.limits result (meaning (F.live door.old) self.old.space.state)
+            step.now (meaning (F.live door.new) self.new.space.state) }
+        ensures unchanged { result ≡ Answer.NoMemory → (self.new ≡ self.old) × (door.new ≡ door.old) }
+        ensures succeeds { may_want_memory self.old.space.limits
+            (meaning (F.live door.old) self.old.space.state) step.now ≡ false → IsDone result }
+        ensures allocator { self.new.allocator ≡ self.old.allocator }
+    {
+        self.space.step(door, step)
+    }
+}
