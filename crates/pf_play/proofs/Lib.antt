@@ -1,2 +1,5 @@
+mod CommandLineExamples
+pub mod CommandLineLaws
 pub mod EngineLaws
+pub mod ProgramLaws
 pub mod TextLaws

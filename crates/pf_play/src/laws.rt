@@ -1,5 +1,7 @@
-//! Laws of what a replay promises. These functions compute nothing: their contracts are the laws.
+//! Laws of what a replay promises, and of what the words of the command line ask for. These functions compute nothing:
+//! their contracts are the laws.
 
+ghost use Rattle.pf_play.specs.CommandLine.{ChoosesEachName};
 ghost use Rattle.pf_play.specs.Texts.{SameText, OneSection};
 
 /// A text is a function of the script's bytes and of the name that is chosen, whatever the frames hold, if no step
@@ -11,4 +13,9 @@ pub fn same_text()
 /// With one name chosen the text is the section with this name of the text of all.
 pub fn one_section()
     ensures { OneSection }
+{}
+
+/// `--only NAME` and `--only=NAME` choose each name that a namespace may have, and no words choose none.
+pub fn each_name_is_chosen()
+    ensures { ChoosesEachName }
 {}

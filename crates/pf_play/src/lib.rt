@@ -1,6 +1,7 @@
 //! The replayer: a script is read and judged, its steps are run, and the text of the answers is written.
 #![tactic(auto)]
 
+mod command_line;
 mod engine;
 pub mod laws;
 mod program;
@@ -8,5 +9,5 @@ mod run;
 
 pub use engine::{Options, frames_of};
 pub use pf_script::{Collected, Failed, INPUT_LIMIT, MemoryBytes, Reading, Sink, Source, Writing};
-pub use program::run_program;
+pub use program::{Status, obey, run_program};
 pub use run::{ReplayFault, Replayed, replay};

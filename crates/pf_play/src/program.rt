@@ -1,123 +1,167 @@
+ghost use Rattle.std.specs.Prelude.{◌≡◌, ◌≢◌, ◌⊎◌, Err, map, option_copied, string_bytes};
+ghost use Rattle.std.specs.Process.{exit_status};
+ghost use Rattle.clap.specs.Words.{kind_of};
+ghost use Rattle.clap.specs.declared.error.kind.ErrorKind.TheVariants as kinds;
+ghost use Rattle.pf_script.specs.Notices.{notice_line};
+ghost use Rattle.pf_play.specs.Program.{code_of, status_of, words_of, Obeys, IsRun};
+ghost use Rattle.pf_play.specs.Program.{IsTold, IsToldLine, IsUsage, IsNoMemory};
+
+use crate::command_line::options_of;
 use crate::engine::Options;
-use crate::run::{ReplayFault, replay};
+use crate::run::{ReplayFault, Replayed, replay};
+use clap::Error;
 use clap::error::ErrorKind;
-use clap::{Arg, Command, Error};
-use pf_script::{Reading, Writing};
-use std::alloc::{AllocError, Global};
-use std::env;
-use std::fmt::Display;
-use std::io::{self, Write};
+use pf_script::{Notice, Reading, Sink, Source, Writing, print_notice, write_out};
+use std::alloc::Global;
 use std::process::ExitCode;
+use std::{env, io};
 
-/// The byte that every frame holds at the start.
-const FILL: u8 = 165;
-
-/// What `--help` says.
-const ABOUT: &str = "Runs a script of pipe calls from standard input and prints each call's answer";
-
-/// What it says of `--only`.
-const ABOUT_ONLY: &str = "Runs this namespace's steps alone, and prints its section";
-
-/// The end of what `--help` says.
-const EXAMPLE: &str = "Example:
-  printf 'pool 16\\nspace red 16\\nred spawn 5 5 022\\nred pipe 1\\n' | pfplay";
+/// What is told where a word of the command line is no text.
+const NO_TEXT: &str = "error: a word of the command line isn't UTF-8\n";
 
 /// What the process ends with.
-#[derive(Clone, Copy)]
-enum Status {
+#[derive(Debug, Clone, Copy)]
+pub enum Status {
+    /// All is done, and no step met want of memory.
     Done = 0,
+    /// The script is refused.
     Refused = 1,
+    /// The words of the command line aren't taken, they ask for help, or no namespace has the name that they choose.
     Usage = 2,
+    /// Memory was wanted, by a step or outside of them.
     NoMemory = 3,
+    /// A read or a write failed.
     Fault = 4,
 }
 
-/// Prints a line, after which the process ends with this status, or with that of a write fault.
-fn tell<D: Display + Drop>(rt: &HostRuntime, status: Status, line: D) -> Status {
-    if println!(rt; "{line}").is_err() {
-        return Status::Fault;
+impl Status {
+    /// This status as the process's.
+    pub fn exit_code(self) -> ExitCode
+        ensures { exit_status result ≡ code_of self }
+    {
+        ExitCode::from(self as u8)
     }
-    status
 }
 
-/// The words of the command line.
-fn words(rt: &HostRuntime) -> Result<Vec<String>, AllocError> {
-    let mut given = Vec::new(rt.alloc());
-    let Ok(words) = env::args(rt) else {
-        return Err(AllocError);
-    };
-    for word in words {
-        given.push(word)?;
+/// Writes this text, after which the status is this one, or that of a write fault.
+fn tell_text<W: Sink>(writer: &mut W, text: &str, status: Status) -> Status
+    ensures { IsTold (W.output writer.old) (W.output writer.new) text.now status result }
+{
+    match write_out(writer, text.as_bytes()) {
+        Ok(()) => status,
+        Err(_) => Status::Fault,
     }
-    Ok(given)
 }
 
-/// What the words of the command line may be.
-fn command<'a>(alloc: Global) -> Result<Command<'a>, AllocError> {
-    let only = Arg::new(alloc, "only")
-        .long("only")
-        .value_name("NAME")
-        .help(ABOUT_ONLY);
-    Command::new(alloc, "pfplay")
-        .about(ABOUT)
-        .after_help(EXAMPLE)
-        .arg(only)?
-        .bin_name("pfplay")
+/// Prints a line that says why there is no text, after which the status is this one, or that of a write fault.
+fn tell<W: Sink>(writer: &mut W, notice: &Notice<'_>, status: Status) -> Status
+    ensures { IsTold (W.output writer.old) (W.output writer.new) (notice_line notice.now) status result }
+{
+    match print_notice(writer, notice) {
+        Ok(()) => status,
+        Err(_) => Status::Fault,
+    }
+}
+
+/// Prints that memory was wanted.
+fn tell_no_memory<W: Sink>(writer: &mut W) -> Status
+    ensures { IsNoMemory (W.output writer.old) (W.output writer.new) result }
+{
+    tell(writer, &Notice::NoMemory, Status::NoMemory)
 }
 
 /// Prints why the words aren't taken, or the help that they ask for.
-fn tell_usage(rt: &HostRuntime, error: Error) -> Status {
+fn tell_usage<W: Sink>(alloc: Global, writer: &mut W, error: Error) -> Status
+    ensures { ((kind_of error ≢ kinds.OutOfMemory) × IsUsage (W.output writer.old) (W.output writer.new) result)
+        ⊎ IsNoMemory (W.output writer.old) (W.output writer.new) result }
+{
     if matches!(error.kind(), ErrorKind::OutOfMemory) {
-        return tell(rt, Status::NoMemory, "no memory");
+        return tell_no_memory(writer);
     }
-    if print!(rt; "{error}").is_err() {
-        return Status::Fault;
+    match format!(in alloc; "{error}") {
+        Ok(text) => tell_text(writer, text.as_str(), Status::Usage),
+        Err(_) => tell_no_memory(writer),
     }
-    Status::Usage
 }
 
-/// Prints that no namespace has the name that was chosen.
-fn tell_no_name(rt: &HostRuntime, name: Option<&str>) -> Status {
-    let name = name.unwrap_or("");
-    if println!(rt; "no namespace {name}").is_err() {
-        return Status::Fault;
-    }
-    Status::Usage
-}
-
-/// Runs the script on standard input, or the steps of this name alone.
-fn play_input(rt: &HostRuntime, only: Option<&str>) -> Status {
-    let mut reader = Reading::new(rt.reader());
-    let mut writer = Writing::new(io::writer(rt));
-    let options = Options { only, fill: FILL };
-    match replay(rt.alloc(), &mut reader, &mut writer, &options) {
-        Ok(replayed) => {
-            if replayed.nomem > 0 {
-                Status::NoMemory
-            } else {
-                Status::Done
-            }
+/// Prints what is told of a run that failed, this name being chosen or none.
+fn tell_fault<W: Sink>(writer: &mut W, only: Option<&str>, fault: ReplayFault) -> Status
+    ensures { IsToldLine (W.output writer.old) (W.output writer.new)
+        (words_of (option_copied only.entry) (Err fault)) (status_of (Err fault)) result }
+{
+    match fault {
+        ReplayFault::Script(refusal) => tell(writer, &Notice::Refused(refusal), Status::Refused),
+        ReplayFault::NoSuchName => {
+            let name = only.unwrap_or("");
+            tell(writer, &Notice::NoNamespace(name), Status::Usage)
         }
-        Err(ReplayFault::Script(refusal)) => tell(rt, Status::Refused, refusal),
-        Err(ReplayFault::NoSuchName) => tell_no_name(rt, only),
-        Err(ReplayFault::NoMemory) => tell(rt, Status::NoMemory, "no memory"),
-        Err(ReplayFault::ReadFault) => tell(rt, Status::Fault, "read fault"),
-        Err(ReplayFault::WriteFault) => Status::Fault,
+        ReplayFault::NoMemory => tell_no_memory(writer),
+        ReplayFault::ReadFault => tell(writer, &Notice::ReadFault, Status::Fault),
+        ReplayFault::WriteFault => Status::Fault,
     }
 }
 
-/// Judges the words of the command line, and then does what they say.
-fn obey(rt: &HostRuntime) -> Status {
-    let Ok(given) = words(rt) else {
-        return tell(rt, Status::NoMemory, "no memory");
-    };
-    let Ok(command) = command(rt.alloc()) else {
-        return tell(rt, Status::NoMemory, "no memory");
-    };
-    match command.try_get_matches_from(given.as_slice()) {
-        Ok(matches) => play_input(rt, matches.get_str("only")),
-        Err(error) => tell_usage(rt, error),
+/// Prints what is told of a run's end, this name being chosen or none: nothing beside the text where there is one.
+fn tell_end<W: Sink>(
+    writer: &mut W,
+    only: Option<&str>,
+    end: Result<Replayed, ReplayFault>,
+) -> Status
+    ensures { IsToldLine (W.output writer.old) (W.output writer.new)
+        (words_of (option_copied only.entry) end) (status_of end) result }
+{
+    match end {
+        Ok(replayed) if replayed.nomem > 0 => Status::NoMemory,
+        Ok(_) => Status::Done,
+        Err(fault) => tell_fault(writer, only, fault),
     }
+}
+
+/// Runs the script that the reader has, and prints its text or why there is none.
+fn play_input<R: Source, W: Sink>(
+    alloc: Global,
+    reader: &mut R,
+    writer: &mut W,
+    options: &Options<'_>,
+) -> Status
+    ensures { IsRun (R.input reader.old) (R.input reader.new) (W.output writer.old) (W.output writer.new)
+        (option_copied options.now.only) result }
+{
+    let end = replay(alloc, reader, writer, options);
+    tell_end(writer, options.only, end)
+}
+
+/// Judges the words of the command line, of which the first is the program's name, and then does what they say.
+pub fn obey<R: Source, W: Sink>(
+    alloc: Global,
+    words: &[String],
+    reader: &mut R,
+    writer: &mut W,
+) -> Status
+    ensures { Obeys (map string_bytes words.now) (R.input reader.old) (R.input reader.new)
+        (W.output writer.old) (W.output writer.new) result }
+{
+    match options_of(alloc, words) {
+        Ok(options) => play_input(alloc, reader, writer, &options),
+        Err(error) => tell_usage(alloc, writer, error),
+    }
+}
+
+/// Prints why the words of the command line can't be had: one of them is no text, or memory was wanted.
+fn tell_no_words<W: Sink>(writer: &mut W, error: &io::Error) -> Status
+    ensures { IsUsage (W.output writer.old) (W.output writer.new) result
+        ⊎ IsNoMemory (W.output writer.old) (W.output writer.new) result }
+{
+    if matches!(error.kind(), io::ErrorKind::OutOfMemory) {
+        return tell_no_memory(writer);
+    }
+    tell_text(writer, NO_TEXT, Status::Usage)
+}
+
+/// The words of the command line.
+fn words(rt: &HostRuntime) -> io::Result<Vec<String>> {
+    let words = env::args(rt)?.collect(rt.alloc())?;
+    Ok(words)
 }
 
 /// The whole program `pfplay`: the words of the command line are judged, the script on standard input is run, and the
@@ -125,9 +169,11 @@ fn obey(rt: &HostRuntime) -> Status {
 /// text. The process ends with 0 where all is done, 1 where the script is refused, 2 for usage and for a name that no
 /// namespace has, 3 where memory was wanted, and 4 where reading or writing failed.
 pub fn run_program(rt: &HostRuntime) -> ExitCode {
-    let status = obey(rt);
-    if io::writer(rt).flush().is_err() {
-        return ExitCode::from(Status::Fault as u8);
-    }
-    ExitCode::from(status as u8)
+    let mut reader = Reading::new(rt.reader());
+    let mut writer = Writing::new(io::writer(rt));
+    let status = match words(rt) {
+        Ok(words) => obey(rt.alloc(), words.as_slice(), &mut reader, &mut writer),
+        Err(error) => tell_no_words(&mut writer, &error),
+    };
+    status.exit_code()
 }

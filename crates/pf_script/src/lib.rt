@@ -23,7 +23,7 @@ pub use adapters::{Reading, Writing};
 pub use fault::ScriptFault;
 pub use memory::{Collected, MemoryBytes};
 pub use notice::{Notice, print_notice};
-pub use port::{Failed, INPUT_LIMIT, Sink, Source, WriteFault};
+pub use port::{Failed, INPUT_LIMIT, Sink, Source, WriteFault, write_out};
 pub use read::read_script;
 pub use refusal::{Cause, Refusal};
 pub use script::Script;

@@ -1,0 +1,44 @@
+-- What words of the command line ask for, by computation.
+
+use Rattle.std.proofs.Common.{codes, refl, List, Some, [], ◌∷◌, ◌≡◌}
+use Rattle.clap.specs.Words.{Text}
+use Rattle.clap.specs.declared.error.kind.ErrorKind.TheVariants as kinds
+use Rattle.clap.proofs.OnLiterals.{clap_on_literals}
+use Rattle.pf_play.specs.CommandLine.{Asks, refusals}
+
+abbrev pfplay_with : List Text → List Text
+pfplay_with words = codes "pfplay" ∷ words
+
+one_name : Asks (pfplay_with (codes "--only" ∷ codes "red" ∷ [])) (Some (codes "red"))
+unfolding clap_on_literals
+one_name = (refl, refl)
+
+-- what no namespace is called is a name for the command line
+no_name : Asks (pfplay_with (codes "--only" ∷ codes "Red Green" ∷ [])) (Some (codes "Red Green"))
+unfolding clap_on_literals
+no_name = (refl, refl)
+
+bare_option : refusals (pfplay_with (codes "--only" ∷ [])) ≡ kinds.InvalidValue ∷ []
+unfolding clap_on_literals
+bare_option = refl
+
+two_names : refusals (pfplay_with (codes "--only" ∷ codes "red" ∷ codes "--only=blue" ∷ []))
+    ≡ kinds.ArgumentConflict ∷ []
+unfolding clap_on_literals
+two_names = refl
+
+unknown_option : refusals (pfplay_with (codes "--fill" ∷ [])) ≡ kinds.UnknownArgument ∷ []
+unfolding clap_on_literals
+unknown_option = refl
+
+stray_word : refusals (pfplay_with (codes "red" ∷ [])) ≡ kinds.UnknownArgument ∷ []
+unfolding clap_on_literals
+stray_word = refl
+
+help : refusals (pfplay_with (codes "--help" ∷ [])) ≡ kinds.DisplayHelp ∷ []
+unfolding clap_on_literals
+help = refl
+
+short_help : refusals (pfplay_with (codes "--only" ∷ codes "red" ∷ codes "-h" ∷ [])) ≡ kinds.DisplayHelp ∷ []
+unfolding clap_on_literals
+short_help = refl

@@ -1,0 +1,19 @@
+use Rattle.std.proofs.Common.{ap, codes, map, string_bytes, sym, ◌≡◌, ◌∙◌}
+use Rattle.clap.specs.Words.{app_of, fault_of, first_of, found_of, is_simple, is_simple_and_free, matches_of}
+use Rattle.clap.proofs.WalkLemmas.{first_value-rows}
+use Rattle.pf_play.specs.CommandLine.{pfplay}
+use Rattle.pf_play.proofs.CommandLineLaws.{simple, simple_and_free}
+use Rattle.pf_play.proofs.command_line.options_of.Goals as goal
+
+pub returns-clause-only : goal.returns-clause-only
+returns-clause-only c =
+    let app : app_of c.in_ok-command.command ≡ pfplay = c.in_ok-command.ensures in
+    let rows = (c.in_ok-matches.ensures.matches (ap is_simple app ∙ simple)).0 in
+    c.get_str.ensures ∙ first_value-rows (found_of c.in_ok-matches.matches) (codes "only")
+    ∙ ap (first_of (codes "only")) (rows ∙ ap (λ a. matches_of a (map string_bytes c.args.words.now)) app)
+
+pub returns-clause-refusals : goal.returns-clause-refusals
+returns-clause-refusals c =
+    let app : app_of c.in_ok-command.command ≡ pfplay = c.in_ok-command.ensures in
+    ap (λ a. fault_of a (map string_bytes c.args.words.now)) (sym app)
+    ∙ c.in_ok-matches.ensures.kinds (ap is_simple_and_free app ∙ simple_and_free)

@@ -1,0 +1,57 @@
+ghost use Rattle.std.specs.Prelude.{◌≡◌, IfOk, false, map, option_copied, string_bytes};
+ghost use Rattle.clap.specs.Words.{FailsBy, app_of, rule_of};
+ghost use Rattle.pf_play.specs.CommandLine.{only_rule, pfplay, name_in, refusals};
+
+use crate::engine::Options;
+use clap::{Arg, Command, Error};
+use std::alloc::{AllocError, Global};
+
+/// The byte that every frame holds at the start.
+const FILL: u8 = 165;
+
+/// What `--help` says.
+const ABOUT: &str = "Runs a script of pipe calls from standard input and prints each call's answer";
+
+/// What it says of `--only`.
+const ABOUT_ONLY: &str = "Runs this namespace's steps alone, and prints its section";
+
+/// The end of what `--help` says.
+const EXAMPLE: &str = "Example:
+  printf 'pool 16\\nspace red 16\\nred spawn 5 5 022\\nred pipe 1\\n' | pfplay";
+
+/// The option `--only NAME`.
+fn only<'a>(alloc: Global) -> Arg<'a>
+    ensures rule { rule_of result ≡ only_rule }
+    ensures own { result.global ≡ false }
+{
+    Arg::new(alloc, "only")
+        .long("only")
+        .value_name("NAME")
+        .help(ABOUT_ONLY)
+}
+
+/// What the words of the command line may be.
+fn command<'a>(alloc: Global) -> Result<Command<'a>, AllocError>
+    ensures { IfOk result (λ command. app_of command ≡ pfplay) }
+{
+    Command::new(alloc, "pfplay")
+        .about(ABOUT)
+        .after_help(EXAMPLE)
+        .arg(only(alloc))?
+        .bin_name("pfplay")
+}
+
+/// How the words of the command line want a script to be run. The first of them is the program's name. An error says
+/// why they aren't taken, or is the help that they ask for, or is of kind `OutOfMemory`.
+pub fn options_of<'a>(alloc: Global, words: &'a [String]) -> Result<Options<'a>, Error>
+    ensures only { IfOk result (λ options.
+        option_copied options.only ≡ name_in (map string_bytes words.entry.now)) }
+    ensures refusals { FailsBy (refusals (map string_bytes words.entry.now)) result }
+{
+    let command = command(alloc)?;
+    let matches = command.try_get_matches_from(words)?;
+    Ok(Options {
+        only: matches.get_str("only"),
+        fill: FILL,
+    })
+}
