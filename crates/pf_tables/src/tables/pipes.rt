@@ -11,7 +11,9 @@ ghost use Rattle.pf_tables.specs.Owns.{Owns};
 ghost use Rattle.pf_tables.specs.Tables.{HasTwo, FindsTwo, Opens, Resizing, HasResized, is_spent_for_pipe, capacity_of_caller, size_of_end, sized};
 
 use super::{Description, Tables, end};
-use pf_base::{Config, Errno, Fault, MAX_DESCRIPTORS, MAX_MADE, MAX_SIZE, PAGE_SIZE, Side, pages_for};
+use pf_base::{
+    Config, Errno, Fault, MAX_DESCRIPTORS, MAX_MADE, MAX_SIZE, PAGE_SIZE, Side, pages_for,
+};
 use pf_fds::{Descriptions, Key};
 use pf_frame::Frames;
 use pf_limits::UserPages;
