@@ -26,12 +26,13 @@ IsCause configs ts given seats (Disagree n) =
 IsCause configs ts given seats SeatsMissing = AreGiven given seats → ⊥
 IsCause configs ts given seats NoMemory = Unit {0}
 
--- each namespace agrees, the replies of its transcript are the lone machine's, and the seats are all that were given
+-- each namespace agrees, the replies of its transcript are the lone machine's, and its seats are those numbered from 0 up
+-- to some number, each once: how many were given is known behind the lock alone
 pub record IsClosed (configs : List Limits) (seats : List OneSeat) (ts : List OneTranscript) : Type 0 where
   pub agrees : (n : ℕ) → Agrees configs ts seats n
   pub alone : (n : ℕ) → IsLone (transcript_at ts n)
   pub given : (given : List ℕ) × AreGiven given seats
 
--- some transcripts and numbers of seats that the lock held are the cause
+-- these seats don't fit some transcripts and some numbers of seats: which ones lay behind the lock isn't said
 abbrev pub IsClosedFault : List Limits → List OneSeat → CloseFault → Type 0
 IsClosedFault configs seats fault = (ts : List OneTranscript) × (given : List ℕ) × IsCause configs ts given seats fault

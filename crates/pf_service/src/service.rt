@@ -133,11 +133,14 @@ impl<A: Allocator + Clone, G: Gate> Service<A, G> {
         desk.event(&self.gate, seat, step)
     }
 
-    /// Ends the service, and gives what each namespace was asked and told, where all seats fit that.
+    /// Ends the service, and gives what each namespace was asked and told, where these seats fit that.
     ///
     /// At Ok each transcript is a merge of what its namespace's seats keep, each event at its place and nothing else; its
-    /// replies are the lone machine's on its steps, under the limits that the namespace was given; and the seats are all
-    /// that the service gave. Seats of another service are judged alike.
+    /// replies are the lone machine's on its steps, under the limits that the namespace was given; and the seats of each
+    /// namespace are those numbered from 0 up to some number, each once. Seats of another service are judged alike.
+    ///
+    /// How many seats were given lies behind the lock, where no clause of this call sees it. That they are all here, and
+    /// that each fault has its cause, is a promise of `compare`, to which this call hands what lay there.
     pub fn close(self, seats: Vec<Seat>) -> Result<Transcripts, CloseFault>
     where
         G: Drop,

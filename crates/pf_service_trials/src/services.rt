@@ -4,7 +4,7 @@ ghost use Rattle.std.specs.Prelude.{◌<◌};
 
 use pf_base::{ByteString, Config, Groups, Reply, Step};
 use pf_frame::Frame;
-use pf_service::{NoGate, Seat, Service, Transcript, Transcripts};
+use pf_service::{Gate, NoGate, Seat, Service, Transcript, Transcripts};
 use std::alloc::{AllocError, Global};
 use std::process::Abort;
 use std::sync::Wait;
@@ -31,6 +31,17 @@ fn old_frames(alloc: Global, count: usize) -> Result<Vec<Frame>, AllocError> {
 pub(crate) fn service_of(alloc: Global, namespaces: usize) -> Option<Plain>
     requires { namespaces < 65 }
 {
+    gated_service_of(alloc, namespaces, NoGate)
+}
+
+// The same, with a gate.
+pub(crate) fn gated_service_of<G: Gate + Drop>(
+    alloc: Global,
+    namespaces: usize,
+    gate: G,
+) -> Option<Service<Global, G>>
+    requires { namespaces < 65 }
+{
     let config = Config::new(
         16,
         Config::DEFAULT_SOFT,
@@ -43,7 +54,7 @@ pub(crate) fn service_of(alloc: Global, namespaces: usize) -> Option<Plain>
         configs.push((config, alloc)).ok()?;
     }
     let frames = old_frames(alloc, 16 * namespaces).ok()?;
-    Service::new(alloc, frames, configs, NoGate).ok()
+    Service::new(alloc, frames, configs, gate).ok()
 }
 
 pub(crate) fn spawn(alloc: Global) -> Step {
@@ -94,9 +105,9 @@ pub(crate) fn steps_of_blue(alloc: Global) -> Result<Vec<Step>, AllocError> {
 }
 
 // Makes the steps in turn. No seat comes back where one was refused.
-pub(crate) fn make<R: Wait>(
+pub(crate) fn make<R: Wait, G: Gate>(
     rt: &R,
-    service: &Plain,
+    service: &Service<Global, G>,
     mut seat: Seat,
     steps: &[Step],
 ) -> Option<Seat> {

@@ -1,0 +1,182 @@
+//! A gate that remembers: it is told of each event once, with the event's numbers, in the order of the transcript, and
+//! while the lock is held. That it is told before the step is made, a contract says.
+
+use crate::services::{BLUE, RED, gated_service_of, make, steps_of_blue, steps_of_red};
+use pf_base::Step;
+use pf_service::{CloseFault, Gate, Seat, Service, Transcripts};
+use std::alloc::Global;
+use std::sync::Wait;
+use std::sync::atomic::{AtomicU64, Ordering};
+use std::test::Fail;
+use std::thread;
+use std::thread::{Threads, join};
+
+// The most turns that a thread waits for another.
+const TURNS: u64 = 1_000_000;
+
+// The turns that a gate gives to other threads while it is told of an event.
+const GIVEN: u64 = 1_000;
+
+// What a gate was told of a namespace.
+#[derive(Drop)]
+struct Told {
+    // The place after the last one.
+    next: AtomicU64,
+    // How many events it is just told of.
+    inside: AtomicU64,
+    // Not 0: a place wasn't the next, or it was told of two events at once.
+    wrong: AtomicU64,
+}
+
+impl Told {
+    fn new() -> Told {
+        Told {
+            next: AtomicU64::new(0),
+            inside: AtomicU64::new(0),
+            wrong: AtomicU64::new(0),
+        }
+    }
+
+    // Whether it was so many events, one after the other.
+    fn is(&self, events: u64) -> bool {
+        self.next.load(Ordering::SeqCst) == events && self.wrong.load(Ordering::SeqCst) == 0
+    }
+
+    fn tell(&self, place: u64) {
+        let others = self.inside.fetch_add(1, Ordering::SeqCst);
+        let before = self.next.load(Ordering::SeqCst);
+        for _ in 0..GIVEN {
+            thread::yield_now();
+        }
+        let after = self.next.swap(place.wrapping_add(1), Ordering::SeqCst);
+        if others != 0 || before != place || after != place {
+            self.wrong.store(1, Ordering::SeqCst);
+        }
+        self.inside.fetch_sub(1, Ordering::SeqCst);
+    }
+}
+
+// Remembers what it is told. Told of the first event, it waits until another caller is on its way.
+#[derive(Drop)]
+struct Recorder<'a> {
+    red: &'a Told,
+    blue: &'a Told,
+    held: &'a AtomicU64,
+    coming: &'a AtomicU64,
+}
+
+impl Gate for Recorder<'_> {
+    ghost passed = { λ _ _ _. Unit {0} };
+
+    fn pass(&self, ns: u32, place: u64) {
+        let told = if ns == RED { self.red } else { self.blue };
+        if self.held.swap(1, Ordering::SeqCst) == 0 && !comes(self.coming) {
+            told.wrong.store(1, Ordering::SeqCst);
+        }
+        told.tell(place);
+    }
+}
+
+// Yields until a signal has come; whether it has.
+fn comes(signal: &AtomicU64) -> bool {
+    for _ in 0..TURNS {
+        if signal.load(Ordering::SeqCst) != 0 {
+            return true;
+        }
+        thread::yield_now();
+    }
+    false
+}
+
+// Makes the steps in turn, each of which the gate is told of once.
+fn make_told<R: Wait>(
+    rt: &R,
+    service: &Service<Global, Recorder<'_>>,
+    mut seat: Seat,
+    steps: &[Step],
+    told: &Told,
+) -> Option<Seat> {
+    for step in steps {
+        let receipt = service.call(rt, &mut seat, step).ok()?;
+        if !told.is(receipt.place.wrapping_add(1)) {
+            return None;
+        }
+    }
+    Some(seat)
+}
+
+#[test]
+fn a_gate_is_told_of_each_event_once(rt: HostRuntime) -> Result<(), Fail> {
+    let alloc = rt.alloc();
+    let (red, blue) = (Told::new(), Told::new());
+    let (held, coming) = (AtomicU64::new(0), AtomicU64::new(1));
+    let gate = Recorder {
+        red: &red,
+        blue: &blue,
+        held: &held,
+        coming: &coming,
+    };
+    let service = gated_service_of(alloc, 2, gate).ok_or("refused")?;
+    let (ours, theirs) = (service.seat(&rt, RED)?, service.seat(&rt, BLUE)?);
+    make_told(&rt, &service, ours, &steps_of_red(alloc)?, &red).ok_or("told otherwise")?;
+    assert!(rt; blue.is(0));
+    make_told(&rt, &service, theirs, &steps_of_blue(alloc)?, &blue).ok_or("told otherwise")?;
+    assert!(rt; red.is(4) && blue.is(4));
+    Ok(())
+}
+
+// The second caller of a namespace: it calls once the gate is told of the first one's event.
+fn make_behind<R: Wait>(
+    rt: &R,
+    service: &Service<Global, Recorder<'_>>,
+    seat: Seat,
+    steps: &[Step],
+    held: &AtomicU64,
+    coming: &AtomicU64,
+) -> Option<Seat> {
+    if !comes(held) {
+        return None;
+    }
+    coming.store(1, Ordering::SeqCst);
+    make(rt, service, seat, steps)
+}
+
+// Two callers of one namespace, on a thread each, the second while the gate is told of the first one's event.
+fn on_two_threads<R: Threads + Wait + Sync>(
+    rt: &R,
+    alloc: Global,
+    told: &Told,
+) -> Option<Result<Transcripts, CloseFault>> {
+    let (held, coming) = (AtomicU64::new(0), AtomicU64::new(0));
+    let (first_in, second_comes) = (&held, &coming);
+    let gate = Recorder {
+        red: told,
+        blue: told,
+        held: first_in,
+        coming: second_comes,
+    };
+    let service = gated_service_of(alloc, 1, gate)?;
+    let shared = &service;
+    let (first, second) = (shared.seat(rt, RED).ok()?, shared.seat(rt, RED).ok()?);
+    let owned = steps_of_blue(alloc).ok()?;
+    let steps = owned.as_slice();
+    let (first, second) = join(
+        rt,
+        move || make(rt, shared, first, steps),
+        move || make_behind(rt, shared, second, steps, first_in, second_comes),
+    );
+    let mut seats = Vec::with_capacity(alloc, 2).ok()?;
+    seats.push(first?).ok()?;
+    seats.push(second?).ok()?;
+    Some(service.close(seats))
+}
+
+#[test]
+fn a_gate_is_told_while_the_lock_is_held(rt: HostRuntime) -> Result<(), Fail> {
+    let told = Told::new();
+    let transcripts = on_two_threads(&rt, rt.alloc(), &told).ok_or("refused")??;
+    let transcript = transcripts.as_slice().first().ok_or("none")?;
+    assert_eq!(rt; transcript.entries().len(), 8);
+    assert!(rt; told.is(8));
+    Ok(())
+}
