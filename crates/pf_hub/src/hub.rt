@@ -58,8 +58,8 @@ fn sum_of<A: Allocator>(configs: &[(Config, A)]) -> u64
         .sum()
 }
 
-// The first test that so many frames and these limits fail. It takes no memory, so none is wanted before it.
-fn first_fault<A: Allocator>(frames: usize, configs: &[(Config, A)]) -> Option<PoolFault>
+/// The first test that so many frames and these limits fail. It takes no memory, so none is wanted before it.
+pub fn first_fault<A: Allocator>(frames: usize, configs: &[(Config, A)]) -> Option<PoolFault>
     ensures { result ≡ first_fault frames (limits_of configs.now) }
 {
     if configs.len() > MAX_NAMESPACES {
@@ -101,10 +101,13 @@ fn spaces_of<A: Allocator + Clone>(
     Ok(spaces)
 }
 
-// A step of a namespace, through the door of its loans and of whoever lends them. It and `step_in` are inlined, or each
-// answer is copied once more on its way out.
+/// A step of a namespace, through the door of its loans and of whoever lends them.
+///
+/// The lender is sure to give a frame for each of the namespace's credits, and can take back as many as it holds; so it is
+/// afterwards.
+// It and `step_in` are inlined, or each answer is copied once more on its way out.
 #[inline(always)]
-fn step_over<A: Allocator + Clone, D: Lender>(
+pub fn step_over<A: Allocator + Clone, D: Lender>(
     placed: &mut Placed<A>,
     lender: &mut D,
     loans: &mut Loans,

@@ -13,8 +13,8 @@ use Rattle.pf_hub.proofs.Sendable.{hub_send}
 use Rattle.pf_hub.specs.contracts.hub.Hub as Hub
 use Rattle.pf_service.proofs.transcript.Transcript.TheSendSync as transcript
 use Rattle.pf_service.specs.contracts.desk.Desk as Desk
-use Rattle.pf_service.specs.contracts.gate.NoGate as NoGate
-use Rattle.pf_service.specs.contracts.gate.NoGateGate.TheImpl.{ghosts as no_gate}
+use Rattle.pf_worker.specs.contracts.gate.NoGate as NoGate
+use Rattle.pf_worker.specs.contracts.gate.NoGateGate.TheImpl.{ghosts as no_gate}
 use Rattle.pf_service.specs.contracts.gated.GatedHub as GatedHub
 use Rattle.pf_service.specs.contracts.gated.GatedHub.TheInside as in_gated
 use Rattle.pf_service.specs.contracts.logged.LoggedHub as LoggedHub
@@ -22,7 +22,7 @@ use Rattle.pf_service.specs.contracts.logged.LoggedHub.TheInside as in_logged
 use Rattle.pf_service.specs.contracts.service.Service as Service
 use Rattle.pf_service.specs.contracts.service.Service.TheInside as in_service
 use Rattle.pf_service.specs.contracts.transcript.Transcript as Transcript
-use Rattle.pf_service.specs.declared.gate.Gate as Gate
+use Rattle.pf_worker.specs.declared.gate.Gate as Gate
 
 module _ (A : RattleType) (g : Allocator.Ghosts A.Denot) (s : IsSend A) (f : Frees g g.dealloc_token) where
   in_logged_send : IsSend (in_logged.the_row A g)

@@ -5,13 +5,13 @@ use crate::MAX_SEATS;
 use crate::copies::copy_into;
 use crate::event::Event;
 use crate::fault::ServiceFault;
-use crate::gate::Gate;
 use crate::gated::GatedHub;
 use crate::logged::LoggedHub;
 use crate::receipt::Receipt;
 use crate::seat::Seat;
 use crate::transcript::Transcript;
 use pf_base::Step;
+use pf_worker::Gate;
 use std::alloc::{Allocator, Global};
 
 /// What lies behind the service's lock: the hub with its transcripts, and how many seats each namespace gave.

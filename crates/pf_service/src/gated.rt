@@ -1,10 +1,10 @@
 ghost use Rattle.std.specs.Prelude.{◌≡◌, ◌<◌, length};
 
 use crate::fault::ServiceFault;
-use crate::gate::Gate;
 use crate::logged::LoggedHub;
 use crate::transcript::Transcript;
 use pf_base::{Reply, Step};
+use pf_worker::Gate;
 use std::alloc::Allocator;
 use std::marker::Model;
 

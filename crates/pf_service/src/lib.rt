@@ -6,7 +6,6 @@ mod copies;
 mod desk;
 pub mod event;
 pub mod fault;
-pub mod gate;
 mod gated;
 pub mod given;
 pub mod judge;
@@ -19,9 +18,9 @@ pub mod transcript;
 
 pub use event::Event;
 pub use fault::{CloseFault, ServiceFault};
-pub use gate::{Gate, NoGate};
 pub use judge::compare;
 pub use logged::LoggedHub;
+pub use pf_worker::{Gate, NoGate};
 pub use receipt::Receipt;
 pub use seat::Seat;
 pub use service::Service;

@@ -3,7 +3,6 @@ ghost use Rattle.pf_hub.specs.Opening.{limits_of};
 
 use crate::desk::Desk;
 use crate::fault::{CloseFault, ServiceFault};
-use crate::gate::Gate;
 use crate::judge::compare;
 use crate::logged::LoggedHub;
 use crate::receipt::Receipt;
@@ -11,6 +10,7 @@ use crate::seat::Seat;
 use crate::transcript::Transcripts;
 use pf_base::{Config, MAX_NAMESPACES, Step};
 use pf_frame::{Frame, PoolFault};
+use pf_worker::Gate;
 use std::alloc::{AllocError, Allocator, Global};
 use std::marker::Model;
 use std::sync::{Mutex, Wait};

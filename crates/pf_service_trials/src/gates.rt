@@ -68,12 +68,20 @@ struct Recorder<'a> {
 impl Gate for Recorder<'_> {
     ghost passed = { λ _ _ _. Unit {0} };
 
+    ghost framed = { λ _ _. Unit {0} };
+
     fn pass(&self, ns: u32, place: u64) {
         let told = if ns == RED { self.red } else { self.blue };
         if self.held.swap(1, Ordering::SeqCst) == 0 && !comes(self.coming) {
             told.wrong.store(1, Ordering::SeqCst);
         }
         told.tell(place);
+    }
+
+    // A hub has its frames to itself, so its service takes none that is shared.
+    fn frame(&self, ns: u32) {
+        let told = if ns == RED { self.red } else { self.blue };
+        told.wrong.store(1, Ordering::SeqCst);
     }
 }
 

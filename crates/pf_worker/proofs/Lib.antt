@@ -1,0 +1,2 @@
+pub mod WorkerLaws
+pub mod Sendable

@@ -1,0 +1,97 @@
+ghost use Rattle.std.specs.Prelude.{◌≡◌, ◌+◌, ◌<◌};
+ghost use Rattle.pf_frame.specs.Live.{Takes};
+ghost use Rattle.pf_depot.specs.Loans.{loans_live};
+
+use crate::gate::Gate;
+use pf_depot::{DepotBook, Lender, Loans, SharedDepot};
+use pf_frame::FrameNo;
+use std::sync::ledger::{Ledger, Share};
+use std::sync::{Mutex, Wait};
+
+/// A namespace's way to a shared depot, of which a gate is told: before each frame that the namespace takes, while the
+/// depot's lock isn't held.
+///
+/// But for that it is the `SharedDepot` of the same shares.
+#[derive(Drop)]
+pub struct GatedDepot<'a, R: Wait, G: Gate, C: Ledger, H: Ledger> {
+    rt: &'a R,
+    gate: &'a G,
+    ns: u32,
+    book: &'a Mutex<DepotBook<C, H>>,
+    credits: &'a mut Share<C>,
+    held: &'a mut Share<H>,
+}
+
+impl<'a, R: Wait, G: Gate, C: Ledger, H: Ledger> GatedDepot<'a, R, G, C, H> {
+    /// The way of the namespace of this number, which has these shares.
+    pub fn new(
+        rt: &'a R,
+        gate: &'a G,
+        ns: u32,
+        book: &'a Mutex<DepotBook<C, H>>,
+        credits: &'a mut Share<C>,
+        held: &'a mut Share<H>,
+    ) -> GatedDepot<'a, R, G, C, H>
+        ensures ns { result.ns ≡ ns }
+        ensures credits_name { result.credits.ghost_name ≡ credits.entry.ghost_name }
+        ensures held_name { result.held.ghost_name ≡ held.entry.ghost_name }
+        ensures credits { result.credits.now ≡ credits.old }
+        ensures held { result.held.now ≡ held.old }
+    {
+        GatedDepot {
+            rt,
+            gate,
+            ns,
+            book,
+            credits,
+            held,
+        }
+    }
+}
+
+// The lender's take, of which the gate was told.
+fn take_told<G: Gate, D: Lender>(gate: &G, ns: u32, lender: &mut D, loans: &mut Loans) -> FrameNo
+    requires told { G.framed gate.now ns }
+    requires fact { D.fact lender.old }
+    requires ready { 0 < D.ready lender.old }
+    requires credit { (loans_live loans.old).held < (loans_live loans.old).reserved }
+    ensures fact { D.fact lender.new }
+    ensures rest { D.rest lender.new ≡ D.rest lender.old }
+    ensures ready { D.ready lender.new + 1 ≡ D.ready lender.old }
+    ensures out { D.out lender.new ≡ D.out lender.old + 1 }
+    ensures takes { Takes (loans_live loans.old) (loans_live loans.new) result }
+{
+    let _ = gate;
+    let _ = ns;
+    lender.take(loans)
+}
+
+impl<R: Wait, G: Gate, C: Ledger, H: Ledger> Lender for GatedDepot<'_, R, G, C, H> {
+    ghost use Rattle.std.specs.Prelude.{◌<◌};
+    ghost use Rattle.pf_depot.specs.Shared.{SharedRest};
+
+    ghost ready = { λ s. s.credits.now.amount };
+
+    ghost out = { λ s. s.held.now.amount };
+
+    ghost fact = { λ s. (0 < s.credits.now.parts) × (0 < s.held.now.parts) };
+
+    ghost Rest = { SharedRest };
+
+    ghost rest = { λ s. record {
+      credits_name = s.credits.ghost_name;
+      held_name = s.held.ghost_name;
+      credits_parts = s.credits.now.parts;
+      held_parts = s.held.now.parts;
+    } };
+
+    fn take(&mut self, loans: &mut Loans) -> FrameNo {
+        self.gate.frame(self.ns);
+        let mut depot = SharedDepot::new(self.rt, self.book, self.credits, self.held);
+        take_told(self.gate, self.ns, &mut depot, loans)
+    }
+
+    fn give(&mut self, loans: &mut Loans, no: FrameNo) {
+        SharedDepot::new(self.rt, self.book, self.credits, self.held).give(loans, no);
+    }
+}

@@ -1,0 +1,196 @@
+ghost use Rattle.std.specs.Prelude.{◌≡◌, ◌≤◌, length, map, sum, IfOk, MatchResult, None};
+ghost use Rattle.pf_base.specs.declared.TheConstants.{MAX_NAMESPACES};
+ghost use Rattle.pf_depot.specs.AllLoans.{reserved_of};
+ghost use Rattle.pf_depot.specs.Book.{opening_books};
+ghost use Rattle.pf_frame.specs.Faults.{IsFault};
+ghost use Rattle.pf_hub.specs.Opening.{limits_of, first_fault};
+ghost use Rattle.pf_worker.specs.Workers.{new_workers};
+
+use crate::gate::Gate;
+use crate::gated::GatedDepot;
+use pf_base::{Answer, Config, Step};
+use pf_depot::{Allotment, DepotBook, Loans};
+use pf_frame::{Frame, PoolFault};
+use pf_hub::{first_fault, step_over};
+use pf_space::Placed;
+use std::alloc::{AllocError, Allocator, Global};
+use std::marker::Model;
+use std::sync::ledger::{Blank, Ledger, Share};
+use std::sync::{Mutex, Wait};
+
+/// A namespace for a thread of its own: its space, its frames on loan, and its shares of the ledgers of a depot that other
+/// workers share.
+///
+/// It has no lock and no transcript, so it can be stepped for ever. Its steps wait for nothing but the depot's lock, which
+/// is held for one frame at a time.
+///
+/// A contract sees its number, and its namespace as a hub's: the limits, the state of the lone machine that it is in, and
+/// how many frames it holds; and the allocator whose memory its files stand in.
+#[derive(Drop)]
+pub struct Worker<A: Allocator, C: Ledger, H: Ledger> {
+    number: u32,
+    placed: Placed<A>,
+    loans: Loans,
+    credits: Share<C>,
+    held: Share<H>,
+}
+
+impl<A: Allocator, C: Ledger, H: Ledger> Model for Worker<A, C, H> {
+    ghost use Rattle.pf_worker.specs.Workers.{OneWorker, worker_of, IsKept};
+
+    ghost Value = { OneWorker A };
+
+    ghost view = { λ w. worker_of w.number w.placed w.loans };
+
+    ghost invariant = { λ w. IsKept w.placed.space w.loans w.credits.amount w.held.amount w.credits.parts w.held.parts };
+}
+
+impl<A: Allocator + Clone, C: Ledger, H: Ledger> Worker<A, C, H> {
+    ghost use Rattle.std.specs.Prelude.{false};
+    ghost use Rattle.pf_machine.specs.Machine.{Answers, may_want_memory};
+    ghost use Rattle.pf_machine.specs.Events.{IsDone};
+    ghost use Rattle.pf_hub.specs.Covered.{IsRising};
+    ghost use Rattle.pf_worker.specs.Workers.{new_worker};
+
+    /// The worker of a namespace of these limits, at its opening state. Its files, and nothing else, stand in memory of the
+    /// allocator `tree`.
+    pub fn new(
+        alloc: Global,
+        number: u32,
+        config: Config,
+        tree: A,
+        allotment: Allotment<C, H>,
+    ) -> Result<Self, AllocError>
+        requires reserved { reserved_of allotment.loans ≡ config.reserve }
+        ensures { IfOk result (λ w. w ≡ new_worker number (config, tree)) }
+    {
+        let Allotment {
+            loans,
+            credits,
+            held,
+        } = allotment;
+        let placed = Placed::new(alloc, tree, config)?;
+        Ok(Worker {
+            number,
+            placed,
+            loans,
+            credits,
+            held,
+        })
+    }
+
+    /// The number of its namespace.
+    pub fn number(&self) -> u32
+        ensures { result ≡ self.now.number }
+    {
+        self.number
+    }
+
+    /// How many frames its namespace holds.
+    pub fn held(&self) -> u32
+        ensures { result ≡ self.now.tenant.held }
+    {
+        self.loans.held()
+    }
+
+    /// One step of its namespace. It may wait for the depot's lock; a frame that the namespace has a credit for is there
+    /// whatever the other workers do. The gate is told of each frame before it is taken.
+    ///
+    /// The depot is the one that the worker's shares are of.
+    pub fn step<R: Wait, G: Gate>(
+        &mut self,
+        rt: &R,
+        book: &Mutex<DepotBook<C, H>>,
+        gate: &G,
+        step: &Step,
+    ) -> Answer
+        ensures number { self.new.number ≡ self.old.number }
+        ensures allocator { self.new.allocator ≡ self.old.allocator }
+        ensures limits { self.new.tenant.limits ≡ self.old.tenant.limits }
+        // its answer and its state are the lone machine's
+        ensures answers { Answers self.old.tenant.limits result
+            self.old.tenant.state step.now self.new.tenant.state }
+        // want of memory changes nothing, and comes of no step that needs none
+        ensures unchanged { result ≡ Answer.NoMemory → self.new ≡ self.old }
+        ensures succeeds { may_want_memory self.old.tenant.limits self.old.tenant.state step.now ≡ false
+            → IsDone result }
+        ensures rising { IsRising self.new.tenant }
+    {
+        let mut depot = GatedDepot::new(
+            rt,
+            gate,
+            self.number,
+            book,
+            &mut self.credits,
+            &mut self.held,
+        );
+        step_over(&mut self.placed, &mut depot, &mut self.loans, step)
+    }
+}
+
+// The workers of the namespaces of these limits, each with what it begins with.
+fn workers_of<A: Allocator + Clone, C: Ledger, H: Ledger>(
+    alloc: Global,
+    configs: Vec<(Config, A)>,
+    allotments: Vec<Allotment<C, H>>,
+) -> Result<Vec<Worker<A, C, H>>, AllocError>
+    requires few { length configs.items ≤ MAX_NAMESPACES }
+    requires reserved { map (λ a. reserved_of a.loans) allotments.items ≡ map (λ e. e.0.reserve) configs.items }
+    ensures { IfOk result (λ v. v.items ≡ new_workers configs.items) }
+{
+    let mut workers = Vec::with_capacity(alloc, configs.len())?;
+    let mut allotments = allotments.into_iter();
+    for (config, tree) in configs {
+        let Some(allotment) = allotments.next() else {
+            unreachable!()
+        };
+        let number = workers.len() as u32;
+        let worker = Worker::new(alloc, number, config, tree, allotment)?;
+        workers.push_reserved(worker);
+    }
+    Ok(workers)
+}
+
+// The reservations of some limits.
+fn reserves_of<A: Allocator>(alloc: Global, configs: &[(Config, A)]) -> Result<Vec<u32>, AllocError>
+    ensures { IfOk result (λ v. v.items ≡ map (λ e. e.0.reserve) configs.now) }
+{
+    configs
+        .iter()
+        .map(|config| config.0.reserve())
+        .collect(alloc)
+}
+
+/// A shared depot of these frames, and a worker for each of these limits: their numbers are their places. A namespace's
+/// files, and nothing else, stand in memory of the allocator beside its limits.
+///
+/// Each ledger has a part for each namespace that there may be. The faults are those of `Hub::new`, in their order: the
+/// frames and limits are tested before any memory is asked for.
+pub fn open<A: Allocator + Clone, C: Ledger, H: Ledger>(
+    alloc: Global,
+    frames: Vec<Frame>,
+    configs: Vec<(Config, A)>,
+    credits: Blank,
+    held: Blank,
+) -> Result<(DepotBook<C, H>, Vec<Worker<A, C, H>>), PoolFault>
+    requires names { (credits.name ≡ C.name) × (held.name ≡ H.name) }
+    requires cut { (credits.parts ≡ C.parts) × (held.parts ≡ H.parts) }
+    requires parts { (MAX_NAMESPACES ≤ credits.parts) × (MAX_NAMESPACES ≤ held.parts) }
+    ensures { MatchResult result
+        (λ made. (first_fault (length frames.items) (limits_of configs.items) ≡ None)
+        × (made.0 ≡ opening_books (length frames.items) (sum (map (λ l. l.reserve) (limits_of configs.items))))
+        × (made.1.items ≡ new_workers configs.items))
+        (λ fault. IsFault (first_fault (length frames.items) (limits_of configs.items)) fault) }
+{
+    if let Some(fault) = first_fault(frames.len(), &configs) {
+        return Err(fault);
+    }
+    let Ok(reserves) = reserves_of(alloc, &configs) else {
+        return Err(PoolFault::NoMemory);
+    };
+    let (book, allotments) = DepotBook::open(alloc, frames, reserves, credits, held)?;
+    match workers_of(alloc, configs, allotments) {
+        Ok(workers) => Ok((book, workers)),
+        Err(_) => Err(PoolFault::NoMemory),
+    }
+}
