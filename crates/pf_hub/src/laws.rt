@@ -8,7 +8,7 @@ pub fn two_worlds()
     ensures { TwoWorlds }
 {}
 
-/// Memory matters: without that last premise two worlds are not always told the same.
+/// Memory matters: where want of memory is not ruled out, two worlds are not always told the same.
 pub fn memory_matters()
     ensures { MemoryMatters }
 {}
