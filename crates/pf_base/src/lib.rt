@@ -21,7 +21,7 @@ pub use errno::Errno;
 pub use fault::Fault;
 pub use meta::{File, Kind, Meta, Mode};
 pub use open_flags::OpenFlags;
-pub use permissions::{Class, Want, may};
+pub use permissions::{Class, Want, may, may_remove};
 pub use progress::{Crossing, Progress, Side};
 pub use step::{Answer, Reply, Step};
 
@@ -58,8 +58,12 @@ pub const MAX_GROUPS: usize = 32;
 /// The largest umask: the nine permission bits (POSIX.1-2017, umask()).
 pub const MAX_UMASK: u32 = 0o777;
 
-/// The largest mode: the nine permission bits. The set-user-ID, set-group-ID and sticky bits aren't kept.
-pub const MAX_MODE: u32 = 0o777;
+/// All permissions for all: the nine permission bits S_IRWXU, S_IRWXG and S_IRWXO (POSIX.1-2017, `<sys/stat.h>`).
+pub const ALL_PERMISSIONS: u32 = 0o777;
+
+/// The largest mode: the nine permission bits and S_ISVTX, the sticky bit. The set-user-ID and set-group-ID bits aren't
+/// kept.
+pub const MAX_MODE: u32 = 0o1777;
 
 /// The most bytes of a name: {NAME_MAX}.
 pub const MAX_NAME: usize = 255;

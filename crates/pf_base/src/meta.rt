@@ -1,10 +1,10 @@
 ghost use Rattle.std.specs.Prelude.{◌≡◌, ◌≤◌};
-ghost use Rattle.pf_base.specs.Permissions.{mode_of, masked, grants};
+ghost use Rattle.pf_base.specs.Permissions.{mode_of, masked, grants, is_sticky};
 ghost use Rattle.pf_base.specs.declared.TheConstants.{MAX_MODE};
 
-use crate::MAX_MODE;
 use crate::errno::Errno;
 use crate::permissions::{Class, Want};
+use crate::{ALL_PERMISSIONS, MAX_MODE};
 use std::marker::Model;
 
 /// What a file is.
@@ -14,8 +14,8 @@ pub enum Kind {
     Directory,
 }
 
-/// The file permission bits of a file (POSIX.1-2017, `<sys/stat.h>`): read, write and search for its owner, its group and
-/// all others. A contract sees their number, which is at most 0777.
+/// The mode of a file (POSIX.1-2017, `<sys/stat.h>`): its permission bits, read, write and search for its owner, its group
+/// and all others; and the sticky bit S_ISVTX. A contract sees their number, which is at most 01777.
 #[derive(Clone, Copy, Debug, PartialEq, Eq)]
 pub struct Mode {
     bits: u32,
@@ -35,10 +35,10 @@ impl Model for Mode {
 }
 
 impl Mode {
-    /// The largest mode: all permissions for all. The set-user-ID, set-group-ID and sticky bits aren't kept.
+    /// The largest mode: the sticky bit, and all permissions for all. The set-user-ID and set-group-ID bits aren't kept.
     pub const MOST: u32 = MAX_MODE;
 
-    /// The mode of these bits; EINVAL where there are others than the permission bits.
+    /// The mode of these bits; EINVAL where there are others than the permission bits and the sticky bit.
     pub fn new(bits: u32) -> Result<Self, Errno>
         ensures { result ≡ mode_of bits }
     {
@@ -48,7 +48,7 @@ impl Mode {
         Ok(Mode { bits })
     }
 
-    /// The bits, at most 0777.
+    /// The bits, at most 01777.
     pub fn bits(self) -> u32
         ensures value { result ≡ self }
         ensures most { result ≤ MAX_MODE }
@@ -56,7 +56,8 @@ impl Mode {
         self.bits
     }
 
-    /// The mode of a file that is made with this mode by a process with that umask (POSIX.1-2017, umask()).
+    /// The mode of a file that is made with this mode by a process with that umask (POSIX.1-2017, umask()), which has
+    /// permission bits alone.
     pub fn without(self, umask: u32) -> Self
         ensures { result ≡ masked self umask }
     {
@@ -71,6 +72,14 @@ impl Mode {
     {
         let place = class.shift() + want.shift();
         (self.bits >> place) & 1 == 1
+    }
+
+    /// Whether the sticky bit is set: of a directory, the restricted deletion flag (POSIX.1-2017, `<sys/stat.h>`, S_ISVTX).
+    /// On a FIFO it is kept and has no effect (this profile's choice).
+    pub fn is_sticky(self) -> bool
+        ensures { result ≡ is_sticky self }
+    {
+        (self.bits >> 9) & 1 == 1
     }
 }
 
@@ -100,7 +109,9 @@ impl File {
     {
         let meta = Meta {
             kind: Kind::Directory,
-            mode: Mode { bits: Mode::MOST },
+            mode: Mode {
+                bits: ALL_PERMISSIONS,
+            },
             uid: 0,
             gid: 0,
         };

@@ -1,7 +1,7 @@
 //! Who may do what with a file.
 
 ghost use Rattle.std.specs.Prelude.{◌≡◌};
-ghost use Rattle.pf_base.specs.Permissions.{allows, class_of, class_shift, want_shift};
+ghost use Rattle.pf_base.specs.Permissions.{allows, class_of, class_shift, may_remove, want_shift};
 
 use crate::cred::Cred;
 use crate::meta::Meta;
@@ -69,4 +69,12 @@ pub fn may(cred: &Cred, meta: &Meta, want: Want) -> bool
     ensures { result ≡ allows cred.now meta.now want }
 {
     cred.uid == 0 || meta.mode.grants(Class::of(cred, meta), want)
+}
+
+/// Whether a process that may write a directory may take a file out of it (POSIX.1-2017, 4.3 "Directory Protection"): of a
+/// directory with the sticky bit only the uid 0, the file's owner and the directory's owner may.
+pub fn may_remove(cred: &Cred, dir: &Meta, file: &Meta) -> bool
+    ensures { result ≡ may_remove cred.now dir.now file.now }
+{
+    !dir.mode.is_sticky() || cred.uid == 0 || cred.uid == file.uid || cred.uid == dir.uid
 }

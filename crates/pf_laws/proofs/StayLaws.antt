@@ -5,7 +5,7 @@ use Rattle.std.proofs.Common.{refl, sym, ap, subst, ◌∙◌}
 use Rattle.pf_machine.specs.Refusals.{◌>>=◌, ◌>>◌, refuse_if}
 use Rattle.pf_machine.specs.FileMap.{Files, Path, Name, find, front, insert, names_below, is_directory, IsDirectory, IsFileMap}
 use Rattle.pf_machine.specs.FileCalls as calls
-use Rattle.pf_machine.specs.FileCalls.{Place, place_of, place, permitted_change, is_fifo, is_full, made_by}
+use Rattle.pf_machine.specs.FileCalls.{Place, place_of, place, permitted_change, permitted_removal, is_fifo, is_full, made_by}
 use Rattle.pf_machine.specs.Paths.{Words, Resolved, Last, Nothing, Dot, DotDot, Named, words_of, reach, searched, permitted, entry_of, entry, target, is_nonempty}
 use Rattle.pf_base.specs.Permissions.{allows, mode_of, is_privileged}
 use Rattle.pf_base.specs.Limits.{Limits}
@@ -107,14 +107,14 @@ pub unlink-map : (files : Files) (c : Cred) (path : List ℕ) → IsFileMap file
 unlink-map files c path m =
     goes (IsPlace files) IsFileMap (place EPERM EPERM EPERM files c path) _ (place-in EPERM EPERM EPERM files c path)
     (λ l in_place. found IsFileMap ENOENT (find l.path files) _
-    (λ f there. passes IsFileMap (refuse_if (l.slash && not (is_directory f)) ENOTDIR) _ (passes IsFileMap (permitted_change c l.directory) _
+    (λ f there. passes IsFileMap (refuse_if (l.slash && not (is_directory f)) ENOTDIR) _ (passes IsFileMap (permitted_removal c l.directory f) _
     (unless IsFileMap (is_directory f) EPERM _ (λ fifo. remove-map l.path files in_place.1 (not_directory f (find l.path files) there fifo) m)))))
 
 pub rmdir-map : (files : Files) (c : Cred) (path : List ℕ) → IsFileMap files → Holds IsFileMap (calls.rmdir files c path)
 rmdir-map files c path m =
     goes (IsPlace files) IsFileMap (place EBUSY EINVAL EINVAL files c path) _ (place-in EBUSY EINVAL EINVAL files c path)
     (λ l in_place. found IsFileMap ENOENT (find l.path files) _
-    (λ f there. passes IsFileMap (refuse_if (not (is_directory f)) ENOTDIR) _ (passes IsFileMap (permitted_change c l.directory) _
+    (λ f there. passes IsFileMap (refuse_if (not (is_directory f)) ENOTDIR) _ (passes IsFileMap (permitted_removal c l.directory f) _
     (unless IsFileMap (is_nonempty (names_below l.path files)) ENOTEMPTY _ (λ empty. remove-map l.path files in_place.1 (λ _. no_names (names_below l.path files) empty) m)))))
 
 pub chmod-map : (files : Files) (c : Cred) (path : List ℕ) (mode : ℕ) → IsFileMap files → Holds IsFileMap (calls.chmod files c path mode)

@@ -1,6 +1,6 @@
 -- The calls on files keep them within the limits, and so a list of names is.
 
-use Rattle.std.proofs.Common.{◌≡◌, ℕ, ◌+◌, ◌*◌, ◌≤◌, Bool, true, false, not, ◌||◌, ◌&&◌, List, [], ◌∷◌, ◌++◌, length, Option, Some, None, is_some, Result, Ok, Err, refl, sym, ap, subst, arith, length-append, nat_eq, nat_lt, nat_le, if◌then◌else◌}
+use Rattle.std.proofs.Common.{◌≡◌, ℕ, ◌+◌, ◌*◌, ◌≤◌, Bool, true, false, not, ◌||◌, ◌&&◌, List, [], ◌∷◌, ◌++◌, length, Option, Some, None, is_some, refl, ap, subst, arith, length-append, nat_eq, nat_lt, nat_le, if◌then◌else◌}
 use Rattle.std.specs.Prelude.{⊤}
 use Rattle.std.specs.List.{list_any}
 use Rattle.std.specs.Option.{option_to_list}
@@ -11,7 +11,7 @@ use Rattle.pf_machine.specs.Refusals.{refuse_if, or_refuse}
 use Rattle.pf_base.specs.Permissions.{is_privileged}
 use Rattle.pf_machine.specs.FileMap.{Files, Path, Name, find, insert, remove, set_mode, same_path, same_name, path_cmp, by_order, with_mode, name_below, names_below, listed, is_directory, IsDirectory, root_alone}
 use Rattle.pf_machine.specs.FileCalls as calls
-use Rattle.pf_machine.specs.FileCalls.{Place, place_of, place, permitted_change, is_fifo, is_full, made_by}
+use Rattle.pf_machine.specs.FileCalls.{Place, place_of, place, permitted_change, permitted_removal, is_fifo, is_full, made_by}
 use Rattle.pf_machine.specs.Paths.{Words, Resolved, Last, Nothing, Dot, DotDot, Named, components, words_of, reach, searched, entry_of, entry, target, is_dot, is_dot_dot, last_of, is_nonempty}
 use Rattle.pf_base.specs.declared.cred.Cred.{Cred}
 use Rattle.pf_base.specs.declared.errno.Errno.{Errno}
@@ -181,7 +181,7 @@ unlink-within files c path w =
     carries IsWithin (place EPERM EPERM EPERM files c path) _
     (λ l. carries IsWithin (or_refuse ENOENT (find l.path files)) _
     (λ f. passes IsWithin (refuse_if (l.slash && not (is_directory f)) ENOTDIR) _
-    (passes IsWithin (permitted_change c l.directory) _
+    (passes IsWithin (permitted_removal c l.directory f) _
     (passes IsWithin (refuse_if (is_directory f) EPERM) _ (remove-within l.path files w)))))
 
 pub rmdir-within : (files : Files) (c : Cred) (path : List ℕ) → IsWithin files → Holds IsWithin (calls.rmdir files c path)
@@ -189,7 +189,7 @@ rmdir-within files c path w =
     carries IsWithin (place EBUSY EINVAL EINVAL files c path) _
     (λ l. carries IsWithin (or_refuse ENOENT (find l.path files)) _
     (λ f. passes IsWithin (refuse_if (not (is_directory f)) ENOTDIR) _
-    (passes IsWithin (permitted_change c l.directory) _
+    (passes IsWithin (permitted_removal c l.directory f) _
     (passes IsWithin (refuse_if (is_nonempty (names_below l.path files)) ENOTEMPTY) _ (remove-within l.path files w)))))
 
 pub chmod-within : (files : Files) (c : Cred) (path : List ℕ) (mode : ℕ) → IsWithin files → Holds IsWithin (calls.chmod files c path mode)

@@ -4,9 +4,9 @@ use Rattle.std.specs.Prelude.{◌≡◌, ℕ, List, [], ◌∷◌, true, false, 
 use Rattle.pf_machine.specs.FileMap.{Files, Path, insert, remove, names_below}
 use Rattle.pf_machine.specs.FileCalls.{make, unlink, rmdir, chmod, stat, list}
 use Rattle.pf_machine.specs.Paths.{words_of, reach}
-use Rattle.pf_base.specs.Permissions.{allows, masked}
+use Rattle.pf_base.specs.Permissions.{allows, masked, may_remove, mode_of}
 use Rattle.pf_base.specs.declared.cred.Cred.{Cred}
-use Rattle.pf_base.specs.declared.errno.Errno.TheVariants.{EPERM, ENOENT, EACCES, EBUSY, EEXIST, ENOTDIR}
+use Rattle.pf_base.specs.declared.errno.Errno.TheVariants.{EPERM, ENOENT, EACCES, EBUSY, EEXIST, ENOTDIR, EINVAL}
 use Rattle.pf_base.specs.declared.meta.File.{File}
 use Rattle.pf_base.specs.declared.meta.Kind.TheVariants.{Fifo, Directory}
 use Rattle.pf_base.specs.declared.meta.Meta.{Meta}
@@ -43,6 +43,45 @@ privileged = refl
 -- 0666 under 022 is 0644
 umask_022 : masked 438 18 ≡ 420
 umask_022 = refl
+
+-- 01777 under 022 is 01755: the umask has permission bits alone
+umask_stays : masked 1023 18 ≡ 1005
+umask_stays = refl
+
+-- 01777 is a mode; 02000 and 04000, the set-group-ID and the set-user-ID bit, are none
+sticky_mode : mode_of 1023 ≡ Ok 1023
+sticky_mode = refl
+
+set_group_id : mode_of 1024 ≡ Err EINVAL
+set_group_id = refl
+
+set_user_id : mode_of 2048 ≡ Err EINVAL
+set_user_id = refl
+
+-- a FIFO of the user 5 in a directory of the user 3: without the sticky bit anyone who may write it takes it out
+abbrev shared : ℕ → Meta
+shared mode = record { kind = Directory; mode = mode; uid = 3; gid = 6 }
+
+anyone_takes : may_remove (user 7 6 []) (shared 511) (fifo 438) ≡ true
+anyone_takes = refl
+
+-- with it the file's owner does, the directory's owner, and the uid 0
+file_owner_takes : may_remove (user 5 8 []) (shared 1023) (fifo 438) ≡ true
+file_owner_takes = refl
+
+directory_owner_takes : may_remove (user 3 8 []) (shared 1023) (fifo 438) ≡ true
+directory_owner_takes = refl
+
+privileged_takes : may_remove (user 0 0 []) (shared 1023) (fifo 438) ≡ true
+privileged_takes = refl
+
+-- and nobody else, of the file's group and the directory's though he be; 01770 lets that group write
+member_leaves : may_remove (user 7 6 []) (shared 1016) (fifo 438) ≡ false
+member_leaves = refl
+
+-- the sticky bit of the file itself counts for nothing
+sticky_file : may_remove (user 7 6 []) (shared 511) (fifo 1023) ≡ true
+sticky_file = refl
 
 -- "/a//b/" has two components, and a slash behind them
 cut_twice : words_of (47 ∷ 97 ∷ 47 ∷ 47 ∷ 98 ∷ 47 ∷ []) ≡ Ok (record { names = (97 ∷ []) ∷ (98 ∷ []) ∷ []; slash = true })

@@ -3,7 +3,7 @@
 
 use Rattle.std.specs.Prelude.{ℕ, ◌+◌, Bool, true, false, not, ◌||◌, ◌&&◌, List, [], ◌∷◌, ◌++◌, length, is_some, nat_eq, nat_lt, nat_le, Result, Ok, Err}
 use Rattle.pf_machine.specs.Refusals.{◌>>=◌, ◌>>◌, refuse_if, or_refuse}
-use Rattle.pf_base.specs.Permissions.{allows, is_privileged, masked}
+use Rattle.pf_base.specs.Permissions.{allows, is_privileged, masked, may_remove}
 use Rattle.pf_machine.specs.FileMap.{Files, Path, find, insert, remove, set_mode, names_below, listed, is_directory}
 use Rattle.pf_machine.specs.Paths.{Resolved, Last, Nothing, Dot, DotDot, Named, target, entry, is_nonempty}
 use Rattle.pf_base.specs.declared.TheConstants.{MAX_FILES, MAX_MADE}
@@ -39,6 +39,12 @@ place at_root at_dot at_dot_dot files c bs = do
 abbrev pub permitted_change : Cred → File → Result (Unit {0}) Errno
 permitted_change c directory = refuse_if (not (allows c directory.meta Write)) EACCES
 
+-- and an entry goes, besides, as the directory's sticky bit lets it
+abbrev pub permitted_removal : Cred → File → File → Result (Unit {0}) Errno
+permitted_removal c directory f = do
+  permitted_change c directory
+  refuse_if (not (may_remove c directory.meta f.meta)) EPERM
+
 -- Making
 
 abbrev pub is_fifo : Kind → Bool
@@ -70,7 +76,7 @@ unlink files c path = do
   l ← place EPERM EPERM EPERM files c path
   f ← or_refuse ENOENT (find l.path files)
   refuse_if (l.slash && not (is_directory f)) ENOTDIR
-  permitted_change c l.directory
+  permitted_removal c l.directory f
   refuse_if (is_directory f) EPERM
   Ok (remove l.path files)
 
@@ -79,7 +85,7 @@ rmdir files c path = do
   l ← place EBUSY EINVAL EINVAL files c path
   f ← or_refuse ENOENT (find l.path files)
   refuse_if (not (is_directory f)) ENOTDIR
-  permitted_change c l.directory
+  permitted_removal c l.directory f
   refuse_if (is_nonempty (names_below l.path files)) ENOTEMPTY
   Ok (remove l.path files)
 

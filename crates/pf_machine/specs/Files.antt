@@ -21,7 +21,8 @@ module _ {Q : Type 0} where
   abbrev pub with_new : State Q → Files → State Q
   with_new s files = record s { files = files; files_made = s.files_made + 1 }
 
--- Mkdir and Mkfifo. More than the permission bits is EINVAL (the set-user-ID, set-group-ID and sticky bits aren't kept)
+-- Mkdir and Mkfifo. More than the permission bits and the sticky bit is EINVAL (the set-user-ID and set-group-ID bits
+-- aren't kept)
 abbrev pub make : Kind → State Queue → Process → List ℕ → ℕ → Result Outcome Errno
 make kind s p path bits = do
   mode ← mode_of bits

@@ -4,14 +4,16 @@
 ghost use Rattle.std.specs.Prelude.{◌≡◌, ◌<◌, ◌+◌, ◌^◌, false, length, IfOk};
 ghost use Rattle.pf_machine.specs.FileMap.{find, front, IsDirectory};
 ghost use Rattle.pf_machine.specs.Opens.{openable};
-ghost use Rattle.pf_machine.specs.FileCalls.{place, permitted_change, is_fifo, make, unlink, rmdir, chmod, stat, list};
+ghost use Rattle.pf_machine.specs.FileCalls.{place, permitted_change, permitted_removal, is_fifo, make, unlink, rmdir, chmod, stat, list};
 ghost use Rattle.pf_tree.specs.Subtrees.{path_of};
 ghost use Rattle.pf_walk.specs.Told.{Told, Changed};
 ghost use Rattle.pf_walk.specs.Resolutions.{placed};
 
 use crate::resolution::{Last, Purpose, Resolved, resolve};
 use crate::walk::{append, is_directory};
-use pf_base::{Cred, Errno, Fault, File, Kind, MAX_FILES, MAX_MADE, Meta, Mode, Want, may};
+use pf_base::{
+    Cred, Errno, Fault, File, Kind, MAX_FILES, MAX_MADE, Meta, Mode, Want, may, may_remove,
+};
 use pf_tree::Tree;
 use std::alloc::{Allocator, Global};
 
@@ -87,6 +89,18 @@ fn may_change(cred: &Cred, directory: &File) -> Result<(), Errno>
     }
 }
 
+// Whether a process may take a file's entry out of a directory.
+fn may_take(cred: &Cred, directory: &File, file: &File) -> Result<(), Errno>
+    ensures { result ≡ permitted_removal cred.now directory.now file.now }
+{
+    may_change(cred, directory)?;
+    if may_remove(cred, &directory.meta, &file.meta) {
+        Ok(())
+    } else {
+        Err(Errno::EPERM)
+    }
+}
+
 /// mkdir() and mkfifo() of POSIX.1-2017: a new file with the process's uid and gid, with the mode that its umask leaves,
 /// and the number behind those of the `made` files that its namespace ever made.
 ///
@@ -139,8 +153,8 @@ pub fn make<A: Allocator + Clone>(
 /// unlink() of POSIX.1-2017: a FIFO's entry goes.
 ///
 /// After what `resolve` refuses: EPERM for the root, `.` and `..`; ENOENT where there is no entry; ENOTDIR for a FIFO
-/// behind whose name stands a slash; EACCES without write permission on the directory; EPERM for a directory.
-/// `NoMemory` comes where the walk finds none.
+/// behind whose name stands a slash; EACCES without write permission on the directory; EPERM where the directory has the
+/// sticky bit and `may_remove` is false; EPERM for a directory. `NoMemory` comes where the walk finds none.
 pub fn unlink<A: Allocator>(
     alloc: Global,
     tree: &mut Tree<A>,
@@ -161,7 +175,7 @@ pub fn unlink<A: Allocator>(
     if place.slash && !is_directory(&file) {
         return Err(Fault::Errno(Errno::ENOTDIR));
     }
-    may_change(cred, &place.directory)?;
+    may_take(cred, &place.directory, &file)?;
     if is_directory(&file) {
         return Err(Fault::Errno(Errno::EPERM));
     }
@@ -172,8 +186,9 @@ pub fn unlink<A: Allocator>(
 /// rmdir() of POSIX.1-2017: a directory without entries goes.
 ///
 /// After what `resolve` refuses: EBUSY for the root; EINVAL for `.`, and for `..` (this profile's own); ENOENT where there
-/// is no entry; ENOTDIR for a FIFO; EACCES without write permission on the directory that it stands in; ENOTEMPTY where
-/// it has entries. `NoMemory` comes where the walk finds none.
+/// is no entry; ENOTDIR for a FIFO; EACCES without write permission on the directory that it stands in; EPERM where that
+/// directory has the sticky bit and `may_remove` is false; ENOTEMPTY where it has entries. `NoMemory` comes where the walk
+/// finds none.
 pub fn rmdir<A: Allocator>(
     alloc: Global,
     tree: &mut Tree<A>,
@@ -194,7 +209,7 @@ pub fn rmdir<A: Allocator>(
     if !is_directory(&file) {
         return Err(Fault::Errno(Errno::ENOTDIR));
     }
-    may_change(cred, &place.directory)?;
+    may_take(cred, &place.directory, &file)?;
     if tree.has_names(place.path.as_slice()) {
         return Err(Fault::Errno(Errno::ENOTEMPTY));
     }
