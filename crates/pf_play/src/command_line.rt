@@ -15,8 +15,29 @@ const ABOUT: &str = "Runs a script of pipe calls from standard input and prints 
 /// What it says of `--only`.
 const ABOUT_ONLY: &str = "Runs this namespace's steps alone, and prints its section";
 
-/// The end of what `--help` says.
-const EXAMPLE: &str = "Example:
+/// The end of what `--help` says: the lines of a script, and a script.
+const SCRIPT: &str = "Lines of a script:
+  pool FRAMES
+  space NAME RESERVE [SOFT [HARD [MAX]]]
+  NAME spawn UID GID UMASK [GROUP,GROUP,..]
+  NAME fork PID              NAME exit PID
+  NAME mkdir PID PATH MODE   NAME mkfifo PID PATH MODE
+  NAME unlink PID PATH       NAME rmdir PID PATH
+  NAME chmod PID PATH MODE   NAME stat PID PATH
+  NAME list PID PATH         NAME open PID PATH FLAGS
+  NAME pipe PID [n]          NAME dup PID FD
+  NAME close PID FD          NAME read PID FD LEN
+  NAME write PID FD DATA     NAME tee PID IN OUT LEN [n]
+  NAME splice PID IN OUT LEN [n]
+  NAME setsize PID FD BYTES  NAME getsize PID FD
+  NAME nonblock PID FD on|off
+  NAME resume PID
+
+UMASK and MODE are octal: a umask at most 0777, a mode at most 01777, where 01000 is the sticky bit.
+FLAGS are r, w or rw, with n behind them for O_NONBLOCK.
+DATA is hexadecimal, or COUNT*HH for a byte COUNT times, or - for none.
+
+Example:
   printf 'pool 16\\nspace red 16\\nred spawn 5 5 022\\nred pipe 1\\n' | pfplay";
 
 /// The option `--only NAME`.
@@ -36,7 +57,7 @@ fn command<'a>(alloc: Global) -> Result<Command<'a>, AllocError>
 {
     Command::new(alloc, "pfplay")
         .about(ABOUT)
-        .after_help(EXAMPLE)
+        .after_help(SCRIPT)
         .arg(only(alloc))?
         .bin_name("pfplay")
 }
