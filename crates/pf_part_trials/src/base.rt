@@ -3,7 +3,8 @@ use pf_base::{
     Answer, ByteString, Config, ConfigFault, Cred, Errno, Fault, Groups, LimitFault, OpenFlags,
     Progress, Reply, Side, Step, pages_for,
 };
-use std::alloc::AllocError;
+use std::alloc::{AllocError, Global};
+use std::fmt::Display;
 use std::test::Fail;
 
 // A reservation, pipe-max-size, and why they are refused.
@@ -51,29 +52,32 @@ const ERRORS: [(Errno, u32, &str, &str); 4] = [
     (Errno::ENOTEMPTY, 39, "ENOTEMPTY", "directory not empty"),
 ];
 
+// Whether this is the text of a value.
+fn reads<T: Display>(alloc: Global, value: &T, text: &str) -> Result<bool, AllocError> {
+    Ok(format!(in alloc; "{value}")?.as_str() == text)
+}
+
 #[test]
 fn errors_have_their_numbers_and_texts(rt: HostRuntime) -> Result<(), Fail> {
     for (error, code, name, text) in ERRORS {
         assert!(rt; error.code() == code && error.name() == name);
-        assert!(rt; format!(in rt.alloc(); "{error}")?.as_str() == text);
+        assert!(rt; reads(rt.alloc(), &error, text)?, "{name}");
     }
-    let fault = ConfigFault::ReserveTooLarge;
-    assert_eq!(rt;
-        format!(in rt.alloc(); "{fault}")?.as_str(),
-        "the reservation is above 65536 frames"
-    );
+    let text = "the reservation is above 65536 frames";
+    assert!(rt; reads(rt.alloc(), &ConfigFault::ReserveTooLarge, text)?);
     Ok(())
+}
+
+fn bytes(alloc: Global, bytes: &[u8]) -> Result<ByteString, AllocError> {
+    Ok(ByteString::new(Vec::from_slice(alloc, bytes)?))
 }
 
 #[test]
 fn bytes_come_back(rt: HostRuntime) -> Result<(), Fail> {
-    let bytes = ByteString::new(vec![in rt.alloc(); 104, 101, 108]?);
-    assert_eq!(rt; bytes.as_slice(), [104, 101, 108].as_slice());
-    assert_eq!(rt;
-        bytes,
-        ByteString::from(vec![in rt.alloc(); 104, 101, 108]?)
-    );
-    assert_eq!(rt; bytes.into_vec().as_slice(), [104, 101, 108].as_slice());
+    let hel = bytes(rt.alloc(), b"hel")?;
+    assert!(rt; hel.as_slice() == b"hel".as_slice());
+    assert!(rt; hel == ByteString::from(Vec::from_slice(rt.alloc(), b"hel")?));
+    assert!(rt; hel.into_vec().as_slice() == b"hel".as_slice());
     Ok(())
 }
 
@@ -99,16 +103,21 @@ fn credentials_have_at_most_32_groups(rt: HostRuntime) -> Result<(), Fail> {
     Ok(())
 }
 
+fn is_same<T: PartialEq + Drop>(left: T, right: T) -> bool {
+    left == right
+}
+
+// The answer to a read of one byte.
+fn read(alloc: Global) -> Result<Answer, AllocError> {
+    Ok(Answer::Done(Reply::Bytes(bytes(alloc, b"h")?)))
+}
+
 #[test]
 fn answers_compare_by_value(rt: HostRuntime) -> Result<(), Fail> {
-    let read = Answer::Done(Reply::Bytes(ByteString::new(vec![in rt.alloc(); 104]?)));
-    assert_eq!(rt;
-        read,
-        Answer::Done(Reply::Bytes(ByteString::new(vec![in rt.alloc(); 104]?)))
-    );
-    assert!(rt; read != Answer::Done(Reply::Num(1)));
-    assert!(rt; Answer::Done(Reply::Err(Errno::EPIPE)) != Answer::NoMemory);
-    assert!(rt; Step::Exit { pid: 1 } != Step::Exit { pid: 2 });
+    assert!(rt; is_same(read(rt.alloc())?, read(rt.alloc())?));
+    assert!(rt; !is_same(read(rt.alloc())?, Answer::Done(Reply::Num(1))));
+    assert!(rt; !is_same(Answer::Done(Reply::Err(Errno::EPIPE)), Answer::NoMemory));
+    assert!(rt; !is_same(Step::Exit { pid: 1 }, Step::Exit { pid: 2 }));
     Ok(())
 }
 
@@ -149,16 +158,20 @@ fn bytes_have_their_pages(rt: HostRuntime) {
     }
 }
 
+// A limit that would be passed, what its call has for the user's limits, and what is told.
+const LIMITS: [(LimitFault, Errno, Errno); 3] = [
+    (LimitFault::Soft, Errno::EPERM, Errno::EPERM),
+    (LimitFault::Hard, Errno::ENOMEM, Errno::ENOMEM),
+    (LimitFault::Reserve, Errno::EPERM, Errno::ENFILE),
+];
+
 #[test]
 fn limits_are_told_by_their_call(rt: HostRuntime) -> Result<(), Fail> {
-    assert_eq!(rt; LimitFault::Soft.errno(Errno::EPERM), Errno::EPERM);
-    assert_eq!(rt; LimitFault::Hard.errno(Errno::ENOMEM), Errno::ENOMEM);
-    assert_eq!(rt; LimitFault::Reserve.errno(Errno::EPERM), Errno::ENFILE);
-    let fault = LimitFault::Reserve;
-    assert_eq!(rt;
-        format!(in rt.alloc(); "{fault}")?.as_str(),
-        "the pages of all pipes would pass the reservation"
-    );
+    for (fault, of_call, told) in LIMITS {
+        assert!(rt; fault.errno(of_call) == told, "{fault}");
+    }
+    let text = "the pages of all pipes would pass the reservation";
+    assert!(rt; reads(rt.alloc(), &LimitFault::Reserve, text)?);
     Ok(())
 }
 
@@ -183,35 +196,43 @@ fn open_flags_are_three_bits(rt: HostRuntime) {
     }
 }
 
+// Whether the copy of a step is that step.
+fn is_copied(alloc: Global, step: Step) -> Result<bool, AllocError> {
+    let copy = step.copy(alloc)?;
+    Ok(copy == step)
+}
+
 #[test]
 fn copied_steps_are_the_same(rt: HostRuntime) -> Result<(), Fail> {
-    let fork = Step::Fork { pid: 3 };
-    assert!(rt; fork.copy(rt.alloc())? == fork);
+    assert!(rt; is_copied(rt.alloc(), Step::Fork { pid: 3 })?);
     let write = Step::Write {
         pid: 2,
         fd: 1,
-        payload: ByteString::new(vec![in rt.alloc(); 104, 101]?),
+        payload: bytes(rt.alloc(), b"he")?,
     };
-    assert!(rt; write.copy(rt.alloc())? == write);
+    assert!(rt; is_copied(rt.alloc(), write)?);
     let open = Step::Open {
         pid: 1,
-        path: ByteString::new(vec![in rt.alloc(); 47, 102]?),
+        path: bytes(rt.alloc(), b"/f")?,
         flags: OpenFlags::from_bits_retain(6),
     };
-    assert!(rt; open.copy(rt.alloc())? == open);
-    let resume = Step::Resume { pid: 1 };
-    assert!(rt; resume.copy(rt.alloc())? == resume);
+    assert!(rt; is_copied(rt.alloc(), open)?);
+    assert!(rt; is_copied(rt.alloc(), Step::Resume { pid: 1 })?);
     Ok(())
+}
+
+// Whether the copy of a reply is that reply.
+fn is_reply_copied(alloc: Global, reply: Reply) -> Result<bool, AllocError> {
+    let copy = reply.copy(alloc)?;
+    Ok(copy == reply)
 }
 
 #[test]
 fn copied_replies_are_the_same(rt: HostRuntime) -> Result<(), Fail> {
-    let bytes = Reply::Bytes(ByteString::new(vec![in rt.alloc(); 104, 101]?));
-    assert!(rt; bytes.copy(rt.alloc())? == bytes);
-    let fds = Reply::Fds(3, 4);
-    assert!(rt; fds.copy(rt.alloc())? == fds);
-    assert!(rt; Reply::Parked.copy(rt.alloc())? == Reply::Parked);
-    let refused = Reply::Err(Errno::ENXIO);
-    assert!(rt; refused.copy(rt.alloc())? == refused);
+    let he = Reply::Bytes(bytes(rt.alloc(), b"he")?);
+    assert!(rt; is_reply_copied(rt.alloc(), he)?);
+    assert!(rt; is_reply_copied(rt.alloc(), Reply::Fds(3, 4))?);
+    assert!(rt; is_reply_copied(rt.alloc(), Reply::Parked)?);
+    assert!(rt; is_reply_copied(rt.alloc(), Reply::Err(Errno::ENXIO))?);
     Ok(())
 }

@@ -15,9 +15,9 @@ fn own_frames(alloc: Global) -> Result<OwnFrames, AllocError> {
 #[test]
 fn frames_hold_their_bytes(rt: HostRuntime) -> Result<(), Fail> {
     let frame = Frame::filled(rt.alloc(), OLD)?;
-    assert_eq!(rt; frame.view(4094, 2), [OLD, OLD].as_slice());
+    assert!(rt; frame.view(4094, 2) == [OLD, OLD].as_slice());
     let frame = Frame::new(Vec::from_elem(rt.alloc(), 3u8, PAGE_SIZE)?);
-    assert_eq!(rt; frame.view(0, 2), [3u8, 3].as_slice());
+    assert!(rt; frame.view(0, 2) == [3, 3].as_slice());
     Ok(())
 }
 
@@ -27,14 +27,14 @@ fn own_frames_serve_their_namespace(rt: HostRuntime) -> Result<(), Fail> {
     assert!(rt; own.credits() == 2);
     let no = own.take();
     own.fill(no, 1, &[7, 8]);
-    assert_eq!(rt; own.view(no, 0, 4), [OLD, 7, 8, OLD].as_slice());
+    assert!(rt; own.view(no, 0, 4) == [OLD, 7, 8, OLD].as_slice());
     assert!(rt; own.credits() == 1);
     let last = own.take();
     own.fill(last, 4095, &[9]);
-    assert_eq!(rt; own.view(last, 4093, 3), [OLD, OLD, 9].as_slice());
-    assert_eq!(rt; own.credits(), 0);
+    assert!(rt; own.view(last, 4093, 3) == [OLD, OLD, 9].as_slice());
+    assert!(rt; own.credits() == 0);
     own.release(last);
-    assert_eq!(rt; own.credits(), 1);
+    assert!(rt; own.credits() == 1);
     Ok(())
 }
 
@@ -45,12 +45,12 @@ fn a_shared_frame_stays_until_its_last_release(rt: HostRuntime) -> Result<(), Fa
     let no = own.take();
     own.fill(no, 0, &[7]);
     own.share(no);
-    assert_eq!(rt; own.credits(), 1);
+    assert!(rt; own.credits() == 1);
     own.release(no);
-    assert_eq!(rt; own.credits(), 1);
+    assert!(rt; own.credits() == 1);
     own.fill(no, 1, &[8]);
-    assert_eq!(rt; own.view(no, 0, 3), [7u8, 8, OLD].as_slice());
+    assert!(rt; own.view(no, 0, 3) == [7u8, 8, OLD].as_slice());
     own.release(no);
-    assert_eq!(rt; own.credits(), 2);
+    assert!(rt; own.credits() == 2);
     Ok(())
 }

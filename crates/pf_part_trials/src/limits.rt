@@ -104,37 +104,38 @@ fn a_pipe_grows_as_far_as_its_owner_may(rt: HostRuntime) -> Result<(), Fail> {
     Ok(())
 }
 
-#[test]
-fn a_user_stays_as_long_as_it_is_charged(rt: HostRuntime) -> Result<(), Fail> {
+// Two pages for each of twenty users.
+fn twenty(rt: &impl Abort, alloc: Global) -> Result<UserPages, Fail> {
     let config = Config::new(100, 0, 0, Config::DEFAULT_MAX)?;
-    let mut pages = UserPages::new(rt.alloc(), &config);
+    let mut pages = UserPages::new(alloc, &config);
     for uid in 0..20 {
         assert!(rt; pages.total() == 2 * uid && pages.config().reserve() == 100);
         if pages.charge(uid, 2).is_err() {
             // Nothing has changed.
-            assert_eq!(rt; (pages.users(), pages.total()), (uid as usize, 2 * uid));
-            assert_eq!(rt; pages.charged(uid), 0);
+            let left = (pages.users(), pages.total(), pages.charged(uid));
+            assert!(rt; left == (uid as usize, 2 * uid, 0));
             return Err(AllocError.into());
         }
     }
-    assert!(rt; pages.total() == 40 && pages.charged(7) == 2);
+    Ok(pages)
+}
+
+// How many users are charged, how many pages they have together, and how many the users 7, 8 and 100.
+fn seen(pages: &UserPages) -> (usize, u32, [u32; 3]) {
+    let each = [pages.charged(7), pages.charged(8), pages.charged(100)];
+    (pages.users(), pages.total(), each)
+}
+
+#[test]
+fn a_user_stays_as_long_as_it_is_charged(rt: HostRuntime) -> Result<(), Fail> {
+    let mut pages = twenty(&rt, rt.alloc())?;
     pages.charge(100, 0)?;
-    assert_eq!(rt; (pages.users(), pages.charged(100)), (20, 0));
-    assert!(rt; pages.charged(7) == 2);
+    assert!(rt; seen(&pages) == (20, 40, [2, 2, 0]) && pages.charged(7) == 2);
     pages.refund(7, 1);
-    assert!(rt; pages.charged(7) == 1);
-    assert_eq!(rt; (pages.users(), pages.total()), (20, 39));
+    assert!(rt; seen(&pages) == (20, 39, [1, 2, 0]) && pages.charged(7) == 1);
     pages.refund(7, 1);
-    assert_eq!(rt;
-        (
-            pages.users(),
-            pages.total(),
-            pages.charged(7),
-            pages.charged(8)
-        ),
-        (19, 38, 0, 2)
-    );
+    assert!(rt; seen(&pages) == (19, 38, [0, 2, 0]));
     pages.refund(7, 0);
-    assert_eq!(rt; (pages.users(), pages.total()), (19, 38));
+    assert!(rt; seen(&pages) == (19, 38, [0, 2, 0]));
     Ok(())
 }

@@ -16,7 +16,7 @@ fn a_window_has_room_behind_its_end(rt: HostRuntime) {
             len: 6,
             grows,
         };
-        assert_eq!(rt; window.room(), room);
+        assert!(rt; window.room() == room);
     }
 }
 
@@ -25,13 +25,13 @@ fn ends_are_counted_by_their_side(rt: HostRuntime) -> Result<(), Fail> {
     let mut pipe = Pipe::new(rt.alloc(), 1, 1000, None)?;
     assert!(rt; !pipe.is_open() && pipe.owner() == 1000);
     pipe.add_end(Side::Write);
-    assert_eq!(rt; (pipe.readers(), pipe.writers()), (0, 1));
+    assert!(rt; (pipe.readers(), pipe.writers()) == (0, 1));
     pipe.add_end(Side::Read);
     pipe.add_end(Side::Read);
-    assert_eq!(rt; (pipe.readers(), pipe.writers()), (2, 1));
+    assert!(rt; (pipe.readers(), pipe.writers()) == (2, 1));
     pipe.drop_end(Side::Read);
     pipe.drop_end(Side::Write);
-    assert_eq!(rt; (pipe.readers(), pipe.writers()), (1, 0));
+    assert!(rt; (pipe.readers(), pipe.writers()) == (1, 0));
     assert!(rt; pipe.is_open());
     Ok(())
 }
@@ -46,15 +46,12 @@ fn a_pipe_by_itself(rt: HostRuntime) -> Result<(), Fail> {
     pipe.add_end(Side::Read);
     pipe.add_end(Side::Write);
     let mut buffer = *b"....";
-    assert_eq!(rt;
-        pipe.read_now(&mut frames, &mut buffer),
-        Progress::WouldBlock
-    );
+    assert!(rt; pipe.read_now(&mut frames, &mut buffer) == Progress::WouldBlock);
     assert!(rt; frames.credits() == 1);
     let written = pipe.write_now(&mut frames, b"hello", true);
-    assert_eq!(rt; written, Progress::Moved(5));
-    assert_eq!(rt; (pipe.used(), pipe.len(), pipe.room()), (1, 5, 4091));
-    assert_eq!(rt; frames.credits(), 0);
+    assert!(rt; written == Progress::Moved(5));
+    assert!(rt; (pipe.used(), pipe.len(), pipe.room()) == (1, 5, 4091));
+    assert!(rt; frames.credits() == 0);
     Ok(())
 }
 
@@ -66,7 +63,7 @@ fn a_ring_by_itself(rt: HostRuntime) -> Result<(), Fail> {
     )?;
     let mut ring = SlotRing::new(rt.alloc(), 1)?;
     let mut buffer = *b"....";
-    assert_eq!(rt; ring.take_into(&mut frames, &mut buffer), 0);
-    assert_eq!(rt; (ring.slots(), ring.used(), ring.room()), (1, 0, 4096));
+    assert!(rt; ring.take_into(&mut frames, &mut buffer) == 0);
+    assert!(rt; (ring.slots(), ring.used(), ring.room()) == (1, 0, 4096));
     Ok(())
 }

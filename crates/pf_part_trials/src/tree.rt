@@ -69,14 +69,14 @@ const TOLD: &[u8] = b"a/ab/b/x/y/0 /r\n1 a/r\n1 ab|-\n1 b/r\n2 x/-\n3 z|-\n";
 
 #[test]
 fn a_tree_under_global(rt: HostRuntime) -> Result<(), Fail> {
-    assert_eq!(rt; told(rt.alloc(), rt.alloc())?.as_slice(), TOLD);
+    assert!(rt; told(rt.alloc(), rt.alloc())?.as_slice() == TOLD);
     Ok(())
 }
 
 #[test]
 fn a_tree_under_an_arena(rt: HostRuntime) -> Result<(), Fail> {
     let bump = Bump::new(rt.alloc());
-    assert_eq!(rt; told(&bump, rt.alloc())?.as_slice(), TOLD);
+    assert!(rt; told(&bump, rt.alloc())?.as_slice() == TOLD);
     Ok(())
 }
 
@@ -130,6 +130,6 @@ fn deep(alloc: Global, mode: Mode, levels: usize) -> Result<(u64, usize), Fail> 
 #[test]
 fn a_tree_may_be_512_deep(rt: HostRuntime) -> Result<(), Fail> {
     let told = deep(rt.alloc(), Mode::new(0o777)?, 512)?;
-    assert_eq!(rt; told, (512, 512));
+    assert!(rt; told == (512, 512));
     Ok(())
 }

@@ -5,6 +5,7 @@ use pf_base::{Cred, Errno, Fault, File, Groups, Kind, Meta, Mode};
 use pf_tree::Tree;
 use pf_walk::{Purpose, chmod, list, make, resolve, rmdir, split, stat, unlink};
 use std::alloc::{Allocator, Global};
+use std::process::Abort;
 use std::test::Fail;
 
 fn user(alloc: Global, uid: u32) -> Cred {
@@ -243,24 +244,52 @@ fn first_otherwise<A: Allocator + Clone>(
     None
 }
 
+// Stops at the first row that is told otherwise.
+fn assert_rows<A: Allocator + Clone>(
+    rt: &impl Abort,
+    desk: &mut Desk<A>,
+    rows: &[(Call, &[u8], Option<Errno>)],
+    open: Mode,
+) {
+    if let Some((row, told)) = first_otherwise(desk, rows, open) {
+        panic!(rt; "row {row} is told {told:?}");
+    }
+}
+
+// Plays all rows, and gives the names that are then in the root and in /w.
+fn names_after_rows<A: Allocator + Clone>(
+    rt: &impl Abort,
+    alloc: A,
+    text: Global,
+) -> Result<Vec<u8>, Fail> {
+    let (open, shut) = (Mode::new(0o777)?, Mode::new(0o700)?);
+    let mut desk = filled(alloc, text, open, shut);
+    assert_rows(rt, &mut desk, &ROWS, open);
+    let mut names = desk.list(b"/")?;
+    names.extend_from_slice(desk.list(b"/w")?.as_slice())?;
+    Ok(names)
+}
+
+const NAMES: &[u8] = b"d/f/s/w/full/";
+
 #[test]
 fn each_row_is_refused_in_its_order(rt: HostRuntime) -> Result<(), Fail> {
-    let (open, shut) = (Mode::new(0o777)?, Mode::new(0o700)?);
-    let mut desk = filled(rt.alloc(), rt.alloc(), open, shut);
-    assert_eq!(rt; first_otherwise(&mut desk, &ROWS, open), None);
-    assert_eq!(rt; desk.list(b"/w")?.as_slice(), b"full/".as_slice());
-    let mut desk = Desk::new(rt.alloc(), rt.alloc(), shut, 7);
-    assert_eq!(rt; first_otherwise(&mut desk, &ROOT, open), None);
+    assert!(rt; names_after_rows(&rt, rt.alloc(), rt.alloc())?.as_slice() == NAMES);
     Ok(())
 }
 
 #[test]
 fn each_row_is_refused_in_its_order_under_an_arena(rt: HostRuntime) -> Result<(), Fail> {
-    let (open, shut) = (Mode::new(0o777)?, Mode::new(0o700)?);
     let bump = Bump::new(rt.alloc());
-    let mut desk = filled(&bump, rt.alloc(), open, shut);
-    assert_eq!(rt; first_otherwise(&mut desk, &ROWS, open), None);
-    assert_eq!(rt; desk.list(b"/")?.as_slice(), b"d/f/s/w/".as_slice());
+    assert!(rt; names_after_rows(&rt, &bump, rt.alloc())?.as_slice() == NAMES);
+    Ok(())
+}
+
+#[test]
+fn a_shut_root_is_told_of_first(rt: HostRuntime) -> Result<(), Fail> {
+    let (open, shut) = (Mode::new(0o777)?, Mode::new(0o700)?);
+    let mut desk = Desk::new(rt.alloc(), rt.alloc(), shut, 7);
+    assert_rows(&rt, &mut desk, &ROOT, open);
     Ok(())
 }
 
@@ -269,14 +298,12 @@ fn a_file_is_its_makers_with_the_mode_that_the_umask_leaves(rt: HostRuntime) -> 
     let (open, shut) = (Mode::new(0o777)?, Mode::new(0o700)?);
     let mut desk = filled(rt.alloc(), rt.alloc(), open, shut);
     let made = desk.stat(b"/d/f")?;
-    assert_eq!(rt;
-        (made.kind, made.mode.bits(), made.uid, made.gid),
-        (Kind::Fifo, 0o755, 5, 5)
-    );
+    let made = (made.kind, made.mode.bits(), made.uid, made.gid);
+    assert!(rt; made == (Kind::Fifo, 0o755, 5, 5));
     desk.cred = user(rt.alloc(), 5);
-    assert_eq!(rt; desk.call(Call::Chmod, b"/d/f", open), None);
-    assert_eq!(rt; desk.stat(b"/d/f")?.mode.bits(), 0o777);
-    assert_eq!(rt; desk.number(b"/w/../d/./f")?, (5, 2));
+    assert!(rt; desk.call(Call::Chmod, b"/d/f", open).is_none());
+    assert!(rt; desk.stat(b"/d/f")?.mode.bits() == 0o777);
+    assert!(rt; desk.number(b"/w/../d/./f")? == (5, 2));
     Ok(())
 }
 
@@ -291,39 +318,58 @@ fn cut(text: Global, path: &[u8]) -> Result<(usize, bool), Fault> {
 
 #[test]
 fn names_and_paths_have_their_longest(rt: HostRuntime) -> Result<(), Fail> {
-    let open = Mode::new(0o777)?;
-    let mut desk = Desk::new(rt.alloc(), rt.alloc(), open, 5);
-    let too_long = Some(Fault::Errno(Errno::ENAMETOOLONG));
+    let too_long = Some(Errno::ENAMETOOLONG);
     let name = [b'n'; 256];
-    assert_eq!(rt; desk.call(Call::Mkfifo, &name[..255], open), None);
-    assert_eq!(rt; desk.call(Call::Mkfifo, &name, open), too_long);
     let slashes = [b'/'; 1_024];
-    assert_eq!(rt; desk.call(Call::Stat, &slashes[..1_023], open), None);
-    assert_eq!(rt; desk.call(Call::Stat, &slashes, open), too_long);
-    assert_eq!(rt; cut(rt.alloc(), b"//a/b/")?, (2, true));
-    assert_eq!(rt; cut(rt.alloc(), b"/")?, (0, false));
     // before the walk, which would meet the FIFO f
     let mut below = [b'n'; 258];
     below[0] = b'f';
     below[1] = b'/';
-    assert_eq!(rt; desk.call(Call::Mkfifo, b"f", open), None);
-    assert_eq!(rt; desk.call(Call::Stat, &below, open), too_long);
+    let rows = [
+        (Call::Mkfifo, &name[..255], None),
+        (Call::Mkfifo, &name[..], too_long),
+        (Call::Stat, &slashes[..1_023], None),
+        (Call::Stat, &slashes[..], too_long),
+        (Call::Mkfifo, b"f", None),
+        (Call::Stat, &below[..], too_long),
+    ];
+    let open = Mode::new(0o777)?;
+    let mut desk = Desk::new(rt.alloc(), rt.alloc(), open, 5);
+    assert_rows(&rt, &mut desk, &rows, open);
     Ok(())
 }
 
 #[test]
-fn want_of_memory_changes_nothing(rt: HostRuntime) -> Result<(), Fail> {
+fn a_path_is_cut_at_its_slashes(rt: HostRuntime) -> Result<(), Fail> {
+    assert!(rt; cut(rt.alloc(), b"//a/b/")? == (2, true));
+    assert!(rt; cut(rt.alloc(), b"/")? == (0, false));
+    Ok(())
+}
+
+// What the user 5 is told of a directory that there is no memory for, and of the same once there is, and its number and
+// names.
+fn made_at_last(bump: &Bump, text: Global) -> Result<([Option<Fault>; 3], (u64, usize)), Fail> {
     let open = Mode::new(0o777)?;
+    let mut desk = Desk::new(bump, text, open, 5);
+    let wanted = desk.call(Call::Mkdir, b"/d", open);
+    let sought = desk.call(Call::Stat, b"/d", open);
+    bump.set_allocation_limit(None);
+    let made = desk.call(Call::Mkdir, b"/d", open);
+    Ok(([wanted, sought, made], desk.number(b"/d")?))
+}
+
+#[test]
+fn want_of_memory_changes_nothing(rt: HostRuntime) -> Result<(), Fail> {
     let bump = Bump::new(rt.alloc());
     bump.set_allocation_limit(Some(0));
-    let mut desk = Desk::new(&bump, rt.alloc(), open, 5);
-    assert_eq!(rt; desk.call(Call::Mkdir, b"/d", open), Some(Fault::NoMemory));
-    assert_eq!(rt;
-        desk.call(Call::Stat, b"/d", open),
-        Some(Fault::Errno(Errno::ENOENT))
+    let (told, number) = made_at_last(&bump, rt.alloc())?;
+    assert!(rt;
+        told == [
+            Some(Fault::NoMemory),
+            Some(Fault::Errno(Errno::ENOENT)),
+            None
+        ]
     );
-    bump.set_allocation_limit(None);
-    assert_eq!(rt; desk.call(Call::Mkdir, b"/d", open), None);
-    assert_eq!(rt; desk.number(b"/d")?, (1, 1));
+    assert!(rt; number == (1, 1));
     Ok(())
 }
