@@ -1,0 +1,204 @@
+//! Two tenants beside each other: what each is told, the frames that both take, and how many are free in the end.
+
+ghost use Rattle.std.specs.Prelude.{◌≡◌, ◌≤◌};
+ghost use Rattle.pf_base.specs.declared.TheConstants.{MAX_NAMESPACES};
+
+use crate::tenants::{Row, asks_for_more, fills_and_exits, fills_and_stays, has_one_page};
+use crate::watch::Watch;
+use pf_base::{Answer, Config, MAX_NAMESPACES};
+use pf_depot::DepotBook;
+use pf_frame::Frame;
+use pf_worker::{Gate, Worker, open};
+use std::alloc::{AllocError, Global};
+use std::marker::Brand;
+use std::sync::ledger::{Blank, Ledger};
+use std::sync::{Mutex, Wait};
+use std::test::Fail;
+use std::thread::{Threads, join};
+
+// What the frames hold before anyone writes to them.
+const OLD: u8 = 0xA5;
+
+type Tenant<C, H> = Worker<Global, C, H>;
+
+// A ledger with a part for each namespace that there may be.
+fn blank() -> Blank
+    ensures { result.parts ≡ MAX_NAMESPACES }
+{
+    Blank::new(MAX_NAMESPACES as u64)
+}
+
+fn old_frames(alloc: Global, count: u32) -> Result<Vec<Frame>, AllocError> {
+    let mut frames = Vec::with_capacity(alloc, count as usize)?;
+    for _ in 0..count {
+        frames.push(Frame::filled(alloc, OLD)?)?;
+    }
+    Ok(frames)
+}
+
+// The limits of two namespaces, each with the allocator of its files.
+fn configs(alloc: Global, reserves: [u32; 2]) -> Option<Vec<(Config, Global)>> {
+    let mut configs = Vec::with_capacity(alloc, 2).ok()?;
+    for reserve in reserves {
+        let config = Config::new(
+            reserve,
+            Config::DEFAULT_SOFT,
+            Config::DEFAULT_HARD,
+            Config::DEFAULT_MAX,
+        );
+        configs.push((config.ok()?, alloc)).ok()?;
+    }
+    Some(configs)
+}
+
+// Whether a step is told what is wanted. Where a growth is refused it is made once more: it is to find all as it was.
+fn is_told<R: Wait, G: Gate, C: Ledger, H: Ledger>(
+    rt: &R,
+    book: &Mutex<DepotBook<C, H>>,
+    gate: &G,
+    worker: &mut Tenant<C, H>,
+    row: &Row,
+) -> bool {
+    let mut answer = worker.step(rt, book, gate, &row.step);
+    if answer == Answer::NoMemory {
+        answer = worker.step(rt, book, gate, &row.step);
+    }
+    match answer {
+        Answer::Done(reply) => reply == row.told,
+        Answer::NoMemory => false,
+    }
+}
+
+// Makes a tenant's steps in turn. How many frames the tenant holds in the end, where each was told what is wanted.
+fn play<R: Wait, G: Gate, C: Ledger, H: Ledger>(
+    rt: &R,
+    book: &Mutex<DepotBook<C, H>>,
+    gate: &G,
+    mut worker: Tenant<C, H>,
+    rows: &[Row],
+) -> Option<u32> {
+    for row in rows {
+        if !is_told(rt, book, gate, &mut worker, row) {
+            return None;
+        }
+    }
+    Some(worker.held())
+}
+
+// The first tenant, whose end the gate is told of.
+fn play_first<R: Wait, C: Ledger, H: Ledger>(
+    rt: &R,
+    book: &Mutex<DepotBook<C, H>>,
+    watch: &Watch,
+    worker: Tenant<C, H>,
+    rows: &[Row],
+) -> Option<u32> {
+    let held = play(rt, book, watch, worker, rows);
+    watch.end();
+    held
+}
+
+// Both tenants, on a thread each.
+fn play_both<C: Ledger + Send + Sync, H: Ledger + Send + Sync, R: Threads + Wait + Sync>(
+    rt: &R,
+    book: &Mutex<DepotBook<C, H>>,
+    watch: &Watch,
+    red: Tenant<C, H>,
+    blue: Tenant<C, H>,
+    red_rows: &[Row],
+    blue_rows: &[Row],
+) -> (Option<u32>, Option<u32>) {
+    join(
+        rt,
+        move || play_first(rt, book, watch, red, red_rows),
+        move || play(rt, book, watch, blue, blue_rows),
+    )
+}
+
+type Opened<C, H> = (DepotBook<C, H>, Tenant<C, H>, Tenant<C, H>);
+
+// A depot of as many frames as two tenants reserve, and both.
+fn opened<C: Ledger, H: Ledger>(
+    alloc: Global,
+    reserves: [u32; 2],
+    credits: Blank,
+    held: Blank,
+) -> Option<Opened<C, H>>
+    requires names { (credits.name ≡ C.name) × (held.name ≡ H.name) }
+    requires cut { (credits.parts ≡ C.parts) × (held.parts ≡ H.parts) }
+    requires parts { (MAX_NAMESPACES ≤ credits.parts) × (MAX_NAMESPACES ≤ held.parts) }
+{
+    let frames = old_frames(alloc, reserves[0].checked_add(reserves[1])?).ok()?;
+    let configs = configs(alloc, reserves)?;
+    let (book, mut workers) = open(alloc, frames, configs, credits, held).ok()?;
+    let blue = workers.pop()?;
+    let red = workers.pop()?;
+    Some((book, red, blue))
+}
+
+// How many frames each holds in the end, and how many are free.
+type Held = (Option<u32>, Option<u32>, u32);
+
+// Two tenants beside each other. Nothing, where a growth was refused before they began.
+fn beside<C: Ledger + Send + Sync, H: Ledger + Send + Sync, R: Threads + Wait + Sync>(
+    rt: &R,
+    alloc: Global,
+    credits: Blank,
+    held: Blank,
+    watch: &Watch,
+    reserves: [u32; 2],
+    red_rows: &[Row],
+    blue_rows: &[Row],
+) -> Option<Held>
+    requires names { (credits.name ≡ C.name) × (held.name ≡ H.name) }
+    requires cut { (credits.parts ≡ C.parts) × (held.parts ≡ H.parts) }
+    requires parts { (MAX_NAMESPACES ≤ credits.parts) × (MAX_NAMESPACES ≤ held.parts) }
+{
+    let (book, red, blue) = opened::<C, H>(alloc, reserves, credits, held)?;
+    let book = Mutex::new(book);
+    let (red, blue) = play_both(rt, &book, watch, red, blue, red_rows, blue_rows);
+    let free = book.lock(rt).free();
+    Some((red, blue, free))
+}
+
+fn beside_by_name<R: Threads + Wait + Sync>(
+    rt: &R,
+    alloc: Global,
+    watch: &Watch,
+    reserves: [u32; 2],
+    red: &[Row],
+    blue: &[Row],
+) -> Option<Held> {
+    beside::<Brand, Brand, R>(rt, alloc, blank(), blank(), watch, reserves, red, blue)
+}
+
+// The second tenant takes a frame that the first has filled and given back: it is shown nothing of that.
+#[test]
+fn a_frame_passes_from_one_tenant_to_the_other(rt: HostRuntime) -> Result<(), Fail> {
+    let alloc = rt.alloc();
+    let (red, blue) = (fills_and_exits(alloc)?, asks_for_more(alloc)?);
+    let watch = Watch::new();
+    let held = beside_by_name(
+        &rt,
+        alloc,
+        &watch,
+        [16, 16],
+        red.as_slice(),
+        blue.as_slice(),
+    );
+    assert_eq!(rt; held, Some((Some(0), Some(0), 32)));
+    assert!(rt; watch.is_told(16, 1));
+    Ok(())
+}
+
+// The second tenant finds its one frame, though the first holds all that it may hold.
+#[test]
+fn a_frame_is_there_for_each_credit(rt: HostRuntime) -> Result<(), Fail> {
+    let alloc = rt.alloc();
+    let (red, blue) = (fills_and_stays(alloc)?, has_one_page(alloc)?);
+    let watch = Watch::new();
+    let held = beside_by_name(&rt, alloc, &watch, [16, 1], red.as_slice(), blue.as_slice());
+    assert_eq!(rt; held, Some((Some(16), Some(1), 0)));
+    assert!(rt; watch.is_told(16, 1));
+    Ok(())
+}

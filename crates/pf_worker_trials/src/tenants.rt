@@ -1,0 +1,87 @@
+//! What two tenants ask, and what each of them is told alone.
+
+use pf_base::{ByteString, Errno, Groups, Reply, Step};
+use std::alloc::{AllocError, Global};
+
+/// A step, and what it is told.
+#[derive(Drop)]
+pub(crate) struct Row {
+    pub(crate) step: Step,
+    pub(crate) told: Reply,
+}
+
+fn spawn(alloc: Global) -> Row {
+    let step = Step::Spawn {
+        uid: 5,
+        gid: 5,
+        groups: Groups::new(Vec::new(alloc)),
+        umask: 18,
+    };
+    Row {
+        step,
+        told: Reply::Pid(1),
+    }
+}
+
+fn pipe(told: Reply) -> Row {
+    let step = Step::Pipe {
+        pid: 1,
+        nonblock: false,
+    };
+    Row { step, told }
+}
+
+fn bytes(alloc: Global, byte: u8, count: usize) -> Result<ByteString, AllocError> {
+    Ok(ByteString::new(Vec::from_elem(alloc, byte, count)?))
+}
+
+fn write(alloc: Global, byte: u8, count: usize) -> Result<Row, AllocError> {
+    let step = Step::Write {
+        pid: 1,
+        fd: 1,
+        payload: bytes(alloc, byte, count)?,
+    };
+    let told = Reply::Num(count as u64);
+    Ok(Row { step, told })
+}
+
+fn read(alloc: Global, n: u64, byte: u8, count: usize) -> Result<Row, AllocError> {
+    let step = Step::Read { pid: 1, fd: 0, n };
+    let told = Reply::Bytes(bytes(alloc, byte, count)?);
+    Ok(Row { step, told })
+}
+
+/// A process fills its pipe with bytes 61, and exits.
+pub(crate) fn fills_and_exits(alloc: Global) -> Result<[Row; 4], AllocError> {
+    let write = write(alloc, 0x61, 65_536)?;
+    let exit = Row {
+        step: Step::Exit { pid: 1 },
+        told: Reply::Num(0),
+    };
+    Ok([spawn(alloc), pipe(Reply::Fds(0, 1)), write, exit])
+}
+
+/// Another writes a byte 7a, and asks for a hundred.
+pub(crate) fn asks_for_more(alloc: Global) -> Result<[Row; 4], AllocError> {
+    let write = write(alloc, 0x7A, 1)?;
+    let read = read(alloc, 100, 0x7A, 1)?;
+    Ok([spawn(alloc), pipe(Reply::Fds(0, 1)), write, read])
+}
+
+/// A process fills its pipe, all pages of its namespace, and is refused another pipe.
+pub(crate) fn fills_and_stays(alloc: Global) -> Result<[Row; 4], AllocError> {
+    let write = write(alloc, 0x61, 65_536)?;
+    let refused = pipe(Reply::Err(Errno::ENFILE));
+    Ok([spawn(alloc), pipe(Reply::Fds(0, 1)), write, refused])
+}
+
+/// Another, of a namespace with one page, fills it.
+pub(crate) fn has_one_page(alloc: Global) -> Result<[Row; 5], AllocError> {
+    let size = Row {
+        step: Step::GetSize { pid: 1, fd: 0 },
+        told: Reply::Num(4096),
+    };
+    let write = write(alloc, 0x62, 4096)?;
+    let read = read(alloc, 2, 0x62, 2)?;
+    Ok([spawn(alloc), pipe(Reply::Fds(0, 1)), size, write, read])
+}
