@@ -18,7 +18,7 @@ use Rattle.pf_base.specs.Limits.{Limits}
 use Rattle.pf_base.specs.declared.step.Answer.{Answer}
 use Rattle.pf_base.specs.declared.step.Answer.TheVariants.{NoMemory}
 use Rattle.pf_base.specs.declared.step.Step.{Step}
-use Rattle.pf_machine.specs.Events.{mine, kept, replies, keep_step, keep_reply, IsDone}
+use Rattle.pf_machine.specs.Events.{mine, kept, keep_step, keep_reply, IsDone}
 use Rattle.pf_machine.specs.Runs.{Run, run_of, lone}
 use Rattle.pf_script.specs.Script.{Draft}
 use Rattle.pf_script.specs.Text.{text}
@@ -83,14 +83,14 @@ limits_beside alloc (l ∷ ls) = ap (λ rest. l ∷ rest) (limits_beside alloc l
 
 -- One namespace alone
 
-kept_push : (xs : List Step) (answers : List Answer) (x : Step) (a : Answer) → length answers ≡ length xs → kept_alone (xs ++ x ∷ []) (answers ++ a ∷ []) ≡ kept_alone xs answers ++ keep_step a x []
+pub kept_push : (xs : List Step) (answers : List Answer) (x : Step) (a : Answer) → length answers ≡ length xs → kept_alone (xs ++ x ∷ []) (answers ++ a ∷ []) ≡ kept_alone xs answers ++ keep_step a x []
 kept_push [] [] x a many = refl
 kept_push [] (b ∷ answers) x a many = absurd (omega (arith, many))
 kept_push (y ∷ ys) [] x a many = absurd (omega (arith, many))
 kept_push (y ∷ ys) (b ∷ answers) x a many =
     ap (λ r. keep_step b y r) (kept_push ys answers x a (omega (arith, many))) ∙ keep_step-append b y (kept_alone ys answers) (keep_step a x [])
 
-replies_push : (answers : List Answer) (a : Answer) → replies_alone (answers ++ a ∷ []) ≡ replies_alone answers ++ keep_reply a []
+pub replies_push : (answers : List Answer) (a : Answer) → replies_alone (answers ++ a ∷ []) ≡ replies_alone answers ++ keep_reply a []
 replies_push [] a = refl
 replies_push (b ∷ answers) a = ap (λ r. keep_reply b r) (replies_push answers a) ∙ keep_reply-append b (replies_alone answers) (keep_reply a [])
 
@@ -111,7 +111,7 @@ module _ (c : Limits) (xs : List Step) (answers : List Answer) (many : length an
       (kept_front (take i xs) answers more (omega (arith, length-take i xs)))
 
   -- one step more, that memory was wanted for only if it may want it
-  needed_push : (x : Step) (a : Answer) → NoWantAlone c xs answers
+  pub needed_push : (x : Step) (a : Answer) → NoWantAlone c xs answers
       → (a ≡ NoMemory → may_want_memory c (run_of c opened (kept_alone xs answers)).state x ≡ true)
       → NoWantAlone c (xs ++ x ∷ []) (answers ++ a ∷ [])
   needed_push x a before last i step at at' =

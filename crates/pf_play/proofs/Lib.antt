@@ -3,3 +3,6 @@ pub mod CommandLineLaws
 pub mod EngineLaws
 pub mod ProgramLaws
 pub mod TextLaws
+pub mod WorkLaws
+pub mod MergeLaws
+pub mod Sendable

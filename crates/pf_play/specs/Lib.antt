@@ -4,3 +4,4 @@ pub mod Played
 pub mod Program
 pub mod Replays
 pub mod Texts
+pub mod Workers

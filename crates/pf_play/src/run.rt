@@ -70,10 +70,10 @@ impl From<WriteFault> for ReplayFault {
 
 /// No namespace has the name that was chosen.
 #[derive(Debug, Clone, Copy)]
-struct NoName;
+pub struct NoName;
 
 /// The number of the namespace with the name that is chosen, if one is.
-fn chosen(script: &Script, name: Option<&str>) -> Result<Option<u32>, NoName>
+pub fn chosen(script: &Script, name: Option<&str>) -> Result<Option<u32>, NoName>
     ensures names { IfOk result (Names script.now (option_copied name.entry)) }
     ensures exists { IfOk result (IsChosen script.now) }
     ensures none { OnErr result (NamesNone script.now (option_copied name.entry)) }

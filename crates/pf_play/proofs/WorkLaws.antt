@@ -1,0 +1,262 @@
+-- A worker that makes its namespace's steps in turn is told what the lone machine is.
+
+use Rattle.std.proofs.Common.{◌≡◌, ℕ, zero, suc, ◌+◌, ◌<◌, ◌≤◌, true, false, List, [], ◌∷◌, ◌++◌, length, map, take}
+use Rattle.std.proofs.Common.{drop, get_or, Option, Some, None, refl, ap, subst, sym, ◌∙◌, arith, length-append}
+use Rattle.std.specs.Prelude.{nat_eq, slice_get, slice_index, IfSome, option_map, if◌then◌else◌}
+use Rattle.std.proofs.lemmas.List.{length-map, get_or-map, drop_more, length-drop, take_more}
+use Rattle.std.proofs.lemmas.Option.{slice_get-map}
+use Rattle.std.proofs.lemmas.Slice.Zip.{AllZip-long}
+use Rattle.std.specs.List.{All}
+use Rattle.pf_base.specs.Limits.{Limits}
+use Rattle.pf_base.specs.declared.step.Step.{Step}
+use Rattle.pf_base.specs.declared.step.Answer.{Answer}
+use Rattle.pf_machine.specs.Machine.{Answers, may_want_memory}
+use Rattle.pf_machine.specs.Queue.{Queue}
+use Rattle.pf_machine.specs.State.{State, opening}
+use Rattle.pf_machine.specs.Events.{mine, IsDone}
+use Rattle.pf_machine.specs.Runs.{Run, run_of, lone}
+use Rattle.pf_machine.proofs.RunLaws.{run_of-answered}
+use Rattle.pf_hub.proofs.NeedLemmas.{may_want}
+use Rattle.pf_hub.specs.Opening.{new_tenant}
+use Rattle.pf_hub.specs.Tenants.{Tenant}
+use Rattle.pf_script.specs.Script.{Draft}
+use Rattle.pf_script.specs.Places.{places_from, places_of}
+use Rattle.pf_play.proofs.EngineLaws.{kept_push, replies_push, needed_push, take_all}
+use Rattle.pf_play.specs.Played.{IsPlayedAlone, IsToldAlone, NoWantAlone, kept_alone, replies_alone}
+use Rattle.pf_play.specs.Workers.{Passed, ArePassed, IsOpened, IsPassed, IsWorked, AreWorked}
+use Rattle.pf_worker.specs.Workers.{OneWorker, new_worker, new_workers, new_workers_from}
+
+-- The steps at a namespace's places are its own
+
+-- they are counted from i on, where these events stand behind i others
+mine_from : (all : List (ℕ × Step)) (d : ℕ × Step) (i : ℕ) (es : List (ℕ × Step)) (n : ℕ) → drop i all ≡ es
+    → mine es n ≡ map (λ p. (get_or all p d).1) (places_from i es n)
+mine_from all d i [] n behind = refl
+mine_from all d i (e ∷ es) n behind =
+    let long : length (drop i all) ≡ length (e ∷ es) = ap (λ (xs : List (ℕ × Step)). length xs) behind in
+    let high : i < length all = omega (arith, length-drop i all, long) in
+    let split = sym (drop_more all i d high) ∙ behind in
+    let here : get_or all i d ≡ e = cc in
+    let rests : drop (i + 1) all ≡ es = cc in
+    let more = mine_from all d (i + 1) es n rests in
+    elim (nat_eq e.0 n) as
+    (λ b. (if b then e.1 ∷ mine es n else mine es n) ≡ map (λ p. (get_or all p d).1)
+    (if b then i ∷ places_from (i + 1) es n else places_from (i + 1) es n)) [
+      | true ↦ λ j. (sym here j).1 ∷ more j
+      | false ↦ more
+    ]
+
+pub mine_are : (es : List (ℕ × Step)) (d : ℕ × Step) (n : ℕ) → mine es n ≡ map (λ p. (get_or es p d).1) (places_of es n)
+mine_are es d n = mine_from es d 0 es n refl
+
+-- as many
+many_from : (i : ℕ) (es : List (ℕ × Step)) (n : ℕ) → length (mine es n) ≡ length (places_from i es n)
+many_from i [] n = refl
+many_from i (e ∷ es) n =
+    let more = many_from (i + 1) es n in
+    elim (nat_eq e.0 n) as
+    (λ b. length (if b then e.1 ∷ mine es n else mine es n) ≡ length
+    (if b then i ∷ places_from (i + 1) es n else places_from (i + 1) es n)) [
+      | true ↦ ap suc more
+      | false ↦ more
+    ]
+
+-- Steps in turn
+
+-- these steps were made with these answers, from the opening state to this one
+pub record Worked (c : Limits) (xs : List Step) (answers : List Answer) (state : State Queue) : Type 0 where
+  pub many : length answers ≡ length xs
+  pub ran : run_of c opening (kept_alone xs answers) ≡ record { state = state; replies = replies_alone answers }
+  pub needed : NoWantAlone c xs answers
+
+pub worked_none : (c : Limits) → Worked c [] [] opening
+worked_none c =
+    let needed : NoWantAlone c [] [] = λ place step at at'. absurd (cc) in
+    record { many = refl; ran = refl; needed = needed }
+
+-- one more
+pub worked_on : (c : Limits) (xs : List Step) (x : Step) (answers : List Answer) (a : Answer) (old new : State Queue) →
+    Worked c xs answers old → Answers c a old x new → (may_want_memory c old x ≡ false → IsDone a) →
+    Worked c (xs ++ x ∷ []) (answers ++ a ∷ []) new
+worked_on c xs x answers a old new worked answered succeeds = record {
+  many = length-append answers (a ∷ []) ∙ ap (λ k. k + 1) worked.many ∙ sym (length-append xs (x ∷ []));
+  ran =
+      ap (run_of c opening) (kept_push xs answers x a worked.many)
+      ∙ run_of-answered c opening old new (kept_alone xs answers) x (replies_alone answers) a worked.ran answered
+      ∙ ap (λ rs. record { state = new; replies = rs }) (sym (replies_push answers a));
+  needed = needed_push c xs answers worked.many x a worked.needed (λ none.
+      ap (λ (r : Run). may_want_memory c r.state x) worked.ran ∙ may_want (may_want_memory c old x) a none succeeds);
+}
+
+-- A worker at work: it is the namespace's of this number, and made the first so many of its steps
+
+pub record Works {Z : Type 0} (script : Draft) (n : ℕ) (made : ℕ) (answers : List Answer) (worker : OneWorker Z) : Type
+    0 where
+  pub number : worker.number ≡ n
+  pub limits : slice_get (map (λ s. s.1) script.spaces) n ≡ Some worker.tenant.limits
+  pub worked : Worked worker.tenant.limits (take made (mine script.steps n)) answers worker.tenant.state
+
+limits_from : (spaces : List (List ℕ × Limits)) (n : ℕ) (t : Tenant) →
+    slice_get (map (λ s. new_tenant s.1) spaces) n ≡ Some t
+    → (slice_get (map (λ s. s.1) spaces) n ≡ Some t.limits) × (t ≡ new_tenant t.limits)
+limits_from [] n t is = absurd (cc)
+limits_from (s ∷ ss) zero t is = let same : new_tenant s.1 ≡ t
+    = cc in (ap (λ (u : Tenant). Some u.limits) same, sym same ∙ ap (λ (u : Tenant). new_tenant u.limits) same)
+limits_from (s ∷ ss) (suc n) t is = limits_from ss n t is
+
+-- it made none yet
+pub works_none : {Z : Type 0} (script : Draft) (worker : OneWorker Z) (answers : List Answer) →
+    IsOpened script worker → answers ≡ []
+    → Works script worker.number 0 answers worker
+works_none {Z} script worker answers opened none =
+    let new = limits_from script.spaces worker.number worker.tenant opened in
+    rw none (record {
+      number = refl;
+      limits = new.0;
+      worked = subst (λ s. Worked worker.tenant.limits [] [] s) (sym (ap (λ (t : Tenant). t.state) new.1))
+          (worked_none worker.tenant.limits);
+    })
+
+-- the step at the next place
+pub works_on : {Z : Type 0} (script : Draft) (n k : ℕ) (d : ℕ × Step) (answers : List Answer) (a : Answer)
+    (old new : OneWorker Z) (at : ℕ) (x : Step) →
+    Works script n k answers old → k < length (places_of script.steps n) →
+    at ≡ slice_index (places_of script.steps n) k → x ≡ (get_or script.steps at d).1 →
+    new.number ≡ old.number → new.tenant.limits ≡ old.tenant.limits →
+    Answers old.tenant.limits a old.tenant.state x new.tenant.state →
+    (may_want_memory old.tenant.limits old.tenant.state x ≡ false → IsDone a) →
+    Works script n (k + 1) (answers ++ a ∷ []) new
+works_on script n k d answers a old new at x works low place is same keeps answered succeeds =
+    let own = mine_are script.steps d n in
+    let many = many_from 0 script.steps n in
+    let here : x ≡ get_or (mine script.steps n) k x =
+    is ∙ ap (λ p. (get_or script.steps p d).1) place
+    ∙ sym (get_or-map (λ p. (get_or script.steps p d).1) (places_of script.steps n) k 0 x low)
+    ∙ ap (λ (xs : List Step). get_or xs k x) (sym own) in
+    let taken : take (k + 1) (mine script.steps n) ≡ take k (mine script.steps n) ++ x ∷ [] =
+    take_more (mine script.steps n) k x (omega (arith, many, low))
+    ∙ ap (λ (y : Step). take k (mine script.steps n) ++ y ∷ []) (sym here) in
+    record {
+      number = same ∙ works.number;
+      limits = works.limits ∙ ap Some (sym keeps);
+      worked =
+          subst (λ c. Worked c (take (k + 1) (mine script.steps n)) (answers ++ a ∷ []) new.tenant.state) (sym keeps)
+          (subst (λ xs. Worked old.tenant.limits xs (answers ++ a ∷ []) new.tenant.state) (sym taken)
+          (worked_on old.tenant.limits (take k (mine script.steps n)) x answers a old.tenant.state new.tenant.state
+          works.worked answered succeeds));
+    }
+
+-- it made all
+pub works_all : {Z : Type 0} (script : Draft) (n k : ℕ) (answers : List Answer) (worker : OneWorker Z) →
+    Works script n k answers worker →
+    length (places_of script.steps n) ≤ k → IsPlayedAlone script n answers
+works_all script n k answers worker works past =
+    let many = many_from 0 script.steps n in
+    let worked = rw (take_all (mine script.steps n) (subst (λ m. m ≤ k) (sym many) past)) at works.worked in (
+      worked.many,
+      by (slice_get script.spaces n) (sym (slice_get-map (λ (s : List ℕ × Limits). s.1) script.spaces n)
+          ∙ works.limits),
+    )
+  where
+    by : (r : Option (List ℕ × Limits)) → option_map (λ s. s.1) r ≡ Some worker.tenant.limits
+        → IfSome r (λ space. IsToldAlone space.1 (mine script.steps n) answers)
+    by None is = absurd (cc)
+    by (Some s) is =
+        let same : s.1 ≡ worker.tenant.limits = cc in
+        let past' : length (mine script.steps n) ≤ k = omega (arith, many_from 0 script.steps n, past) in
+        let worked = rw (take_all (mine script.steps n) past') at works.worked in (
+          sym (ap (λ (w : Run). w.replies) worked.ran)
+              ∙ ap (λ l. lone l (kept_alone (mine script.steps n) answers)) (sym same),
+          subst (λ l. NoWantAlone l (mine script.steps n) answers) (sym same) worked.needed,
+        )
+
+-- The workers of all of a script's namespaces
+
+-- these namespaces with an allocator beside each
+abbrev pub configs_of : {Z : Type 0} → Z → List (List ℕ × Limits) → List (Limits × Z)
+configs_of z spaces = map (λ l. (l, z)) (map (λ s. s.1) spaces)
+
+many_configs : {Z : Type 0} (z : Z) (spaces : List (List ℕ × Limits)) → length (configs_of z spaces) ≡ length spaces
+many_configs z spaces = length-map (map (λ s. s.1) spaces) (λ l. (l, z)) ∙ length-map spaces (λ s. s.1)
+
+many_workers : {Z : Type 0} (m : ℕ) (configs : List (Limits × Z)) → length (new_workers_from m configs) ≡ length configs
+many_workers m [] = refl
+many_workers m (e ∷ es) = ap suc (many_workers (suc m) es)
+
+opened_from : {Z : Type 0} (z : Z) (all : List Tenant) (m : ℕ) (spaces : List (List ℕ × Limits)) →
+    ((i : ℕ) → slice_get all (m + i) ≡ slice_get (map (λ s. new_tenant s.1) spaces) i) →
+    (k : ℕ) (d : OneWorker Z) → k < length (new_workers_from m (configs_of z spaces)) →
+    slice_get all (get_or (new_workers_from m (configs_of z spaces)) k d).number ≡ Some
+    (get_or (new_workers_from m (configs_of z spaces)) k d).tenant
+opened_from z all m [] behind k d low = absurd (omega (arith, low))
+opened_from z all m (s ∷ ss) behind zero d low =
+    let here : m + 0 ≡ m = omega arith in
+    ap (λ n. slice_get all n) (sym here) ∙ behind 0
+opened_from z all m (s ∷ ss) behind (suc k) d low =
+    opened_from z all (suc m) ss (λ i. let next : suc m + i ≡ m + suc i = omega arith in ap (λ n. slice_get all n) next
+    ∙ behind (suc i)) k d (omega (arith, low))
+
+-- they are new
+pub all_opened : {Z : Type 0} (script : Draft) (z : Z) (workers : List (OneWorker Z)) →
+    workers ≡ new_workers (configs_of z script.spaces) →
+    All (IsOpened script) workers
+all_opened script z workers is =
+    rw is (λ k d low. opened_from z (map (λ s. new_tenant s.1) script.spaces) 0 script.spaces
+    (λ i. let same : 0 + i ≡ i
+    = omega arith in ap (λ n. slice_get (map (λ s. new_tenant s.1) script.spaces) n) same) k d low)
+
+tenant_at : (spaces : List (List ℕ × Limits)) (n : ℕ) (l : Limits) → slice_get (map (λ s. s.1) spaces) n ≡ Some l
+    → slice_get (map (λ s. new_tenant s.1) spaces) n ≡ Some (new_tenant l)
+tenant_at [] n l is = absurd (cc)
+tenant_at (s ∷ ss) zero l is = let same : s.1 ≡ l = cc in ap (λ (x : Limits). Some (new_tenant x)) same
+tenant_at (s ∷ ss) (suc n) l is = tenant_at ss n l is
+
+-- so is one of them
+pub one_opened : {Z : Type 0} (script : Draft) (z : Z) (n : ℕ) (limits : Limits) (workers : List (OneWorker Z)) →
+    slice_get (map (λ s. s.1) script.spaces) n ≡ Some limits → workers ≡ new_worker n (limits, z) ∷ [] →
+    All (IsOpened script) workers
+one_opened {Z} script z n limits workers at_place is = rw is by
+  where
+    by : (k : ℕ) (d : OneWorker Z) → k < 1 → IsOpened script (get_or (new_worker n (limits, z) ∷ []) k d)
+    by zero d low = tenant_at script.spaces n limits at_place
+    by (suc k) d low = absurd (omega (arith, low))
+
+-- there is a list of answers for each
+pub many_lists : {Z : Type 0} (passed : Passed) (script : Draft) (z : Z) (workers : List (OneWorker Z))
+    (own : List (List Answer)) →
+    workers ≡ new_workers (configs_of z script.spaces) → AreWorked passed script workers own →
+    length own ≡ length script.spaces
+many_lists passed script z workers own is worked =
+    AllZip-long (λ worker answers. IsWorked passed script worker.number answers) workers own worked
+    ∙ ap (λ ws. length ws) is ∙ many_workers 0 (configs_of z script.spaces) ∙ many_configs z script.spaces
+
+worked_from : {Z : Type 0} (passed : Passed) (script : Draft) (m : ℕ) (configs : List (Limits × Z))
+    (own : List (List Answer)) →
+    AreWorked passed script (new_workers_from m configs) own → (i : ℕ) → i < length configs →
+    IsWorked passed script (m + i) (get_or own i [])
+worked_from passed script m [] own worked i low = absurd (omega (arith, low))
+worked_from passed script m (e ∷ es) [] worked i low = absurd worked
+worked_from passed script m (e ∷ es) (answers ∷ own) worked zero low =
+    let here : m ≡ m + 0 = omega arith in
+    subst (λ n. IsWorked passed script n answers) here worked.0
+worked_from passed script m (e ∷ es) (answers ∷ own) worked (suc i) low =
+    let next : suc m + i ≡ m + suc i = omega arith in
+    subst (λ n. IsWorked passed script n (get_or own i [])) next
+    (worked_from passed script (suc m) es own worked.1 i (omega (arith, low)))
+
+-- at its place
+pub each_worked : {Z : Type 0} (passed : Passed) (script : Draft) (z : Z) (workers : List (OneWorker Z))
+    (own : List (List Answer)) →
+    workers ≡ new_workers (configs_of z script.spaces) → AreWorked passed script workers own →
+    (n : ℕ) → n < length script.spaces → IsWorked passed script n (get_or own n [])
+each_worked passed script z workers own is worked n low =
+    let same : 0 + n ≡ n = omega arith in
+    subst (λ m. IsWorked passed script m (get_or own n [])) same
+    (worked_from passed script 0 (configs_of z script.spaces) own
+    (subst (λ ws. AreWorked passed script ws own) is worked) n
+    (omega (arith, low, many_configs z script.spaces)))
+
+-- so the gate was told of each step
+pub worked_passed : (passed : Passed) (script : Draft) (n : ℕ) (answers : List Answer) →
+    IsWorked passed script n answers → IsPassed passed script n
+worked_passed passed script n answers worked = subst (λ number. ArePassed passed n number) worked.0.0 worked.1

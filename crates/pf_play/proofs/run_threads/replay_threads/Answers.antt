@@ -1,0 +1,14 @@
+use Rattle.std.proofs.lemmas.Result.{err_from_is_err_and}
+use Rattle.pf_play.proofs.EngineLaws.{cut_short}
+use Rattle.pf_play.proofs.run_threads.replay_threads.Goals as goal
+
+pub returns-in_err-print-clause-fault : goal.returns-in_err-print-clause-fault
+returns-in_err-print-clause-fault g c =
+    let p = err_from_is_err_and c.from_residual-in_err-print.result c.from_residual-in_err-print.ensures.1 in
+    let read = c.in_ok-script.ensures.read in
+    rw (p.1, p.2) (
+      read.0,
+      read.1,
+      cut_short _ _ _ _ _ _ _ _ read.2 c.in-Ok.ensures.names c.in_ok-answers.ensures.played c.as_slice-2.ensures.value
+          c.in_err-print.ensures.cut,
+    )

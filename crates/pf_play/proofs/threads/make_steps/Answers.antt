@@ -1,0 +1,70 @@
+use Rattle.std.proofs.Common.{rules, ◌≡◌, ◌<◌, ◌≤◌, length, sym, ap, ◌∙◌, subst, arith, below_more, ℕ, List, get_or}
+use Rattle.std.specs.Prelude.{slice_index}
+use Rattle.pf_base.specs.declared.step.Step.{Step}
+use Rattle.pf_script.specs.Places.{places_of}
+use Rattle.pf_script.proofs.Places.{within}
+use Rattle.pf_play.specs.Workers.{ArePassed}
+use Rattle.pf_play.proofs.WorkLaws.{works_none, works_on, works_all}
+use Rattle.pf_play.proofs.threads.make_steps.Goals as goal
+
+pub loop-at-init : goal.loop-at-init
+loop-at-init g c = record {
+  passed = λ place low. absurd (omega (arith, low));
+  works = works_none c.args.script.now c.args.worker.now c.in_ok-answers.answers.items c.requires
+      c.in_ok-answers.ensures.items;
+  many = search rules;
+  room = search rules;
+}
+
+pub bounds-steps-at : goal.bounds-steps-at
+bounds-steps-at g c =
+    let at_place : c.places-places.result.now ≡ places_of c.args.script.now.steps c.number-ns.result
+    = c.places-places.ensures in
+    let low : c.loop-at.at-index < length (places_of c.args.script.now.steps c.number-ns.result)
+    = subst (λ (ps : List ℕ). c.loop-at.at-index < length ps) at_place c.loop-at-test.true in
+    let there : slice_index (places_of c.args.script.now.steps c.number-ns.result) c.loop-at.at-index < length
+    c.steps-steps.result.now
+    = within c.args.script.now.steps (length c.steps-steps.result.now) c.number-ns.result
+    (ap (λ (es : List (ℕ × Step)). length es) c.steps-steps.ensures.steps) c.loop-at.at-index 0 low in
+    subst (λ (ps : List ℕ). slice_index ps c.loop-at.at-index < length c.steps-steps.result.now) (sym at_place) there
+
+pub loop-at-preserved : goal.loop-at-preserved
+loop-at-preserved g c =
+    let n = c.args.worker.now.number in
+    let at_place : c.places-places.result.now ≡ places_of c.args.script.now.steps n = c.places-places.ensures
+    ∙ ap (λ m. places_of c.args.script.now.steps m) c.number-ns.ensures in
+    let low : c.loop-at.at-index < length (places_of c.args.script.now.steps n)
+    = subst (λ (ps : List ℕ). c.loop-at.at-index < length ps) at_place c.loop-at-test.true in
+    let at = slice_index c.places-places.result.now c.loop-at.at-index in
+    let same_at : at ≡ slice_index (places_of c.args.script.now.steps n) c.loop-at.at-index
+    = ap (λ (ps : List ℕ). slice_index ps c.loop-at.at-index) at_place in
+    let e = c.index-steps-at.result in
+    let step = (get_or c.steps-steps.result.now at e).1 in
+    let here : step ≡ (get_or c.args.script.now.steps at e).1
+    = ap (λ (es : List (ℕ × Step)). (get_or es at e).1) c.steps-steps.ensures.steps in
+    let passed = g.G.Gate.passed c.args.gate.now in
+    let placed : c.len-place.result ≡ c.loop-at.at-index = omega (arith, c.loop-at.answers.ok.0) in
+    let told = subst (λ place. passed n place) placed
+    (subst (λ m. passed m c.len-place.result) c.number-ns.ensures c.pass.ensures) in
+    record {
+      passed = below_more _ _ c.loop-at.invariant.passed told;
+      works = rw c.push_reserved.ensures.items
+          (works_on c.args.script.now n c.loop-at.at-index e c.loop-at.answers.items c.step_told.result c.loop-at.worker
+          c.step_told.new.worker at step c.loop-at.invariant.works low same_at here
+          c.step_told.ensures.number c.step_told.ensures.limits c.step_told.ensures.answers
+          c.step_told.ensures.succeeds);
+      many = search rules;
+      room = search rules;
+    }
+
+pub returns : goal.returns
+returns g c =
+    let at_place : c.places-places.result.now ≡ places_of c.args.script.now.steps c.args.worker.now.number
+    = c.places-places.ensures ∙ ap (λ m. places_of c.args.script.now.steps m) c.number-ns.ensures in
+    let all = works_all c.args.script.now c.args.worker.now.number c.loop-at.at-index c.loop-at.answers.items
+    c.loop-at.worker c.loop-at.invariant.works
+    (subst (λ (ps : List ℕ). length ps ≤ c.loop-at.at-index) at_place c.loop-at-test.false) in (
+      all,
+      subst (λ number. ArePassed (g.G.Gate.passed c.args.gate.now) c.args.worker.now.number number)
+          (sym c.loop-at.invariant.many) c.loop-at.invariant.passed,
+    )

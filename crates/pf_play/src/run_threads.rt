@@ -1,0 +1,44 @@
+ghost use Rattle.std.specs.Prelude.{IfOk, IfErr, IsOk, option_copied};
+ghost use Rattle.pf_play.specs.Replays.{IsReplayed, IsFault};
+ghost use Rattle.pf_play.specs.Workers.{IsGated};
+
+use crate::engine::{Options, count_nomem, frames_of};
+use crate::run::{ReplayFault, Replayed, chosen};
+use crate::threads::play_threads;
+use pf_script::{Sink, Source, print, read_script};
+use pf_worker::Gate;
+use std::alloc::Global;
+use std::sync::Wait;
+use std::thread::Threads;
+
+/// A `replay` with a thread for each namespace, over a depot that they share: the text is that of `replay`, whatever the
+/// order in which the threads come to run. With one name chosen there is a thread for it alone.
+///
+/// The gate is told of each step just before it is made, with the namespace's number in the script and the step's place
+/// among the namespace's own, while no lock is held; and of each frame before it is taken. A thread that can't be started
+/// counts as a growth of memory that was refused.
+pub fn replay_threads<T: Threads + Wait + Sync, R: Source, W: Sink, G: Gate + Sync>(
+    rt: &T,
+    alloc: Global,
+    reader: &mut R,
+    writer: &mut W,
+    options: &Options<'_>,
+    gate: &G,
+) -> Result<Replayed, ReplayFault>
+    ensures played { IfOk result (λ r. IsReplayed (R.input reader.old) (R.input reader.new)
+        (W.output writer.old) (W.output writer.new) (option_copied options.now.only) r.nomem) }
+    ensures fault { IfErr result (IsFault (R.input reader.old) (R.input reader.new)
+        (W.output writer.old) (W.output writer.new) (option_copied options.now.only)) }
+    ensures passed { IsOk result → IsGated (G.passed gate.now) (R.input reader.old) (R.input reader.new)
+        (option_copied options.now.only) }
+{
+    let script = read_script(alloc, reader)?;
+    let Ok(only) = chosen(&script, options.only) else {
+        return Err(ReplayFault::NoSuchName);
+    };
+    let frames = frames_of(alloc, script.frames(), options.fill)?;
+    let answers = play_threads(rt, alloc, &script, only, frames, gate)?;
+    let nomem = count_nomem(answers.as_slice());
+    print(writer, &script, answers.as_slice(), only)?;
+    Ok(Replayed { nomem })
+}

@@ -1,0 +1,378 @@
+//! A script's namespaces on threads of their own, over a depot that they share.
+
+ghost use Rattle.std.specs.Prelude.{◌≡◌, ◌≤◌, ◌<◌, ℕ, false, [], length, map, slice_index_or, None, IfOk, IsOk};
+ghost use Rattle.std.specs.List.{All};
+ghost use Rattle.pf_base.specs.declared.TheConstants.{MAX_FRAMES, MAX_NAMESPACES};
+ghost use Rattle.pf_machine.specs.Events.{IsDone};
+ghost use Rattle.pf_machine.specs.Machine.{Answers, may_want_memory};
+ghost use Rattle.pf_play.specs.Played.{IsPlayed, IsPlayedAlone, IsPlayedFor, IsChosen};
+ghost use Rattle.pf_play.specs.Workers.{IsOpened, IsPassed, IsPassedFor, IsWorked, AreWorked};
+ghost use Rattle.pf_worker.specs.Workers.{new_worker};
+
+use crate::engine::with_allocators;
+use pf_base::{Answer, Config, MAX_NAMESPACES, Step};
+use pf_depot::DepotBook;
+use pf_frame::{Frame, PoolFault};
+use pf_script::Script;
+use pf_worker::{Gate, Worker, open};
+use std::alloc::{AllocError, Global};
+use std::marker::Brand;
+use std::sync::ledger::{Blank, Ledger};
+use std::sync::{Mutex, Wait};
+use std::thread;
+use std::thread::{Promise, PromisedHandle, Scope, Threads};
+use std::vec::IntoIter;
+
+// A worker's step, of which the gate was told.
+fn step_told<R: Wait, G: Gate, C: Ledger, H: Ledger>(
+    rt: &R,
+    book: &Mutex<DepotBook<C, H>>,
+    gate: &G,
+    place: u64,
+    worker: &mut Worker<Global, C, H>,
+    step: &Step,
+) -> Answer
+    requires passed { G.passed gate.now worker.old.number place }
+    ensures number { worker.new.number ≡ worker.old.number }
+    ensures limits { worker.new.tenant.limits ≡ worker.old.tenant.limits }
+    ensures answers { Answers worker.old.tenant.limits result
+        worker.old.tenant.state step.now worker.new.tenant.state }
+    ensures succeeds { may_want_memory worker.old.tenant.limits worker.old.tenant.state step.now ≡ false
+        → IsDone result }
+{
+    let _ = place;
+    worker.step(rt, book, gate, step)
+}
+
+/// Makes the steps of a worker's namespace, of each of which the gate is told. No lock is held meanwhile but the depot's,
+/// for one frame at a time.
+fn make_steps<R: Wait, G: Gate, C: Ledger, H: Ledger>(
+    rt: &R,
+    alloc: Global,
+    script: &Script,
+    book: &Mutex<DepotBook<C, H>>,
+    gate: &G,
+    worker: &mut Worker<Global, C, H>,
+) -> Result<Vec<Answer>, AllocError>
+    requires { IsOpened script.now worker.old }
+    ensures { IfOk result (λ answers. IsWorked (G.passed gate.now) script.now worker.old.number answers.items) }
+{
+    let ns = worker.number();
+    let steps = script.steps();
+    let places = script.places(ns as usize);
+    let mut answers = Vec::with_capacity(alloc, places.len())?;
+    for at in places {
+        let place = answers.len() as u64;
+        gate.pass(ns, place);
+        let step = &steps[*at as usize].1;
+        answers.push_reserved(step_told(rt, book, gate, place, worker, step));
+    }
+    Ok(answers)
+}
+
+/// The same, after which the worker is let go.
+fn work<R: Wait, G: Gate, C: Ledger, H: Ledger>(
+    rt: &R,
+    alloc: Global,
+    script: &Script,
+    book: &Mutex<DepotBook<C, H>>,
+    gate: &G,
+    worker: Worker<Global, C, H>,
+) -> Result<Vec<Answer>, AllocError>
+    requires { IsOpened script.now worker }
+    ensures { IfOk result (λ answers. IsWorked (G.passed gate.now) script.now worker.number answers.items) }
+{
+    let mut worker = worker;
+    make_steps(rt, alloc, script, book, gate, &mut worker)
+}
+
+/// What a thread ends with.
+type Told = Result<Vec<Answer>, AllocError>;
+
+/// What a thread promises: its namespace is told what the lone machine is, and the gate was told of each of its steps.
+#[derive(Clone, Copy)]
+struct PlaysAlone<'a, G: Gate> {
+    script: &'a Script,
+    gate: &'a G,
+    ns: u32,
+}
+
+impl<'a, G: Gate> Promise<Told> for PlaysAlone<'a, G> {
+    ghost use Rattle.std.specs.Prelude.{IfOk};
+    ghost use Rattle.pf_play.specs.Workers.{IsWorked};
+
+    ghost kept_by = { λ p r. IfOk r (λ answers. IsWorked (G.passed p.gate.now) p.script.now p.ns answers.items) };
+}
+
+/// Starts a thread of this scope for a worker.
+fn start<
+    's,
+    E,
+    R: Threads + Wait + Sync,
+    G: Gate + Sync,
+    C: Ledger + Send + Sync,
+    H: Ledger + Send + Sync,
+>(
+    rt: &'s R,
+    alloc: Global,
+    scope: &Scope<'s, E>,
+    script: &'s Script,
+    book: &'s Mutex<DepotBook<C, H>>,
+    gate: &'s G,
+    worker: Worker<Global, C, H>,
+) -> Result<PromisedHandle<Told, PlaysAlone<'s, G>>, AllocError>
+    requires { IsOpened script.now worker }
+    ensures { IfOk result (λ h. (h.promise.script.now ≡ script.entry.now) × (h.promise.gate.now ≡ gate.entry.now)
+        × (h.promise.ns ≡ worker.number)) }
+{
+    let ns = worker.number();
+    let child = scope.spawn_with(
+        PlaysAlone { script, gate, ns },
+        move || -> Told
+            requires { IsOpened script.now worker }
+            ensures { IfOk result (λ answers. IsWorked (G.passed gate.entry.now) script.entry.now worker.number answers.items) }
+        { work(rt, alloc, script, book, gate, worker) },
+    )?;
+    Ok(child)
+}
+
+/// Runs each worker on a thread of its own: all are started before one is waited for. Where one can't be started, the
+/// others are waited for all the same.
+fn work_each<
+    's,
+    E,
+    R: Threads + Wait + Sync,
+    G: Gate + Sync,
+    C: Ledger + Send + Sync,
+    H: Ledger + Send + Sync,
+>(
+    rt: &'s R,
+    alloc: Global,
+    scope: &Scope<'s, E>,
+    script: &'s Script,
+    book: &'s Mutex<DepotBook<C, H>>,
+    gate: &'s G,
+    workers: Vec<Worker<Global, C, H>>,
+) -> Result<Vec<Vec<Answer>>, AllocError>
+    requires { All (IsOpened script.now) workers.items }
+    ensures { IfOk result (λ own. AreWorked (G.passed gate.now) script.now workers.items (map (λ v. v.items) own.items)) }
+{
+    let mut workers = workers;
+    let Some(worker) = workers.pop() else {
+        return Ok(Vec::new(alloc));
+    };
+    let child = start(rt, alloc, scope, script, book, gate, worker)?;
+    let before = work_each(rt, alloc, scope, script, book, gate, workers);
+    let last = child.join(rt);
+    let mut own = before?;
+    own.push(last?)?;
+    Ok(own)
+}
+
+/// Runs each worker on a thread of its own, and waits for all.
+fn work_all<
+    R: Threads + Wait + Sync,
+    G: Gate + Sync,
+    C: Ledger + Send + Sync,
+    H: Ledger + Send + Sync,
+>(
+    rt: &R,
+    alloc: Global,
+    script: &Script,
+    book: &Mutex<DepotBook<C, H>>,
+    gate: &G,
+    workers: Vec<Worker<Global, C, H>>,
+) -> Result<Vec<Vec<Answer>>, AllocError>
+    requires { All (IsOpened script.now) workers.items }
+    ensures { IfOk result (λ own. AreWorked (G.passed gate.now) script.now workers.items (map (λ v. v.items) own.items)) }
+{
+    thread::scope(
+        thread::scope_env(),
+        rt,
+        |scope| -> Result<Vec<Vec<Answer>>, AllocError>
+            requires { All (IsOpened script.now) workers.items }
+            ensures { IfOk result (λ own. AreWorked (G.passed gate.entry.now) script.entry.now workers.items (map (λ v. v.items) own.items)) }
+        { work_each(rt, alloc, scope, script, book, gate, workers) },
+    )
+}
+
+/// The answers of all namespaces, in the order of the script's steps.
+fn merge(alloc: Global, script: &Script, own: Vec<Vec<Answer>>) -> Result<Vec<Answer>, AllocError>
+    requires number { length own.items ≡ length script.now.spaces }
+    requires alone { (n : ℕ) → n < length script.now.spaces
+        → IsPlayedAlone script.now n (slice_index_or (map (λ v. v.items) own.items) n []) }
+    ensures { IfOk result (λ answers. IsPlayed script.now answers.items) }
+{
+    let steps = script.steps();
+    let mut answers = Vec::with_capacity(alloc, steps.len())?;
+    let mut left = left_of(alloc, own)?;
+    for event in steps {
+        let Some(answer) = left[event.0 as usize].next() else {
+            unreachable!()
+        };
+        answers.push_reserved(answer);
+    }
+    Ok(answers)
+}
+
+// Each of these lists, to be taken from its front.
+fn left_of(alloc: Global, own: Vec<Vec<Answer>>) -> Result<Vec<IntoIter<Answer>>, AllocError>
+    ensures { IfOk result (λ left. map (λ i. i.rest.items) left.items ≡ map (λ v. v.items) own.items) }
+{
+    let mut left = Vec::with_capacity(alloc, own.len())?;
+    for answers in own {
+        left.push_reserved(answers.into_iter());
+    }
+    Ok(left)
+}
+
+/// Runs all of a script's steps, each namespace's on a thread of its own, over these frames, whatever they hold.
+fn play_all<
+    R: Threads + Wait + Sync,
+    G: Gate + Sync,
+    C: Ledger + Send + Sync,
+    H: Ledger + Send + Sync,
+>(
+    rt: &R,
+    alloc: Global,
+    script: &Script,
+    frames: Vec<Frame>,
+    gate: &G,
+    credits: Blank,
+    held: Blank,
+) -> Result<Vec<Answer>, AllocError>
+    requires names { (credits.name ≡ C.name) × (held.name ≡ H.name) }
+    requires cut { (credits.parts ≡ C.parts) × (held.parts ≡ H.parts) }
+    requires parts { (MAX_NAMESPACES ≤ credits.parts) × (MAX_NAMESPACES ≤ held.parts) }
+    requires frames { length frames.items ≡ script.now.frames }
+    ensures played { IfOk result (λ answers. IsPlayed script.now answers.items) }
+    ensures passed { IsOk result → IsPassedFor (G.passed gate.now) script.now None }
+{
+    let limits = script.configs(alloc)?;
+    let configs = with_allocators(alloc, limits.as_slice())?;
+    let (book, workers) = match open::<Global, C, H>(alloc, frames, configs, credits, held) {
+        Ok(opened) => opened,
+        Err(PoolFault::NoMemory) => return Err(AllocError),
+        Err(_) => unreachable!(),
+    };
+    let book = Mutex::new(book);
+    let own = work_all(rt, alloc, script, &book, gate, workers)?;
+    merge(alloc, script, own)
+}
+
+/// The worker of one namespace alone over these frames, which are enough for it.
+fn lone_worker<C: Ledger, H: Ledger>(
+    alloc: Global,
+    ns: u32,
+    config: Config,
+    frames: Vec<Frame>,
+    credits: Blank,
+    held: Blank,
+) -> Result<(DepotBook<C, H>, Worker<Global, C, H>), AllocError>
+    requires names { (credits.name ≡ C.name) × (held.name ≡ H.name) }
+    requires cut { (credits.parts ≡ C.parts) × (held.parts ≡ H.parts) }
+    requires parts { (MAX_NAMESPACES ≤ credits.parts) × (MAX_NAMESPACES ≤ held.parts) }
+    requires small { length frames.items ≤ MAX_FRAMES }
+    requires fits { config.reserve ≤ length frames.items }
+    ensures { IfOk result (λ made. made.1 ≡ new_worker ns (config, alloc)) }
+{
+    let reserves = vec![in alloc; config.reserve()]?;
+    let (book, mut allotments) = match DepotBook::open(alloc, frames, reserves, credits, held) {
+        Ok(opened) => opened,
+        Err(PoolFault::NoMemory) => return Err(AllocError),
+        Err(_) => unreachable!(),
+    };
+    let allotment = allotments.pop().unwrap();
+    let worker = Worker::new(alloc, ns, config, alloc, allotment)?;
+    Ok((book, worker))
+}
+
+/// Runs the steps of one namespace alone, on a thread of its own, over all of the script's frames, whatever they hold.
+fn play_alone<
+    R: Threads + Wait + Sync,
+    G: Gate + Sync,
+    C: Ledger + Send + Sync,
+    H: Ledger + Send + Sync,
+>(
+    rt: &R,
+    alloc: Global,
+    script: &Script,
+    ns: u32,
+    frames: Vec<Frame>,
+    gate: &G,
+    credits: Blank,
+    held: Blank,
+) -> Result<Vec<Answer>, AllocError>
+    requires names { (credits.name ≡ C.name) × (held.name ≡ H.name) }
+    requires cut { (credits.parts ≡ C.parts) × (held.parts ≡ H.parts) }
+    requires parts { (MAX_NAMESPACES ≤ credits.parts) × (MAX_NAMESPACES ≤ held.parts) }
+    requires frames { length frames.items ≡ script.now.frames }
+    requires exists { ns < length script.now.spaces }
+    ensures played { IfOk result (λ answers. IsPlayedAlone script.now ns answers.items) }
+    ensures passed { IsOk result → IsPassed (G.passed gate.now) script.now ns }
+{
+    let config = script.config(ns as usize);
+    let (book, worker) = lone_worker::<C, H>(alloc, ns, config, frames, credits, held)?;
+    let workers = vec![in alloc; worker]?;
+    let book = Mutex::new(book);
+    let mut own = work_all(rt, alloc, script, &book, gate, workers)?;
+    Ok(own.pop().unwrap())
+}
+
+/// The same for all steps, or for those of one namespace that is chosen.
+fn play_for<
+    R: Threads + Wait + Sync,
+    G: Gate + Sync,
+    C: Ledger + Send + Sync,
+    H: Ledger + Send + Sync,
+>(
+    rt: &R,
+    alloc: Global,
+    script: &Script,
+    only: Option<u32>,
+    frames: Vec<Frame>,
+    gate: &G,
+    credits: Blank,
+    held: Blank,
+) -> Result<Vec<Answer>, AllocError>
+    requires names { (credits.name ≡ C.name) × (held.name ≡ H.name) }
+    requires cut { (credits.parts ≡ C.parts) × (held.parts ≡ H.parts) }
+    requires parts { (MAX_NAMESPACES ≤ credits.parts) × (MAX_NAMESPACES ≤ held.parts) }
+    requires frames { length frames.items ≡ script.now.frames }
+    requires chosen { IsChosen script.now only }
+    ensures played { IfOk result (λ answers. IsPlayedFor script.now only answers.items) }
+    ensures passed { IsOk result → IsPassedFor (G.passed gate.now) script.now only }
+{
+    match only {
+        None => play_all::<R, G, C, H>(rt, alloc, script, frames, gate, credits, held),
+        Some(ns) => play_alone::<R, G, C, H>(rt, alloc, script, ns, frames, gate, credits, held),
+    }
+}
+
+/// Runs a script's steps over these frames, or those of one namespace alone: each namespace's on a thread of its own. A
+/// thread that can't be started counts as want of memory.
+pub fn play_threads<R: Threads + Wait + Sync, G: Gate + Sync>(
+    rt: &R,
+    alloc: Global,
+    script: &Script,
+    only: Option<u32>,
+    frames: Vec<Frame>,
+    gate: &G,
+) -> Result<Vec<Answer>, AllocError>
+    requires frames { length frames.items ≡ script.now.frames }
+    requires chosen { IsChosen script.now only }
+    ensures played { IfOk result (λ answers. IsPlayedFor script.now only answers.items) }
+    ensures passed { IsOk result → IsPassedFor (G.passed gate.now) script.now only }
+{
+    let most = MAX_NAMESPACES as u64;
+    play_for::<R, G, Brand, Brand>(
+        rt,
+        alloc,
+        script,
+        only,
+        frames,
+        gate,
+        Blank::new(most),
+        Blank::new(most),
+    )
+}
