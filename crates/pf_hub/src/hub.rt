@@ -76,8 +76,11 @@ pub fn first_fault<A: Allocator>(frames: usize, configs: &[(Config, A)]) -> Opti
     None
 }
 
-// The reservations of some limits.
-fn reserves_of<A: Allocator>(alloc: Global, configs: &[(Config, A)]) -> Result<Vec<u32>, AllocError>
+/// The reservations of some limits. The fault is want of memory.
+pub fn reserves_of<A: Allocator>(
+    alloc: Global,
+    configs: &[(Config, A)],
+) -> Result<Vec<u32>, AllocError>
     ensures { IfOk result (λ v. v.items ≡ map (λ e. e.0.reserve) configs.now) }
 {
     configs

@@ -5,5 +5,5 @@ pub mod hub;
 pub mod laws;
 pub mod parts;
 
-pub use hub::{Hub, RunFault, first_fault, step_over};
+pub use hub::{Hub, RunFault, first_fault, reserves_of, step_over};
 pub use parts::HubParts;

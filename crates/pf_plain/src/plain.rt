@@ -3,6 +3,7 @@ ghost use Rattle.pf_hub.specs.Opening.{new_space};
 
 use pf_base::{Answer, Config, Step};
 use pf_frame::{Frame, PoolFault};
+use pf_hub::reserves_of;
 use pf_pool::FramePool;
 use pf_space::Space;
 use std::alloc::{AllocError, Allocator, Global};
@@ -26,16 +27,6 @@ impl<A: Allocator> Model for Plain<A> {
     ghost view = { λ p. plain_of p.pool p.spaces.items };
 
     ghost invariant = { λ p. IsPlain p.pool p.spaces.items };
-}
-
-// The reservations of some limits.
-fn reserves_of<A: Allocator>(alloc: Global, configs: &[(Config, A)]) -> Result<Vec<u32>, AllocError>
-    ensures { IfOk result (λ v. v.items ≡ map (λ e. e.0.reserve) configs.now) }
-{
-    configs
-        .iter()
-        .map(|config| config.0.reserve())
-        .collect(alloc)
 }
 
 // The namespaces of some limits, each at its opening state, with its files in memory of its own allocator.

@@ -19,7 +19,8 @@ pub struct Placed<A: Allocator> {
 
 impl<A: Allocator> Placed<A> {
     ghost use Rattle.std.specs.Prelude.{◌≡◌, ◌≤◌};
-    ghost use Rattle.pf_machine.specs.Replies.{most_of};
+    ghost use Rattle.pf_machine.specs.Machine.{call_of};
+    ghost use Rattle.pf_machine.specs.Replies.{most_of, written_in};
     ghost use Rattle.pf_tables.specs.Bounds.{Covers};
 
     /// A number of bytes that the vector of a step's reply is no longer than, as `Space::reply_bound` says.
@@ -28,6 +29,13 @@ impl<A: Allocator> Placed<A> {
         ensures most { result ≤ most_of step.now }
     {
         self.space.reply_bound(step)
+    }
+
+    /// How many bytes of its write went in before a process waited, as `Space::parked_written` says.
+    pub fn parked_written(&self, pid: u32) -> u64
+        ensures { result ≡ written_in (call_of self.now.space.state pid) }
+    {
+        self.space.parked_written(pid)
     }
 }
 

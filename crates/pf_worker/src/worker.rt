@@ -11,7 +11,7 @@ use crate::gated::GatedDepot;
 use pf_base::{Answer, Config, Step};
 use pf_depot::{Allotment, DepotBook, Loans};
 use pf_frame::{Frame, PoolFault};
-use pf_hub::{first_fault, step_over};
+use pf_hub::{first_fault, reserves_of, step_over};
 use pf_space::Placed;
 use std::alloc::{AllocError, Allocator, Global};
 use std::marker::Model;
@@ -149,16 +149,6 @@ fn workers_of<A: Allocator + Clone, C: Ledger, H: Ledger>(
         workers.push_reserved(worker);
     }
     Ok(workers)
-}
-
-// The reservations of some limits.
-fn reserves_of<A: Allocator>(alloc: Global, configs: &[(Config, A)]) -> Result<Vec<u32>, AllocError>
-    ensures { IfOk result (λ v. v.items ≡ map (λ e. e.0.reserve) configs.now) }
-{
-    configs
-        .iter()
-        .map(|config| config.0.reserve())
-        .collect(alloc)
 }
 
 /// A shared depot of these frames, and a worker for each of these limits: their numbers are their places. A namespace's
