@@ -15,6 +15,8 @@ mod parked;
 #[cfg(test)]
 mod pipe;
 #[cfg(test)]
+mod pool;
+#[cfg(test)]
 mod tree;
 #[cfg(test)]
 mod walk;

@@ -3,8 +3,6 @@
 
 pub mod door;
 pub mod pool;
-#[cfg(test)]
-mod tests;
 
 pub use door::Door;
 pub use pf_frame::PoolFault;

@@ -1,6 +1,0 @@
-use Rattle.std.proofs.Common.{◌≡◌, length, vec_capacity}
-use Rattle.pf_base.specs.declared.TheConstants.{PAGE_SIZE}
-use Rattle.pf_pool.proofs.tests.old_frames.Given as goal
-
-abbrev pub invariant-loop : goal.invariant-loop
-invariant-loop l = (length l.frames.items ≡ l.counter) × (vec_capacity l.frames ≡ l.count) × (length l.page.items ≡ PAGE_SIZE)
