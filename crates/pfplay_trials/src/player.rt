@@ -4,7 +4,7 @@
 use crate::flaw::Flaw;
 use crate::hosts::{Host, frames};
 use crate::table::{Event, Table, name_of, tables_of};
-use pf_base::Answer;
+use pf_base::{Answer, Step};
 use pf_hub::Hub;
 use pf_plain::Plain;
 use pf_play::{Options, replay};
@@ -78,39 +78,79 @@ fn count_frames<H: Host>(host: &H, event: &Event, frames: u32, held: &[u32]) -> 
     Ok(())
 }
 
-/// Plays a table step by step: it has as many answers as steps, and each step has its answer, and leaves its namespace
-/// so many frames, and each other as many as it had.
-fn play_over<H: Host>(alloc: Global, table: &Table, fill: Option<u8>) -> Result<(), Flaw> {
-    let one = script_of(alloc, 0, "pool 1\nspace red 1\nred exit 1\n")?;
-    let script = script_of(alloc, table.number, table.script()?.as_str())?;
-    let (steps, answers) = (script.steps().len(), table.events.len());
-    if steps != answers {
-        return Err(Flaw::Steps(table.number, steps, answers));
+/// Makes a step: it has its answer. `one` is a script of one step.
+fn make_step<H: Host>(
+    alloc: Global,
+    one: &Script,
+    host: &mut H,
+    step: &(u32, Step),
+    event: &Event,
+) -> Result<(), Flaw> {
+    let (ns, step) = step;
+    let Some(answer) = host.step_of(*ns, step) else {
+        return Err(Flaw::NoRow(event.number));
+    };
+    let answer = text_of(alloc, one, answer)?;
+    if answer.as_slice() == event.told.as_str().as_bytes() {
+        Ok(())
+    } else {
+        otherwise(alloc, event, &answer)
     }
-    let mut host = opened::<H>(alloc, table.number, &script, fill)?;
+}
+
+/// Makes a table's steps: each has its answer, and leaves its namespace so many frames, and each other as many as it
+/// had.
+fn make_steps<H: Host>(
+    alloc: Global,
+    one: &Script,
+    script: &Script,
+    table: &Table,
+    host: &mut H,
+) -> Result<(), Flaw> {
     let mut held = vec![in alloc; 0u32; script.count_spaces()]?;
-    for ((ns, step), event) in script.steps().iter().zip(&table.events) {
-        let Some(answer) = host.step_of(*ns, step) else {
-            return Err(Flaw::NoRow(event.number));
-        };
-        let answer = text_of(alloc, &one, answer)?;
-        if answer.as_slice() != event.told.as_str().as_bytes() {
-            return otherwise(alloc, event, &answer);
-        }
-        if let Some(count) = held.get_mut(*ns as usize) {
+    for (step, event) in script.steps().iter().zip(&table.events) {
+        make_step(alloc, one, host, step, event)?;
+        if let Some(count) = held.get_mut(step.0 as usize) {
             *count = event.held;
         }
-        count_frames(&host, event, script.frames(), &held)?;
+        count_frames(host, event, script.frames(), &held)?;
     }
     Ok(())
 }
 
-/// Plays a table step by step over frames of each kind.
-fn play_over_each<H: Host>(alloc: Global, table: &Table) -> Result<(), Flaw> {
-    for fill in FILLS {
-        play_over::<H>(alloc, table, Some(fill))?;
+/// Plays a table's script step by step: it has as many answers as steps.
+fn play_script<H: Host>(
+    alloc: Global,
+    one: &Script,
+    script: &Script,
+    table: &Table,
+    fill: Option<u8>,
+) -> Result<(), Flaw> {
+    let (steps, answers) = (script.steps().len(), table.events.len());
+    if steps != answers {
+        return Err(Flaw::Steps(table.number, steps, answers));
     }
-    play_over::<H>(alloc, table, None)
+    let mut host = opened::<H>(alloc, table.number, script, fill)?;
+    make_steps(alloc, one, script, table, &mut host)
+}
+
+/// Plays a table step by step over frames of each kind. What owns a script hands it on and has one way out: each way out
+/// drops it, which is dear to prove.
+fn play_over_each<H: Host>(alloc: Global, one: &Script, table: &Table) -> Result<(), Flaw> {
+    let script = script_of(alloc, table.number, table.script()?.as_str())?;
+    play_with_fills::<H>(alloc, one, &script, table)
+}
+
+fn play_with_fills<H: Host>(
+    alloc: Global,
+    one: &Script,
+    script: &Script,
+    table: &Table,
+) -> Result<(), Flaw> {
+    for fill in FILLS {
+        play_script::<H>(alloc, one, script, table, Some(fill))?;
+    }
+    play_script::<H>(alloc, one, script, table, None)
 }
 
 /// Whether the replayer writes this text, and no step meets want of memory. The script is read from memory, and from
@@ -144,33 +184,40 @@ fn write(alloc: Global, table: &Table, only: Option<&str>) -> Result<(), Flaw> {
 }
 
 /// Plays a table in each way.
-fn play_table(alloc: Global, table: &Table) -> Result<(), Flaw> {
-    play_over_each::<Hub<Global>>(alloc, table)?;
-    play_over_each::<Plain<Global>>(alloc, table)?;
+fn play_table(alloc: Global, one: &Script, table: &Table) -> Result<(), Flaw> {
+    play_over_each::<Hub<Global>>(alloc, one, table)?;
+    play_over_each::<Plain<Global>>(alloc, one, table)?;
     write(alloc, table, None)
 }
 
 /// Plays the steps of a table's first two namespaces and of its last one, each alone: it is told the same, and holds as
 /// many frames. Its section is the same too where its name is chosen.
-fn play_alone(alloc: Global, table: &Table) -> Result<(), Flaw> {
+fn play_alone(alloc: Global, one: &Script, table: &Table) -> Result<(), Flaw> {
     let rest = table.spaces.get(2..).unwrap_or(&[]).last();
     for space in table.spaces.iter().take(2).chain(rest) {
-        play_table(alloc, &table.alone(space.as_str())?)?;
+        play_table(alloc, one, &table.alone(space.as_str())?)?;
         write(alloc, table, Some(name_of(space.as_str())))?;
     }
     Ok(())
 }
 
-/// Plays the tables of a file, and tells how many they are, and how many steps they have.
-pub(crate) fn play_file(alloc: Global, file: &str) -> Result<(usize, usize), Flaw> {
-    let tables = tables_of(alloc, file)?;
+/// Plays these tables, and tells how many steps they have.
+fn play_tables(alloc: Global, one: &Script, tables: &[Table]) -> Result<usize, Flaw> {
     let mut steps = 0usize;
-    for table in &tables {
-        play_table(alloc, table)?;
+    for table in tables {
+        play_table(alloc, one, table)?;
         if table.spaces.len() > 1 {
-            play_alone(alloc, table)?;
+            play_alone(alloc, one, table)?;
         }
         steps = steps.saturating_add(table.events.len());
     }
+    Ok(steps)
+}
+
+/// Plays the tables of a file, and tells how many they are, and how many steps they have.
+pub(crate) fn play_file(alloc: Global, file: &str) -> Result<(usize, usize), Flaw> {
+    let one = script_of(alloc, 0, "pool 1\nspace red 1\nred exit 1\n")?;
+    let tables = tables_of(alloc, file)?;
+    let steps = play_tables(alloc, &one, &tables)?;
     Ok((tables.len(), steps))
 }
