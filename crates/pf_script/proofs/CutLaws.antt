@@ -1,8 +1,8 @@
 -- The first piece of a text, by the place of the first byte that cuts.
 
-use Rattle.std.proofs.Common.{◌≡◌, ℕ, ◌+◌, ◌<◌, List, [], ◌∷◌, ◌++◌, length, take, drop, get_or, Some, None, refl, arith, map, append_assoc, Bor}
-use Rattle.std.proofs.lemmas.List.{map-append}
-use Rattle.std.specs.Prelude.{zero, suc, true, false, ◌==◌, if◌then◌else◌}
+use Rattle.std.proofs.Common.{◌≡◌, ℕ, ◌+◌, ◌<◌, List, [], ◌∷◌, ◌++◌, length, take, drop, get_or, Some, None, refl, arith, map, append_assoc, Bor, subst, ◌∙◌}
+use Rattle.std.proofs.lemmas.List.{map-append, append-nil}
+use Rattle.std.specs.Prelude.{zero, suc, Bool, true, false, ◌==◌, if◌then◌else◌}
 use Rattle.memchr.specs.Find.{IsFirstByte, is_byte}
 use Rattle.pf_script.specs.Words.{pieces_of, onto_first}
 use Rattle.std.proofs.Math.Seq.{drop-cons}
@@ -24,18 +24,23 @@ whole cut (c ∷ cs) found =
       | false ↦ λ is. rw rest refl
     ] refl
 
--- the piece before the first cut
-pub front : (cut : ℕ) (cs : List ℕ) (k : ℕ) → IsFirstByte (is_byte cut) cs (Some k) → pieces_of cut cs ≡ take k cs ∷ pieces_of cut (drop (k + 1) cs)
+-- the piece before the first cut, whatever follows
+pub front_before : (cut : ℕ) (cs more : List ℕ) (k : ℕ) → IsFirstByte (is_byte cut) cs (Some k) → pieces_of cut (cs ++ more) ≡ take k cs ∷ pieces_of cut (drop (k + 1) cs ++ more)
 unfolding pieces_of
-front cut [] k found = absurd (omega (arith, found.0.high))
-front cut (c ∷ cs) zero found = rw found.1 refl
-front cut (c ∷ cs) (suc k) found =
+front_before cut [] more k found = absurd (omega (arith, found.0.high))
+front_before cut (c ∷ cs) more zero found = rw found.1 refl
+front_before cut (c ∷ cs) more (suc k) found =
     let step : suc k + 1 ≡ suc (k + 1) = omega arith in
-    let rest = front cut cs k (record { low = omega arith; high = omega (arith, found.0.high); before = λ j low high is. found.0.before (suc j) (omega arith) (omega arith) is }, found.1) in
-    rw step (elim (c == cut) as (λ b. (c == cut) ≡ b → (if b then [] ∷ pieces_of cut cs else onto_first c (pieces_of cut cs)) ≡ (c ∷ take k cs) ∷ pieces_of cut (drop (k + 1) cs)) [
+    let rest = front_before cut cs more k (record { low = omega arith; high = omega (arith, found.0.high); before = λ j low high is. found.0.before (suc j) (omega arith) (omega arith) is }, found.1) in
+    rw step (elim (c == cut) as (λ b. (c == cut) ≡ b → (if b then [] ∷ pieces_of cut (cs ++ more) else onto_first c (pieces_of cut (cs ++ more))) ≡ (c ∷ take k cs) ∷ pieces_of cut (drop (k + 1) cs ++ more)) [
       | true ↦ λ is. absurd (found.0.before 0 (omega arith) (omega arith) is)
       | false ↦ λ is. rw rest refl
     ] refl)
+
+pub front : (cut : ℕ) (cs : List ℕ) (k : ℕ) → IsFirstByte (is_byte cut) cs (Some k) → pieces_of cut cs ≡ take k cs ∷ pieces_of cut (drop (k + 1) cs)
+front cut cs k found =
+    subst (λ t. pieces_of cut cs ≡ take k cs ∷ pieces_of cut t) (append-nil (drop (k + 1) cs))
+    (subst (λ t. pieces_of cut t ≡ take k cs ∷ pieces_of cut (drop (k + 1) cs ++ [])) (append-nil cs) (front_before cut cs [] k found))
 
 -- a piece more was found
 pub goes_on : (cut : ℕ) (found : List (Bor (List ℕ))) (piece : Bor (List ℕ)) (rest : List ℕ) (k : ℕ) (all : List (List ℕ)) →
@@ -60,3 +65,21 @@ some_piece cut (c ∷ cs) =
       | true ↦ ([], pieces_of cut cs, refl)
       | false ↦ (c ∷ rest.0, rest.1, rw rest.2 refl)
     ]
+
+one_on : (cut c : ℕ) (cs ys : List ℕ) (b : Bool) → pieces_of cut ys ≡ ys ∷ [] →
+    (pieces_of cut cs ≡ cs ∷ [] → pieces_of cut (cs ++ ys) ≡ (cs ++ ys) ∷ []) →
+    (if b then [] ∷ pieces_of cut cs else onto_first c (pieces_of cut cs)) ≡ (c ∷ cs) ∷ [] →
+    (if b then [] ∷ pieces_of cut (cs ++ ys) else onto_first c (pieces_of cut (cs ++ ys))) ≡ (c ∷ (cs ++ ys)) ∷ []
+one_on cut c cs ys true one joined is = absurd (cc)
+one_on cut c cs ys false one joined is =
+    let rest = some_piece cut cs in
+    let first = rw rest.2 at is in
+    let piece : rest.0 ≡ cs = cc in
+    let none : rest.1 ≡ [] = cc in
+    rw (joined (rest.2 ∙ rw (piece, none) refl)) refl
+
+-- two texts without a cut are one piece
+pub joined : (cut : ℕ) (xs ys : List ℕ) → pieces_of cut xs ≡ xs ∷ [] → pieces_of cut ys ≡ ys ∷ [] → pieces_of cut (xs ++ ys) ≡ (xs ++ ys) ∷ []
+unfolding pieces_of
+joined cut [] ys one two = two
+joined cut (c ∷ cs) ys one two = one_on cut c cs ys (c == cut) two (λ is. joined cut cs ys is two) one

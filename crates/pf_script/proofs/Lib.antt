@@ -3,6 +3,7 @@ pub mod Digits
 pub mod Numbers
 pub mod Data
 pub mod Lines
+pub mod Readings
 pub mod ScriptNames
 pub mod Places
 pub mod Soundness

@@ -9,8 +9,6 @@ use Rattle.pf_script.specs.declared.fault.LineFault.{LineFault}
 use Rattle.pf_script.specs.declared.fault.LineFault.TheVariants as faults
 use Rattle.pf_script.specs.declared.fault.ScriptFault.{ScriptFault}
 use Rattle.pf_script.specs.declared.fault.ScriptFault.TheVariants as script_faults
-use Rattle.pf_script.specs.declared.port.InputFault.{InputFault}
-use Rattle.pf_script.specs.declared.port.InputFault.TheVariants as input_faults
 
 -- the grammar gives this fault, unless memory ran out
 abbrev pub Fails : {Y : Type 0} → LineFault → Result Y Cause → Type 0
@@ -48,8 +46,3 @@ abbrev pub IsScriptFault : Input → Input → ScriptFault → Type 0
 IsScriptFault old new (script_faults.Refused refusal) = (bytes : List ℕ) × IsWhole old new bytes × (read_script bytes ≡ Err refusal)
 IsScriptFault old new script_faults.NoMemory = IsGivenUp old new
 IsScriptFault old new script_faults.ReadFault = BreaksOff old new ⊎ IsTooLong old new
-
--- an input fault as a fault of the script
-abbrev pub of_input : InputFault → ScriptFault
-of_input input_faults.NoMemory = script_faults.NoMemory
-of_input input_faults.ReadFault = script_faults.ReadFault

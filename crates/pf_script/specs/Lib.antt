@@ -2,8 +2,8 @@ pub mod Words
 pub mod Arguments
 pub mod Verbs
 pub mod Script
+pub mod Judged
 pub mod Ports
-pub mod Inputs
 pub mod Faults
 pub mod Named
 pub mod Places

@@ -1,7 +1,6 @@
 ghost use Rattle.std.specs.Prelude.{◌≡◌};
 ghost use Rattle.pf_script.specs.Faults.{at_line};
 
-use crate::port::InputFault;
 use crate::refusal::{Cause, Refusal};
 use std::alloc::{AllocError, AllocFailed};
 use thiserror::Error;
@@ -68,18 +67,5 @@ impl From<AllocError> for ScriptFault {
 
     fn from(_: AllocError) -> Self {
         ScriptFault::NoMemory
-    }
-}
-
-impl From<InputFault> for ScriptFault {
-    ghost use Rattle.pf_script.specs.Faults.{of_input};
-
-    ghost from_gives = { λ fault e. e ≡ of_input fault };
-
-    fn from(fault: InputFault) -> Self {
-        match fault {
-            InputFault::NoMemory => ScriptFault::NoMemory,
-            InputFault::ReadFault => ScriptFault::ReadFault,
-        }
     }
 }

@@ -6,6 +6,7 @@ mod adapters;
 mod arguments;
 mod cut;
 mod fault;
+mod judge;
 mod memory;
 mod notice;
 mod port;

@@ -1,7 +1,6 @@
-ghost use Rattle.std.specs.Prelude.{◌≡◌, ◌≤◌, ◌<◌, ◌+◌, length, drop, IfOk, IfErr, OnOk, OnErr, vec_len};
+ghost use Rattle.std.specs.Prelude.{◌≡◌, ◌≤◌, ◌<◌, ◌+◌, length, drop, IfOk, OnOk, OnErr, vec_len};
 ghost use Rattle.std.specs.Io.KnownBytes.{Consumes, Keeps, IsAtEnd};
-ghost use Rattle.pf_script.specs.Ports.{one_more, IsWhole, IsWritten, IsCut};
-ghost use Rattle.pf_script.specs.Inputs.{IsInputFault};
+ghost use Rattle.pf_script.specs.Ports.{one_more, IsWritten, IsCut};
 
 use std::alloc::{AllocError, Global};
 
@@ -9,7 +8,7 @@ use std::alloc::{AllocError, Global};
 pub const INPUT_LIMIT: usize = 67_108_864;
 
 /// How many bytes a reader is asked for at once.
-const CHUNK: usize = 65_536;
+pub const CHUNK: usize = 65_536;
 
 /// A read or a write that failed.
 #[derive(Debug, Clone, Copy, Drop)]
@@ -46,28 +45,19 @@ pub trait Sink {
             result bytes.now };
 }
 
-/// Why an input isn't had whole.
-#[derive(Debug, Clone, Copy)]
-pub enum InputFault {
-    /// A growth of memory was refused.
-    NoMemory,
-    /// The reader failed, or gave a byte more than an input may have.
-    ReadFault,
-}
-
 /// A write that failed, or took none of some bytes.
 #[derive(Debug, Clone, Copy, Drop)]
 pub struct WriteFault;
 
 /// Room for what is read at once.
-fn room(alloc: Global) -> Result<Vec<u8>, AllocError>
+pub fn room(alloc: Global) -> Result<Vec<u8>, AllocError>
     ensures { IfOk result (λ v. vec_len v ≡ CHUNK) }
 {
     vec![in alloc; 0u8; CHUNK]
 }
 
 /// What one read gives, none only at the end or where there is no room.
-fn read_some<'a, R: Source>(reader: &mut R, buffer: &'a mut [u8]) -> Result<&'a [u8], Failed>
+pub fn read_some<'a, R: Source>(reader: &mut R, buffer: &'a mut [u8]) -> Result<&'a [u8], Failed>
     ensures bound { IfOk result (λ piece. length piece.now ≤ length buffer.old) }
     ensures bytes { IfOk result (λ piece.
         Consumes (R.input reader.old).remaining (R.input reader.new).remaining piece.now) }
@@ -80,36 +70,6 @@ fn read_some<'a, R: Source>(reader: &mut R, buffer: &'a mut [u8]) -> Result<&'a 
     let n = reader.read(buffer)?;
     let (piece, _) = buffer.split_at(n);
     Ok(piece)
-}
-
-/// All that a reader has, to its end. The reader isn't asked for more than `INPUT_LIMIT` bytes and one, nor again
-/// after a read that failed.
-pub fn read_all<R: Source>(alloc: Global, reader: &mut R) -> Result<Vec<u8>, InputFault>
-    ensures whole { IfOk result (λ bytes. IsWhole (R.input reader.old) (R.input reader.new) bytes.items) }
-    ensures fault { IfErr result (IsInputFault (R.input reader.old) (R.input reader.new)) }
-{
-    let mut input = Vec::new(alloc);
-    let Ok(mut chunk) = room(alloc) else {
-        return Err(InputFault::NoMemory);
-    };
-    // Each answer but the last has a byte.
-    for _ in 0..=INPUT_LIMIT {
-        let wanted = CHUNK.min(INPUT_LIMIT + 1 - input.len());
-        let (buffer, _) = chunk.split_at_mut(wanted);
-        let Ok(piece) = read_some(reader, buffer) else {
-            return Err(InputFault::ReadFault);
-        };
-        if piece.is_empty() {
-            return Ok(input);
-        }
-        let Ok(()) = input.extend_from_slice(piece) else {
-            return Err(InputFault::NoMemory);
-        };
-        if input.len() > INPUT_LIMIT {
-            return Err(InputFault::ReadFault);
-        }
-    }
-    unreachable!()
 }
 
 /// What is behind the first `n` bytes.

@@ -96,11 +96,11 @@ fn limits_with(
 }
 
 impl Script {
-    /// A script that says nothing, with room for so many steps.
-    pub fn blank(alloc: Global, steps: usize) -> Result<Self, AllocError>
+    /// A script that says nothing.
+    pub fn blank(alloc: Global) -> Result<Self, AllocError>
         ensures { IfOk result (λ s. s ≡ blank) }
     {
-        let steps = Steps::with_capacity(alloc, steps)?;
+        let steps = Steps::new(alloc)?;
         Ok(Script {
             frames: 0,
             spaces: IndexMap::new(alloc),

@@ -57,11 +57,11 @@ fn note(places: &mut Vec<Vec<u32>>, number: usize, place: u32) -> Result<(), All
 }
 
 impl Steps {
-    /// No steps, with room for so many.
-    pub fn with_capacity(alloc: Global, steps: usize) -> Result<Self, AllocError>
+    /// No steps.
+    pub fn new(alloc: Global) -> Result<Self, AllocError>
         ensures { IfOk result (λ s. s ≡ []) }
     {
-        let all = Vec::with_capacity(alloc, steps)?;
+        let all = Vec::new(alloc);
         let places = no_places(alloc)?;
         Ok(Steps { all, places })
     }
