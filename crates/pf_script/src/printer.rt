@@ -45,6 +45,7 @@ impl Printer {
     }
 
     /// Takes a text on: it waits, or is written.
+    #[inline(always)]
     pub fn put<W: Sink>(&mut self, writer: &mut W, text: &[u8])
         ensures { Puts (W.output writer.old) self.old (W.output writer.new) self.new text.now }
     {

@@ -12,7 +12,7 @@ use memchr::memchr;
 use pf_base::{Answer, Kind, Meta, Mode, Reply};
 
 /// How many bytes are turned into digits at once.
-const PIECE: usize = 256;
+const PIECE: usize = 64;
 
 /// Puts the digits of at most `PIECE` bytes.
 fn put_piece<W: Sink>(out: &mut Printer, writer: &mut W, bytes: &[u8])

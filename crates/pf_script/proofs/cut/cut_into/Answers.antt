@@ -6,5 +6,5 @@ loop-k-preserved c = rw (c.in_ok-push.ensures.items, c.cut_at.ensures.back) (goe
 
 pub returns : goal.returns
 returns c =
-    let none = rw c.in_default.is at c.memchr.ensures in
+    let none = rw c.in_default.is at c.find.ensures in
     rw c.in_ok-push-2.ensures.items (ends _ _ _ _ none c.loop-k.invariant)

@@ -12,7 +12,7 @@ pub loop-rest-preserved : goal.loop-rest-preserved
 loop-rest-preserved g c = (
   c.loop-rest.invariant.0 ++ encode_lower c.split_at.result.0.now,
   put_more c.loop-rest.invariant.1 c.put_piece.ensures,
-  rw (c.split_at.ensures.front, c.split_at.ensures.back) (digits_on _ _ _ 256 c.loop-rest.invariant.2),
+  rw (c.split_at.ensures.front, c.split_at.ensures.back) (digits_on _ _ _ 64 c.loop-rest.invariant.2),
 )
 
 pub returns : goal.returns
