@@ -1,4 +1,4 @@
-ghost use Rattle.std.specs.Prelude.{◌≡◌, ◌≤◌, ◌<◌, map, length, slice_get, IfOk, IfSome, Some, None, option_copied};
+ghost use Rattle.std.specs.Prelude.{◌≡◌, ◌≤◌, ◌<◌, map, length, slice_get, IfOk, IfSome, Some, None, true, option_copied};
 ghost use Rattle.std.specs.List.{list_any};
 ghost use Rattle.pf_base.specs.declared.TheConstants.{MAX_FRAMES};
 ghost use Rattle.pf_script.specs.Script as grammar;
@@ -194,6 +194,41 @@ impl Script {
         }
     }
 
+    /// Whether the namespace with this number has this name.
+    fn is_named(&self, place: u32, name: &[u8]) -> bool
+        ensures place { result ≡ true → place_of name.now self.now.spaces ≡ Some place }
+        ensures within { result ≡ true → place < length self.now.spaces }
+    {
+        match self.spaces.get_index(place as usize) {
+            Some((own, _)) => own.as_slice() == name,
+            None => false,
+        }
+    }
+
+    /// The number of the last step's namespace, 0 where there is no step.
+    fn last(&self) -> u32 {
+        match self.steps.as_slice().last() {
+            Some((ns, _)) => *ns,
+            None => 0,
+        }
+    }
+
+    /// The number of the namespace with this name. It is mostly that of the last step, or the next one.
+    fn place_of_step(&self, name: &[u8]) -> Option<u32>
+        ensures place { result ≡ place_of name.now self.now.spaces }
+        ensures within { IfSome result (λ place. place < length self.now.spaces) }
+    {
+        let last = self.last();
+        if self.is_named(last, name) {
+            return Some(last);
+        }
+        let next = last.saturating_add(1);
+        if self.is_named(next, name) {
+            return Some(next);
+        }
+        self.place(name)
+    }
+
     #[tactic(auto, unfolding(crate::specs::Script::pool_with))]
     fn pool_with(&mut self, frames: &[u8]) -> Result<(), LineFault>
         requires { self.old.frames ≡ 0 }
@@ -294,7 +329,7 @@ impl Script {
     fn step_line(&mut self, alloc: Global, name: &[u8], words: &[&[u8]]) -> Result<(), LineFault>
         ensures { Moves result self.new (grammar.step_line self.old name.now (map (λ w. w.now) words.now)) }
     {
-        let Some(place) = self.place(name) else {
+        let Some(place) = self.place_of_step(name) else {
             return Err(LineFault::Refused(Cause::UnknownNamespace));
         };
         let step = step_of(alloc, words)?;

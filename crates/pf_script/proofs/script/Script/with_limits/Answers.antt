@@ -26,7 +26,8 @@ left c =
 pub invariant_of-self-2 : goal.invariant_of-self-2
 invariant_of-self-2 c =
     let few = rw (← c.self.view_is) at c.requires.few in
-    rw (put c) (space_sound _ c.args.name.now c.args.config c.self.invariant few (left c))
+    let fresh = rw (← c.self.view_is) at c.requires.fresh in
+    rw (put c) (space_sound _ c.args.name.now c.args.config c.self.invariant fresh few (left c))
 
 pub returns : goal.returns
 returns c = rw (← c.self.view_is, put c) (reserves _ c.args.name.now c.args.config (left c))
