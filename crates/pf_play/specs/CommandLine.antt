@@ -1,8 +1,15 @@
 -- What the words of the command line ask for. The first of them is the program's name.
 
-use Rattle.std.specs.Prelude.{◌≡◌, List, [], ◌∷◌, ◌++◌, Option, Some, None, true, codes}
+use Rattle.std.specs.Prelude.{◌≡◌, List, [], ◌∷◌, ◌++◌, Option, Some, None, Bool, true, false, codes}
+use Rattle.std.specs.Option.{option_map_or}
+use Rattle.std.specs.Str.{bytes_eq}
 use Rattle.clap.specs.Words.{App, Kinds, Rule, Text, fault_of, first_of, matches_of, new_app, new_rule, with_rule}
+use Rattle.clap.specs.declared.builder.action.ArgAction.TheVariants.{SetTrue}
 use Rattle.pf_script.specs.Words.{is_name}
+
+-- the option `--threads`, which takes no value
+abbrev pub threads_rule : Rule
+threads_rule = record (new_rule (codes "threads")) { long = Some (codes "threads"); action = Some SetTrue }
 
 -- the option `--only NAME`
 abbrev pub only_rule : Rule
@@ -10,24 +17,36 @@ only_rule = record (new_rule (codes "only")) { long = Some (codes "only"); value
 
 -- the program with its options, one after the other; each command has `--help` besides
 abbrev pub pfplay : App
-pfplay = with_rule (new_app (codes "pfplay")) only_rule
+pfplay = with_rule (with_rule (new_app (codes "pfplay")) threads_rule) only_rule
 
 -- the name that is chosen, if one is
 abbrev pub name_in : List Text → Option Text
 name_in words = first_of (codes "only") (matches_of pfplay words)
 
+abbrev pub is_true : Option Text → Bool
+is_true kept = option_map_or (λ text. bytes_eq text (codes "true")) kept false
+
+-- threads are asked for: what the parser keeps of the option is `true`
+abbrev pub wants_threads : List Text → Bool
+wants_threads words = is_true (first_of (codes "threads") (matches_of pfplay words))
+
 -- why the words aren't taken; nothing, where they are
 abbrev pub refusals : List Text → Kinds
 refusals words = fault_of pfplay words
 
--- the words are taken, and choose this name, or none
-abbrev pub Asks : List Text → Option Text → Type 0
-Asks words name = (refusals words ≡ []) × (name_in words ≡ name)
+-- the words are taken, choose this name, or none, and ask for threads or don't
+abbrev pub Asks : List Text → Option Text → Bool → Type 0
+Asks words name threads = (refusals words ≡ []) × (name_in words ≡ name) × (wants_threads words ≡ threads)
 
 -- whatever the program is called: with no words beside it all namespaces are asked for, and each name that a namespace
--- may have is chosen by `--only NAME` and by `--only=NAME`
+-- may have is chosen by `--only NAME` and by `--only=NAME`. So it is beside `--threads`, and this word alone asks for
+-- threads
 abbrev pub ChoosesEachName : Type 0
 ChoosesEachName =
-    (program : Text) → Asks (program ∷ []) None
-    × ((name : Text) → is_name name ≡ true → Asks (program ∷ codes "--only" ∷ name ∷ []) (Some name)
-    × Asks (program ∷ (codes "--only=" ++ name) ∷ []) (Some name))
+    (program : Text) → Asks (program ∷ []) None false
+    × Asks (program ∷ codes "--threads" ∷ []) None true
+    × ((name : Text) → is_name name ≡ true → Asks (program ∷ codes "--only" ∷ name ∷ []) (Some name) false
+    × Asks (program ∷ (codes "--only=" ++ name) ∷ []) (Some name) false
+    × Asks (program ∷ codes "--threads" ∷ codes "--only" ∷ name ∷ []) (Some name) true
+    × Asks (program ∷ codes "--threads" ∷ (codes "--only=" ++ name) ∷ []) (Some name) true
+    × Asks (program ∷ codes "--only" ∷ name ∷ codes "--threads" ∷ []) (Some name) true)

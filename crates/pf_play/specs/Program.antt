@@ -11,6 +11,7 @@ use Rattle.pf_play.specs.declared.program.Status.{Status}
 use Rattle.pf_play.specs.declared.program.Status.TheVariants as statuses
 use Rattle.pf_play.specs.Replays.{IsReplayed, IsFault}
 use Rattle.pf_play.specs.CommandLine.{name_in, refusals}
+use Rattle.pf_play.specs.Workers.{Passed, IsGated}
 
 -- the number that the process ends with
 abbrev pub code_of : Status → ℕ
@@ -74,3 +75,7 @@ abbrev pub Obeys : List (List ℕ) → Input → Input → Output → Output →
 Obeys words input rest old new status =
     ((refusals words ≡ []) × IsRun input rest old new (name_in words) status)
     ⊎ (((refusals words ≢ []) × (rest ≡ input) × IsUsage old new status) ⊎ ((rest ≡ input) × IsNoMemory old new status))
+
+-- where all is done, the gate was told of each step, or of those of the name that is chosen
+abbrev pub IsGatedIfDone : Passed → Input → Input → Option (List ℕ) → Status → Type 0
+IsGatedIfDone passed input rest name status = status ≡ statuses.Done → IsGated passed input rest name

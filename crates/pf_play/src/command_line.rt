@@ -1,9 +1,10 @@
 ghost use Rattle.std.specs.Prelude.{◌≡◌, IfOk, false, map, option_copied, string_bytes};
 ghost use Rattle.clap.specs.Words.{FailsBy, app_of, rule_of};
-ghost use Rattle.pf_play.specs.CommandLine.{only_rule, pfplay, name_in, refusals};
+ghost use Rattle.pf_play.specs.CommandLine.{only_rule, threads_rule, pfplay};
+ghost use Rattle.pf_play.specs.CommandLine.{is_true, name_in, wants_threads, refusals};
 
 use crate::engine::Options;
-use clap::{Arg, Command, Error};
+use clap::{Arg, ArgAction, Command, Error};
 use std::alloc::{AllocError, Global};
 
 /// The byte that every frame holds at the start.
@@ -11,6 +12,9 @@ const FILL: u8 = 165;
 
 /// What `--help` says.
 const ABOUT: &str = "Runs a script of pipe calls from standard input and prints each call's answer";
+
+/// What it says of `--threads`.
+const ABOUT_THREADS: &str = "Runs each namespace on a thread of its own; the text is the same";
 
 /// What it says of `--only`.
 const ABOUT_ONLY: &str = "Runs this namespace's steps alone, and prints its section";
@@ -40,6 +44,26 @@ DATA is hexadecimal, or COUNT*HH for a byte COUNT times, or - for none.
 Example:
   printf 'pool 16\\nspace red 16\\nred spawn 5 5 022\\nred pipe 1\\n' | pfplay";
 
+/// What the words of the command line ask for.
+#[derive(Debug, Clone, Copy)]
+pub struct Asked<'a> {
+    /// How the script is to be run.
+    pub options: Options<'a>,
+    /// Whether each namespace is to have a thread of its own.
+    pub threads: bool,
+}
+
+/// The option `--threads`.
+fn threads<'a>(alloc: Global) -> Arg<'a>
+    ensures rule { rule_of result ≡ threads_rule }
+    ensures own { result.global ≡ false }
+{
+    Arg::new(alloc, "threads")
+        .long("threads")
+        .action(ArgAction::SetTrue)
+        .help(ABOUT_THREADS)
+}
+
 /// The option `--only NAME`.
 fn only<'a>(alloc: Global) -> Arg<'a>
     ensures rule { rule_of result ≡ only_rule }
@@ -58,21 +82,36 @@ fn command<'a>(alloc: Global) -> Result<Command<'a>, AllocError>
     Command::new(alloc, "pfplay")
         .about(ABOUT)
         .after_help(SCRIPT)
+        .arg(threads(alloc))?
         .arg(only(alloc))?
         .bin_name("pfplay")
 }
 
-/// How the words of the command line want a script to be run. The first of them is the program's name. An error says
-/// why they aren't taken, or is the help that they ask for, or is of kind `OutOfMemory`.
-pub fn options_of<'a>(alloc: Global, words: &'a [String]) -> Result<Options<'a>, Error>
-    ensures only { IfOk result (λ options.
-        option_copied options.only ≡ name_in (map string_bytes words.entry.now)) }
+/// Whether an option without a value is used: `true` is then kept of it.
+fn is_used(kept: Option<&str>) -> bool
+    ensures { result ≡ is_true (option_copied kept.entry) }
+{
+    match kept {
+        Some(text) => text == "true",
+        None => false,
+    }
+}
+
+/// What the words of the command line ask for. The first of them is the program's name. An error says why they aren't
+/// taken, or is the help that they ask for, or is of kind `OutOfMemory`.
+pub fn options_of<'a>(alloc: Global, words: &'a [String]) -> Result<Asked<'a>, Error>
+    ensures only { IfOk result (λ asked.
+        option_copied asked.options.only ≡ name_in (map string_bytes words.entry.now)) }
+    ensures fill { IfOk result (λ asked. asked.options.fill ≡ 165) }
+    ensures threads { IfOk result (λ asked. asked.threads ≡ wants_threads (map string_bytes words.entry.now)) }
     ensures refusals { FailsBy (refusals (map string_bytes words.entry.now)) result }
 {
     let command = command(alloc)?;
     let matches = command.try_get_matches_from(words)?;
-    Ok(Options {
+    let options = Options {
         only: matches.get_str("only"),
         fill: FILL,
-    })
+    };
+    let threads = is_used(matches.get_str("threads"));
+    Ok(Asked { options, threads })
 }

@@ -1,19 +1,24 @@
-ghost use Rattle.std.specs.Prelude.{◌≡◌, ◌≢◌, ◌⊎◌, Err, map, option_copied, string_bytes};
+ghost use Rattle.std.specs.Prelude.{◌≡◌, ◌≢◌, ◌⊎◌, true, false, Err, map, option_copied, string_bytes};
 ghost use Rattle.std.specs.Process.{exit_status};
 ghost use Rattle.clap.specs.Words.{kind_of};
 ghost use Rattle.clap.specs.declared.error.kind.ErrorKind.TheVariants as kinds;
 ghost use Rattle.pf_script.specs.Notices.{notice_line};
+ghost use Rattle.pf_play.specs.CommandLine.{name_in, wants_threads};
 ghost use Rattle.pf_play.specs.Program.{code_of, status_of, words_of, Obeys, IsRun};
-ghost use Rattle.pf_play.specs.Program.{IsTold, IsToldLine, IsUsage, IsNoMemory};
+ghost use Rattle.pf_play.specs.Program.{IsTold, IsToldLine, IsUsage, IsNoMemory, IsGatedIfDone};
 
-use crate::command_line::options_of;
-use crate::engine::Options;
+use crate::command_line::{Asked, options_of};
 use crate::run::{ReplayFault, Replayed, replay};
+use crate::run_threads::replay_threads;
 use clap::Error;
 use clap::error::ErrorKind;
 use pf_script::{Notice, Reading, Sink, Source, Writing, print_notice, write_out};
+use pf_worker::{Gate, NoGate};
 use std::alloc::Global;
 use std::process::ExitCode;
+use std::rt::Env;
+use std::sync::Wait;
+use std::thread::Threads;
 use std::{env, io};
 
 /// What is told where a word of the command line is no text.
@@ -122,27 +127,54 @@ fn play_input<R: Source, W: Sink>(
     alloc: Global,
     reader: &mut R,
     writer: &mut W,
-    options: &Options<'_>,
+    asked: &Asked<'_>,
 ) -> Status
+    requires { asked.now.threads ≡ false }
     ensures { IsRun (R.input reader.old) (R.input reader.new) (W.output writer.old) (W.output writer.new)
-        (option_copied options.now.only) result }
+        (option_copied asked.now.options.only) result }
 {
-    let end = replay(alloc, reader, writer, options);
-    tell_end(writer, options.only, end)
+    let end = replay(alloc, reader, writer, &asked.options);
+    tell_end(writer, asked.options.only, end)
 }
 
-/// Judges the words of the command line, of which the first is the program's name, and then does what they say.
-pub fn obey<R: Source, W: Sink>(
+/// The same with a thread for each namespace, and with a gate that is told of each step.
+fn play_input_threads<T: Threads + Wait + Sync, R: Source, W: Sink, G: Gate + Sync>(
+    rt: &T,
+    alloc: Global,
+    reader: &mut R,
+    writer: &mut W,
+    asked: &Asked<'_>,
+    gate: &G,
+) -> Status
+    requires { asked.now.threads ≡ true }
+    ensures run { IsRun (R.input reader.old) (R.input reader.new) (W.output writer.old) (W.output writer.new)
+        (option_copied asked.now.options.only) result }
+    ensures gated { IsGatedIfDone (G.passed gate.now) (R.input reader.old) (R.input reader.new)
+        (option_copied asked.now.options.only) result }
+{
+    let end = replay_threads(rt, alloc, reader, writer, &asked.options, gate);
+    tell_end(writer, asked.options.only, end)
+}
+
+/// Judges the words of the command line, of which the first is the program's name, and then does what they say. What is
+/// written is the same with threads and without. The gate is told of each step where threads are asked for, and of none
+/// else.
+pub fn obey<T: Threads + Wait + Sync, R: Source, W: Sink, G: Gate + Sync>(
+    rt: &T,
     alloc: Global,
     words: &[String],
     reader: &mut R,
     writer: &mut W,
+    gate: &G,
 ) -> Status
-    ensures { Obeys (map string_bytes words.now) (R.input reader.old) (R.input reader.new)
+    ensures obeys { Obeys (map string_bytes words.now) (R.input reader.old) (R.input reader.new)
         (W.output writer.old) (W.output writer.new) result }
+    ensures gated { wants_threads (map string_bytes words.now) ≡ true → IsGatedIfDone (G.passed gate.now)
+        (R.input reader.old) (R.input reader.new) (name_in (map string_bytes words.now)) result }
 {
     match options_of(alloc, words) {
-        Ok(options) => play_input(alloc, reader, writer, &options),
+        Ok(asked) if asked.threads => play_input_threads(rt, alloc, reader, writer, &asked, gate),
+        Ok(asked) => play_input(alloc, reader, writer, &asked),
         Err(error) => tell_usage(alloc, writer, error),
     }
 }
@@ -159,20 +191,30 @@ fn tell_no_words<W: Sink>(writer: &mut W, error: &io::Error) -> Status
 }
 
 /// The words of the command line.
-fn words(rt: &HostRuntime) -> io::Result<Vec<String>> {
+fn words<T: Env + AllocGlobal>(rt: &T) -> io::Result<Vec<String>> {
     let words = env::args(rt)?.collect(rt.alloc())?;
     Ok(words)
 }
 
 /// The whole program `pfplay`: the words of the command line are judged, the script on standard input is run, and the
-/// text goes to standard output. With `--only NAME` the steps of that namespace are run alone, and its section is the
-/// text. The process ends with 0 where all is done, 1 where the script is refused, 2 for usage and for a name that no
-/// namespace has, 3 where memory was wanted, and 4 where reading or writing failed.
-pub fn run_program(rt: &HostRuntime) -> ExitCode {
+/// text goes to standard output. With `--threads` each namespace is run on a thread of its own. With `--only NAME` the
+/// steps of that namespace are run alone, and its section is the text. The process ends with 0 where all is done, 1
+/// where the script is refused, 2 for usage and for a name that no namespace has, 3 where memory was wanted, and 4 where
+/// reading or writing failed.
+pub fn run_program<T: Threads + Wait + Sync + Env + Input + Print + AllocGlobal>(
+    rt: &T,
+) -> ExitCode {
     let mut reader = Reading::new(rt.reader());
     let mut writer = Writing::new(io::writer(rt));
     let status = match words(rt) {
-        Ok(words) => obey(rt.alloc(), words.as_slice(), &mut reader, &mut writer),
+        Ok(words) => obey(
+            rt,
+            rt.alloc(),
+            words.as_slice(),
+            &mut reader,
+            &mut writer,
+            &NoGate,
+        ),
         Err(error) => tell_no_words(&mut writer, &error),
     };
     status.exit_code()

@@ -1,7 +1,7 @@
 use Rattle.std.proofs.Common.{ap, codes, map, string_bytes, sym, ◌≡◌, ◌∙◌}
 use Rattle.clap.specs.Words.{app_of, fault_of, first_of, found_of, is_simple, is_simple_and_free, matches_of}
 use Rattle.clap.proofs.WalkLemmas.{first_value-rows}
-use Rattle.pf_play.specs.CommandLine.{pfplay}
+use Rattle.pf_play.specs.CommandLine.{is_true, pfplay}
 use Rattle.pf_play.proofs.CommandLineLaws.{simple, simple_and_free}
 use Rattle.pf_play.proofs.command_line.options_of.Goals as goal
 
@@ -11,6 +11,14 @@ returns-clause-only c =
     let rows = (c.in_ok-matches.ensures.matches (ap is_simple app ∙ simple)).0 in
     c.get_str.ensures ∙ first_value-rows (found_of c.in_ok-matches.matches) (codes "only")
     ∙ ap (first_of (codes "only")) (rows ∙ ap (λ a. matches_of a (map string_bytes c.args.words.now)) app)
+
+pub returns-clause-threads : goal.returns-clause-threads
+returns-clause-threads c =
+    let app : app_of c.in_ok-command.command ≡ pfplay = c.in_ok-command.ensures in
+    let rows = (c.in_ok-matches.ensures.matches (ap is_simple app ∙ simple)).0 in
+    c.is_used-threads.ensures ∙ ap is_true (c.get_str-2.ensures
+    ∙ first_value-rows (found_of c.in_ok-matches.matches) (codes "threads")
+    ∙ ap (first_of (codes "threads")) (rows ∙ ap (λ a. matches_of a (map string_bytes c.args.words.now)) app))
 
 pub returns-clause-refusals : goal.returns-clause-refusals
 returns-clause-refusals c =
