@@ -4,45 +4,64 @@
 ghost use Rattle.pf_frame.specs.Own.{own_live};
 ghost use Rattle.pf_tables.specs.Owns.{Owns};
 
-use crate::calls::{Call, Told, answer_of, step_of};
+use crate::scripts::{has_text, script_of};
 use bumpalo::Bump;
-use pf_base::{Answer, Config, Errno, Kind, Step};
+use pf_base::{Answer, Config, Step};
 use pf_frame::OwnFrames;
+use pf_script::Script;
 use pf_space::Space;
 use std::alloc::{AllocError, Allocator, Global};
 use std::process::Abort;
 use std::test::Fail;
 
 // What one process asks for, in turn.
-const ROWS: [(Call, Told); 12] = [
-    (Call::Spawn(5, 6, &[]), Told::Pid(1)),
-    (Call::List(b"/"), Told::Names(b"")),
-    (Call::Mkdir(b"/d", 0o777), Told::Num(0)),
-    (Call::Mkfifo(b"/d/b", 0o666), Told::Num(0)),
-    (Call::Mkfifo(b"/d/a", 0o666), Told::Num(0)),
-    (Call::Mkfifo(b"/d/a", 0o666), Told::Err(Errno::EEXIST)),
-    (Call::Mkdir(b"/d/e/", 0o777), Told::Num(0)),
-    (Call::Mkfifo(b"/d/e/./../c", 0o666), Told::Num(0)),
-    (Call::Mkfifo(b"/d/n/f", 0o666), Told::Err(Errno::ENOENT)),
-    (Call::List(b"/d"), Told::Names(b"a/b/c/e/")),
-    (Call::Stat(b"/d/../d/b"), Told::Known(Kind::Fifo, 0o644)),
-    (Call::Stat(b"/d/e"), Told::Known(Kind::Directory, 0o755)),
-];
+const SCRIPT: &str = "pool 1
+space red 1
+red spawn 5 6 022
+red list 1 /
+red mkdir 1 /d 0777
+red mkfifo 1 /d/b 0666
+red mkfifo 1 /d/a 0666
+red mkfifo 1 /d/a 0666
+red mkdir 1 /d/e/ 0777
+red mkfifo 1 /d/e/./../c 0666
+red mkfifo 1 /d/n/f 0666
+red list 1 /d
+red stat 1 /d/../d/b
+red stat 1 /d/e
+";
+
+const TEXT: &str = "== red
+1: pid 1
+2: names 0
+3: num 0
+4: num 0
+5: num 0
+6: err EEXIST
+7: num 0
+8: num 0
+9: err ENOENT
+10: names 4 a b c e
+11: meta fifo 0644 5 6
+12: meta dir 0755 5 6
+";
 
 // What shows the files as they are.
-const PROBES: [Call; 7] = [
-    Call::List(b"/"),
-    Call::List(b"/d"),
-    Call::List(b"/d/e"),
-    Call::Stat(b"/d"),
-    Call::Stat(b"/d/a"),
-    Call::Stat(b"/d/b"),
-    Call::Stat(b"/d/c"),
-];
+const PROBES: &str = "pool 1
+space red 1
+red list 1 /
+red list 1 /d
+red list 1 /d/e
+red stat 1 /d
+red stat 1 /d/a
+red stat 1 /d/b
+red stat 1 /d/c
+";
 
-// The answers that show the files.
+// The answers to the steps that show the files.
 fn seen<A: Allocator + Clone>(
     alloc: Global,
+    probes: &Script,
     space: &mut Space<A>,
     frames: &mut OwnFrames,
 ) -> Result<Vec<Answer>, AllocError>
@@ -50,9 +69,8 @@ fn seen<A: Allocator + Clone>(
     ensures owns { Owns (own_live frames.new) space.new }
 {
     let mut answers = Vec::new(alloc);
-    for call in PROBES {
-        let step = step_of(alloc, call)?;
-        answers.push(space.step(frames, &step))?;
+    for (_, step) in probes.steps() {
+        answers.push(space.step(frames, step))?;
     }
     Ok(answers)
 }
@@ -73,6 +91,7 @@ fn answered<A: Allocator + Clone>(
     rt: &impl Abort,
     alloc: Global,
     arena: Option<&Bump>,
+    probes: &Script,
     space: &mut Space<A>,
     frames: &mut OwnFrames,
     step: &Step,
@@ -80,24 +99,49 @@ fn answered<A: Allocator + Clone>(
     requires owns { Owns (own_live frames.old) space.old }
     ensures owns { Owns (own_live frames.new) space.new }
 {
-    let before = seen(alloc, space, frames)?;
+    let before = seen(alloc, probes, space, frames)?;
     let answer = space.step(frames, step);
     if answer != Answer::NoMemory {
         return Ok((answer, false));
     }
-    assert!(rt; seen(alloc, space, frames)?.as_slice() == before.as_slice());
+    assert!(rt; seen(alloc, probes, space, frames)?.as_slice() == before.as_slice());
     if let Some(bump) = arena {
         bump.set_allocation_limit(None);
     }
     Ok((space.step(frames, step), true))
 }
 
-// Plays the rows over a tree in memory of this allocator, and tells how often memory was refused.
-fn play<A: Allocator + Clone>(
+// Plays the script in a namespace whose files are empty, and tells how often memory was refused.
+fn play_steps<A: Allocator + Clone>(
+    rt: &impl Abort,
+    alloc: Global,
+    arena: Option<&Bump>,
+    script: &Script,
+    probes: &Script,
+    space: &mut Space<A>,
+    frames: &mut OwnFrames,
+) -> Result<u32, Fail>
+    requires owns { Owns (own_live frames.old) space.old }
+{
+    let mut answers = Vec::new(alloc);
+    let mut refusals: u32 = 0;
+    for (_, step) in script.steps() {
+        let (answer, is_refused) = answered(rt, alloc, arena, probes, space, frames, step)?;
+        answers.push(answer)?;
+        refusals = refusals.saturating_add(u32::from(is_refused));
+    }
+    assert!(rt; has_text(alloc, script, &answers, TEXT));
+    Ok(refusals)
+}
+
+// The same over a tree in memory of this allocator.
+fn play_over<A: Allocator + Clone>(
     rt: &impl Abort,
     alloc: Global,
     tree: A,
     arena: Option<&Bump>,
+    script: &Script,
+    probes: &Script,
 ) -> Result<u32, Fail> {
     let config = Config::new(
         0,
@@ -107,32 +151,45 @@ fn play<A: Allocator + Clone>(
     )?;
     let mut frames = OwnFrames::new(alloc, Vec::new(alloc))?;
     let mut space = Space::new(alloc, tree, config)?;
-    let mut refusals: u32 = 0;
-    for (call, told) in ROWS {
-        let step = step_of(alloc, call)?;
-        let (answer, is_refused) = answered(rt, alloc, arena, &mut space, &mut frames, &step)?;
-        assert_eq!(rt; answer, answer_of(alloc, told)?, "{call:?}");
-        refusals = refusals.saturating_add(u32::from(is_refused));
-    }
-    Ok(refusals)
+    play_steps(rt, alloc, arena, script, probes, &mut space, &mut frames)
+}
+
+// The same with the script, behind what shows the files. What owns a script or a namespace hands it on, with one way
+// out: each drops it, which is dear to prove.
+fn play_shown<A: Allocator + Clone>(
+    rt: &impl Abort,
+    alloc: Global,
+    tree: A,
+    arena: Option<&Bump>,
+    probes: &Script,
+) -> Result<u32, Fail> {
+    let script = script_of(alloc, SCRIPT)?;
+    play_over(rt, alloc, tree, arena, &script, probes)
 }
 
 #[test]
 fn files_under_global(rt: HostRuntime) -> Result<(), Fail> {
-    play(&rt, rt.alloc(), rt.alloc(), None)?;
+    let alloc = rt.alloc();
+    let probes = script_of(alloc, PROBES)?;
+    play_shown(&rt, alloc, alloc, None, &probes)?;
     Ok(())
+}
+
+// How often memory is refused with so many bytes of an arena.
+fn refusals(rt: &impl Abort, alloc: Global, spare: usize) -> Result<u32, Fail> {
+    let bump = Bump::try_with_capacity(alloc, 2000)?;
+    leave(&bump, &Vec::from_elem(alloc, 0, 4096)?, spare)?;
+    let probes = script_of(alloc, PROBES)?;
+    play_shown(rt, alloc, &bump, Some(&bump), &probes)
 }
 
 // With ever more bytes a later growth is the first that is refused; with enough of them none is.
 #[test]
 fn files_in_a_full_arena(rt: HostRuntime) -> Result<(), Fail> {
-    let filler = Vec::from_elem(rt.alloc(), 0, 4096)?;
-    let mut refusals = Vec::new(rt.alloc());
+    let mut told = Vec::new(rt.alloc());
     for spare in 0..200 {
-        let bump = Bump::try_with_capacity(rt.alloc(), 2000)?;
-        leave(&bump, &filler, 8 * spare)?;
-        refusals.push(play(&rt, rt.alloc(), &bump, Some(&bump))?)?;
+        told.push(refusals(&rt, rt.alloc(), 8 * spare)?)?;
     }
-    assert_eq!(rt; (refusals.first(), refusals.last()), (Some(&1), Some(&0)));
+    assert!(rt; (told.first(), told.last()) == (Some(&1), Some(&0)));
     Ok(())
 }

@@ -1,29 +1,34 @@
 //! How a hub is opened, and how it runs events.
 
-use crate::calls::{Call, Told, answer_of, step_of};
-use pf_base::{Config, Step};
+use crate::scripts::{has_text, script_of, spawn};
+use pf_base::Config;
 use pf_frame::{Frame, PoolFault};
 use pf_hub::{Hub, RunFault};
+use pf_script::Script;
 use std::alloc::{AllocError, Global};
-use std::process::Abort;
 use std::test::Fail;
 
 const RED: u32 = 0;
 
 const BLUE: u32 = 1;
 
-// Whose step it is, its answer, and how many frames red, blue and nobody hold after it.
-type Row = (u32, Call, Told, (u32, u32, u32));
+// A process with a pipe in each of two namespaces.
+const PIPES: &str = "pool 32
+space red 16
+space blue 16
+red spawn 5 5 022
+red pipe 1 n
+blue spawn 5 5 022
+blue pipe 1 n
+";
 
-const SPAWN: Call = Call::Spawn(5, 5, &[]);
-
-// A process with a pipe in each of two namespaces over 32 frames.
-const PIPES: [Row; 4] = [
-    (RED, SPAWN, Told::Pid(1), (0, 0, 32)),
-    (RED, Call::Pipe(1), Told::Fds(0, 1), (0, 0, 32)),
-    (BLUE, SPAWN, Told::Pid(1), (0, 0, 32)),
-    (BLUE, Call::Pipe(1), Told::Fds(0, 1), (0, 0, 32)),
-];
+const PIPES_TEXT: &str = "== red
+1: pid 1
+2: fds 0 1
+== blue
+1: pid 1
+2: fds 0 1
+";
 
 // So many frames of zeros.
 fn frames(alloc: Global, count: usize) -> Result<Vec<Frame>, AllocError> {
@@ -53,78 +58,105 @@ fn open(alloc: Global, frames: Vec<Frame>, reserves: &[u32]) -> Result<Hub<Globa
     Hub::new(alloc, frames, configs)
 }
 
-// Plays rows: each step has its answer, and leaves so many frames held.
-fn play(rt: &impl Abort, alloc: Global, hub: &mut Hub<Global>, rows: &[Row]) -> Result<(), Fail> {
-    for (ns, call, told, held) in rows {
-        let step = step_of(alloc, *call)?;
-        assert!(rt; (*ns as usize) < hub.namespaces());
-        let answer = hub.step(*ns, &step);
-        assert_eq!(rt; answer, answer_of(alloc, *told)?, "{call:?}");
-        assert_eq!(rt;
-            (hub.held(RED), hub.held(BLUE), hub.free()),
-            *held,
-            "{call:?}"
-        );
-    }
-    Ok(())
+fn held(hub: &Hub<Global>) -> (u32, u32, u32) {
+    (hub.held(RED), hub.held(BLUE), hub.free())
 }
 
-// The steps of some calls, each of a namespace.
-fn events_of(alloc: Global, calls: &[(u32, Call)]) -> Result<Vec<(u32, Step)>, AllocError> {
-    let mut events = Vec::new(alloc);
-    for (ns, call) in calls {
-        events.push((*ns, step_of(alloc, *call)?))?;
+// Plays a script whose steps take no frame, and says whether it has this text. What owns a script or a hub hands it on,
+// with one way out: each drops it, which is dear to prove.
+fn plays(
+    alloc: Global,
+    hub: &mut Hub<Global>,
+    script: &Script,
+    text: &str,
+) -> Result<bool, AllocError> {
+    let mut answers = Vec::new(alloc);
+    for (ns, step) in script.steps() {
+        if *ns as usize >= hub.namespaces() {
+            return Ok(false);
+        }
+        answers.push(hub.step(*ns, step))?;
+        if held(hub) != (0, 0, 32) {
+            return Ok(false);
+        }
     }
-    Ok(events)
+    Ok(has_text(alloc, script, &answers, text))
 }
+
+// Runs a script's steps, and says whether it has this text.
+fn runs(alloc: Global, hub: &mut Hub<Global>, script: &Script, text: &str) -> bool {
+    match hub.run(script.steps()) {
+        Ok(answers) => has_text(alloc, script, &answers, text),
+        Err(_) => false,
+    }
+}
+
+// How many frames, which reservations, and why there is no hub of both.
+const REFUSED: [(usize, &[u32], PoolFault); 3] = [
+    (0, &[1; 65], PoolFault::TooManyNamespaces),
+    (65_537, &[1], PoolFault::TooManyFrames),
+    (
+        32,
+        &[16, 17],
+        PoolFault::ReservesExceed {
+            sum: 33,
+            frames: 32,
+        },
+    ),
+];
 
 #[test]
 fn faults_come_in_order(rt: HostRuntime) -> Result<(), Fail> {
     let alloc = rt.alloc();
-    let hub = open(alloc, Vec::new(alloc), &[1; 65]);
-    assert_eq!(rt; hub.err(), Some(PoolFault::TooManyNamespaces));
-    let hub = open(alloc, frames(alloc, 65_537)?, &[1]);
-    assert_eq!(rt; hub.err(), Some(PoolFault::TooManyFrames));
-    let hub = open(alloc, frames(alloc, 32)?, &[16, 17]);
-    let (sum, frames) = (33, 32);
-    assert_eq!(rt; hub.err(), Some(PoolFault::ReservesExceed { sum, frames }));
+    for (count, reserves, fault) in REFUSED {
+        let told = open(alloc, frames(alloc, count)?, reserves).err();
+        assert!(rt; told == Some(fault), "{fault}");
+    }
     Ok(())
 }
 
-const RUN: [(u32, Call); 4] = [
-    (RED, SPAWN),
-    (RED, Call::Pipe(1)),
-    (BLUE, SPAWN),
-    (RED, Call::Fill(1, 1, 0x61, 10)),
-];
+const RUN: &str = "pool 32
+space red 16
+space blue 16
+red spawn 5 5 022
+red pipe 1 n
+blue spawn 5 5 022
+red write 1 1 61616161616161616161
+";
 
-const RUN_TOLD: [Told; 4] = [Told::Pid(1), Told::Fds(0, 1), Told::Pid(1), Told::Num(10)];
+const RUN_TEXT: &str = "== red
+1: pid 1
+2: fds 0 1
+3: num 10
+== blue
+1: pid 1
+";
 
 #[test]
 fn runs_answer_in_order(rt: HostRuntime) -> Result<(), Fail> {
-    let alloc = rt.alloc();
-    let mut hub = open(alloc, frames(alloc, 32)?, &[16, 16])?;
-    let Ok(answers) = hub.run(&events_of(alloc, &RUN)?) else {
-        panic!(rt; "the run ended early");
-    };
-    assert_eq!(rt; answers.len(), RUN_TOLD.len());
-    for (answer, told) in answers.iter().zip(RUN_TOLD) {
-        assert_eq!(rt; *answer, answer_of(alloc, told)?, "{told:?}");
-    }
-    assert_eq!(rt; (hub.held(RED), hub.held(BLUE), hub.free()), (1, 0, 31));
+    let script = script_of(rt.alloc(), RUN)?;
+    let mut hub = open(rt.alloc(), frames(rt.alloc(), 32)?, &[16, 16])?;
+    assert!(rt; runs(rt.alloc(), &mut hub, &script, RUN_TEXT));
+    assert!(rt; held(&hub) == (1, 0, 31));
     Ok(())
+}
+
+// Which of two events names no namespace, where the second one does.
+fn stray(alloc: Global, hub: &mut Hub<Global>) -> Result<Option<usize>, AllocError> {
+    let events = vec![in alloc; (RED, spawn(alloc)), (2, spawn(alloc))]?;
+    match hub.run(&events) {
+        Err(RunFault::NoSuchNamespace { at }) => Ok(Some(at)),
+        _ => Ok(None),
+    }
 }
 
 #[test]
 fn no_step_is_made_where_an_event_names_no_namespace(rt: HostRuntime) -> Result<(), Fail> {
-    let alloc = rt.alloc();
-    let mut hub = open(alloc, frames(alloc, 32)?, &[16, 16])?;
-    let at = match hub.run(&events_of(alloc, &[(RED, SPAWN), (2, SPAWN)])?) {
-        Err(RunFault::NoSuchNamespace { at }) => Some(at),
-        _ => None,
-    };
-    assert_eq!(rt; at, Some(1));
-    assert_eq!(rt; (hub.held(RED), hub.held(BLUE), hub.held(2)), (0, 0, 0));
+    let script = script_of(rt.alloc(), PIPES)?;
+    let mut hub = open(rt.alloc(), frames(rt.alloc(), 32)?, &[16, 16])?;
+    assert!(rt; stray(rt.alloc(), &mut hub) == Ok(Some(1)));
+    assert!(rt; held(&hub) == (0, 0, 32) && hub.held(2) == 0);
     // The first process of the namespace is still to come.
-    play(&rt, alloc, &mut hub, &PIPES)
+    assert!(rt; plays(rt.alloc(), &mut hub, &script, PIPES_TEXT) == Ok(true));
+    Ok(())
 }

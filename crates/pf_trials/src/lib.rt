@@ -4,8 +4,6 @@
 #![tactic(auto)]
 
 #[cfg(test)]
-mod calls;
-#[cfg(test)]
 mod files;
 #[cfg(test)]
 mod fronts;
@@ -15,5 +13,7 @@ mod hubs;
 mod paths;
 #[cfg(test)]
 mod replay;
+#[cfg(test)]
+mod scripts;
 #[cfg(test)]
 mod spaces;

@@ -1,132 +1,123 @@
-//! Worked examples as tables of steps, each with what its process is told and how many frames the namespace
-//! holds then. Where an allocation is made to fail, the step that wanted it is asked for again.
+//! Worked examples in a namespace that is alone over frames of its own, each with how many of them it holds after each
+//! step. Where an allocation is made to fail, the step that wanted it is asked for again.
 
 ghost use Rattle.std.specs.Prelude.{◌≡◌, length, IfOk};
 ghost use Rattle.pf_frame.specs.Own.{own_live};
 ghost use Rattle.pf_tables.specs.Owns.{Owns};
 
-use crate::calls::{Call, Told, answer_of, step_of};
-use pf_base::{Answer, ByteString, Config, Errno, Reply, Step};
+use crate::scripts::{has_text, script_of};
+use pf_base::{Answer, ByteString, Config, Reply, Step};
 use pf_frame::{Frame, Frames, OwnFrames};
+use pf_script::Script;
 use pf_space::{Space, laws};
 use std::alloc::{AllocError, Global};
 use std::process::Abort;
 use std::test::Fail;
 
-// A step, its answer, and how many frames are held after it.
-type Row = (Call, Told, u32);
+// A script of one namespace, its text, and how many frames are held after each step.
+struct Example {
+    script: &'static str,
+    text: &'static str,
+    held: &'static [u32],
+}
 
-// What stands before most tables.
-const SPAWN: Row = (Call::Spawn(5, 5, &[]), Told::Pid(1), 0);
+const HELLO: Example = Example {
+    script: "pool 16
+space red 16
+red spawn 5 5 022
+red pipe 1 n
+red write 1 1 68656c6c6f
+red read 1 0 3
+red read 1 0 10
+red close 1 1
+red read 1 0 10
+red exit 1
+",
+    text: "== red
+1: pid 1
+2: fds 0 1
+3: num 5
+4: bytes 3 68656c
+5: bytes 2 6c6f
+6: num 0
+7: bytes 0 -
+8: num 0
+",
+    held: &[0, 0, 1, 1, 0, 0, 0, 0],
+};
 
-const PIPE: Row = (Call::Pipe(1), Told::Fds(0, 1), 0);
-
-const HELLO: [Row; 8] = [
-    SPAWN,
-    PIPE,
-    (Call::Write(1, 1, b"hello"), Told::Num(5), 1),
-    (Call::Read(1, 0, 3), Told::Bytes(b"hel"), 1),
-    (Call::Read(1, 0, 10), Told::Bytes(b"lo"), 0),
-    (Call::Close(1, 1), Told::Num(0), 0),
-    (Call::Read(1, 0, 10), Told::Bytes(b""), 0),
-    (Call::Exit(1), Told::Num(0), 0),
-];
-
-// A pipe's capacity goes up and down by whole powers of two of pages, down to what is in use, and up to what
-// its owner and the reservation have.
-const CAPACITIES: [Row; 20] = [
-    SPAWN,
-    PIPE,
-    (Call::GetSize(1, 0), Told::Num(65_536), 0),
-    (Call::Fill(1, 1, 0x61, 5000), Told::Num(5000), 2),
-    (Call::SetSize(1, 1, 4096), Told::Err(Errno::EBUSY), 2),
-    (Call::SetSize(1, 1, 8192), Told::Num(8192), 2),
-    (Call::GetSize(1, 1), Told::Num(8192), 2),
-    (Call::SetSize(1, 0, 8193), Told::Num(16_384), 2),
-    (
-        Call::SetSize(1, 0, 2_147_483_649),
-        Told::Err(Errno::EINVAL),
-        2,
-    ),
-    (Call::SetSize(1, 0, 1_048_577), Told::Err(Errno::EPERM), 2),
-    (Call::SetSize(1, 0, 1_048_576), Told::Err(Errno::ENFILE), 2),
-    (Call::SetSize(1, 0, 131_072), Told::Num(131_072), 2),
-    (Call::GetSize(1, 0), Told::Num(131_072), 2),
-    (Call::GetSize(1, 2), Told::Err(Errno::EBADF), 2),
-    (Call::GetSize(2, 0), Told::Err(Errno::ESRCH), 2),
-    (
-        Call::SetSize(1, 2, 2_147_483_649),
-        Told::Err(Errno::EBADF),
-        2,
-    ),
-    (Call::Read(1, 0, 4999), Told::Filled(0x61, 4999), 1),
-    (Call::SetSize(1, 0, 0), Told::Num(4096), 1),
-    (Call::Pipe(1), Told::Fds(2, 3), 1),
-    (Call::GetSize(1, 2), Told::Num(65_536), 1),
-];
-
-// Frames are held for bytes alone.
-const HELD: [Row; 5] = [
-    SPAWN,
-    PIPE,
-    (Call::Fill(1, 1, 0x61, 5000), Told::Num(5000), 2),
-    (Call::Read(1, 0, 4096), Told::Filled(0x61, 4096), 1),
-    (Call::Exit(1), Told::Num(0), 0),
-];
-
-const NO_READER: [Row; 7] = [
-    SPAWN,
-    PIPE,
-    (Call::Close(1, 0), Told::Num(0), 0),
-    (Call::Fill(1, 1, 0x61, 1), Told::Err(Errno::EPIPE), 0),
-    (Call::Fill(1, 1, 0x61, 0), Told::Num(0), 0),
-    (
-        Call::Fill(1, 1, 0x61, 1_048_576),
-        Told::Err(Errno::EPIPE),
-        0,
-    ),
-    (
-        Call::Fill(1, 1, 0x61, 1_048_577),
-        Told::Err(Errno::EINVAL),
-        0,
-    ),
-];
-
-// A reservation makes pipes smaller, or refuses them: of 16 frames,
-const OF_16: [Row; 3] = [SPAWN, PIPE, (Call::Pipe(1), Told::Err(Errno::ENFILE), 0)];
-
-// of 17,
-const OF_17: [Row; 6] = [
-    SPAWN,
-    PIPE,
-    (Call::Pipe(1), Told::Fds(2, 3), 0),
-    (Call::Pipe(1), Told::Err(Errno::ENFILE), 0),
-    (Call::Fill(1, 3, 0x61, 65_536), Told::Num(4096), 1),
-    (Call::Fill(1, 5, 0x61, 65_536), Told::Err(Errno::EBADF), 1),
-];
-
-// and of 33.
-const OF_33: [Row; 6] = [
-    SPAWN,
-    PIPE,
-    (Call::Pipe(1), Told::Fds(2, 3), 0),
-    (Call::Pipe(1), Told::Fds(4, 5), 0),
-    (Call::Fill(1, 3, 0x61, 65_536), Told::Num(65_536), 16),
-    (Call::Fill(1, 5, 0x61, 65_536), Told::Num(4096), 17),
-];
+const NO_READER: Example = Example {
+    script: "pool 64
+space red 64
+red spawn 5 5 022
+red pipe 1 n
+red close 1 0
+red write 1 1 61
+red write 1 1 -
+",
+    text: "== red
+1: pid 1
+2: fds 0 1
+3: num 0
+4: err EPIPE
+5: num 0
+",
+    held: &[0, 0, 0, 0, 0],
+};
 
 // A process with groups and descriptors comes twice, and each time has what its parent has.
-const CHILD: [Row; 9] = [
-    (Call::Spawn(5, 6, &[7, 8, 9]), Told::Pid(1), 0),
-    PIPE,
-    (Call::Fork(1), Told::Pid(2), 0),
-    (Call::Fork(2), Told::Pid(3), 0),
-    (Call::Exit(2), Told::Num(0), 0),
-    (Call::Write(3, 1, b"x"), Told::Num(1), 1),
-    (Call::Read(1, 0, 9), Told::Bytes(b"x"), 0),
-    (Call::Fork(2), Told::Err(Errno::ESRCH), 0),
-    (Call::Fork(3), Told::Pid(2), 0),
-];
+const CHILD: Example = Example {
+    script: "pool 16
+space red 16
+red spawn 5 6 022 7,8,9
+red pipe 1 n
+red fork 1
+red fork 2
+red exit 2
+red write 3 1 78
+red read 1 0 9
+red fork 2
+red fork 3
+",
+    text: "== red
+1: pid 1
+2: fds 0 1
+3: pid 2
+4: pid 3
+5: num 0
+6: num 1
+7: bytes 1 78
+8: err ESRCH
+9: pid 2
+",
+    held: &[0, 0, 0, 0, 0, 1, 0, 0, 0],
+};
+
+// A ring grows and shrinks.
+const CAPACITY: Example = Example {
+    script: "pool 32
+space red 32
+red spawn 5 5 022
+red pipe 1 n
+red write 1 1 68656c6c6f
+red setsize 1 0 131072
+red getsize 1 1
+red setsize 1 1 0
+red getsize 1 0
+red read 1 0 10
+",
+    text: "== red
+1: pid 1
+2: fds 0 1
+3: num 5
+4: num 131072
+5: num 131072
+6: num 4096
+7: num 4096
+8: bytes 5 68656c6c6f
+",
+    held: &[0, 0, 1, 1, 1, 1, 1, 0],
+};
 
 // So many frames that hold this byte throughout.
 fn filled(alloc: Global, count: u32, fill: u8) -> Result<Vec<Frame>, AllocError>
@@ -173,27 +164,51 @@ fn answered(
     if answer != Answer::NoMemory {
         return answer;
     }
-    assert_eq!(rt; probed(alloc, space, frames), before);
+    assert!(rt; probed(alloc, space, frames) == before);
     space.step(frames, step)
 }
 
-// Plays rows in a namespace that is alone, over so many frames: each has its answer, and leaves so many held.
-fn play(rt: &impl Abort, alloc: Global, reserve: u32, fill: u8, rows: &[Row]) -> Result<(), Fail> {
-    let config = Config::new(
-        reserve,
-        Config::DEFAULT_SOFT,
-        Config::DEFAULT_HARD,
-        Config::DEFAULT_MAX,
-    )?;
+// Plays an example's steps: each leaves so many frames held.
+fn play_steps(
+    rt: &impl Abort,
+    alloc: Global,
+    script: &Script,
+    example: &Example,
+    space: &mut Space<Global>,
+    frames: &mut OwnFrames,
+) -> Result<(), Fail>
+    requires owns { Owns (own_live frames.old) space.old }
+{
+    let all = frames.credits();
+    let mut answers = Vec::new(alloc);
+    for ((_, step), held) in script.steps().iter().zip(example.held) {
+        answers.push(answered(rt, alloc, space, frames, step))?;
+        assert!(rt; frames.credits() == all.saturating_sub(*held));
+    }
+    assert!(rt; has_text(alloc, script, &answers, example.text));
+    Ok(())
+}
+
+// Plays an example in a namespace that is alone, over frames that hold this byte throughout.
+fn play_over(
+    rt: &impl Abort,
+    alloc: Global,
+    script: &Script,
+    example: &Example,
+    fill: u8,
+) -> Result<(), Fail> {
+    assert!(rt; script.count_spaces() == 1 && script.steps().len() == example.held.len());
+    let config = script.config(0);
     let mut frames = OwnFrames::new(alloc, filled(alloc, config.reserve(), fill)?)?;
     let mut space = Space::new(alloc, alloc, config)?;
-    for (call, told, held) in rows {
-        let step = step_of(alloc, *call)?;
-        let answer = answered(rt, alloc, &mut space, &mut frames, &step);
-        assert_eq!(rt; answer, answer_of(alloc, *told)?, "{call:?}");
-        assert_eq!(rt; frames.credits(), reserve.saturating_sub(*held), "{call:?}");
-    }
-    Ok(())
+    play_steps(rt, alloc, script, example, &mut space, &mut frames)
+}
+
+// The same with its script. What owns a script or a namespace hands it on, with one way out: each drops it, which is
+// dear to prove.
+fn play(rt: &impl Abort, alloc: Global, example: &Example, fill: u8) -> Result<(), Fail> {
+    let script = script_of(alloc, example.script)?;
+    play_over(rt, alloc, &script, example, fill)
 }
 
 // A namespace's crate hands on the law of its streams, which computes nothing.
@@ -205,33 +220,25 @@ fn law_of_streams_is_handed_on(rt: HostRuntime) -> Result<(), Fail> {
         Config::DEFAULT_HARD,
         Config::DEFAULT_MAX,
     )?;
-    laws::stream(&config, &[step_of(rt.alloc(), Call::Exit(1))?]);
+    laws::stream(&config, &[Step::Exit { pid: 1 }]);
     Ok(())
 }
 
 #[test]
 fn bytes_over_each_fill(rt: HostRuntime) -> Result<(), Fail> {
     for fill in [0, 165, 255] {
-        play(&rt, rt.alloc(), 16, fill, HELLO.as_slice())?;
-        play(&rt, rt.alloc(), 64, fill, NO_READER.as_slice())?;
+        play(&rt, rt.alloc(), &HELLO, fill)?;
+        play(&rt, rt.alloc(), &NO_READER, fill)?;
     }
     Ok(())
 }
 
-// Tables, each with how many frames it is over.
-const TABLES: [(u32, &[Row]); 6] = [
-    (32, &CAPACITIES),
-    (16, &HELD),
-    (16, &OF_16),
-    (17, &OF_17),
-    (33, &OF_33),
-    (16, &CHILD),
-];
+#[test]
+fn a_ring_grows_and_shrinks(rt: HostRuntime) -> Result<(), Fail> {
+    play(&rt, rt.alloc(), &CAPACITY, 165)
+}
 
 #[test]
-fn tables_of_one_process(rt: HostRuntime) -> Result<(), Fail> {
-    for (reserve, rows) in TABLES {
-        play(&rt, rt.alloc(), reserve, 165, rows)?;
-    }
-    Ok(())
+fn a_child_has_what_its_parent_has(rt: HostRuntime) -> Result<(), Fail> {
+    play(&rt, rt.alloc(), &CHILD, 165)
 }
