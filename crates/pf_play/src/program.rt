@@ -199,8 +199,8 @@ fn words<T: Env + AllocGlobal>(rt: &T) -> io::Result<Vec<String>> {
 /// The whole program `pfplay`: the words of the command line are judged, the script on standard input is run, and the
 /// text goes to standard output. With `--threads` each namespace is run on a thread of its own. With `--only NAME` the
 /// steps of that namespace are run alone, and its section is the text. The process ends with 0 where all is done, 1
-/// where the script is refused, 2 for usage and for a name that no namespace has, 3 where memory was wanted, and 4 where
-/// reading or writing failed.
+/// where the script is refused, 2 for usage and for a name that no namespace has, 3 where memory was wanted, and 4
+/// where reading or writing failed.
 pub fn run_program<T: Threads + Wait + Sync + Env + Input + Print + AllocGlobal>(
     rt: &T,
 ) -> ExitCode {
