@@ -1,15 +1,20 @@
 //! Pairs of a write and a read through a service: by one caller, and by four on threads of their own.
 
+ghost use Rattle.std.specs.Prelude.{◌≡◌, ◌≤◌};
+ghost use Rattle.pf_base.specs.declared.TheConstants.{MAX_NAMESPACES};
+
 use crate::{BATCH, Pair, Shape, pipe, spawn};
-use pf_base::Reply;
+use pf_base::{MAX_NAMESPACES, PAGE_SIZE, Reply};
 use pf_service::{NoGate, Seat, Service};
 use std::alloc::{AllocError, Global};
 use std::io;
+use std::marker::Brand;
 use std::sync::Wait;
+use std::sync::ledger::{Blank, Ledger};
 use std::thread::{self, Threads};
 use std::time::Instant;
 
-type Shared = Service<Global, NoGate>;
+type Shared<C, H> = Service<Global, NoGate, C, H>;
 
 /// How many callers there are on threads of their own, each at a namespace of its own.
 const CALLERS: u32 = 4;
@@ -26,15 +31,39 @@ const FIXED_PAIRS: u32 = 250;
 /// How many pairs of a caller are timed at most: a service keeps all that was said.
 const MOST_PAIRS: u32 = 50_000;
 
+/// How many pairs of a page of bytes are timed of a caller at most.
+const MOST_PAGE_PAIRS: u32 = 5_000;
+
+/// A ledger with a part for each namespace that there may be.
+fn blank() -> Blank
+    ensures { result.parts ≡ MAX_NAMESPACES }
+{
+    Blank::new(MAX_NAMESPACES as u64)
+}
+
 /// A service of this shape.
-fn service(alloc: Global, shape: Shape) -> Option<Shared> {
+fn service<C: Ledger, H: Ledger>(
+    alloc: Global,
+    shape: Shape,
+    credits: Blank,
+    held: Blank,
+) -> Option<Shared<C, H>>
+    requires names { (credits.name ≡ C.name) × (held.name ≡ H.name) }
+    requires cut { (credits.parts ≡ C.parts) × (held.parts ≡ H.parts) }
+    requires parts { (MAX_NAMESPACES ≤ credits.parts) × (MAX_NAMESPACES ≤ held.parts) }
+{
     let frames = shape.frames(alloc).ok()?;
     let configs = shape.configs(alloc).ok()?;
-    Service::new(alloc, frames, configs, NoGate).ok()
+    Service::new(alloc, frames, configs, NoGate, credits, held).ok()
 }
 
 /// A seat at a namespace, whose first process has a pipe.
-fn seat<R: Wait>(rt: &R, alloc: Global, service: &Shared, ns: u32) -> Option<Seat> {
+fn seat<R: Wait, C: Ledger, H: Ledger>(
+    rt: &R,
+    alloc: Global,
+    service: &Shared<C, H>,
+    ns: u32,
+) -> Option<Seat> {
     let mut seat = service.seat(rt, ns).ok()?;
     if service.call(rt, &mut seat, &spawn(alloc)).ok()?.reply != Reply::Pid(1) {
         return None;
@@ -46,9 +75,9 @@ fn seat<R: Wait>(rt: &R, alloc: Global, service: &Shared, ns: u32) -> Option<Sea
 }
 
 /// Makes so many pairs. No seat comes back where an answer was wrong.
-fn play<R: Wait>(
+fn play<R: Wait, C: Ledger, H: Ledger>(
     rt: &R,
-    service: &Shared,
+    service: &Shared<C, H>,
     mut seat: Seat,
     pair: &Pair,
     pairs: u32,
@@ -69,7 +98,11 @@ fn play<R: Wait>(
 }
 
 /// Seats at all namespaces, one at each.
-fn seats<R: Wait>(rt: &R, alloc: Global, service: &Shared) -> Option<Vec<Seat>> {
+fn seats<R: Wait, C: Ledger, H: Ledger>(
+    rt: &R,
+    alloc: Global,
+    service: &Shared<C, H>,
+) -> Option<Vec<Seat>> {
     let mut seats = Vec::with_capacity(alloc, CALLERS as usize).ok()?;
     for ns in 0..CALLERS {
         seats.push(seat(rt, alloc, service, ns)?).ok()?;
@@ -78,10 +111,10 @@ fn seats<R: Wait>(rt: &R, alloc: Global, service: &Shared) -> Option<Vec<Seat>> 
 }
 
 /// Makes so many pairs with each seat, each on a thread of its own. No seats come back where an answer was wrong.
-fn play_at_once<R: Threads + Wait + Sync>(
+fn play_at_once<C: Ledger + Send + Sync, H: Ledger + Send + Sync, R: Threads + Wait + Sync>(
     rt: &R,
     alloc: Global,
-    service: &Shared,
+    service: &Shared<C, H>,
     seats: Vec<Seat>,
     pair: &Pair,
     pairs: u32,
@@ -100,8 +133,19 @@ fn play_at_once<R: Threads + Wait + Sync>(
 }
 
 /// Whether the callers are told what is right, so many pairs each, and all seats agree with all transcripts.
-fn plays<R: Threads + Wait + Sync>(rt: &R, alloc: Global, pair: &Pair, pairs: u32) -> Option<bool> {
-    let service = service(alloc, SHAPE)?;
+fn plays<C: Ledger + Send + Sync, H: Ledger + Send + Sync, R: Threads + Wait + Sync>(
+    rt: &R,
+    alloc: Global,
+    credits: Blank,
+    held: Blank,
+    pair: &Pair,
+    pairs: u32,
+) -> Option<bool>
+    requires names { (credits.name ≡ C.name) × (held.name ≡ H.name) }
+    requires cut { (credits.parts ≡ C.parts) × (held.parts ≡ H.parts) }
+    requires parts { (MAX_NAMESPACES ≤ credits.parts) × (MAX_NAMESPACES ≤ held.parts) }
+{
+    let service = service::<C, H>(alloc, SHAPE, credits, held)?;
     let seats = seats(rt, alloc, &service)?;
     let seats = play_at_once(rt, alloc, &service, seats, pair, pairs)?;
     Some(service.close(seats).is_ok())
@@ -113,14 +157,15 @@ pub(crate) fn play_fixed<R: Threads + Wait + Sync>(
     alloc: Global,
 ) -> Result<bool, AllocError> {
     let pair = Pair::new(alloc, 1)?;
-    Ok(plays(threads, alloc, &pair, FIXED_PAIRS) == Some(true))
+    let told = plays::<Brand, Brand, R>(threads, alloc, blank(), blank(), &pair, FIXED_PAIRS);
+    Ok(told == Some(true))
 }
 
 /// Times one caller's pairs, and gives the seat back with how many nanoseconds one takes, if each answer was right.
-fn time_alone<R: Wait>(
+fn time_alone<R: Wait, C: Ledger, H: Ledger>(
     rt: &HostRuntime,
     threads: &R,
-    service: &Shared,
+    service: &Shared<C, H>,
     mut seat: Seat,
     pair: &Pair,
     pairs: u32,
@@ -137,16 +182,22 @@ fn time_alone<R: Wait>(
     Ok(Some((seat, least / u128::from(BATCH))))
 }
 
-/// Times so many pairs of one caller alone, of all at once, and the comparison at the end, and says whether all was right.
-pub(crate) fn time<R: Threads + Wait + Sync>(
+/// Times so many pairs of one size: of one caller alone, of all at once, and the comparison at the end.
+fn time_size<C: Ledger + Send + Sync, H: Ledger + Send + Sync, R: Threads + Wait + Sync>(
     rt: &HostRuntime,
     threads: &R,
+    credits: Blank,
+    held: Blank,
+    size: usize,
     pairs: u32,
-) -> io::Result<bool> {
+) -> io::Result<bool>
+    requires names { (credits.name ≡ C.name) × (held.name ≡ H.name) }
+    requires cut { (credits.parts ≡ C.parts) × (held.parts ≡ H.parts) }
+    requires parts { (MAX_NAMESPACES ≤ credits.parts) × (MAX_NAMESPACES ≤ held.parts) }
+{
     let alloc = rt.alloc();
-    let pairs = pairs.clamp(BATCH, MOST_PAIRS);
-    let pair = Pair::new(alloc, 1)?;
-    let Some(service) = service(alloc, SHAPE) else {
+    let pair = Pair::new(alloc, size)?;
+    let Some(service) = service::<C, H>(alloc, SHAPE, credits, held) else {
         return Ok(false);
     };
     let Some(mut seats) = seats(threads, alloc, &service) else {
@@ -163,14 +214,30 @@ pub(crate) fn time<R: Threads + Wait + Sync>(
     let Some(seats) = play_at_once(threads, alloc, &service, seats, &pair, pairs) else {
         return Ok(false);
     };
-    let at_once = start.elapsed(rt)?.as_nanos() / u128::from(pairs);
+    let at_once = start.elapsed(rt)?.as_nanos() / u128::from(pairs.max(1));
     let start = Instant::now(rt)?;
     if service.close(seats).is_err() {
         return Ok(false);
     }
-    let closed = start.elapsed(rt)?.as_nanos() / u128::from(pairs);
-    println!(rt; "service 1 byte: {alone} ns a pair of one caller")?;
-    println!(rt; "service 1 byte: {at_once} ns for a pair of each of {CALLERS} callers at once")?;
-    println!(rt; "service 1 byte: {closed} ns to close for these and a pair of one caller")?;
+    let closed = start.elapsed(rt)?.as_nanos() / u128::from(pairs.max(1));
+    println!(rt; "service {size} bytes: {alone} ns a pair of one caller")?;
+    println!(rt; "service {size} bytes: {at_once} ns for a pair of each of {CALLERS} callers at once")?;
+    println!(rt; "service {size} bytes: {closed} ns to close for these and a pair of one caller")?;
+    Ok(true)
+}
+
+/// Times so many pairs of a byte and of a page, and says whether all was right.
+pub(crate) fn time<R: Threads + Wait + Sync>(
+    rt: &HostRuntime,
+    threads: &R,
+    pairs: u32,
+) -> io::Result<bool> {
+    for size in [1, PAGE_SIZE] {
+        let most = if size == 1 { MOST_PAIRS } else { MOST_PAGE_PAIRS };
+        let pairs = pairs.clamp(BATCH, most);
+        if !time_size::<Brand, Brand, R>(rt, threads, blank(), blank(), size, pairs)? {
+            return Ok(false);
+        }
+    }
     Ok(true)
 }

@@ -1,9 +1,9 @@
 -- A namespace's transcript, and those that aren't there.
 
-use Rattle.std.proofs.Common.{◌≡◌, ℕ, ◌+◌, ◌<◌, ◌≤◌, List, [], ◌∷◌, length, Bool, true, false, nat_eq, get_or, refl, ap, sym, ◌∙◌, subst, arith, if◌then◌else◌, zero-add}
+use Rattle.std.proofs.Common.{◌≡◌, ℕ, ◌+◌, ◌<◌, ◌≤◌, List, [], ◌∷◌, length, inl, inr, Bool, true, false, nat_eq, get_or, refl, ap, sym, ◌∙◌, subst, arith, if◌then◌else◌, zero-add}
 use Rattle.std.specs.Prelude.{All, slice_get, slice_index, option_map, Some, None, count_by}
 use Rattle.std.specs.List.{flat_map}
-use Rattle.std.proofs.lemmas.Bool.{ne_eqb, and_left, eq-eqb, and_from, le-ltb}
+use Rattle.std.proofs.lemmas.Bool.{cases_lt, ne_eqb, and_left, eq-eqb, and_from, le-ltb}
 use Rattle.std.proofs.lemmas.List.{get_or_past}
 use Rattle.std.proofs.lemmas.List.Elements.{All-nil, All-head, All-tail}
 use Rattle.std.proofs.lemmas.Option.{slice_get_read, slice_get_past, slice_get-get_or, get_or_from_slice_get}
@@ -88,6 +88,14 @@ module _ (configs : List Limits) (ts : List OneTranscript) (seats : List OneSeat
             subst (λ (u : OneTranscript). IsMerge u.entries (lists_of n seats)) (sym (get_or_past ts n no_transcript over))
             (subst (λ (ls : List (List Event)). IsMerge [] ls) (sym (no_lists n seats none)) (record { rising = All-nil Rises; each = no_events }));
       }
+
+-- also the transcript of a namespace that isn't there
+pub lone_at : (ts : List OneTranscript) → All IsLone ts → (n : ℕ) → IsLone (transcript_at ts n)
+lone_at ts all n =
+    elim (cases_lt n (length ts)) [
+      | inl within ↦ all n no_transcript within
+      | inr past ↦ subst IsLone (sym (get_or_past ts n no_transcript past)) refl
+    ]
 
 -- what was compared is what was given and what comes back
 pub closed : (configs configs' : List Limits) (seats seats' : List OneSeat) (ts ts' : List OneTranscript) (given : List ℕ) → configs' ≡ configs → seats' ≡ seats → ts' ≡ ts

@@ -2,6 +2,9 @@ pub mod GivenLaws
 pub mod MergeSteps
 pub mod MergeLaws
 pub mod SeatLaws
-pub mod LoggedLaws
+pub mod LogLaws
+pub mod FaultLaws
+pub mod PlaceLaws
+pub mod WaitingLaws
 pub mod JudgeLaws
 pub mod Sendable

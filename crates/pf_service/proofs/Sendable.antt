@@ -3,57 +3,81 @@ use denote.RattleType.{RattleType}
 use denote.Param.Send.{IsSend, IsSync, Frees, sendable, view_send, view_sync}
 use denote.Param.SendFields.{as_row_send, as_row_sync, declared_send, declared_sync}
 use Rattle.std.below.std_heap.specs.contracts.GlobalAllocator.TheImpl.{ghosts}
-use Rattle.std.proofs.Crossing.{crosses, frees, send, Vec-send}
+use Rattle.std.proofs.Crossing.{crosses, frees, send, Vec-sync}
 use Rattle.std.proofs.sync.Mutex.TheSendSync as mutex
+use Rattle.std.proofs.sync.ledger.Book.TheSendSync as book
+use Rattle.std.proofs.sync.ledger.Share.TheSendSync as share
 use Rattle.std.specs.contracts.alloc.Global as Global
 use Rattle.std.specs.contracts.sync.Mutex as Mutex
+use Rattle.std.specs.contracts.sync.ledger.Book as Book
+use Rattle.std.specs.contracts.sync.ledger.Share as Share
 use Rattle.std.specs.contracts.vec.Vec as Vec
 use Rattle.std.specs.declared.alloc.Allocator as Allocator
-use Rattle.pf_hub.proofs.Sendable.{hub_send}
-use Rattle.pf_hub.specs.contracts.hub.Hub as Hub
-use Rattle.pf_service.proofs.transcript.Transcript.TheSendSync as transcript
-use Rattle.pf_service.specs.contracts.desk.Desk as Desk
+use Rattle.std.specs.declared.sync.ledger.Ledger as Ledger
+use Rattle.pf_depot.proofs.depot.Depot.TheSendSync as depot
+use Rattle.pf_depot.proofs.loans.Loans.TheSendSync as loans
+use Rattle.pf_depot.specs.contracts.book.DepotBook as DepotBook
+use Rattle.pf_depot.specs.contracts.book.DepotBook.TheInside as in_book
+use Rattle.pf_space.proofs.Sendable.{placed_send}
 use Rattle.pf_worker.specs.contracts.gate.NoGate as NoGate
 use Rattle.pf_worker.specs.contracts.gate.NoGateGate.TheImpl.{ghosts as no_gate}
-use Rattle.pf_service.specs.contracts.gated.GatedHub as GatedHub
-use Rattle.pf_service.specs.contracts.gated.GatedHub.TheInside as in_gated
-use Rattle.pf_service.specs.contracts.logged.LoggedHub as LoggedHub
-use Rattle.pf_service.specs.contracts.logged.LoggedHub.TheInside as in_logged
+use Rattle.pf_worker.specs.declared.gate.Gate as Gate
+use Rattle.pf_service.proofs.transcript.Transcript.TheSendSync as transcript
+use Rattle.pf_service.specs.contracts.logged.Logged as Logged
+use Rattle.pf_service.specs.contracts.logged.Logged.TheInside as in_logged
+use Rattle.pf_service.specs.contracts.place.Place as Place
+use Rattle.pf_service.specs.contracts.place.Place.TheInside as in_place
+use Rattle.pf_service.specs.contracts.seated.Seated as Seated
 use Rattle.pf_service.specs.contracts.service.Service as Service
 use Rattle.pf_service.specs.contracts.service.Service.TheInside as in_service
-use Rattle.pf_service.specs.contracts.transcript.Transcript as Transcript
-use Rattle.pf_worker.specs.declared.gate.Gate as Gate
 
-module _ (A : RattleType) (g : Allocator.Ghosts A.Denot) (s : IsSend A) (f : Frees g g.dealloc_token) where
-  in_logged_send : IsSend (in_logged.the_row A g)
-  in_logged_send =
-      let hub = as_row_send (Hub.the_field A g) (hub_send A g s f) in
-      let transcripts = as_row_send (Vec.the_field Transcript.the_row Global.the_row ghosts) (Vec-send Transcript.the_row transcript.the_send) in
-      declared_send (in_logged.the_type A g) (search (sendable, crosses) depth 20, (hub, (transcripts, tt)))
+module _ (C H : RattleType) (c : Ledger.Ghosts C.Denot) (h : Ledger.Ghosts H.Denot) where
+  in_book_send : IsSend (in_book.the_row C H c h)
+  in_book_send =
+      let credits = as_row_send (Book.the_field C c) (book.the_send C c) in
+      let held = as_row_send (Book.the_field H h) (book.the_send H h) in
+      declared_send (in_book.the_type C H c h) (depot.the_send, (credits, (held, (search (sendable, crosses) depth 20, tt))))
 
-  logged_send : IsSend (LoggedHub.the_row A g)
-  logged_send = view_send (in_logged.the_row A g) _ _ _ _ in_logged_send
+  book_send : IsSend (DepotBook.the_row C H c h)
+  book_send = view_send (in_book.the_row C H c h) _ _ _ _ in_book_send
 
-  in_gated_send : IsSend (in_gated.the_row A g)
-  in_gated_send = declared_send (in_gated.the_type A g) (as_row_send (LoggedHub.the_field A g) logged_send, tt)
+  module _ (A : RattleType) (g : Allocator.Ghosts A.Denot) (s : IsSend A) (f : Frees g g.dealloc_token) where
+    in_logged_send : IsSend (in_logged.the_row A g)
+    in_logged_send = declared_send (in_logged.the_type A g) (search (sendable, crosses) depth 20, (placed_send A g s f, (loans.the_send, (transcript.the_send, tt))))
 
-  gated_send : IsSend (GatedHub.the_row A g)
-  gated_send = view_send (in_gated.the_row A g) _ _ _ _ in_gated_send
+    logged_send : IsSend (Logged.the_row A g)
+    logged_send = view_send (in_logged.the_row A g) _ _ _ _ in_logged_send
 
-  desk_send : IsSend (Desk.the_row A g)
-  desk_send =
-      let logged = as_row_send (GatedHub.the_field A g) gated_send in
-      declared_send (Desk.the_type A g) (search (sendable, crosses) depth 20, (logged, (search (sendable, as_row_send, crosses) depth 20, tt)))
+    seated_send : IsSend (Seated.the_row A C H g c h)
+    seated_send =
+        let logged = as_row_send (Logged.the_field A g) logged_send in
+        let credits = as_row_send (Share.the_field C c) (share.the_send C c) in
+        let held = as_row_send (Share.the_field H h) (share.the_send H h) in
+        declared_send (Seated.the_type A C H g c h) (logged, (credits, (held, (search (sendable, crosses) depth 20, tt))))
 
-  module _ (G : RattleType) (h : Gate.Ghosts G.Denot) (y : IsSync G) where
-    in_service_sync : IsSync (in_service.the_row A G h g)
-    in_service_sync =
-        let desk = as_row_sync (Mutex.the_field (Desk.the_row A g)) (mutex.the_sync (Desk.the_row A g) desk_send) in
-        declared_sync (in_service.the_type A G h g) (search (sendable, crosses) depth 20, (search (sendable, as_row_sync, crosses) depth 40, (desk, (search (sendable, as_row_sync, y) depth 20, tt))))
+    in_place_sync : IsSync (in_place.the_row A C H g c h)
+    in_place_sync =
+        let seated = as_row_sync (Mutex.the_field (Seated.the_row A C H g c h)) (mutex.the_sync (Seated.the_row A C H g c h) seated_send) in
+        declared_sync (in_place.the_type A C H g c h) (search (sendable, crosses) depth 20, (seated, (search (sendable, as_row_sync, crosses) depth 40, tt)))
 
-    pub service_sync : IsSync (Service.the_row A G h g)
-    service_sync = view_sync (in_service.the_row A G h g) _ _ _ _ in_service_sync
+    place_sync : IsSync (Place.the_row A C H g c h)
+    place_sync = view_sync (in_place.the_row A C H g c h) _ _ _ _ in_place_sync
+
+    module _ (G : RattleType) (p : Gate.Ghosts G.Denot) (y : IsSync G) where
+      in_service_sync : IsSync (in_service.the_row A G C H p g c h)
+      in_service_sync =
+          let places = as_row_sync (Vec.the_field (Place.the_row A C H g c h) Global.the_row ghosts) (Vec-sync (Place.the_row A C H g c h) place_sync) in
+          let shared = as_row_sync (Mutex.the_field (DepotBook.the_row C H c h)) (mutex.the_sync (DepotBook.the_row C H c h) book_send) in
+          declared_sync (in_service.the_type A G C H p g c h)
+          (search (sendable, crosses) depth 20, (search (sendable, as_row_sync, crosses) depth 40, (places, (shared, (search (sendable, as_row_sync, y) depth 20, tt)))))
+
+      pub service_sync : IsSync (Service.the_row A G C H p g c h)
+      service_sync = view_sync (in_service.the_row A G C H p g c h) _ _ _ _ in_service_sync
 
 -- for `search`, which finds no ghost members in a row
-pub plain_sync : IsSync (Service.the_row Global.the_row NoGate.the_row no_gate ghosts)
-plain_sync = service_sync Global.the_row ghosts send frees NoGate.the_row no_gate (search sendable depth 20)
+pub gated_sync : (G C H : RattleType) (p : Gate.Ghosts G.Denot) (c : Ledger.Ghosts C.Denot) (h : Ledger.Ghosts H.Denot) → IsSync G
+    → IsSync (Service.the_row Global.the_row G C H p ghosts c h)
+gated_sync G C H p c h y = service_sync C H c h Global.the_row ghosts send frees G p y
+
+pub plain_sync : (C H : RattleType) (c : Ledger.Ghosts C.Denot) (h : Ledger.Ghosts H.Denot) → IsSync (Service.the_row Global.the_row NoGate.the_row C H no_gate ghosts c h)
+plain_sync C H c h = gated_sync NoGate.the_row C H no_gate c h (search sendable depth 20)

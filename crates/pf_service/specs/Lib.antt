@@ -1,7 +1,10 @@
 pub mod Transcripts
-pub mod Logs
+pub mod Faults
+pub mod Log
 pub mod Told
 pub mod Merge
 pub mod Seats
 pub mod Marks
 pub mod Judged
+pub mod Woken
+pub mod Waited

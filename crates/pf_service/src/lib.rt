@@ -1,25 +1,28 @@
-//! A hub behind one lock: seats that keep what their callers were told, and at the end a comparison of all seats with all
-//! transcripts.
+//! Namespaces behind a lock each, over a depot behind a lock of its own: seats that keep what their callers were told, calls
+//! that wait, and at the end a comparison of all seats with all transcripts.
 #![tactic(auto)]
 
 mod copies;
-mod desk;
 pub mod event;
 pub mod fault;
-mod gated;
 pub mod given;
 pub mod judge;
 pub mod logged;
 pub mod merge;
+mod opening;
+mod place;
 pub mod receipt;
 pub mod seat;
+mod seated;
 pub mod service;
 pub mod transcript;
+mod waiters;
+mod waiting;
 
 pub use event::Event;
 pub use fault::{CloseFault, ServiceFault};
 pub use judge::compare;
-pub use logged::LoggedHub;
+pub use logged::Logged;
 pub use pf_worker::{Gate, NoGate};
 pub use receipt::Receipt;
 pub use seat::Seat;

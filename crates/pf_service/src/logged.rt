@@ -1,178 +1,187 @@
-ghost use Rattle.std.specs.Prelude.{◌≡◌, IfOk, length, map};
-ghost use Rattle.pf_hub.specs.Opening.{limits_of};
-ghost use Rattle.pf_service.specs.Transcripts.{new_transcript};
-
 use crate::MAX_ENTRIES;
 use crate::copies::copy_into;
 use crate::fault::ServiceFault;
 use crate::transcript::Transcript;
 use pf_base::{Answer, Config, Reply, Step};
-use pf_frame::{Frame, PoolFault};
-use pf_hub::Hub;
+use pf_depot::{Lender, Loans};
+use pf_hub::step_over;
+use pf_space::Placed;
 use std::alloc::{AllocError, Allocator, Global};
 use std::marker::Model;
 
-/// A hub, and a transcript of each of its namespaces.
+/// A namespace with its frames on loan and its transcript.
 ///
-/// Whenever nobody is inside one of its calls, the replies of each transcript are those of the lone machine on its
-/// steps, and the namespace stands at that run's end.
+/// Whenever nobody is inside one of its calls, the replies of the transcript are the lone machine's on its steps, and the
+/// namespace, over its frames, stands at that run's end.
 #[derive(Drop)]
-pub struct LoggedHub<A: Allocator> {
+pub struct Logged<A: Allocator> {
     alloc: Global,
-    hub: Hub<A>,
-    transcripts: Vec<Transcript>,
+    placed: Placed<A>,
+    loans: Loans,
+    transcript: Transcript,
 }
 
-impl<A: Allocator> Model for LoggedHub<A> {
-    ghost use Rattle.pf_service.specs.Logs.{Logs, AreLogs};
+impl<A: Allocator> Model for Logged<A> {
+    ghost use Rattle.pf_service.specs.Log.{Log, log_of, IsLog};
 
-    ghost Value = { Logs };
+    ghost Value = { Log A };
 
-    ghost view = { λ l. record { hub = l.hub.world; transcripts = l.transcripts.items } };
+    ghost view = { λ l. log_of l.placed l.loans l.transcript };
 
-    ghost invariant = { λ l. AreLogs l.hub.world l.transcripts.items };
+    ghost invariant = { λ l. IsLog l.placed.space l.loans l.transcript };
 }
 
-// An empty transcript for each of these limits.
-fn transcripts_of<A: Allocator>(
-    alloc: Global,
-    configs: &[(Config, A)],
-) -> Result<Vec<Transcript>, AllocError>
-    ensures { IfOk result (λ ts. ts.items ≡ map (λ e. new_transcript e.0) configs.now) }
-{
-    configs
-        .iter()
-        .map(|config| Transcript::new(alloc, config.0))
-        .collect(alloc)
-}
-
-impl<A: Allocator + Clone> LoggedHub<A> {
-    ghost use Rattle.std.specs.Prelude.{◌≢◌, ℕ, ◌+◌, ◌<◌, ◌≤◌, ◌++◌, [], ◌∷◌, IfErr, IsOk, OnOk, OnErr, None};
+impl<A: Allocator + Clone> Logged<A> {
+    ghost use Rattle.std.specs.Prelude.{◌≡◌, ◌+◌, ◌<◌, ◌≤◌, ◌++◌, [], ◌∷◌, length, IfOk, IfErr, OnOk, OnErr};
     ghost use Rattle.pf_machine.specs.State.{opening};
     ghost use Rattle.pf_machine.specs.Runs.{run_of};
-    ghost use Rattle.pf_machine.specs.Machine.{step_of};
-    ghost use Rattle.pf_frame.specs.Faults.{IsFault};
-    ghost use Rattle.pf_hub.specs.Opening.{first_fault};
-    ghost use Rattle.pf_hub.specs.Tenants.{limits_at, state_at, tenant_at};
-    ghost use Rattle.pf_machine.specs.Replies.{reply_length, most_of};
-    ghost use Rattle.pf_service.specs.Logs.{entries_at, new_logs, IsApplyFault};
-    ghost use Rattle.pf_service.specs.Transcripts.{steps_in, replies_in, transcript_at, IsLone};
+    ghost use Rattle.pf_machine.specs.Machine.{step_of, call_of};
+    ghost use Rattle.pf_machine.specs.Replies.{reply_length, most_of, written_in};
+    ghost use Rattle.pf_frame.specs.Live.{IsIdle};
+    ghost use Rattle.pf_depot.specs.Loans.{loans_live};
+    ghost use Rattle.pf_service.specs.Log.{new_log, IsLogged};
+    ghost use Rattle.pf_service.specs.Faults.{IsApplyFault};
+    ghost use Rattle.pf_service.specs.Transcripts.{steps_in, replies_in, IsLone};
     ghost use Rattle.pf_service.specs.declared.TheConstants.{MAX_ENTRIES};
 
-    /// A hub of these frames, with a namespace of each of these limits, of which nothing was asked yet.
+    /// A namespace at its opening state, of which nothing was asked yet. Its files, and nothing else, stand in memory of
+    /// the allocator `tree`.
     ///
-    /// The faults are those of `Hub::new`, in their order: want of memory comes after each test.
-    pub fn new(
-        alloc: Global,
-        frames: Vec<Frame>,
-        configs: Vec<(Config, A)>,
-    ) -> Result<Self, PoolFault>
-        ensures tested { IsOk result → first_fault (length frames.items) (limits_of configs.items) ≡ None }
-        ensures opened { IfOk result (λ l. l ≡ new_logs (limits_of configs.items) (length frames.items)) }
-        ensures fault { IfErr result (IsFault (first_fault (length frames.items) (limits_of configs.items))) }
+    /// The loans hold no frame, and as many places as the limits reserve. The fault is want of memory.
+    pub fn new(alloc: Global, tree: A, config: Config, loans: Loans) -> Result<Self, ServiceFault>
+        requires idle { IsIdle config.reserve (loans_live loans) }
+        ensures opened { IfOk result (λ l. l ≡ new_log config tree) }
+        ensures fault { IfErr result (λ e. e ≡ ServiceFault.NoMemory) }
     {
-        let transcripts = transcripts_of(alloc, &configs);
-        let hub = Hub::new(alloc, frames, configs)?;
-        let Ok(transcripts) = transcripts else {
-            return Err(PoolFault::NoMemory);
-        };
-        Ok(LoggedHub {
+        let placed = Placed::new(alloc, tree, config)?;
+        Ok(Logged {
             alloc,
-            hub,
-            transcripts,
+            placed,
+            loans,
+            transcript: Transcript::new(alloc, config),
         })
     }
 
-    /// How many namespaces there are.
-    pub fn namespaces(&self) -> usize
-        ensures number { result ≡ length self.now.hub.tenants }
-        ensures each { result ≡ length self.now.transcripts }
-    {
-        self.transcripts.len()
-    }
-
-    /// What a namespace was asked and told. The replies are those of the lone machine on the steps, and the namespace
+    /// What the namespace was asked and told. The replies are those of the lone machine on the steps, and the namespace
     /// stands at that run's end.
-    pub fn entries(&self, ns: u32) -> &[(Step, Reply)]
-        requires exists { ns < length self.now.hub.tenants }
-        ensures entries { result.now ≡ entries_at self.now ns }
-        ensures ran { run_of (limits_at self.now.hub ns) opening (steps_in result.now)
-            ≡ record { state = state_at self.now.hub ns; replies = replies_in result.now } }
+    pub fn entries(&self) -> &[(Step, Reply)]
+        ensures entries { result.now ≡ self.now.transcript }
+        ensures ran { run_of self.now.limits opening (steps_in result.now)
+            ≡ record { state = self.now.state; replies = replies_in result.now } }
     {
-        self.transcripts[ns as usize].entries()
+        self.transcript.entries()
     }
 
-    /// The place of a namespace's next event: how many it had. `TranscriptFull` where those are 1,000,000.
-    pub fn place(&self, ns: u32) -> Result<u64, ServiceFault>
-        requires exists { ns < length self.now.hub.tenants }
-        ensures place { IfOk result (λ place. place ≡ length (entries_at self.now ns)) }
-        ensures room { OnOk result (length (entries_at self.now ns) < MAX_ENTRIES) }
+    /// The place of the next event: how many there were. `TranscriptFull` where those are 1,000,000.
+    pub fn place(&self) -> Result<u64, ServiceFault>
+        ensures place { IfOk result (λ place. place ≡ length self.now.transcript) }
+        ensures ran { run_of self.now.limits opening (steps_in self.now.transcript)
+            ≡ record { state = self.now.state; replies = replies_in self.now.transcript } }
+        ensures room { OnOk result (length self.now.transcript < MAX_ENTRIES) }
         ensures fault { IfErr result (λ e. (e ≡ ServiceFault.TranscriptFull)
-            × (MAX_ENTRIES ≤ length (entries_at self.now ns))) }
-        ensures ran { run_of (limits_at self.now.hub ns) opening (steps_in (entries_at self.now ns))
-            ≡ record { state = state_at self.now.hub ns; replies = replies_in (entries_at self.now ns) } }
+            × (MAX_ENTRIES ≤ length self.now.transcript)) }
     {
-        let place = self.entries(ns).len();
+        let place = self.entries().len();
         if place >= MAX_ENTRIES {
             return Err(ServiceFault::TranscriptFull);
         }
         Ok(place as u64)
     }
 
-    /// A number of bytes that the vector of the reply to a namespace's step is no longer than (`Hub::reply_bound`).
-    pub fn reply_bound(&self, ns: u32, step: &Step) -> usize
-        requires exists { ns < length self.now.hub.tenants }
-        ensures covers { reply_length
-            (step_of (limits_at self.now.hub ns) (state_at self.now.hub ns) step.now).reply ≤ result }
-        ensures most { result ≤ most_of step.now }
-    {
-        self.hub.reply_bound(ns, step)
+    /// Where its transcript's memory is.
+    pub(crate) fn alloc(&self) -> Global {
+        self.alloc
     }
 
-    /// One event: the step is made, and stands at the end of its namespace's transcript with its reply.
-    ///
-    /// All memory that it takes, for the transcript's place and the copies, is taken before the step is made.
-    pub fn apply(&mut self, ns: u32, step: &Step) -> Result<Reply, ServiceFault>
-        requires exists { ns < length self.old.hub.tenants }
-        ensures number { length self.new.hub.tenants ≡ length self.old.hub.tenants }
-        ensures limits { limits_at self.new.hub ns ≡ limits_at self.old.hub ns }
-        ensures logged { IfOk result (λ r.
-            entries_at self.new ns ≡ entries_at self.old ns ++ (step.now, r) ∷ []) }
-        ensures told { IfOk result (λ r. record { state = state_at self.new.hub ns; reply = r }
-            ≡ step_of (limits_at self.old.hub ns) (state_at self.old.hub ns) step.now) }
-        ensures others { (m : ℕ) → m ≢ ns → (tenant_at self.new.hub m ≡ tenant_at self.old.hub m)
-            × (transcript_at self.new.transcripts m ≡ transcript_at self.old.transcripts m) }
-        ensures room { OnOk result (length (entries_at self.old ns) < MAX_ENTRIES) }
-        ensures fault { IfErr result (IsApplyFault (entries_at self.old ns)) }
-        ensures unchanged { OnErr result (self.new ≡ self.old) }
+    /// A number of bytes that the vector of the reply to a step is no longer than (`Space::reply_bound`).
+    pub(crate) fn reply_bound(&self, step: &Step) -> usize
+        ensures covers { reply_length (step_of self.now.limits self.now.state step.now).reply ≤ result }
+        ensures most { result ≤ most_of step.now }
     {
-        let entries = &mut self.transcripts[ns as usize].entries;
-        if entries.len() >= MAX_ENTRIES {
-            return Err(ServiceFault::TranscriptFull);
-        }
+        self.placed.reply_bound(step)
+    }
+
+    /// How many bytes of its write went in before a process waited; 0 where it waits in no write.
+    pub(crate) fn parked_written(&self, pid: u32) -> u64
+        ensures { result ≡ written_in (call_of self.now.state pid) }
+    {
+        self.placed.parked_written(pid)
+    }
+
+    /// One event: the step is made, and stands at the end of the transcript with its reply.
+    ///
+    /// The lender has a frame for each credit of the namespace, and can take back all that the namespace holds. All memory
+    /// that the event takes, for the transcript's place and the copies, is taken before the step is made.
+    /// `TranscriptFull` comes exactly where the transcript has 1,000,000 entries, and else want of memory.
+    pub fn apply<D: Lender>(&mut self, lender: &mut D, step: &Step) -> Result<Reply, ServiceFault>
+        requires fact { D.fact lender.old }
+        requires ready { self.old.limits.reserve ≤ D.ready lender.old + self.old.held }
+        requires out { self.old.held ≤ D.out lender.old }
+        ensures fact { D.fact lender.new }
+        ensures rest { D.rest lender.new ≡ D.rest lender.old }
+        ensures ready { D.ready lender.new + self.new.held ≡ D.ready lender.old + self.old.held }
+        ensures out { D.out lender.new + self.old.held ≡ D.out lender.old + self.new.held }
+        ensures limits { self.new.limits ≡ self.old.limits }
+        ensures allocator { self.new.allocator ≡ self.old.allocator }
+        ensures logged { IfOk result (λ r.
+            self.new.transcript ≡ self.old.transcript ++ (step.now, r) ∷ []) }
+        ensures told { IfOk result (λ r. record { state = self.new.state; reply = r }
+            ≡ step_of self.old.limits self.old.state step.now) }
+        ensures room { OnOk result (length self.old.transcript < MAX_ENTRIES) }
+        ensures fault { IfErr result (IsApplyFault self.old.transcript) }
+        ensures unchanged { OnErr result ((self.new ≡ self.old) × (lender.new ≡ lender.old)) }
+    {
+        self.place()?;
+        let bound = self.reply_bound(step);
+        Ok(self.log(lender, step, bound)?)
+    }
+
+    /// `apply`, where the transcript isn't full and the reply's vector is known to be no longer than `bound`.
+    #[inline(always)]
+    pub(crate) fn log<D: Lender>(
+        &mut self,
+        lender: &mut D,
+        step: &Step,
+        bound: usize,
+    ) -> Result<Reply, AllocError>
+        requires fact { D.fact lender.old }
+        requires ready { self.old.limits.reserve ≤ D.ready lender.old + self.old.held }
+        requires out { self.old.held ≤ D.out lender.old }
+        requires room { length self.old.transcript < MAX_ENTRIES }
+        requires covers { reply_length (step_of self.old.limits self.old.state step.now).reply ≤ bound }
+        ensures fact { D.fact lender.new }
+        ensures rest { D.rest lender.new ≡ D.rest lender.old }
+        ensures ready { D.ready lender.new + self.new.held ≡ D.ready lender.old + self.old.held }
+        ensures out { D.out lender.new + self.old.held ≡ D.out lender.old + self.new.held }
+        ensures logged { IfOk result (IsLogged self.old self.new step.now) }
+        ensures unchanged { OnErr result ((self.new ≡ self.old) × (lender.new ≡ lender.old)) }
+    {
+        let entries = &mut self.transcript.entries;
         entries.reserve(1)?;
         let asked = step.copy(self.alloc)?;
-        let room = Vec::with_capacity(self.alloc, self.hub.reply_bound(ns, step))?;
-        let Answer::Done(reply) = self.hub.step(ns, step) else {
-            return Err(ServiceFault::NoMemory);
+        let room = Vec::with_capacity(self.alloc, bound)?;
+        let Answer::Done(reply) = step_over(&mut self.placed, lender, &mut self.loans, step) else {
+            return Err(AllocError);
         };
         let told = copy_into(self.alloc, room, &reply);
         entries.push_reserved((asked, told));
         Ok(reply)
     }
 
-    /// Gives up the hub, and keeps what was asked and told.
-    pub(crate) fn into_transcripts(self) -> Vec<Transcript>
-        ensures transcripts { result.items ≡ self.transcripts }
-        ensures number { length result.items ≡ length self.hub.tenants }
-        ensures alone { (n : ℕ) → IsLone (transcript_at result.items n) }
+    /// Gives up the namespace and its frames, and keeps what it was asked and told.
+    pub(crate) fn into_transcript(self) -> Transcript
+        ensures limits { result.limits ≡ self.limits }
+        ensures entries { result.entries ≡ self.transcript }
+        ensures alone { IsLone result }
     {
-        let LoggedHub {
+        let Logged {
             alloc: _,
-            hub,
-            transcripts,
+            placed,
+            loans,
+            transcript,
         } = self;
-        drop(hub);
-        transcripts
+        drop(placed);
+        drop(loans);
+        transcript
     }
 }

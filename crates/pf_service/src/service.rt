@@ -1,36 +1,47 @@
-ghost use Rattle.std.specs.Prelude.{◌≡◌, ◌≤◌, IfOk, length, map, replicate};
+ghost use Rattle.std.specs.Prelude.{◌≡◌, ◌≤◌, IfOk, length, map};
+ghost use Rattle.std.specs.List.{range_with_len};
 ghost use Rattle.pf_hub.specs.Opening.{limits_of};
 
-use crate::desk::Desk;
 use crate::fault::{CloseFault, ServiceFault};
 use crate::judge::compare;
-use crate::logged::LoggedHub;
+use crate::opening::{configs_of, places_of};
+use crate::place::{Place, parts_of};
 use crate::receipt::Receipt;
 use crate::seat::Seat;
 use crate::transcript::Transcripts;
-use pf_base::{Config, MAX_NAMESPACES, Step};
+use pf_base::{Config, Step};
+use pf_depot::DepotBook;
 use pf_frame::{Frame, PoolFault};
+use pf_hub::{first_fault, reserves_of};
 use pf_worker::Gate;
-use std::alloc::{AllocError, Allocator, Global};
+use std::alloc::{Allocator, Global};
 use std::marker::Model;
+use std::sync::ledger::{Blank, Ledger};
 use std::sync::{Mutex, Wait};
 
-/// Many namespaces behind one lock.
+/// Many namespaces behind a lock each, over a depot of frames behind a lock of its own.
 ///
 /// Whoever calls has a seat at a namespace, which keeps what its caller asked and was told. At the end all seats are
-/// compared with all transcripts. A contract sees the limits that the namespaces were given: what lies behind the lock is
+/// compared with all transcripts. A contract sees the limits that the namespaces were given: what lies behind a lock is
 /// known while it is held, and at the end.
+///
+/// A namespace's lock is taken first, and the depot's inside of it, for a moment, where a step takes or gives back a frame.
+/// `C` and `H` name the depot's two ledgers: the credits, and the frames that are held.
 #[derive(Drop)]
-pub struct Service<A: Allocator, G: Gate> {
+pub struct Service<A: Allocator, G: Gate, C: Ledger, H: Ledger> {
     alloc: Global,
     configs: Vec<Config>,
-    desk: Mutex<Desk<A>>,
+    places: Vec<Place<A, C, H>>,
+    book: Mutex<DepotBook<C, H>>,
     gate: G,
+
+    /// There is a place for each of the limits, and its number is that of the namespace.
+    pub ghost numbered: { places.items ≡ range_with_len 0 (length configs.items) },
 
     pub ghost few: { length configs.items ≤ 64 },
 }
 
-impl<A: Allocator, G: Gate> Model for Service<A, G> {
+impl<A: Allocator, G: Gate, C: Ledger, H: Ledger> Model for Service<A, G, C, H> {
     ghost use Rattle.std.specs.Prelude.{List};
     ghost use Rattle.pf_base.specs.Limits.{Limits};
 
@@ -39,53 +50,72 @@ impl<A: Allocator, G: Gate> Model for Service<A, G> {
     ghost view = { λ s. s.configs.items };
 }
 
-// The limits alone.
-fn configs_of<A: Allocator>(
-    alloc: Global,
-    configs: &[(Config, A)],
-) -> Result<Vec<Config>, AllocError>
-    ensures { IfOk result (λ cs. cs.items ≡ limits_of configs.now) }
-{
-    configs.iter().map(|config| config.0).collect(alloc)
-}
-
-impl<A: Allocator + Clone, G: Gate> Service<A, G> {
-    ghost use Rattle.std.specs.Prelude.{◌≢◌, ℕ, ◌+◌, ◌<◌, ◌++◌, [], ◌∷◌, IfErr, IsOk, OnOk, OnErr, Err, None};
+impl<A: Allocator + Clone, G: Gate, C: Ledger, H: Ledger> Service<A, G, C, H> {
+    ghost use Rattle.std.specs.Prelude.{ℕ, ◌<◌, ◌++◌, [], ◌∷◌, List, IfErr, IsOk, OnOk, OnErr, Err, None};
+    ghost use Rattle.pf_base.specs.declared.TheConstants.{MAX_NAMESPACES};
     ghost use Rattle.pf_frame.specs.Faults.{IsFault};
-    ghost use Rattle.pf_hub.specs.Opening.{first_fault};
+    ghost use Rattle.pf_service.specs.declared.event.Event.{Event as OneEvent};
+    ghost use Rattle.pf_service.specs.Faults.{IsCallFault};
     ghost use Rattle.pf_service.specs.Judged.{IsClosed, IsClosedFault};
+    ghost use Rattle.pf_hub.specs.Opening.{first_fault};
     ghost use Rattle.pf_service.specs.Seats.{Gains, event_at, IsSeatFault};
     ghost use Rattle.pf_service.specs.Told.{Told};
+    ghost use Rattle.pf_service.specs.Waited.{IsWaited, IsAnswered};
     ghost use Rattle.pf_service.specs.declared.TheConstants.{MAX_SEATS};
 
-    /// A service of these frames, with a namespace of each of these limits: their numbers are their places.
+    /// A service of these frames, with a namespace of each of these limits: their numbers are their places. A namespace's
+    /// files, and nothing else, stand in memory of the allocator beside its limits.
     ///
-    /// The faults are those of `Hub::new`, in their order. The frames and limits are tested before want of memory is
-    /// answered.
+    /// Each ledger has a part for each namespace that there may be. The faults are those of `Hub::new`, in their order: the
+    /// frames and limits are tested before want of memory is answered.
     pub fn new(
         alloc: Global,
         frames: Vec<Frame>,
         configs: Vec<(Config, A)>,
         gate: G,
+        credits: Blank,
+        held: Blank,
     ) -> Result<Self, PoolFault>
     where
         G: Drop,
+        requires names { (credits.name ≡ C.name) × (held.name ≡ H.name) }
+        requires cut { (credits.parts ≡ C.parts) × (held.parts ≡ H.parts) }
+        requires parts { (MAX_NAMESPACES ≤ credits.parts) × (MAX_NAMESPACES ≤ held.parts) }
         ensures tested { IsOk result → first_fault (length frames.items) (limits_of configs.items) ≡ None }
         ensures limits { IfOk result (λ s. s ≡ limits_of configs.items) }
         ensures fault { IfErr result (IsFault (first_fault (length frames.items) (limits_of configs.items))) }
     {
-        let kept = configs_of(alloc, &configs);
-        let given = Vec::from_elem(alloc, 0, MAX_NAMESPACES);
-        let logged = LoggedHub::new(alloc, frames, configs)?;
-        let (Ok(configs), Ok(given)) = (kept, given) else {
+        if let Some(fault) = first_fault(frames.len(), &configs) {
+            return Err(fault);
+        }
+        let Ok(kept) = configs_of(alloc, &configs) else {
+            return Err(PoolFault::NoMemory);
+        };
+        let Ok(reserves) = reserves_of(alloc, &configs) else {
+            return Err(PoolFault::NoMemory);
+        };
+        let (book, allotments) = DepotBook::open(alloc, frames, reserves, credits, held)?;
+        let Ok(places) = places_of(alloc, configs, allotments) else {
             return Err(PoolFault::NoMemory);
         };
         Ok(Service {
             alloc,
-            configs,
-            desk: Mutex::new(Desk::new(alloc, logged, given)),
+            configs: kept,
+            places,
+            book: Mutex::new(book),
             gate,
         })
+    }
+
+    // What stands at the place of a namespace. The fault is that there is none of this number.
+    fn place(&self, ns: u32) -> Result<&Place<A, C, H>, ServiceFault>
+        ensures found { IfOk result (λ p. (p.now ≡ ns) × (ns < length self.now)) }
+        ensures missing { IfErr result (λ e. (e ≡ ServiceFault.NoSuchNamespace) × (length self.now ≤ ns)) }
+    {
+        match self.places.get(ns as usize) {
+            Some(place) => Ok(place),
+            None => Err(ServiceFault::NoSuchNamespace),
+        }
     }
 
     /// A seat at a namespace, with the next number. It takes no memory.
@@ -96,10 +126,7 @@ impl<A: Allocator + Clone, G: Gate> Service<A, G> {
         ensures missing { length self.now ≤ ns → result ≡ Err ServiceFault.NoSuchNamespace }
         ensures fault { IfErr result (IsSeatFault (length self.now) ns) }
     {
-        if ns as usize >= self.configs.len() {
-            return Err(ServiceFault::NoSuchNamespace);
-        }
-        self.desk.lock(rt).give(ns)
+        self.place(ns)?.seat(rt, self.alloc)
     }
 
     /// One event of a seat's namespace: the step is made, and the seat keeps it with its place and its reply.
@@ -118,19 +145,36 @@ impl<A: Allocator + Clone, G: Gate> Service<A, G> {
         ensures told { IfOk result (λ r. (r.ns ≡ seat.old.ns) × Told step.now r.place r.reply) }
         ensures passed { IfOk result (λ r. (gate : G) × G.passed gate r.ns r.place) }
         ensures missing { length self.now ≤ seat.old.ns → result ≡ Err ServiceFault.NoSuchNamespace }
-        ensures fault { IfErr result (λ e. e ≢ ServiceFault.TooManySeats) }
+        ensures fault { IfErr result (IsCallFault (length self.now) seat.old.ns) }
         ensures refused { OnErr result (Gains seat.old seat.new []) }
     {
-        let ns = seat.ns() as usize;
-        if ns >= self.configs.len() {
-            return Err(ServiceFault::NoSuchNamespace);
-        }
-        let mut desk = self.desk.lock(rt);
-        // What the lock holds is known by its type alone, and that doesn't say how many namespaces there are.
-        if ns >= desk.namespaces() {
-            return Err(ServiceFault::NoSuchNamespace);
-        }
-        desk.event(&self.gate, seat, step)
+        let place = self.place(seat.ns())?;
+        place.call(rt, &self.gate, &self.book, seat, step)
+    }
+
+    /// An event of a seat's namespace, and, as long as the process waits, after further events of the namespace a Resume of
+    /// that process. A receipt of each is appended.
+    ///
+    /// Each is an event as `call` makes one, with its faults in their order; at a fault the receipts so far stand, and the
+    /// process may wait. A Resume is the machine's: it is EINVAL where the process waits no more, ESRCH where it is gone,
+    /// and it tries a call again that the process waits in since.
+    pub fn call_waiting<R: Wait>(
+        &self,
+        rt: &R,
+        seat: &mut Seat,
+        step: &Step,
+        receipts: &mut Vec<Receipt>,
+    ) -> Result<(), ServiceFault>
+        ensures waited { (gate : G) × (es : List OneEvent)
+            × IsWaited (λ s p r. Told s p r × G.passed gate seat.old.ns p) step.now seat.old seat.new
+            receipts.old.items receipts.new.items es
+            × OnOk result (IsAnswered es) }
+        ensures missing { length self.now ≤ seat.old.ns → result ≡ Err ServiceFault.NoSuchNamespace }
+        ensures fault { IfErr result (IsCallFault (length self.now) seat.old.ns) }
+    {
+        let gate = &self.gate;
+        let place = self.place(seat.ns())?;
+        place.call_waiting(rt, gate, &self.book, seat, step, receipts)
     }
 
     /// Ends the service, and gives what each namespace was asked and told, where these seats fit that.
@@ -139,7 +183,7 @@ impl<A: Allocator + Clone, G: Gate> Service<A, G> {
     /// replies are the lone machine's on its steps, under the limits that the namespace was given; and the seats of each
     /// namespace are those numbered from 0 up to some number, each once. Seats of another service are judged alike.
     ///
-    /// How many seats were given lies behind the lock, where no clause of this call sees it. That they are all here, and
+    /// How many seats were given lies behind the locks, where no clause of this call sees it. That they are all here, and
     /// that each fault has its cause, is a promise of `compare`, to which this call hands what lay there.
     pub fn close(self, seats: Vec<Seat>) -> Result<Transcripts, CloseFault>
     where
@@ -150,11 +194,15 @@ impl<A: Allocator + Clone, G: Gate> Service<A, G> {
         let Service {
             alloc,
             configs,
-            desk,
+            places,
+            book,
             gate,
         } = self;
+        drop(book);
         drop(gate);
-        let (transcripts, given) = desk.into_inner().into_parts();
+        let Ok((transcripts, given)) = parts_of(alloc, places) else {
+            return Err(CloseFault::NoMemory);
+        };
         compare(alloc, &configs, &transcripts, &given, &seats)?;
         Ok(Transcripts::new(transcripts))
     }

@@ -1,12 +1,18 @@
 //! A gate that remembers: it is told of each event once, with the event's numbers, in the order of the transcript, and
 //! while the lock is held. That it is told before the step is made, a contract says.
 
-use crate::services::{BLUE, RED, gated_service_of, make, steps_of_blue, steps_of_red};
+ghost use Rattle.std.specs.Prelude.{◌≡◌, ◌≤◌};
+ghost use Rattle.pf_base.specs.declared.TheConstants.{MAX_NAMESPACES};
+
+use crate::services::{BLUE, RED, blank, gated_service_of, make, steps_of_blue, steps_of_red};
 use pf_base::Step;
 use pf_service::{CloseFault, Gate, Seat, Service, Transcripts};
 use std::alloc::Global;
+use std::marker::Brand;
+use std::process::Abort;
 use std::sync::Wait;
 use std::sync::atomic::{AtomicU64, Ordering};
+use std::sync::ledger::{Blank, Ledger};
 use std::test::Fail;
 use std::thread;
 use std::thread::{Threads, join};
@@ -78,10 +84,8 @@ impl Gate for Recorder<'_> {
         told.tell(place);
     }
 
-    // A hub has its frames to itself, so its service takes none that is shared.
     fn frame(&self, ns: u32) {
-        let told = if ns == RED { self.red } else { self.blue };
-        told.wrong.store(1, Ordering::SeqCst);
+        let _ = ns;
     }
 }
 
@@ -97,9 +101,9 @@ fn comes(signal: &AtomicU64) -> bool {
 }
 
 // Makes the steps in turn, each of which the gate is told of once.
-fn make_told<R: Wait>(
+fn make_told<R: Wait, C: Ledger, H: Ledger>(
     rt: &R,
-    service: &Service<Global, Recorder<'_>>,
+    service: &Service<Global, Recorder<'_>, C, H>,
     mut seat: Seat,
     steps: &[Step],
     told: &Told,
@@ -113,30 +117,46 @@ fn make_told<R: Wait>(
     Some(seat)
 }
 
-#[test]
-fn a_gate_is_told_of_each_event_once(rt: HostRuntime) -> Result<(), Fail> {
-    let alloc = rt.alloc();
+fn told_once<C: Ledger, H: Ledger, R: Wait + Abort>(
+    rt: &R,
+    alloc: Global,
+    credits: Blank,
+    held: Blank,
+) -> Result<(), Fail>
+    requires names { (credits.name ≡ C.name) × (held.name ≡ H.name) }
+    requires cut { (credits.parts ≡ C.parts) × (held.parts ≡ H.parts) }
+    requires parts { (MAX_NAMESPACES ≤ credits.parts) × (MAX_NAMESPACES ≤ held.parts) }
+{
     let (red, blue) = (Told::new(), Told::new());
-    let (held, coming) = (AtomicU64::new(0), AtomicU64::new(1));
+    let (inside, coming) = (AtomicU64::new(0), AtomicU64::new(1));
     let gate = Recorder {
         red: &red,
         blue: &blue,
-        held: &held,
+        held: &inside,
         coming: &coming,
     };
-    let service = gated_service_of(alloc, 2, gate).ok_or("refused")?;
-    let (ours, theirs) = (service.seat(&rt, RED)?, service.seat(&rt, BLUE)?);
-    make_told(&rt, &service, ours, &steps_of_red(alloc)?, &red).ok_or("told otherwise")?;
+    let service = gated_service_of::<_, C, H>(alloc, 2, gate, credits, held).ok_or("refused")?;
+    let (ours, theirs) = (service.seat(rt, RED)?, service.seat(rt, BLUE)?);
+    make_told(rt, &service, ours, &steps_of_red(alloc)?, &red).ok_or("told otherwise")?;
     assert!(rt; blue.is(0));
-    make_told(&rt, &service, theirs, &steps_of_blue(alloc)?, &blue).ok_or("told otherwise")?;
+    make_told(rt, &service, theirs, &steps_of_blue(alloc)?, &blue).ok_or("told otherwise")?;
     assert!(rt; red.is(4) && blue.is(4));
     Ok(())
 }
 
+fn told_once_by_name<R: Wait + Abort>(rt: &R, alloc: Global) -> Result<(), Fail> {
+    told_once::<Brand, Brand, R>(rt, alloc, blank(), blank())
+}
+
+#[test]
+fn a_gate_is_told_of_each_event_once(rt: HostRuntime) -> Result<(), Fail> {
+    told_once_by_name(&rt, rt.alloc())
+}
+
 // The second caller of a namespace: it calls once the gate is told of the first one's event.
-fn make_behind<R: Wait>(
+fn make_behind<R: Wait, C: Ledger, H: Ledger>(
     rt: &R,
-    service: &Service<Global, Recorder<'_>>,
+    service: &Service<Global, Recorder<'_>, C, H>,
     seat: Seat,
     steps: &[Step],
     held: &AtomicU64,
@@ -149,21 +169,29 @@ fn make_behind<R: Wait>(
     make(rt, service, seat, steps)
 }
 
+type Closed = Option<Result<Transcripts, CloseFault>>;
+
 // Two callers of one namespace, on a thread each, the second while the gate is told of the first one's event.
-fn on_two_threads<R: Threads + Wait + Sync>(
+fn one_after_the_other<C: Ledger + Send + Sync, H: Ledger + Send + Sync, R: Threads + Wait + Sync>(
     rt: &R,
     alloc: Global,
+    credits: Blank,
+    held: Blank,
     told: &Told,
-) -> Option<Result<Transcripts, CloseFault>> {
-    let (held, coming) = (AtomicU64::new(0), AtomicU64::new(0));
-    let (first_in, second_comes) = (&held, &coming);
+) -> Closed
+    requires names { (credits.name ≡ C.name) × (held.name ≡ H.name) }
+    requires cut { (credits.parts ≡ C.parts) × (held.parts ≡ H.parts) }
+    requires parts { (MAX_NAMESPACES ≤ credits.parts) × (MAX_NAMESPACES ≤ held.parts) }
+{
+    let (inside, coming) = (AtomicU64::new(0), AtomicU64::new(0));
+    let (first_in, second_comes) = (&inside, &coming);
     let gate = Recorder {
         red: told,
         blue: told,
         held: first_in,
         coming: second_comes,
     };
-    let service = gated_service_of(alloc, 1, gate)?;
+    let service = gated_service_of::<_, C, H>(alloc, 1, gate, credits, held)?;
     let shared = &service;
     let (first, second) = (shared.seat(rt, RED).ok()?, shared.seat(rt, RED).ok()?);
     let owned = steps_of_blue(alloc).ok()?;
@@ -179,10 +207,18 @@ fn on_two_threads<R: Threads + Wait + Sync>(
     Some(service.close(seats))
 }
 
+fn one_after_the_other_by_name<R: Threads + Wait + Sync>(
+    rt: &R,
+    alloc: Global,
+    told: &Told,
+) -> Closed {
+    one_after_the_other::<Brand, Brand, R>(rt, alloc, blank(), blank(), told)
+}
+
 #[test]
 fn a_gate_is_told_while_the_lock_is_held(rt: HostRuntime) -> Result<(), Fail> {
     let told = Told::new();
-    let transcripts = on_two_threads(&rt, rt.alloc(), &told).ok_or("refused")??;
+    let transcripts = one_after_the_other_by_name(&rt, rt.alloc(), &told).ok_or("refused")??;
     let transcript = transcripts.as_slice().first().ok_or("none")?;
     assert_eq!(rt; transcript.entries().len(), 8);
     assert!(rt; told.is(8));

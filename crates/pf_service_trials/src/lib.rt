@@ -1,4 +1,5 @@
-//! Tests of a service, through public calls: two tenants, callers on threads of their own, and all that is refused.
+//! Tests of a service, through public calls: two tenants, callers on threads of their own, calls that wait, and all that
+//! is refused.
 //! Nothing stands here but tests, so that `pf_service` is proved once and not a second time with them.
 #![tactic(auto)]
 
@@ -7,8 +8,12 @@ mod faults;
 #[cfg(test)]
 mod gates;
 #[cfg(test)]
+mod overlap;
+#[cfg(test)]
 mod services;
 #[cfg(test)]
 mod tenants;
 #[cfg(test)]
 mod threads;
+#[cfg(test)]
+mod waiting;

@@ -1,13 +1,15 @@
 //! A service of some namespaces, the steps of two tenants, and what those tenants are told.
 
-ghost use Rattle.std.specs.Prelude.{◌<◌};
+ghost use Rattle.std.specs.Prelude.{◌≡◌, ◌≤◌, ◌<◌};
+ghost use Rattle.pf_base.specs.declared.TheConstants.{MAX_NAMESPACES};
 
-use pf_base::{ByteString, Config, Groups, Reply, Step};
+use pf_base::{ByteString, Config, Groups, MAX_NAMESPACES, Reply, Step};
 use pf_frame::Frame;
 use pf_service::{Gate, NoGate, Seat, Service, Transcript, Transcripts};
 use std::alloc::{AllocError, Global};
 use std::process::Abort;
 use std::sync::Wait;
+use std::sync::ledger::{Blank, Ledger};
 use std::test::Fail;
 
 // What the frames hold before anyone writes to them.
@@ -17,7 +19,14 @@ pub(crate) const RED: u32 = 0;
 
 pub(crate) const BLUE: u32 = 1;
 
-pub(crate) type Plain = Service<Global, NoGate>;
+pub(crate) type Plain<C, H> = Service<Global, NoGate, C, H>;
+
+// A ledger with a part for each namespace that there may be.
+pub(crate) fn blank() -> Blank
+    ensures { result.parts ≡ MAX_NAMESPACES }
+{
+    Blank::new(MAX_NAMESPACES as u64)
+}
 
 fn old_frames(alloc: Global, count: usize) -> Result<Vec<Frame>, AllocError> {
     let mut frames = Vec::with_capacity(alloc, count)?;
@@ -28,19 +37,32 @@ fn old_frames(alloc: Global, count: usize) -> Result<Vec<Frame>, AllocError> {
 }
 
 // A service of so many namespaces, with 16 frames for each.
-pub(crate) fn service_of(alloc: Global, namespaces: usize) -> Option<Plain>
-    requires { namespaces < 65 }
+pub(crate) fn service_of<C: Ledger, H: Ledger>(
+    alloc: Global,
+    namespaces: usize,
+    credits: Blank,
+    held: Blank,
+) -> Option<Plain<C, H>>
+    requires few { namespaces < 65 }
+    requires names { (credits.name ≡ C.name) × (held.name ≡ H.name) }
+    requires cut { (credits.parts ≡ C.parts) × (held.parts ≡ H.parts) }
+    requires parts { (MAX_NAMESPACES ≤ credits.parts) × (MAX_NAMESPACES ≤ held.parts) }
 {
-    gated_service_of(alloc, namespaces, NoGate)
+    gated_service_of(alloc, namespaces, NoGate, credits, held)
 }
 
 // The same, with a gate.
-pub(crate) fn gated_service_of<G: Gate + Drop>(
+pub(crate) fn gated_service_of<G: Gate + Drop, C: Ledger, H: Ledger>(
     alloc: Global,
     namespaces: usize,
     gate: G,
-) -> Option<Service<Global, G>>
-    requires { namespaces < 65 }
+    credits: Blank,
+    held: Blank,
+) -> Option<Service<Global, G, C, H>>
+    requires few { namespaces < 65 }
+    requires names { (credits.name ≡ C.name) × (held.name ≡ H.name) }
+    requires cut { (credits.parts ≡ C.parts) × (held.parts ≡ H.parts) }
+    requires parts { (MAX_NAMESPACES ≤ credits.parts) × (MAX_NAMESPACES ≤ held.parts) }
 {
     let config = Config::new(
         16,
@@ -54,7 +76,7 @@ pub(crate) fn gated_service_of<G: Gate + Drop>(
         configs.push((config, alloc)).ok()?;
     }
     let frames = old_frames(alloc, 16 * namespaces).ok()?;
-    Service::new(alloc, frames, configs, gate).ok()
+    Service::new(alloc, frames, configs, gate, credits, held).ok()
 }
 
 pub(crate) fn spawn(alloc: Global) -> Step {
@@ -66,9 +88,18 @@ pub(crate) fn spawn(alloc: Global) -> Step {
     }
 }
 
-fn write(alloc: Global, byte: u8, count: usize) -> Result<Step, AllocError> {
+pub(crate) fn write(alloc: Global, byte: u8, count: usize) -> Result<Step, AllocError> {
+    write_by(alloc, 1, byte, count)
+}
+
+pub(crate) fn write_by(
+    alloc: Global,
+    pid: u32,
+    byte: u8,
+    count: usize,
+) -> Result<Step, AllocError> {
     Ok(Step::Write {
-        pid: 1,
+        pid,
         fd: 1,
         payload: ByteString::new(Vec::from_elem(alloc, byte, count)?),
     })
@@ -105,9 +136,9 @@ pub(crate) fn steps_of_blue(alloc: Global) -> Result<Vec<Step>, AllocError> {
 }
 
 // Makes the steps in turn. No seat comes back where one was refused.
-pub(crate) fn make<R: Wait, G: Gate>(
+pub(crate) fn make<R: Wait, G: Gate, C: Ledger, H: Ledger>(
     rt: &R,
-    service: &Service<Global, G>,
+    service: &Service<Global, G, C, H>,
     mut seat: Seat,
     steps: &[Step],
 ) -> Option<Seat> {
@@ -118,9 +149,9 @@ pub(crate) fn make<R: Wait, G: Gate>(
 }
 
 // Makes the steps in turn, many times.
-pub(crate) fn repeat<R: Wait>(
+pub(crate) fn repeat<R: Wait, C: Ledger, H: Ledger>(
     rt: &R,
-    service: &Plain,
+    service: &Plain<C, H>,
     mut seat: Seat,
     steps: &[Step],
     times: u32,

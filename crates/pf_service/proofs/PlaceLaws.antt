@@ -1,0 +1,36 @@
+-- The namespaces of a service, by their numbers.
+
+use Rattle.std.proofs.Common.{◌≡◌, ℕ, zero, suc, ◌+◌, ◌<◌, ◌≤◌, ◌++◌, [], ◌∷◌, List, length, map, get_or, ap, ◌∙◌, arith}
+use Rattle.std.specs.Prelude.{None}
+use Rattle.std.specs.List.{range_with_len}
+use Rattle.std.proofs.lemmas.Bool.Decides.{nat_tests}
+use Rattle.std.proofs.lemmas.List.{length-map}
+use Rattle.std.proofs.lemmas.List.FromFn.{get_or-range_with_len, length-range_with_len}
+use Rattle.pf_base.specs.Limits.{Limits}
+use Rattle.pf_frame.specs.Faults.{fault_of}
+use Rattle.pf_hub.specs.Opening.{limits_of, first_fault}
+
+-- one more
+pub range_more : (a n : ℕ) → range_with_len a n ++ (a + n) ∷ [] ≡ range_with_len a (suc n)
+range_more a zero = ap (λ (k : ℕ). k ∷ []) (omega arith)
+range_more a (suc n) = ap (λ (ks : List ℕ). a ∷ ks) (ap (λ (k : ℕ). range_with_len (a + 1) n ++ k ∷ []) (omega arith) ∙ range_more (a + 1) n)
+
+-- after so many comes the next
+pub next_number : (ps qs : List ℕ) (n m ns : ℕ) → ps ≡ range_with_len 0 n → ns ≡ length ps → qs ≡ ps ++ ns ∷ [] → m ≡ n + 1 → qs ≡ range_with_len 0 m
+next_number ps qs n m ns is here more up =
+    let at : ns ≡ 0 + n = omega (arith, here ∙ ap length is ∙ length-range_with_len 0 n) in
+    let whole : suc n ≡ m = omega arith in
+    more ∙ ap (λ (xs : List ℕ). xs ++ ns ∷ []) is ∙ ap (λ (k : ℕ). range_with_len 0 n ++ k ∷ []) at ∙ range_more 0 n ∙ ap (range_with_len 0) whole
+
+-- the namespace at a place has its number
+pub number_at : (ps : List ℕ) (n i p : ℕ) → ps ≡ range_with_len 0 n → i < n → p ≡ get_or ps i p → p ≡ i
+number_at ps n i p is lt at = at ∙ ap (λ (xs : List ℕ). get_or xs i p) is ∙ get_or-range_with_len 0 n i p lt ∙ omega arith
+
+-- what passes each test has no more namespaces than there may be
+passes : (frames : ℕ) (reserves : List ℕ) → fault_of frames reserves ≡ None → length reserves ≤ 64
+passes frames reserves none = grind (arith, nat_tests)
+
+-- the tests let no more namespaces pass than there may be
+pub few : {Z : Type 0} (frames : ℕ) (given : List (Limits × Z)) → first_fault frames (limits_of given) ≡ None → length given ≤ 64
+few {Z} frames given none =
+    omega (arith, passes frames (map (λ (l : Limits). l.reserve) (limits_of given)) none, length-map (limits_of given) (λ (l : Limits). l.reserve), length-map given (λ (e : Limits × Z). e.0))

@@ -1,0 +1,190 @@
+ghost use Rattle.std.specs.Prelude.{◌≡◌, ◌<◌, [], ◌∷◌, ◌&&◌, false, nat_eq, length, All, IfOk, IfErr, OnErr};
+ghost use Rattle.pf_service.specs.Faults.{IsApplyFault, IsEventFault};
+ghost use Rattle.pf_service.specs.Log.{IsLogged};
+ghost use Rattle.pf_service.specs.Seats.{Gains, event_at};
+ghost use Rattle.pf_service.specs.Told.{Told};
+ghost use Rattle.pf_service.specs.Transcripts.{IsLone};
+ghost use Rattle.pf_service.specs.Woken.{is_parked_again, written_by, is_idle};
+
+use crate::copies::copy_into;
+use crate::event::Event;
+use crate::fault::ServiceFault;
+use crate::logged::Logged;
+use crate::receipt::Receipt;
+use crate::seat::Seat;
+use crate::seated::Seated;
+use crate::transcript::Transcript;
+use crate::waiters::Waiters;
+use pf_base::{Reply, Step};
+use pf_depot::DepotBook;
+use pf_worker::Gate;
+use std::alloc::{AllocError, Allocator, Global};
+use std::marker::Model;
+use std::sync::ledger::Ledger;
+use std::sync::{Condvar, Mutex, Wait};
+
+/// A namespace of a service: its number, what lies behind its lock, and who waits there for its next event.
+///
+/// A contract sees the number: what lies behind the lock is known while it is held.
+#[derive(Drop)]
+pub(crate) struct Place<A: Allocator, C: Ledger, H: Ledger> {
+    ns: u32,
+    pub(crate) seated: Mutex<Seated<A, C, H>>,
+    pub(crate) woken: Condvar,
+}
+
+impl<A: Allocator, C: Ledger, H: Ledger> Model for Place<A, C, H> {
+    ghost use Rattle.std.specs.Prelude.{ℕ};
+
+    ghost Value = { ℕ };
+
+    ghost view = { λ p. p.ns };
+}
+
+// How many bytes went in of the write that a Resume tries again; 0 for another step.
+fn resumed_written<A: Allocator + Clone>(logged: &Logged<A>, step: &Step) -> u64
+    ensures { result ≡ written_by logged.now.state step.now }
+{
+    match step {
+        Step::Resume { pid } => logged.parked_written(*pid),
+        _ => 0,
+    }
+}
+
+// Whether a process that was tried again waits on, and has written as much as before.
+fn is_idle(step: &Step, reply: &Reply, before: u64, after: u64) -> bool
+    ensures { result ≡ (is_parked_again step.now reply.now && nat_eq after before) }
+{
+    match (step, reply) {
+        (Step::Resume { pid: _ }, Reply::Parked) => after == before,
+        _ => false,
+    }
+}
+
+/// One event of a namespace, whose lock is held: the step is made, the seat keeps it with its place and its reply, and
+/// those who wait are woken, but for an event that is of no use to them.
+///
+/// The gate is told directly before the step is made. All memory is taken before the step is made, and the transcript's end
+/// is looked at first of all.
+pub(crate) fn event<A: Allocator + Clone, R: Wait, G: Gate, C: Ledger, H: Ledger, W: Waiters>(
+    rt: &R,
+    gate: &G,
+    book: &Mutex<DepotBook<C, H>>,
+    seated: &mut Seated<A, C, H>,
+    waiters: &W,
+    seat: &mut Seat,
+    step: &Step,
+) -> Result<Receipt, ServiceFault>
+    ensures place { IfOk result (λ r. (r.ns ≡ seat.old.ns)
+        × (r.place ≡ length seated.old.logged.transcript)) }
+    ensures kept { IfOk result (λ r.
+        Gains seat.old seat.new (event_at r.place step.now r.reply ∷ [])) }
+    ensures logged { IfOk result (λ r. IsLogged seated.old.logged seated.new.logged step.now r.reply) }
+    ensures told { IfOk result (λ r. Told step.now r.place r.reply) }
+    ensures passed { IfOk result (λ r. G.passed gate.now r.ns r.place) }
+    ensures woken { IfOk result (λ r.
+        is_idle seated.old.logged.state seated.new.logged.state step.now r.reply ≡ false
+        → W.woken waiters.now) }
+    ensures given { seated.new.given ≡ seated.old.given }
+    ensures fault { IfErr result (IsApplyFault seated.old.logged.transcript) }
+    ensures refused { OnErr result (Gains seat.old seat.new []) }
+    ensures unchanged { OnErr result (seated.new.logged ≡ seated.old.logged) }
+{
+    let ns = seat.ns();
+    let place = seated.get_ref().place()?;
+    seat.reserve()?;
+    let alloc = seated.get_ref().alloc();
+    let asked = step.copy(alloc)?;
+    let bound = seated.get_ref().reply_bound(step);
+    let room = Vec::with_capacity(alloc, bound)?;
+    let before = resumed_written(seated.get_ref(), step);
+    gate.pass(ns, place);
+    let reply = seated.log(rt, gate, book, ns, step, bound)?;
+    let after = resumed_written(seated.get_ref(), step);
+    if !is_idle(step, &reply, before, after) {
+        waiters.wake_all();
+    }
+    let told = copy_into(alloc, room, &reply);
+    seat.keep(Event {
+        place,
+        step: asked,
+        reply: told,
+    });
+    Ok(Receipt { ns, place, reply })
+}
+
+impl<A: Allocator + Clone, C: Ledger, H: Ledger> Place<A, C, H> {
+    ghost use Rattle.pf_service.specs.declared.TheConstants.{MAX_SEATS};
+
+    /// The namespace of a number. Nobody waits there yet.
+    pub(crate) fn new(ns: u32, seated: Seated<A, C, H>) -> Self
+        ensures { result ≡ ns }
+    {
+        Place {
+            ns,
+            seated: Mutex::new(seated),
+            woken: Condvar::new(),
+        }
+    }
+
+    /// A seat, with the next number.
+    pub(crate) fn seat<R: Wait>(&self, rt: &R, alloc: Global) -> Result<Seat, ServiceFault>
+        ensures seat { IfOk result (λ s. (s.ns ≡ self.now) × (s.number < MAX_SEATS) × (s.events ≡ [])) }
+        ensures full { IfErr result (λ e. e ≡ ServiceFault.TooManySeats) }
+    {
+        let number = self.seated.lock(rt).give()?;
+        Ok(Seat::new(alloc, self.ns, number))
+    }
+
+    /// One event of a seat of the namespace (`event`).
+    pub(crate) fn call<R: Wait, G: Gate>(
+        &self,
+        rt: &R,
+        gate: &G,
+        book: &Mutex<DepotBook<C, H>>,
+        seat: &mut Seat,
+        step: &Step,
+    ) -> Result<Receipt, ServiceFault>
+        requires own { seat.old.ns ≡ self.now }
+        ensures kept { IfOk result (λ r. Gains seat.old seat.new (event_at r.place step.now r.reply ∷ [])) }
+        ensures told { IfOk result (λ r. (r.ns ≡ seat.old.ns) × Told step.now r.place r.reply) }
+        ensures passed { IfOk result (λ r. G.passed gate.now r.ns r.place) }
+        ensures fault { IfErr result IsEventFault }
+        ensures refused { OnErr result (Gains seat.old seat.new []) }
+    {
+        let mut seated = self.seated.lock(rt);
+        event(rt, gate, book, &mut *seated, &self.woken, seat, step)
+    }
+
+    /// What the namespace was asked and told, and how many seats it gave.
+    pub(crate) fn into_parts(self) -> (Transcript, u32)
+        ensures alone { IsLone result.0 }
+    {
+        let Place {
+            ns: _,
+            seated,
+            woken,
+        } = self;
+        drop(woken);
+        seated.into_inner().into_parts()
+    }
+}
+
+/// What each of these namespaces was asked and told, and how many seats each gave.
+pub(crate) fn parts_of<A: Allocator + Clone, C: Ledger, H: Ledger>(
+    alloc: Global,
+    places: Vec<Place<A, C, H>>,
+) -> Result<(Vec<Transcript>, Vec<u32>), AllocError>
+    ensures each { IfOk result (λ parts. length parts.0.items ≡ length places.items) }
+    ensures all { IfOk result (λ parts. length parts.1.items ≡ length places.items) }
+    ensures alone { IfOk result (λ parts. All IsLone parts.0.items) }
+{
+    let mut transcripts = Vec::with_capacity(alloc, places.len())?;
+    let mut given = Vec::with_capacity(alloc, places.len())?;
+    for place in places {
+        let (transcript, number) = place.into_parts();
+        transcripts.push_reserved(transcript);
+        given.push_reserved(number);
+    }
+    Ok((transcripts, given))
+}

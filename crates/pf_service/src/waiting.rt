@@ -1,0 +1,147 @@
+ghost use Rattle.std.specs.Prelude.{◌≡◌, ℕ, ◌↔◌, ◌<◌, ◌++◌, [], ◌∷◌, List, length, vec_capacity, IsTrue, IfOk, IfErr, OnOk, OnErr};
+ghost use Rattle.pf_base.specs.declared.step.Reply.{Reply as OneReply};
+ghost use Rattle.pf_base.specs.declared.step.Reply.TheVariants.{Parked};
+ghost use Rattle.pf_machine.specs.Machine.{pid_of};
+ghost use Rattle.pf_service.specs.declared.event.Event.{Event as OneEvent};
+ghost use Rattle.pf_service.specs.Faults.{IsApplyFault, IsEventFault};
+ghost use Rattle.pf_service.specs.Seats.{Gains};
+ghost use Rattle.pf_service.specs.Told.{Told};
+ghost use Rattle.pf_service.specs.Waited.{maker, resume_of, IsTried, IsWaited, IsAnswered};
+
+use crate::fault::ServiceFault;
+use crate::place::{Place, event};
+use crate::receipt::Receipt;
+use crate::seat::Seat;
+use crate::seated::Seated;
+use crate::waiters::Waiters;
+use pf_base::{Reply, Step};
+use pf_depot::DepotBook;
+use pf_worker::Gate;
+use std::alloc::Allocator;
+use std::sync::ledger::Ledger;
+use std::sync::{Mutex, Wait};
+
+// The process that makes a step: 0, which is no process, for a Spawn.
+fn maker(step: &Step) -> u32
+    ensures { result ≡ maker (pid_of step.now) }
+{
+    match step {
+        Step::Spawn { .. } => 0,
+        Step::Exit { pid }
+        | Step::Fork { pid }
+        | Step::Resume { pid }
+        | Step::Pipe { pid, .. }
+        | Step::Close { pid, .. }
+        | Step::Read { pid, .. }
+        | Step::Write { pid, .. }
+        | Step::Tee { pid, .. }
+        | Step::Splice { pid, .. }
+        | Step::SetSize { pid, .. }
+        | Step::GetSize { pid, .. }
+        | Step::Dup { pid, .. }
+        | Step::SetNonblock { pid, .. }
+        | Step::Mkdir { pid, .. }
+        | Step::Mkfifo { pid, .. }
+        | Step::Open { pid, .. }
+        | Step::Unlink { pid, .. }
+        | Step::Rmdir { pid, .. }
+        | Step::Chmod { pid, .. }
+        | Step::Stat { pid, .. }
+        | Step::List { pid, .. } => *pid,
+    }
+}
+
+// Makes room for a receipt. Where there is none, the transcript's end is looked at before want of memory is answered.
+fn make_room<A: Allocator + Clone, C: Ledger, H: Ledger>(
+    seated: &Seated<A, C, H>,
+    receipts: &mut Vec<Receipt>,
+) -> Result<(), ServiceFault>
+    ensures room { OnOk result (length receipts.new.items < vec_capacity receipts.new) }
+    ensures kept { receipts.new.items ≡ receipts.old.items }
+    ensures fault { IfErr result (IsApplyFault seated.now.logged.transcript) }
+{
+    if receipts.reserve(1).is_err() {
+        seated.get_ref().place()?;
+        return Err(ServiceFault::NoMemory);
+    }
+    Ok(())
+}
+
+// One event under the lock, whose receipt is appended. Whether its process waits.
+fn try_once<A: Allocator + Clone, R: Wait, G: Gate, C: Ledger, H: Ledger, W: Waiters>(
+    rt: &R,
+    gate: &G,
+    book: &Mutex<DepotBook<C, H>>,
+    seated: &mut Seated<A, C, H>,
+    waiters: &W,
+    seat: &mut Seat,
+    step: &Step,
+    receipts: &mut Vec<Receipt>,
+) -> Result<bool, ServiceFault>
+    ensures tried { IfOk result (λ waits. (place : ℕ) × (reply : OneReply)
+        × IsTried (λ s p r. Told s p r × G.passed gate.now seat.old.ns p) step.now seat.old seat.new
+        receipts.old.items receipts.new.items place reply
+        × (IsTrue waits ↔ (reply ≡ Parked))) }
+    ensures fault { IfErr result (IsApplyFault seated.old.logged.transcript) }
+    ensures seat { OnErr result (Gains seat.old seat.new []) }
+    ensures receipts { OnErr result (receipts.new.items ≡ receipts.old.items) }
+{
+    make_room(seated, receipts)?;
+    let receipt = event(rt, gate, book, seated, waiters, seat, step)?;
+    let waits = receipt.reply.is_same(&Reply::Parked);
+    receipts.push_reserved(receipt);
+    Ok(waits)
+}
+
+impl<A: Allocator + Clone, C: Ledger, H: Ledger> Place<A, C, H> {
+    /// An event of a seat of the namespace, and, as long as its process waits, after each further event of the namespace a
+    /// Resume of that process. The receipt of each is appended.
+    ///
+    /// A Resume is the machine's: a call that the process waits in since is resumed too.
+    pub(crate) fn call_waiting<R: Wait, G: Gate>(
+        &self,
+        rt: &R,
+        gate: &G,
+        book: &Mutex<DepotBook<C, H>>,
+        seat: &mut Seat,
+        step: &Step,
+        receipts: &mut Vec<Receipt>,
+    ) -> Result<(), ServiceFault>
+        requires own { seat.old.ns ≡ self.now }
+        ensures waited { (es : List OneEvent)
+            × IsWaited (λ s p r. Told s p r × G.passed gate.now seat.old.ns p) step.now seat.old seat.new
+            receipts.old.items receipts.new.items es
+            × OnOk result (IsAnswered es) }
+        ensures fault { IfErr result IsEventFault }
+    {
+        let pid = maker(step);
+        let mut seated = self.seated.lock(rt);
+        let mut waits = try_once(
+            rt,
+            gate,
+            book,
+            &mut *seated,
+            &self.woken,
+            seat,
+            step,
+            receipts,
+        )?;
+        for _ in rt.forever() {
+            if !waits {
+                return Ok(());
+            }
+            seated = self.woken.wait(rt, seated);
+            waits = try_once(
+                rt,
+                gate,
+                book,
+                &mut *seated,
+                &self.woken,
+                seat,
+                &Step::Resume { pid },
+                receipts,
+            )?;
+        }
+        unreachable!()
+    }
+}

@@ -1,0 +1,194 @@
+//! Two namespaces' events overlap: a gate holds one of the first namespace, before its step or before a frame that it
+//! takes, until the second namespace has taken a frame too. With one lock around both, the turns would be used up.
+
+ghost use Rattle.std.specs.Prelude.{◌≡◌, ◌≤◌};
+ghost use Rattle.pf_base.specs.declared.TheConstants.{MAX_NAMESPACES};
+
+use crate::services::{BLUE, RED, blank, gated_service_of, make, spawn, write};
+use pf_base::{ByteString, Reply, Step};
+use pf_service::{CloseFault, Gate, Seat, Service, Transcripts};
+use std::alloc::{AllocError, Global};
+use std::marker::Brand;
+use std::sync::Wait;
+use std::sync::atomic::{AtomicU64, Ordering};
+use std::sync::ledger::{Blank, Ledger};
+use std::test::Fail;
+use std::thread;
+use std::thread::{Threads, join};
+
+// The most turns that a thread waits for another.
+const TURNS: u64 = 1_000_000;
+
+// What the two threads tell each other.
+#[derive(Drop)]
+struct Signals {
+    // Not 0: an event of the first namespace is held.
+    held: AtomicU64,
+    // Not 0: the second namespace was answered.
+    done: AtomicU64,
+    // Not 0: one waited for all its turns.
+    used_up: AtomicU64,
+}
+
+impl Signals {
+    fn new() -> Signals {
+        Signals {
+            held: AtomicU64::new(0),
+            done: AtomicU64::new(0),
+            used_up: AtomicU64::new(0),
+        }
+    }
+
+    // Yields until a signal has come.
+    fn wait_for(&self, signal: &AtomicU64) {
+        for _ in 0..TURNS {
+            if signal.load(Ordering::SeqCst) != 0 {
+                return;
+            }
+            thread::yield_now();
+        }
+        self.used_up.store(1, Ordering::SeqCst);
+    }
+
+    // Holds the first event that comes here.
+    fn hold(&self) {
+        if self.held.swap(1, Ordering::SeqCst) == 0 {
+            self.wait_for(&self.done);
+        }
+    }
+}
+
+// Which event of the first namespace is held: its first one, or the first that takes a frame.
+#[derive(Clone, Copy, PartialEq, Eq)]
+enum Held {
+    AtItsStep,
+    AtItsFrame,
+}
+
+// Holds an event of the first namespace.
+#[derive(Drop)]
+struct Holder<'a> {
+    held: Held,
+    signals: &'a Signals,
+}
+
+impl Gate for Holder<'_> {
+    ghost passed = { λ _ _ _. Unit {0} };
+
+    ghost framed = { λ _ _. Unit {0} };
+
+    fn pass(&self, ns: u32, place: u64) {
+        let _ = place;
+        if ns == RED && self.held == Held::AtItsStep {
+            self.signals.hold();
+        }
+    }
+
+    fn frame(&self, ns: u32) {
+        if ns == RED && self.held == Held::AtItsFrame {
+            self.signals.hold();
+        }
+    }
+}
+
+// A process writes five bytes to its pipe.
+fn writing(alloc: Global) -> Result<Vec<Step>, AllocError> {
+    let mut steps = Vec::with_capacity(alloc, 3)?;
+    steps.push(spawn(alloc))?;
+    steps.push(Step::Pipe {
+        pid: 1,
+        nonblock: false,
+    })?;
+    steps.push(write(alloc, 0x61, 5)?)?;
+    Ok(steps)
+}
+
+// The second namespace: it begins once the first is held.
+fn make_beside<R: Wait, C: Ledger, H: Ledger>(
+    rt: &R,
+    service: &Service<Global, Holder<'_>, C, H>,
+    seat: Seat,
+    steps: &[Step],
+    signals: &Signals,
+) -> Option<Seat> {
+    signals.wait_for(&signals.held);
+    let seat = make(rt, service, seat, steps);
+    signals.done.store(1, Ordering::SeqCst);
+    seat
+}
+
+type Closed = Option<Result<Transcripts, CloseFault>>;
+
+// Both namespaces write on a thread each, and then another thread reads what the first wrote.
+fn beside<C: Ledger + Send + Sync, H: Ledger + Send + Sync, R: Threads + Wait + Sync>(
+    rt: &R,
+    alloc: Global,
+    credits: Blank,
+    held: Blank,
+    at: Held,
+    signals: &Signals,
+) -> Closed
+    requires names { (credits.name ≡ C.name) × (held.name ≡ H.name) }
+    requires cut { (credits.parts ≡ C.parts) × (held.parts ≡ H.parts) }
+    requires parts { (MAX_NAMESPACES ≤ credits.parts) × (MAX_NAMESPACES ≤ held.parts) }
+{
+    let gate = Holder { held: at, signals };
+    let service = gated_service_of::<_, C, H>(alloc, 2, gate, credits, held)?;
+    let shared = &service;
+    let (ours, theirs) = (shared.seat(rt, RED).ok()?, shared.seat(rt, BLUE).ok()?);
+    let reader = shared.seat(rt, RED).ok()?;
+    let owned = writing(alloc).ok()?;
+    let steps = owned.as_slice();
+    let (ours, theirs) = join(
+        rt,
+        move || make(rt, shared, ours, steps),
+        move || make_beside(rt, shared, theirs, steps, signals),
+    );
+    let mut read = Vec::with_capacity(alloc, 1).ok()?;
+    read.push(Step::Read {
+        pid: 1,
+        fd: 0,
+        n: 9,
+    })
+    .ok()?;
+    let last = read.as_slice();
+    let (reader, ()) = join(rt, move || make(rt, shared, reader, last), || ());
+    let mut seats = Vec::with_capacity(alloc, 3).ok()?;
+    seats.push(ours?).ok()?;
+    seats.push(theirs?).ok()?;
+    seats.push(reader?).ok()?;
+    Some(service.close(seats))
+}
+
+fn beside_by_name<R: Threads + Wait + Sync>(
+    rt: &R,
+    alloc: Global,
+    at: Held,
+    signals: &Signals,
+) -> Closed {
+    beside::<Brand, Brand, R>(rt, alloc, blank(), blank(), at, signals)
+}
+
+// Whether the two went on beside each other, and what the first wrote was read.
+fn is_beside<R: Threads + Wait + Sync>(rt: &R, alloc: Global, at: Held) -> Result<bool, Fail> {
+    let signals = Signals::new();
+    let transcripts = beside_by_name(rt, alloc, at, &signals).ok_or("refused")??;
+    let each = transcripts.as_slice();
+    let red = each.first().ok_or("none")?.entries();
+    let last = red.last().ok_or("none")?;
+    let told = Reply::Bytes(ByteString::new(Vec::from_elem(alloc, 0x61, 5)?));
+    let waited = signals.used_up.load(Ordering::SeqCst) != 0;
+    Ok(!waited && each.len() == 2 && red.len() == 4 && last.1 == told)
+}
+
+#[test]
+fn an_event_held_before_its_step_holds_nobody_else(rt: HostRuntime) -> Result<(), Fail> {
+    assert!(rt; is_beside(&rt, rt.alloc(), Held::AtItsStep)?);
+    Ok(())
+}
+
+#[test]
+fn an_event_held_before_its_frame_holds_nobody_else(rt: HostRuntime) -> Result<(), Fail> {
+    assert!(rt; is_beside(&rt, rt.alloc(), Held::AtItsFrame)?);
+    Ok(())
+}

@@ -1,0 +1,271 @@
+//! Calls that wait: what a reader is told once another thread has written, and that a waiter wakes nobody who can't go on.
+
+ghost use Rattle.std.specs.Prelude.{◌≡◌, ◌≤◌};
+ghost use Rattle.pf_base.specs.declared.TheConstants.{MAX_NAMESPACES};
+
+use crate::services::{RED, blank, gated_service_of, make, spawn, write_by};
+use pf_base::{ByteString, Reply, Step};
+use pf_service::{CloseFault, Gate, Receipt, Seat, Service, ServiceFault, Transcripts};
+use std::alloc::{AllocError, Global};
+use std::marker::Brand;
+use std::sync::Wait;
+use std::sync::atomic::{AtomicU64, Ordering};
+use std::sync::ledger::{Blank, Ledger};
+use std::test::Fail;
+use std::thread;
+use std::thread::{Threads, join};
+
+// The most turns that the writer waits for the readers.
+const TURNS: u64 = 1_000_000;
+
+// The turns that it gives them besides.
+const GIVEN: u64 = 1_000;
+
+// How many events a gate was told of.
+#[derive(Drop)]
+struct Count {
+    events: AtomicU64,
+}
+
+impl Count {
+    fn new() -> Count {
+        Count {
+            events: AtomicU64::new(0),
+        }
+    }
+
+    fn add(&self) {
+        self.events.fetch_add(1, Ordering::SeqCst);
+    }
+
+    fn is_at_least(&self, number: u64) -> bool {
+        self.events.load(Ordering::SeqCst) >= number
+    }
+}
+
+// Counts what it is told.
+#[derive(Drop)]
+struct Counter<'a> {
+    count: &'a Count,
+}
+
+impl Gate for Counter<'_> {
+    ghost passed = { λ _ _ _. Unit {0} };
+
+    ghost framed = { λ _ _. Unit {0} };
+
+    fn pass(&self, ns: u32, place: u64) {
+        let _ = (ns, place);
+        self.count.add();
+    }
+
+    fn frame(&self, ns: u32) {
+        let _ = ns;
+    }
+}
+
+// Yields until so many events were told, and some turns more.
+fn wait_for(count: &Count, number: u64) {
+    for _ in 0..TURNS {
+        if count.is_at_least(number) {
+            break;
+        }
+        thread::yield_now();
+    }
+    for _ in 0..GIVEN {
+        thread::yield_now();
+    }
+}
+
+// A process with a pipe, and so many that share it.
+fn opening(alloc: Global, others: usize) -> Result<Vec<Step>, AllocError> {
+    let mut steps = Vec::new(alloc);
+    steps.push(spawn(alloc))?;
+    steps.push(Step::Pipe {
+        pid: 1,
+        nonblock: false,
+    })?;
+    for _ in 0..others {
+        steps.push(Step::Fork { pid: 1 })?;
+    }
+    Ok(steps)
+}
+
+// The bytes that a process is told, which may wait for them. Where a growth was refused it goes on from there.
+fn read_all<R: Wait, C: Ledger, H: Ledger>(
+    rt: &R,
+    alloc: Global,
+    service: &Service<Global, Counter<'_>, C, H>,
+    seat: &mut Seat,
+    pid: u32,
+    n: u64,
+) -> Option<Reply> {
+    let mut receipts: Vec<Receipt> = Vec::new(alloc);
+    let read = Step::Read { pid, fd: 0, n };
+    let mut told = service.call_waiting(rt, seat, &read, &mut receipts);
+    if told == Err(ServiceFault::NoMemory) {
+        let step = if receipts.is_empty() {
+            read
+        } else {
+            Step::Resume { pid }
+        };
+        told = service.call_waiting(rt, seat, &step, &mut receipts);
+    }
+    told.ok()?;
+    if receipts.len() != seat.events().len() {
+        return None;
+    }
+    Some(receipts.pop()?.reply)
+}
+
+// A reader's thread: its seat comes back where it was told as many bytes 61 as it asked for.
+fn reader<R: Wait, C: Ledger, H: Ledger>(
+    rt: &R,
+    alloc: Global,
+    service: &Service<Global, Counter<'_>, C, H>,
+    mut seat: Seat,
+    pid: u32,
+    n: u64,
+) -> Option<Seat> {
+    let reply = read_all(rt, alloc, service, &mut seat, pid, n)?;
+    let bytes = Vec::from_elem(alloc, 0x61, n as usize).ok()?;
+    if reply != Reply::Bytes(ByteString::new(bytes)) {
+        return None;
+    }
+    Some(seat)
+}
+
+// One write, of so many bytes 61.
+fn writing(alloc: Global, pid: u32, count: usize) -> Result<Vec<Step>, AllocError> {
+    let mut steps = Vec::with_capacity(alloc, 1)?;
+    steps.push(write_by(alloc, pid, 0x61, count)?)?;
+    Ok(steps)
+}
+
+// The writer's thread: it makes its steps once so many events were told.
+fn writer<R: Wait, C: Ledger, H: Ledger>(
+    rt: &R,
+    service: &Service<Global, Counter<'_>, C, H>,
+    mut seat: Seat,
+    steps: &[Step],
+    number: u64,
+    count: &Count,
+) -> Option<Seat> {
+    wait_for(count, number);
+    for step in steps {
+        let told = match service.call(rt, &mut seat, step) {
+            Err(ServiceFault::NoMemory) => service.call(rt, &mut seat, step),
+            told => told,
+        };
+        told.ok()?;
+    }
+    Some(seat)
+}
+
+type Closed = Option<Result<Transcripts, CloseFault>>;
+
+// A process waits for five bytes, and another writes them on a thread of its own.
+fn across_a_pipe<C: Ledger + Send + Sync, H: Ledger + Send + Sync, R: Threads + Wait + Sync>(
+    rt: &R,
+    alloc: Global,
+    credits: Blank,
+    held: Blank,
+    count: &Count,
+) -> Closed
+    requires names { (credits.name ≡ C.name) × (held.name ≡ H.name) }
+    requires cut { (credits.parts ≡ C.parts) × (held.parts ≡ H.parts) }
+    requires parts { (MAX_NAMESPACES ≤ credits.parts) × (MAX_NAMESPACES ≤ held.parts) }
+{
+    let gate = Counter { count };
+    let service = gated_service_of::<_, C, H>(alloc, 1, gate, credits, held)?;
+    let shared = &service;
+    let first = make(
+        rt,
+        shared,
+        shared.seat(rt, RED).ok()?,
+        &opening(alloc, 1).ok()?,
+    )?;
+    let (ours, theirs) = (shared.seat(rt, RED).ok()?, shared.seat(rt, RED).ok()?);
+    let owned = writing(alloc, 2, 5).ok()?;
+    let steps = owned.as_slice();
+    let (ours, theirs) = join(
+        rt,
+        move || reader(rt, alloc, shared, ours, 1, 5),
+        move || writer(rt, shared, theirs, steps, 4, count),
+    );
+    let mut seats = Vec::with_capacity(alloc, 3).ok()?;
+    seats.push(first).ok()?;
+    seats.push(ours?).ok()?;
+    seats.push(theirs?).ok()?;
+    Some(service.close(seats))
+}
+
+fn across_a_pipe_by_name<R: Threads + Wait + Sync>(rt: &R, alloc: Global, count: &Count) -> Closed {
+    across_a_pipe::<Brand, Brand, R>(rt, alloc, blank(), blank(), count)
+}
+
+#[test]
+fn a_reader_waits_for_what_another_thread_writes(rt: HostRuntime) -> Result<(), Fail> {
+    let count = Count::new();
+    across_a_pipe_by_name(&rt, rt.alloc(), &count).ok_or("told otherwise")??;
+    Ok(())
+}
+
+// Two processes wait for a byte each, and a third writes both on a thread of its own.
+fn two_readers<C: Ledger + Send + Sync, H: Ledger + Send + Sync, R: Threads + Wait + Sync>(
+    rt: &R,
+    alloc: Global,
+    credits: Blank,
+    held: Blank,
+    count: &Count,
+) -> Closed
+    requires names { (credits.name ≡ C.name) × (held.name ≡ H.name) }
+    requires cut { (credits.parts ≡ C.parts) × (held.parts ≡ H.parts) }
+    requires parts { (MAX_NAMESPACES ≤ credits.parts) × (MAX_NAMESPACES ≤ held.parts) }
+{
+    let gate = Counter { count };
+    let service = gated_service_of::<_, C, H>(alloc, 1, gate, credits, held)?;
+    let shared = &service;
+    let first = make(
+        rt,
+        shared,
+        shared.seat(rt, RED).ok()?,
+        &opening(alloc, 2).ok()?,
+    )?;
+    let (ours, theirs) = (shared.seat(rt, RED).ok()?, shared.seat(rt, RED).ok()?);
+    let third = shared.seat(rt, RED).ok()?;
+    let owned = writing(alloc, 3, 2).ok()?;
+    let steps = owned.as_slice();
+    let (ours, (theirs, third)) = join(
+        rt,
+        move || reader(rt, alloc, shared, ours, 1, 1),
+        move || {
+            join(
+                rt,
+                move || reader(rt, alloc, shared, theirs, 2, 1),
+                move || writer(rt, shared, third, steps, 6, count),
+            )
+        },
+    );
+    let mut seats = Vec::with_capacity(alloc, 4).ok()?;
+    seats.push(first).ok()?;
+    seats.push(ours?).ok()?;
+    seats.push(theirs?).ok()?;
+    seats.push(third?).ok()?;
+    Some(service.close(seats))
+}
+
+fn two_readers_by_name<R: Threads + Wait + Sync>(rt: &R, alloc: Global, count: &Count) -> Closed {
+    two_readers::<Brand, Brand, R>(rt, alloc, blank(), blank(), count)
+}
+
+// Of the events the two waiting reads, the write and the two bytes told may wake a waiter: so each reader is resumed at
+// most five times.
+#[test]
+fn two_readers_wait_for_a_byte_each(rt: HostRuntime) -> Result<(), Fail> {
+    let count = Count::new();
+    let transcripts = two_readers_by_name(&rt, rt.alloc(), &count).ok_or("told otherwise")??;
+    let transcript = transcripts.as_slice().first().ok_or("none")?;
+    assert!(rt; transcript.entries().len() <= 4 + 2 + 1 + 10);
+    Ok(())
+}
