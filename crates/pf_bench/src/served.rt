@@ -221,7 +221,9 @@ fn time_size<C: Ledger + Send + Sync, H: Ledger + Send + Sync, R: Threads + Wait
     }
     let closed = start.elapsed(rt)?.as_nanos() / u128::from(pairs.max(1));
     println!(rt; "service {size} bytes: {alone} ns a pair of one caller")?;
-    println!(rt; "service {size} bytes: {at_once} ns for a pair of each of {CALLERS} callers at once")?;
+    println!(rt;
+        "service {size} bytes: {at_once} ns for a pair of each of {CALLERS} callers at once"
+    )?;
     println!(rt; "service {size} bytes: {closed} ns to close for these and a pair of one caller")?;
     Ok(true)
 }
@@ -233,7 +235,11 @@ pub(crate) fn time<R: Threads + Wait + Sync>(
     pairs: u32,
 ) -> io::Result<bool> {
     for size in [1, PAGE_SIZE] {
-        let most = if size == 1 { MOST_PAIRS } else { MOST_PAGE_PAIRS };
+        let most = if size == 1 {
+            MOST_PAIRS
+        } else {
+            MOST_PAGE_PAIRS
+        };
         let pairs = pairs.clamp(BATCH, most);
         if !time_size::<Brand, Brand, R>(rt, threads, blank(), blank(), size, pairs)? {
             return Ok(false);
