@@ -4,3 +4,4 @@ pub mod Permissions
 pub mod Root
 pub mod Limits
 pub mod Capacities
+pub mod Kept

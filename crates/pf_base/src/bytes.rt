@@ -1,61 +1,107 @@
-ghost use Rattle.std.specs.Prelude.{◌≡◌, nat_eq, IfOk};
+ghost use Rattle.std.specs.Prelude.{◌≡◌, ◌≤◌, nat_eq, length, take, IfOk, IsOk};
 ghost use Rattle.std.specs.Cmp.Lexicographic.{pointwise, nat_list_eq_equiv};
 ghost use Rattle.std.specs.Cmp.{partial_equiv_from_equiv};
+ghost use Rattle.pf_base.specs.declared.TheConstants.{BYTES_IN_PLACE};
 
+use crate::BYTES_IN_PLACE;
 use std::alloc::{AllocError, Global};
+use std::fmt;
 use std::marker::Model;
 
-/// Bytes that a step carries or a reply gives. A contract sees the list of them.
-#[derive(Debug, Drop)]
+// So the value takes 16 bytes: a step and a reply, of which there are many, stay small.
+#[derive(Drop)]
+enum Kept {
+    // So many of these.
+    InPlace(u8, [u8; BYTES_IN_PLACE]),
+    OnHeap(Box<Vec<u8>>),
+}
+
+/// Bytes that a step carries or a reply gives: up to `BYTES_IN_PLACE` of them are kept in place, and take no memory of the
+/// heap. A contract sees the list of them.
+#[derive(Drop)]
 pub struct ByteString {
-    bytes: Vec<u8>,
+    kept: Kept,
 }
 
 impl Model for ByteString {
     ghost use Rattle.std.specs.Prelude.{List, ℕ};
+    ghost use Rattle.pf_base.specs.Kept.{kept_bytes, FitsInPlace};
 
     ghost Value = { List ℕ };
 
-    ghost view = { λ b. b.bytes.items };
+    ghost view = { λ b. kept_bytes b.kept };
+
+    ghost invariant = { λ b. FitsInPlace b.kept };
 }
 
 impl ByteString {
-    /// These bytes, with no allocation.
-    pub fn new(bytes: Vec<u8>) -> Self
-        ensures { result ≡ bytes.items }
+    /// The first `len` of these bytes, with no allocation.
+    pub fn in_place(bytes: [u8; BYTES_IN_PLACE], len: usize) -> Self
+        requires { len ≤ BYTES_IN_PLACE }
+        ensures { result ≡ take len bytes }
     {
-        ByteString { bytes }
+        ByteString {
+            kept: Kept::InPlace(len as u8, bytes),
+        }
+    }
+
+    /// These bytes, with no allocation.
+    pub fn from_box(bytes: Box<Vec<u8>>) -> Self
+        ensures { result ≡ bytes.value.items }
+    {
+        ByteString {
+            kept: Kept::OnHeap(bytes),
+        }
+    }
+
+    // A copy of bytes that are few enough to be kept in place.
+    fn copied_in_place(bytes: &[u8]) -> Self
+        requires { length bytes.now ≤ BYTES_IN_PLACE }
+        ensures { result ≡ bytes.now }
+    {
+        let mut kept = [0; BYTES_IN_PLACE];
+        kept[..bytes.len()].copy_from_slice(bytes);
+        ByteString::in_place(kept, bytes.len())
+    }
+
+    /// These bytes. Memory is wanted only for more than `BYTES_IN_PLACE` of them.
+    pub fn new(alloc: Global, bytes: Vec<u8>) -> Result<Self, AllocError>
+        ensures bytes { IfOk result (λ string. string ≡ bytes.items) }
+        ensures in_place { length bytes.items ≤ BYTES_IN_PLACE → IsOk result }
+    {
+        if bytes.len() <= BYTES_IN_PLACE {
+            return Ok(ByteString::copied_in_place(bytes.as_slice()));
+        }
+        Ok(ByteString::from_box(Box::new(alloc, bytes)?))
+    }
+
+    /// A copy of these bytes. Memory is wanted only for more than `BYTES_IN_PLACE` of them.
+    pub fn from_slice(alloc: Global, bytes: &[u8]) -> Result<Self, AllocError>
+        ensures bytes { IfOk result (λ string. string ≡ bytes.now) }
+        ensures in_place { length bytes.now ≤ BYTES_IN_PLACE → IsOk result }
+    {
+        if bytes.len() <= BYTES_IN_PLACE {
+            return Ok(ByteString::copied_in_place(bytes));
+        }
+        let copied = Vec::from_slice(alloc, bytes)?;
+        Ok(ByteString::from_box(Box::new(alloc, copied)?))
     }
 
     /// The bytes.
     pub fn as_slice(&self) -> &[u8]
         ensures { result.now ≡ self.now }
     {
-        self.bytes.as_slice()
+        match &self.kept {
+            Kept::InPlace(len, bytes) => &bytes[..*len as usize],
+            Kept::OnHeap(bytes) => bytes.as_slice(),
+        }
     }
 
     /// The same bytes again.
     pub fn copy(&self, alloc: Global) -> Result<ByteString, AllocError>
         ensures { IfOk result (λ bytes. bytes ≡ self.now) }
     {
-        let bytes = Vec::from_slice(alloc, self.as_slice())?;
-        Ok(ByteString { bytes })
-    }
-
-    /// Gives the bytes back, with no allocation.
-    pub fn into_vec(self) -> Vec<u8>
-        ensures { result.items ≡ self }
-    {
-        let ByteString { bytes } = self;
-        bytes
-    }
-}
-
-impl From<Vec<u8>> for ByteString {
-    ghost from_gives = { λ bytes b. b ≡ bytes.items };
-
-    fn from(bytes: Vec<u8>) -> Self {
-        ByteString::new(bytes)
+        ByteString::from_slice(alloc, self.as_slice())
     }
 }
 
@@ -71,4 +117,67 @@ impl PartialEq for ByteString {
 
 impl Eq for ByteString {
     ghost laws = { nat_list_eq_equiv };
+}
+
+impl fmt::Debug for ByteString {
+    fn fmt<W: fmt::Write>(&self, f: &mut fmt::Formatter<W>) -> fmt::Result {
+        f.debug_tuple("ByteString").field(&self.as_slice()).finish()
+    }
+}
+
+/// Memory for bytes that come later, made before them, so that none is wanted once they are there.
+///
+/// A contract sees how many bytes it is enough for.
+#[derive(Drop)]
+pub struct ByteRoom {
+    most: usize,
+    memory: Option<Box<Vec<u8>>>,
+}
+
+impl Model for ByteRoom {
+    ghost use Rattle.std.specs.Prelude.{ℕ};
+    ghost use Rattle.pf_base.specs.Kept.{IsEnough};
+
+    ghost Value = { ℕ };
+
+    ghost view = { λ room. room.most };
+
+    ghost invariant = { λ room. IsEnough room.most room.memory };
+}
+
+impl ByteRoom {
+    /// Memory for at most this many bytes.
+    pub fn new(alloc: Global, most: usize) -> Result<Self, AllocError>
+        ensures { IfOk result (λ room. room ≡ most) }
+    {
+        if most <= BYTES_IN_PLACE {
+            return Ok(ByteRoom { most, memory: None });
+        }
+        let bytes = Vec::with_capacity(alloc, most)?;
+        Ok(ByteRoom {
+            most,
+            memory: Some(Box::new(alloc, bytes)?),
+        })
+    }
+
+    /// A copy of these bytes. Where they are fewer than it was made for, memory of their own size is tried first, so that
+    /// what is kept takes no more than it needs.
+    pub fn fill(self, alloc: Global, bytes: &[u8]) -> ByteString
+        requires { length bytes.now ≤ self }
+        ensures { result ≡ bytes.now }
+    {
+        let ByteRoom { most, memory } = self;
+        if bytes.len() < most {
+            if let Ok(exact) = ByteString::from_slice(alloc, bytes) {
+                return exact;
+            }
+        }
+        let Some(mut memory) = memory else {
+            return ByteString::copied_in_place(bytes);
+        };
+        let Ok(()) = memory.extend_from_slice(bytes) else {
+            unreachable!()
+        };
+        ByteString::from_box(memory)
+    }
 }

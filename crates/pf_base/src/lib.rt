@@ -13,7 +13,7 @@ pub mod permissions;
 pub mod progress;
 pub mod step;
 
-pub use bytes::ByteString;
+pub use bytes::{ByteRoom, ByteString};
 pub use capacity::{LimitFault, pages_for};
 pub use config::{Config, ConfigFault};
 pub use cred::{Cred, Groups};
@@ -30,6 +30,9 @@ pub const PAGE_SIZE: usize = 4096;
 
 /// A write of at most this many bytes is whole (pipe(7), "PIPE_BUF").
 pub const PIPE_BUF: usize = 4096;
+
+/// How many bytes a `ByteString` keeps in place, without memory of the heap.
+pub const BYTES_IN_PLACE: usize = 14;
 
 /// How many namespaces there may be at once (this profile's limit).
 pub const MAX_NAMESPACES: usize = 64;

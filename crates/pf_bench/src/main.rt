@@ -53,7 +53,7 @@ struct Pair {
 impl Pair {
     fn new(alloc: Global, size: usize) -> Result<Pair, AllocError> {
         let payload = payload(alloc, size)?;
-        let bytes = ByteString::new(Vec::from_slice(alloc, &payload)?);
+        let bytes = ByteString::from_slice(alloc, &payload)?;
         Ok(Pair {
             payload,
             write: Step::Write {

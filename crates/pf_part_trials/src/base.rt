@@ -1,7 +1,7 @@
 use bitflags::Flags;
 use pf_base::{
-    Answer, ByteString, Config, ConfigFault, Cred, Errno, Fault, Groups, LimitFault, OpenFlags,
-    Progress, Reply, Side, Step, pages_for,
+    Answer, BYTES_IN_PLACE, ByteRoom, ByteString, Config, ConfigFault, Cred, Errno, Fault, Groups,
+    LimitFault, OpenFlags, Progress, Reply, Side, Step, pages_for,
 };
 use std::alloc::{AllocError, Global};
 use std::fmt::Display;
@@ -69,15 +69,36 @@ fn errors_have_their_numbers_and_texts(rt: HostRuntime) -> Result<(), Fail> {
 }
 
 fn bytes(alloc: Global, bytes: &[u8]) -> Result<ByteString, AllocError> {
-    Ok(ByteString::new(Vec::from_slice(alloc, bytes)?))
+    ByteString::from_slice(alloc, bytes)
 }
 
 #[test]
 fn bytes_come_back(rt: HostRuntime) -> Result<(), Fail> {
     let hel = bytes(rt.alloc(), b"hel")?;
     assert!(rt; hel.as_slice() == b"hel".as_slice());
-    assert!(rt; hel == ByteString::from(Vec::from_slice(rt.alloc(), b"hel")?));
-    assert!(rt; hel.into_vec().as_slice() == b"hel".as_slice());
+    assert!(rt; hel == ByteString::new(rt.alloc(), Vec::from_slice(rt.alloc(), b"hel")?)?);
+    assert!(rt; hel != bytes(rt.alloc(), b"hels")?);
+    Ok(())
+}
+
+// As many bytes as are kept in place, and one more.
+const EDGE: &[u8] = b"0123456789abcd";
+
+const BEYOND: &[u8] = b"0123456789abcde";
+
+#[test]
+fn bytes_come_back_at_the_edge_of_the_place(rt: HostRuntime) -> Result<(), Fail> {
+    let alloc = rt.alloc();
+    assert!(rt; EDGE.len() == BYTES_IN_PLACE);
+    for text in [b"".as_slice(), EDGE, BEYOND] {
+        let copied = bytes(alloc, text)?;
+        assert!(rt; copied.as_slice() == text);
+        assert!(rt; copied.copy(alloc)? == copied);
+        assert!(rt; ByteString::new(alloc, Vec::from_slice(alloc, text)?)? == copied);
+        assert!(rt; ByteRoom::new(alloc, text.len())?.fill(alloc, text) == copied);
+        assert!(rt; ByteRoom::new(alloc, 4096)?.fill(alloc, text) == copied);
+    }
+    assert!(rt; bytes(alloc, EDGE)? != bytes(alloc, BEYOND)?);
     Ok(())
 }
 

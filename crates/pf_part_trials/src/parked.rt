@@ -65,8 +65,7 @@ fn is_at(write: &UnfinishedWrite, written: u64, rest: &[u8]) -> bool {
 #[test]
 fn a_write_goes_on_with_its_rest(rt: HostRuntime) -> Result<(), Fail> {
     let mut table: ParkedTable<u32> = ParkedTable::new(rt.alloc())?;
-    let bytes = Vec::from_slice(rt.alloc(), b"hello")?;
-    let mut write = UnfinishedWrite::new(ByteString::new(bytes));
+    let mut write = UnfinishedWrite::new(ByteString::from_slice(rt.alloc(), b"hello")?);
     assert!(rt; is_at(&write, 0, b"hello"));
     write.advance(2);
     assert!(rt; table.get(1).is_none());

@@ -1,2 +1,3 @@
 pub mod PipeLaws
 pub mod PipeCross
+pub mod PipeReads

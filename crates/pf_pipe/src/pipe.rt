@@ -1,4 +1,4 @@
-ghost use Rattle.std.specs.Prelude.{◌≡◌, ◌≢◌, ◌+◌, ◌-◌, ◌<◌, ◌≤◌, ◌^◌, [], ◌++◌, length, drop, min, nat_eq, nat_lt, if◌then◌else◌, vec_len, vec_capacity, IfOk, IfSome, IfNone, Err};
+ghost use Rattle.std.specs.Prelude.{◌≡◌, ◌≢◌, ◌+◌, ◌-◌, ◌<◌, ◌≤◌, ◌^◌, [], ◌++◌, length, drop, min, nat_eq, nat_lt, if◌then◌else◌, vec_len, vec_capacity, IfOk, IfSome, IfNone, OnErr, Err};
 ghost use Rattle.pf_machine.specs.Progress.{moved, portion, read_now, write_now, cross_now};
 ghost use Rattle.pf_base.specs.declared.progress.Crossing.TheVariants.{Tee, Splice};
 ghost use Rattle.pf_base.specs.declared.progress.Progress.TheVariants.{WouldBlock, EndOfFile};
@@ -8,11 +8,22 @@ ghost use Rattle.pf_ring.specs.Ring.{queue_of};
 ghost use Rattle.pf_ring.specs.Windows.{Stands, Keeps, SameBytes, PutsBehind, bytes_in};
 ghost use Rattle.pf_pipe.specs.Pipe.{ends, with_ends, opens_for, opened_for, unopened, Passes, Crosses, Stops, Goes, Resizes};
 
-use pf_base::{Crossing, Errno, Fault, Progress, Side};
+use pf_base::{BYTES_IN_PLACE, ByteString, Crossing, Errno, Fault, Progress, Side};
 use pf_frame::Frames;
 use pf_ring::SlotRing;
 use std::alloc::{AllocError, Global};
 use std::marker::Model;
+
+// How many bytes went.
+fn moved(progress: Progress) -> usize
+    requires { moved progress < 2 ^ 64 }
+    ensures { result ≡ moved progress }
+{
+    match progress {
+        Progress::Moved(number) => number as usize,
+        _ => 0,
+    }
+}
 
 /// A pipe (pipe(7)): a ring of slots, the user that its pages are charged to, and how many ends read and write it. That of
 /// a FIFO has the FIFO's number too, and how often it was opened for each side (fifo(7)).
@@ -287,6 +298,37 @@ impl Pipe {
         }
         let number = self.ring.take_onto(door, most, out);
         Progress::Moved(number as u64)
+    }
+
+    /// Reads what there is now, but at most so many bytes (read(2)). What memory they need is made first, at its exact size.
+    #[inline(always)]
+    pub fn read_bytes<F: Frames>(
+        &mut self,
+        alloc: Global,
+        door: &mut F,
+        most: usize,
+    ) -> Result<(Progress, ByteString), AllocError>
+        requires fact { F.fact door.old }
+        requires stands { Stands (F.live door.old) self.old.ring.windows }
+        ensures fact { F.fact door.new }
+        ensures rest { F.rest door.new ≡ F.rest door.old }
+        ensures passes { IfOk result (λ r. Passes self.old self.new (F.live door.old) (F.live door.new) r.0
+            (read_now (queue_of (F.live door.old) self.old.ring) self.old.writers most)) }
+        ensures bytes { IfOk result (λ r. r.1 ≡ taken (queue_of (F.live door.old) self.old.ring) (moved r.0)) }
+        // Nothing is written, and where no byte comes out nothing is touched.
+        ensures bytes_stay { SameBytes (F.live door.old) (F.live door.new) }
+        ensures untouched { IfOk result (λ r. moved r.0 ≡ 0 → (self.new ≡ self.old) × (door.new ≡ door.old)) }
+        ensures refused { OnErr result ((self.new ≡ self.old) × (door.new ≡ door.old)) }
+    {
+        let number = self.len().min(most);
+        if number <= BYTES_IN_PLACE {
+            let mut bytes = [0; BYTES_IN_PLACE];
+            let progress = self.read_now(door, &mut bytes[..most.min(BYTES_IN_PLACE)]);
+            return Ok((progress, ByteString::in_place(bytes, moved(progress))));
+        }
+        let mut bytes = Box::new(alloc, Vec::with_capacity(alloc, number)?)?;
+        let progress = self.read_onto(door, most, &mut *bytes);
+        Ok((progress, ByteString::from_box(bytes)))
     }
 
     /// Puts a copy of the first bytes into another pipe (tee(2)): at most `n`, and at most as many slots as are free

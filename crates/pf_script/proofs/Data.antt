@@ -1,7 +1,9 @@
 -- Data by the place of its star.
 
-use Rattle.std.proofs.Common.{◌≡◌, ℕ, ◌+◌, List, take, drop, Some, None, ap, refl}
+use Rattle.std.proofs.Common.{◌≡◌, ℕ, ◌+◌, ◌≤◌, List, take, drop, replicate, Some, None, ap, refl}
+use Rattle.std.proofs.lemmas.List.{take-replicate}
 use Rattle.memchr.specs.Find.{IsFirstByte, is_byte}
+use Rattle.pf_base.specs.declared.TheConstants.{BYTES_IN_PLACE}
 use Rattle.pf_script.specs.Words.{pieces_of, hex_bytes, repeated, bytes_of_parts}
 use Rattle.pf_script.proofs.CutLaws.{front, whole, some_piece}
 
@@ -18,3 +20,7 @@ pub more_stars : (word pair : List ℕ) (k j : ℕ) → IsFirstByte (is_byte 42)
 more_stars word pair k j first behind second =
     let more = some_piece 42 (drop (j + 1) pair) in
     rw (front 42 word k first, ← behind, front 42 pair j second, more.2) refl
+
+-- a byte that is repeated throughout the place begins with as many as are wanted
+pub repeated_in_place : (count byte : ℕ) → count ≤ BYTES_IN_PLACE → take count (replicate BYTES_IN_PLACE byte) ≡ replicate count byte
+repeated_in_place count byte few = take-replicate count BYTES_IN_PLACE byte few

@@ -115,7 +115,7 @@ pub fn open_flags(word: &[u8]) -> Result<OpenFlags, LineFault>
 pub fn path_of(alloc: Global, word: &[u8]) -> Result<ByteString, LineFault>
     ensures { Gives result (Ok word.now) }
 {
-    Ok(ByteString::new(Vec::from_slice(alloc, word)?))
+    Ok(ByteString::from_slice(alloc, word)?)
 }
 
 /// A process's descriptor.

@@ -1,15 +1,17 @@
-ghost use Rattle.std.specs.Prelude.{◌≡◌, ◌≤◌, Some, None, Ok, map, not};
+ghost use Rattle.std.specs.Prelude.{◌≡◌, ◌≤◌, ◌*◌, Some, None, Ok, length, map, not};
 ghost use Rattle.std.specs.List.{list_all};
-ghost use Rattle.pf_script.specs.Words.{digit, digits, number, positive, octal, numbers_of, hex_bytes, hex_byte, repeated, bytes_of_parts, pieces_of, is_letter, is_name_byte, begins_with_letter, is_kept_word, is_name, is_canonical};
+ghost use Rattle.pf_script.specs.Words.{digit, digits, number, positive, octal, numbers_of, decoded, hex_bytes, hex_byte, repeated, bytes_of_parts, pieces_of, is_letter, is_name_byte, begins_with_letter, is_kept_word, is_name, is_canonical};
 ghost use Rattle.pf_script.specs.Arguments.{or_cause, bytes_at};
 ghost use Rattle.pf_script.specs.Faults.{Gives};
+ghost use Rattle.pf_base.specs.declared.TheConstants.{BYTES_IN_PLACE};
+ghost use Rattle.hex.specs.Hex.{decode_of};
 
 use crate::cut::cut_at;
 use crate::fault::LineFault;
 use crate::refusal::Cause;
 use hex::FromHexError;
 use memchr::memchr;
-use pf_base::{ByteString, Groups};
+use pf_base::{BYTES_IN_PLACE, ByteString, Groups};
 use std::alloc::Global;
 
 /// The most times that a byte may be repeated.
@@ -109,6 +111,19 @@ fn positive_of(most: u64, word: &[u8]) -> Option<u64>
     if n == 0 { None } else { Some(n) }
 }
 
+// Hexadecimal digits in pairs, of so few bytes that they are kept in place.
+fn few_hex_of(word: &[u8]) -> Result<ByteString, LineFault>
+    requires { length word.now ≤ 2 * BYTES_IN_PLACE }
+    ensures { Gives result (or_cause (decoded (decode_of word.now)) Cause.BadData) }
+{
+    let mut bytes = [0; BYTES_IN_PLACE];
+    let count = word.len() / 2;
+    match hex::decode_to_slice(word, &mut bytes[..count]) {
+        Ok(()) => Ok(ByteString::in_place(bytes, count)),
+        Err(_) => Err(LineFault::Refused(Cause::BadData)),
+    }
+}
+
 /// Hexadecimal digits in pairs, at least one.
 fn hex_of(alloc: Global, word: &[u8]) -> Result<ByteString, LineFault>
     ensures { Gives result (or_cause (hex_bytes word.now) Cause.BadData) }
@@ -116,8 +131,11 @@ fn hex_of(alloc: Global, word: &[u8]) -> Result<ByteString, LineFault>
     if word.is_empty() {
         return Err(LineFault::Refused(Cause::BadData));
     }
+    if word.len() <= 2 * BYTES_IN_PLACE {
+        return few_hex_of(word);
+    }
     match hex::decode(alloc, word) {
-        Ok(bytes) => Ok(ByteString::new(bytes)),
+        Ok(bytes) => Ok(ByteString::new(alloc, bytes)?),
         Err(FromHexError::OutOfMemory) => Err(LineFault::NoMemory),
         Err(_) => Err(LineFault::Refused(Cause::BadData)),
     }
@@ -135,6 +153,7 @@ fn hex_byte_of(word: &[u8]) -> Option<u8>
 }
 
 /// The byte of two hexadecimal digits so many times. It is written out once, with no copy.
+#[tactic(auto, using(crate::proofs::Data::repeated_in_place))]
 fn repeated_of(alloc: Global, count: &[u8], pair: &[u8]) -> Result<ByteString, LineFault>
     ensures { Gives result (or_cause (repeated count.now pair.now) Cause.BadData) }
 {
@@ -144,8 +163,11 @@ fn repeated_of(alloc: Global, count: &[u8], pair: &[u8]) -> Result<ByteString, L
     let Some(byte) = hex_byte_of(pair) else {
         return Err(LineFault::Refused(Cause::BadData));
     };
+    if count as usize <= BYTES_IN_PLACE {
+        return Ok(ByteString::in_place([byte; BYTES_IN_PLACE], count as usize));
+    }
     let bytes = vec![in alloc; byte; count as usize]?;
-    Ok(ByteString::new(bytes))
+    Ok(ByteString::new(alloc, bytes)?)
 }
 
 /// Hexadecimal digits, or a byte's with a star and how often it stands before them.
@@ -167,7 +189,7 @@ pub fn data_of(alloc: Global, word: &[u8]) -> Result<ByteString, LineFault>
     ensures { Gives result (bytes_at word.now) }
 {
     if word == b"-".as_slice() {
-        return Ok(ByteString::new(Vec::new(alloc)));
+        return Ok(ByteString::in_place([0; BYTES_IN_PLACE], 0));
     }
     parts_of(alloc, word)
 }

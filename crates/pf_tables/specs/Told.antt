@@ -86,7 +86,7 @@ Wrote g new x (Ok progress) machine = Came g new machine progress (take (moved p
 Wrote g new x (Err e) machine = machine ≡ Err e
 
 abbrev pub HasRead : Live → Namespace → Result Taken Fault → Result Tried Errno → Type 0
-HasRead g new (Ok t) machine = Came g new machine t.progress t.bytes.items
+HasRead g new (Ok t) machine = Came g new machine t.progress t.bytes
 HasRead g new (Err (faults.Errno e)) machine = machine ≡ Err e
 HasRead g new (Err faults.NoMemory) machine = ⊤
 

@@ -103,6 +103,7 @@ fn a_name_that_no_namespace_has(rt: HostRuntime) -> Result<(), Fail> {
     for name in ["green", "Red", "", "pool", "red "] {
         let options = Options {
             only: Some(name),
+            tree_heap: None,
             fill: 165,
         };
         let mut reader = MemoryBytes::new(script.as_bytes());
@@ -119,6 +120,7 @@ fn a_name_that_no_namespace_has(rt: HostRuntime) -> Result<(), Fail> {
 fn a_name_and_a_faulty_script(rt: HostRuntime) {
     let options = Options {
         only: Some("red"),
+        tree_heap: None,
         fill: 165,
     };
     let mut writer = Collected::new(rt.alloc());

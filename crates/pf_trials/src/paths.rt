@@ -30,7 +30,7 @@ fn configs(alloc: Global) -> Result<Vec<(Config, Global)>, Fail> {
 
 /// Asks for a path of so many bytes of this kind.
 fn stat(alloc: Global, count: usize, byte: u8) -> Result<Step, AllocError> {
-    let path = ByteString::new(Vec::from_elem(alloc, byte, count)?);
+    let path = ByteString::new(alloc, Vec::from_elem(alloc, byte, count)?)?;
     Ok(Step::Stat { pid: 1, path })
 }
 

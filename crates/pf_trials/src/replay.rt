@@ -11,6 +11,7 @@ use std::test::Fail;
 
 pub(crate) const OPTIONS: Options<'static> = Options {
     only: None,
+    tree_heap: None,
     fill: 165,
 };
 

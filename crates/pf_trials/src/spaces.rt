@@ -6,7 +6,7 @@ ghost use Rattle.pf_frame.specs.Own.{own_live};
 ghost use Rattle.pf_tables.specs.Owns.{Owns};
 
 use crate::scripts::{has_text, script_of};
-use pf_base::{Answer, ByteString, Config, Reply, Step};
+use pf_base::{Answer, BYTES_IN_PLACE, ByteString, Config, Reply, Step};
 use pf_frame::{Frame, Frames, OwnFrames};
 use pf_script::Script;
 use pf_space::{Space, laws};
@@ -141,7 +141,7 @@ fn probed(alloc: Global, space: &mut Space<Global>, frames: &mut OwnFrames) -> (
         let nothing = Step::Write {
             pid: i as u32 / 6 + 1,
             fd: i as u32 % 6,
-            payload: ByteString::new(Vec::new(alloc)),
+            payload: ByteString::in_place([0; BYTES_IN_PLACE], 0),
         };
         may_write[i] = space.step(frames, &nothing) == Answer::Done(Reply::Num(0));
     }

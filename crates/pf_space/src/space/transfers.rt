@@ -55,8 +55,8 @@ impl<A: Allocator + Clone> Space<A> {
             return self.write_some(door, pid, fd, bytes);
         }
         // What may be refused comes first.
-        let copy = Vec::from_slice(self.alloc, bytes)?;
-        self.write_on(door, pid, fd, UnfinishedWrite::new(ByteString::new(copy)))
+        let copy = ByteString::from_slice(self.alloc, bytes)?;
+        self.write_on(door, pid, fd, UnfinishedWrite::new(copy))
     }
 
     // Writes as many bytes as go in now, and waits for none.
@@ -170,7 +170,7 @@ impl<A: Allocator + Clone> Space<A> {
         let taken = self.tables.read_now(self.alloc, door, pid, fd, n)?;
         match taken.progress {
             Progress::WouldBlock => {}
-            _ => return Ok(Reply::Bytes(ByteString::new(taken.bytes))),
+            _ => return Ok(Reply::Bytes(taken.bytes)),
         }
         if !again && self.tables.is_nonblocking(door, pid, fd) {
             return Err(Errno::EAGAIN.into());

@@ -135,7 +135,7 @@ impl<A: Allocator + Clone> Tables<A> {
         let _door = door;
         let cred = &self.processes.ready(pid)?.cred;
         match pf_walk::list(alloc, self.files.tree(), cred, path) {
-            Ok(names) => Ok(ByteString::new(names)),
+            Ok(names) => Ok(ByteString::new(alloc, names)?),
             Err(fault) => Err(fault),
         }
     }

@@ -10,7 +10,7 @@ ghost use Rattle.pf_tables.specs.Owns.{Owns};
 ghost use Rattle.pf_tables.specs.Told.{attempted, is_nonblocking_at, HasRead, HasCrossed, HasWritten, Wrote};
 
 use super::{Tables, end, reading_end, writing_end};
-use pf_base::{Crossing, Errno, Fault, MAX_WRITE, PIPE_BUF, Progress};
+use pf_base::{ByteString, Crossing, Errno, Fault, MAX_WRITE, PIPE_BUF, Progress};
 use pf_frame::Frames;
 use std::alloc::{Allocator, Global};
 
@@ -20,7 +20,7 @@ pub struct Taken {
     /// How far it came.
     pub progress: Progress,
     /// The bytes that were taken.
-    pub bytes: Vec<u8>,
+    pub bytes: ByteString,
 }
 
 impl<A: Allocator> Tables<A> {
@@ -109,8 +109,8 @@ impl<A: Allocator> Tables<A> {
         Ok(pipe.write_now(door, &bytes[written..], whole))
     }
 
-    /// Takes at most n bytes from the front of the pipe that a process's descriptor reads. Their memory is made first,
-    /// at its exact size.
+    /// Takes at most n bytes from the front of the pipe that a process's descriptor reads. What memory they need is made
+    /// first, at its exact size.
     #[inline(always)]
     pub fn read_now<F: Frames>(
         &mut self,
@@ -140,9 +140,7 @@ impl<A: Allocator> Tables<A> {
     {
         let end = reading_end(&self.processes, &self.descriptions, pid, fd)?;
         let pipe = self.pipes.value_mut(end.pipe);
-        let count = pipe.len().min(n as usize);
-        let mut bytes = Vec::with_capacity(alloc, count)?;
-        let progress = pipe.read_onto(door, n as usize, &mut bytes);
+        let (progress, bytes) = pipe.read_bytes(alloc, door, n as usize)?;
         Ok(Taken { progress, bytes })
     }
 
