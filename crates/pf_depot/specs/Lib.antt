@@ -6,3 +6,4 @@ pub mod Loans
 pub mod Places
 pub mod Lent
 pub mod Shared
+pub mod Stocked

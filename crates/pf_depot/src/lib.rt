@@ -9,6 +9,8 @@ pub mod door;
 pub mod lender;
 pub mod loans;
 pub mod shared;
+pub mod stock;
+pub mod stocked;
 
 pub use allotment::Allotment;
 pub use book::DepotBook;
@@ -18,3 +20,5 @@ pub use lender::Lender;
 pub use loans::Loans;
 pub use pf_frame::PoolFault;
 pub use shared::SharedDepot;
+pub use stock::Stock;
+pub use stocked::StockedDepot;

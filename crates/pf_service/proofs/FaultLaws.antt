@@ -1,7 +1,7 @@
 -- What a call answers, of what its parts do.
 
-use Rattle.std.proofs.Common.{◌≡◌, ℕ, ◌<◌, List}
-use Rattle.std.specs.Prelude.{Result, Ok, Err, IfOk, IfErr, IsErr, OnOk}
+use Rattle.std.proofs.Common.{◌≡◌, ℕ, ◌<◌, List, sym, subst}
+use Rattle.std.specs.Prelude.{Result, Ok, Err, IfOk, IfErr, IsErr, IsErrAnd, OnOk}
 use Rattle.pf_base.specs.declared.step.Step.{Step}
 use Rattle.pf_base.specs.declared.step.Reply.{Reply}
 use Rattle.pf_service.specs.declared.fault.ServiceFault.{ServiceFault}
@@ -11,12 +11,20 @@ use Rattle.pf_service.specs.Faults.{IsApplyFault, IsEventFault, IsCallFault}
 use Rattle.pf_service.specs.Told.{Told}
 
 -- without the entries
+unseen : (es : List (Step × Reply)) (e : ServiceFault) → IsApplyFault es e → IsEventFault e
+unseen es NoMemory fault = tt
+unseen es TranscriptFull fault = tt
+unseen es NoSuchNamespace fault = absurd fault
+unseen es TooManySeats fault = absurd fault
+
 pub event_fault : {T : Type 0} (es : List (Step × Reply)) (r : Result T ServiceFault) → IfErr r (IsApplyFault es) → IfErr r IsEventFault
 event_fault es (Ok x) fault = tt
-event_fault es (Err NoMemory) fault = tt
-event_fault es (Err TranscriptFull) fault = tt
-event_fault es (Err NoSuchNamespace) fault = absurd fault
-event_fault es (Err TooManySeats) fault = absurd fault
+event_fault es (Err e) fault = unseen es e fault
+
+-- and where it is handed on
+pub refused_event : {T : Type 0} (es : List (Step × Reply)) (e : ServiceFault) (r : Result T ServiceFault) → IsErrAnd r (λ x. x ≡ e) → IsApplyFault es e → IfErr r IsEventFault
+refused_event es e (Ok x) is fault = tt
+refused_event es e (Err x) is fault = unseen es x (subst (IsApplyFault es) (sym is) fault)
 
 -- of a namespace that is there
 pub call_fault : {T : Type 0} (namespaces ns : ℕ) (r : Result T ServiceFault) → ns < namespaces → IfErr r IsEventFault → IfErr r (IsCallFault namespaces ns)

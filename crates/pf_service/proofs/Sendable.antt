@@ -16,6 +16,7 @@ use Rattle.std.specs.declared.alloc.Allocator as Allocator
 use Rattle.std.specs.declared.sync.ledger.Ledger as Ledger
 use Rattle.pf_depot.proofs.depot.Depot.TheSendSync as depot
 use Rattle.pf_depot.proofs.loans.Loans.TheSendSync as loans
+use Rattle.pf_depot.proofs.stock.Stock.TheSendSync as stock
 use Rattle.pf_depot.specs.contracts.book.DepotBook as DepotBook
 use Rattle.pf_depot.specs.contracts.book.DepotBook.TheInside as in_book
 use Rattle.pf_space.proofs.Sendable.{placed_send}
@@ -53,7 +54,7 @@ module _ (C H : RattleType) (c : Ledger.Ghosts C.Denot) (h : Ledger.Ghosts H.Den
         let logged = as_row_send (Logged.the_field A g) logged_send in
         let credits = as_row_send (Share.the_field C c) (share.the_send C c) in
         let held = as_row_send (Share.the_field H h) (share.the_send H h) in
-        declared_send (Seated.the_type A C H g c h) (logged, (credits, (held, (search (sendable, crosses) depth 20, tt))))
+        declared_send (Seated.the_type A C H g c h) (logged, (credits, (held, (stock.the_send, (search (sendable, crosses) depth 20, tt)))))
 
     in_place_sync : IsSync (in_place.the_row A C H g c h)
     in_place_sync =

@@ -2,7 +2,7 @@ use crate::MAX_ENTRIES;
 use crate::copies::copy_into;
 use crate::fault::ServiceFault;
 use crate::transcript::Transcript;
-use pf_base::{Answer, Config, Reply, Step};
+use pf_base::{Answer, ByteRoom, Config, Reply, Step};
 use pf_depot::{Lender, Loans};
 use pf_hub::step_over;
 use pf_space::Placed;
@@ -159,7 +159,7 @@ impl<A: Allocator + Clone> Logged<A> {
         let entries = &mut self.transcript.entries;
         entries.reserve(1)?;
         let asked = step.copy(self.alloc)?;
-        let room = Vec::with_capacity(self.alloc, bound)?;
+        let room = ByteRoom::new(self.alloc, bound)?;
         let Answer::Done(reply) = step_over(&mut self.placed, lender, &mut self.loans, step) else {
             return Err(AllocError);
         };

@@ -15,7 +15,7 @@ use crate::seat::Seat;
 use crate::seated::Seated;
 use crate::transcript::Transcript;
 use crate::waiters::Waiters;
-use pf_base::{Reply, Step};
+use pf_base::{ByteRoom, Reply, Step};
 use pf_depot::DepotBook;
 use pf_worker::Gate;
 use std::alloc::{AllocError, Allocator, Global};
@@ -96,7 +96,7 @@ pub(crate) fn event<A: Allocator + Clone, R: Wait, G: Gate, C: Ledger, H: Ledger
     let alloc = seated.get_ref().alloc();
     let asked = step.copy(alloc)?;
     let bound = seated.get_ref().reply_bound(step);
-    let room = Vec::with_capacity(alloc, bound)?;
+    let room = ByteRoom::new(alloc, bound)?;
     let before = resumed_written(seated.get_ref(), step);
     gate.pass(ns, place);
     let reply = seated.log(rt, gate, book, ns, step, bound)?;

@@ -5,14 +5,14 @@ use crate::fault::ServiceFault;
 use crate::logged::Logged;
 use crate::transcript::Transcript;
 use pf_base::{Config, Reply, Step};
-use pf_depot::{Allotment, DepotBook};
+use pf_depot::{Allotment, DepotBook, Stock};
 use pf_worker::{Gate, GatedDepot};
 use std::alloc::{AllocError, Allocator, Global};
 use std::sync::ledger::{Ledger, Share};
 use std::sync::{Mutex, Wait};
 
-/// What lies behind a namespace's lock: the namespace with its transcript, its shares of the depot's two ledgers, and how
-/// many seats it gave.
+/// What lies behind a namespace's lock: the namespace with its transcript, its shares of the depot's two ledgers, its stock of
+/// frames, and how many seats it gave.
 ///
 /// As that is all within its type, whoever takes the lock finds it so: a frame for each credit at the depot, and a
 /// transcript that is the lone machine's.
@@ -21,13 +21,14 @@ pub(crate) struct Seated<A: Allocator, C: Ledger, H: Ledger> {
     logged: Logged<A>,
     credits: Share<C>,
     held: Share<H>,
+    stock: Stock,
     given: u32,
 
-    /// It has a credit for each frame that the namespace may still take.
-    pub ghost unspent: { credits.amount + logged.held ≡ logged.limits.reserve },
+    /// For each frame that the namespace may still take, one is in stock or there is a credit.
+    pub ghost unspent: { credits.amount + stock + logged.held ≡ logged.limits.reserve },
 
-    /// Its other share is what the namespace holds.
-    pub ghost lent: { held.amount ≡ logged.held },
+    /// Its other share is what the namespace holds and what is in stock.
+    pub ghost lent: { held.amount ≡ logged.held + stock },
 
     /// Both shares have a part of their ledger, so each can grow.
     pub ghost parts: { (0 < credits.parts) × (0 < held.parts) },
@@ -62,10 +63,12 @@ impl<A: Allocator + Clone, C: Ledger, H: Ledger> Seated<A, C, H> {
             held,
         } = allotment;
         let logged = Logged::new(alloc, tree, config, loans)?;
+        let stock = Stock::new(alloc)?;
         Ok(Seated {
             logged,
             credits,
             held,
+            stock,
             given: 0,
         })
     }
@@ -116,9 +119,10 @@ impl<A: Allocator + Clone, C: Ledger, H: Ledger> Seated<A, C, H> {
             logged,
             credits,
             held,
+            stock,
             given: _,
         } = self;
-        let mut depot = GatedDepot::new(rt, gate, ns, book, credits, held);
+        let mut depot = GatedDepot::new(rt, gate, ns, book, credits, held, stock);
         logged.log(&mut depot, step, bound)
     }
 
@@ -133,10 +137,12 @@ impl<A: Allocator + Clone, C: Ledger, H: Ledger> Seated<A, C, H> {
             logged,
             credits,
             held,
+            stock,
             given,
         } = self;
         drop(credits);
         drop(held);
+        drop(stock);
         (logged.into_transcript(), given)
     }
 }

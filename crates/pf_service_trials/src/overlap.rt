@@ -176,7 +176,7 @@ fn is_beside<R: Threads + Wait + Sync>(rt: &R, alloc: Global, at: Held) -> Resul
     let each = transcripts.as_slice();
     let red = each.first().ok_or("none")?.entries();
     let last = red.last().ok_or("none")?;
-    let told = Reply::Bytes(ByteString::new(Vec::from_elem(alloc, 0x61, 5)?));
+    let told = Reply::Bytes(ByteString::from_slice(alloc, b"aaaaa")?);
     let waited = signals.used_up.load(Ordering::SeqCst) != 0;
     Ok(!waited && each.len() == 2 && red.len() == 4 && last.1 == told)
 }

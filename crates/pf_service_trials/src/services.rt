@@ -101,7 +101,7 @@ pub(crate) fn write_by(
     Ok(Step::Write {
         pid,
         fd: 1,
-        payload: ByteString::new(Vec::from_elem(alloc, byte, count)?),
+        payload: ByteString::new(alloc, Vec::from_elem(alloc, byte, count)?)?,
     })
 }
 
@@ -185,7 +185,7 @@ pub(crate) fn told_alone<R: Abort>(
         Reply::Num(0),
     ];
     replies_are(rt, &each[0], &red);
-    let byte = Reply::Bytes(ByteString::new(Vec::from_elem(alloc, 0x7A, 1)?));
+    let byte = Reply::Bytes(ByteString::from_slice(alloc, b"z")?);
     let blue = [Reply::Pid(1), Reply::Fds(0, 1), Reply::Num(1), byte];
     replies_are(rt, &each[1], &blue);
     Ok(())

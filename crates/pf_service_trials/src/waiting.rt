@@ -129,7 +129,7 @@ fn reader<R: Wait, C: Ledger, H: Ledger>(
 ) -> Option<Seat> {
     let reply = read_all(rt, alloc, service, &mut seat, pid, n)?;
     let bytes = Vec::from_elem(alloc, 0x61, n as usize).ok()?;
-    if reply != Reply::Bytes(ByteString::new(bytes)) {
+    if reply != Reply::Bytes(ByteString::new(alloc, bytes).ok()?) {
         return None;
     }
     Some(seat)

@@ -10,6 +10,7 @@ use Rattle.std.specs.declared.sync.ledger.Ledger as Ledger
 use Rattle.std.proofs.sync.ledger.Share.TheSendSync as share
 use Rattle.std.specs.contracts.sync.ledger.Share as Share
 use Rattle.pf_depot.proofs.loans.Loans.TheSendSync as loans
+use Rattle.pf_depot.proofs.stock.Stock.TheSendSync as stock
 use Rattle.pf_depot.specs.contracts.loans.Loans as Loans
 use Rattle.pf_space.proofs.Sendable.{placed_send}
 use Rattle.pf_worker.specs.contracts.worker.Worker as Worker
@@ -21,7 +22,7 @@ module _ (A : RattleType) (g : Allocator.Ghosts A.Denot) (s : IsSend A) (f : Fre
       let placed = placed_send A g s f in
       let credits = as_row_send (Share.the_field C c) (share.the_send C c) in
       let held = as_row_send (Share.the_field H h) (share.the_send H h) in
-      declared_send (in_worker.the_type A C H g c h) (search (sendable, crosses) depth 20, (placed, (loans.the_send, (credits, (held, tt)))))
+      declared_send (in_worker.the_type A C H g c h) (search (sendable, crosses) depth 20, (placed, (loans.the_send, (credits, (held, (stock.the_send, tt))))))
 
   pub worker_send : IsSend (Worker.the_row A C H g c h)
   worker_send = view_send (in_worker.the_row A C H g c h) _ _ _ _ in_worker_send

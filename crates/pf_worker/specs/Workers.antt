@@ -36,11 +36,12 @@ new_workers_from number (e ∷ more) = new_worker number e ∷ new_workers_from 
 abbrev pub new_workers : {Z : Type 0} → List (Limits × Z) → List (OneWorker Z)
 new_workers configs = new_workers_from 0 configs
 
--- the loans' frames are those that the namespace's rings name; there is a credit for each frame that it may still take,
--- and its other share is what it holds; and both shares have a part of their ledger, so each can grow
-pub record IsKept (space : Namespace) (loans : Loans) (credits held credits_parts held_parts : ℕ) : Type 0 where
+-- the loans' frames are those that the namespace's rings name; for each frame that it may still take there is one in
+-- stock or a credit; its other share is what it holds and what is in stock; and both shares have a part of their ledger,
+-- so each can grow
+pub record IsKept (space : Namespace) (loans : Loans) (credits held stock credits_parts held_parts : ℕ) : Type 0 where
   pub owns : Owns (loans_live loans) space
-  pub unspent : credits + held_of loans ≡ reserved_of loans
-  pub lent : held ≡ held_of loans
+  pub unspent : credits + stock + held_of loans ≡ reserved_of loans
+  pub lent : held ≡ held_of loans + stock
   pub credits_part : 0 < credits_parts
   pub held_part : 0 < held_parts

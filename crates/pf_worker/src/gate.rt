@@ -18,7 +18,8 @@ pub trait Gate {
     fn pass(&self, ns: u32, place: u64)
         ensures { passed self.now ns place };
 
-    /// A step of a namespace is about to take a frame from a depot that other namespaces share. The depot's lock isn't held.
+    /// A step of a namespace is about to take a frame: of its own stock, or of the depot that other namespaces share. The
+    /// depot's lock isn't held.
     fn frame(&self, ns: u32)
         ensures { framed self.now ns };
 }

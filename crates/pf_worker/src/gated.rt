@@ -3,7 +3,7 @@ ghost use Rattle.pf_frame.specs.Live.{Takes};
 ghost use Rattle.pf_depot.specs.Loans.{loans_live};
 
 use crate::gate::Gate;
-use pf_depot::{DepotBook, Lender, Loans, SharedDepot};
+use pf_depot::{DepotBook, Lender, Loans, Stock, StockedDepot};
 use pf_frame::FrameNo;
 use std::sync::ledger::{Ledger, Share};
 use std::sync::{Mutex, Wait};
@@ -11,7 +11,7 @@ use std::sync::{Mutex, Wait};
 /// A namespace's way to a shared depot, of which a gate is told: before each frame that the namespace takes, while the
 /// depot's lock isn't held.
 ///
-/// But for that it is the `SharedDepot` of the same shares.
+/// But for that it is the `StockedDepot` of the same shares and the same stock.
 #[derive(Drop)]
 pub struct GatedDepot<'a, R: Wait, G: Gate, C: Ledger, H: Ledger> {
     rt: &'a R,
@@ -20,10 +20,11 @@ pub struct GatedDepot<'a, R: Wait, G: Gate, C: Ledger, H: Ledger> {
     book: &'a Mutex<DepotBook<C, H>>,
     credits: &'a mut Share<C>,
     held: &'a mut Share<H>,
+    stock: &'a mut Stock,
 }
 
 impl<'a, R: Wait, G: Gate, C: Ledger, H: Ledger> GatedDepot<'a, R, G, C, H> {
-    /// The way of the namespace of this number, which has these shares.
+    /// The way of the namespace of this number, which has these shares and this stock.
     pub fn new(
         rt: &'a R,
         gate: &'a G,
@@ -31,12 +32,15 @@ impl<'a, R: Wait, G: Gate, C: Ledger, H: Ledger> GatedDepot<'a, R, G, C, H> {
         book: &'a Mutex<DepotBook<C, H>>,
         credits: &'a mut Share<C>,
         held: &'a mut Share<H>,
+        stock: &'a mut Stock,
     ) -> GatedDepot<'a, R, G, C, H>
         ensures ns { result.ns ≡ ns }
         ensures credits_name { result.credits.ghost_name ≡ credits.entry.ghost_name }
         ensures held_name { result.held.ghost_name ≡ held.entry.ghost_name }
+        ensures stock_name { result.stock.ghost_name ≡ stock.entry.ghost_name }
         ensures credits { result.credits.now ≡ credits.old }
         ensures held { result.held.now ≡ held.old }
+        ensures stock { result.stock.now ≡ stock.old }
     {
         GatedDepot {
             rt,
@@ -45,6 +49,7 @@ impl<'a, R: Wait, G: Gate, C: Ledger, H: Ledger> GatedDepot<'a, R, G, C, H> {
             book,
             credits,
             held,
+            stock,
         }
     }
 }
@@ -67,31 +72,33 @@ fn take_told<G: Gate, D: Lender>(gate: &G, ns: u32, lender: &mut D, loans: &mut 
 }
 
 impl<R: Wait, G: Gate, C: Ledger, H: Ledger> Lender for GatedDepot<'_, R, G, C, H> {
-    ghost use Rattle.std.specs.Prelude.{◌<◌};
-    ghost use Rattle.pf_depot.specs.Shared.{SharedRest};
+    ghost use Rattle.std.specs.Prelude.{◌+◌, ◌-◌, ◌<◌, ◌≤◌};
+    ghost use Rattle.pf_depot.specs.Stocked.{StockedRest};
 
-    ghost ready = { λ s. s.credits.now.amount };
+    ghost ready = { λ s. s.credits.now.amount + s.stock.now };
 
-    ghost out = { λ s. s.held.now.amount };
+    ghost out = { λ s. s.held.now.amount - s.stock.now };
 
-    ghost fact = { λ s. (0 < s.credits.now.parts) × (0 < s.held.now.parts) };
+    ghost fact = { λ s. (0 < s.credits.now.parts) × (0 < s.held.now.parts)
+        × (s.stock.now ≤ s.held.now.amount) };
 
-    ghost Rest = { SharedRest };
+    ghost Rest = { StockedRest };
 
     ghost rest = { λ s. record {
       credits_name = s.credits.ghost_name;
       held_name = s.held.ghost_name;
+      stock_name = s.stock.ghost_name;
       credits_parts = s.credits.now.parts;
       held_parts = s.held.now.parts;
     } };
 
     fn take(&mut self, loans: &mut Loans) -> FrameNo {
         self.gate.frame(self.ns);
-        let mut depot = SharedDepot::new(self.rt, self.book, self.credits, self.held);
+        let mut depot = StockedDepot::new(self.rt, self.book, self.credits, self.held, self.stock);
         take_told(self.gate, self.ns, &mut depot, loans)
     }
 
     fn give(&mut self, loans: &mut Loans, no: FrameNo) {
-        SharedDepot::new(self.rt, self.book, self.credits, self.held).give(loans, no);
+        StockedDepot::new(self.rt, self.book, self.credits, self.held, self.stock).give(loans, no);
     }
 }

@@ -9,7 +9,7 @@ ghost use Rattle.pf_worker.specs.Workers.{new_workers};
 use crate::gate::Gate;
 use crate::gated::GatedDepot;
 use pf_base::{Answer, Config, Step};
-use pf_depot::{Allotment, DepotBook, Loans};
+use pf_depot::{Allotment, DepotBook, Loans, Stock};
 use pf_frame::{Frame, PoolFault};
 use pf_hub::{first_fault, reserves_of, step_over};
 use pf_space::Placed;
@@ -18,11 +18,11 @@ use std::marker::Model;
 use std::sync::ledger::{Blank, Ledger, Share};
 use std::sync::{Mutex, Wait};
 
-/// A namespace for a thread of its own: its space, its frames on loan, and its shares of the ledgers of a depot that other
-/// workers share.
+/// A namespace for a thread of its own: its space, its frames on loan, its shares of the ledgers of a depot that other
+/// workers share, and a few frames of that depot in stock.
 ///
 /// It has no lock and no transcript, so it can be stepped for ever. Its steps wait for nothing but the depot's lock, which
-/// is held for one frame at a time.
+/// is held for one frame at a time, and only where the stock has none to give or no room for one that comes back.
 ///
 /// A contract sees its number, and its namespace as a hub's: the limits, the state of the lone machine that it is in, and
 /// how many frames it holds; and the allocator whose memory its files stand in.
@@ -33,6 +33,7 @@ pub struct Worker<A: Allocator, C: Ledger, H: Ledger> {
     loans: Loans,
     credits: Share<C>,
     held: Share<H>,
+    stock: Stock,
 }
 
 impl<A: Allocator, C: Ledger, H: Ledger> Model for Worker<A, C, H> {
@@ -42,7 +43,7 @@ impl<A: Allocator, C: Ledger, H: Ledger> Model for Worker<A, C, H> {
 
     ghost view = { λ w. worker_of w.number w.placed w.loans };
 
-    ghost invariant = { λ w. IsKept w.placed.space w.loans w.credits.amount w.held.amount w.credits.parts w.held.parts };
+    ghost invariant = { λ w. IsKept w.placed.space w.loans w.credits.amount w.held.amount w.stock w.credits.parts w.held.parts };
 }
 
 impl<A: Allocator + Clone, C: Ledger, H: Ledger> Worker<A, C, H> {
@@ -70,12 +71,14 @@ impl<A: Allocator + Clone, C: Ledger, H: Ledger> Worker<A, C, H> {
             held,
         } = allotment;
         let placed = Placed::new(alloc, tree, config)?;
+        let stock = Stock::new(alloc)?;
         Ok(Worker {
             number,
             placed,
             loans,
             credits,
             held,
+            stock,
         })
     }
 
@@ -123,6 +126,7 @@ impl<A: Allocator + Clone, C: Ledger, H: Ledger> Worker<A, C, H> {
             book,
             &mut self.credits,
             &mut self.held,
+            &mut self.stock,
         );
         step_over(&mut self.placed, &mut depot, &mut self.loans, step)
     }
@@ -175,7 +179,7 @@ pub fn open<A: Allocator + Clone, C: Ledger, H: Ledger>(
     if let Some(fault) = first_fault(frames.len(), &configs) {
         return Err(fault);
     }
-    let Ok(reserves) = reserves_of(alloc, &configs) else {
+    let Ok(reserves) = reserves_of(alloc, configs.as_slice()) else {
         return Err(PoolFault::NoMemory);
     };
     let (book, allotments) = DepotBook::open(alloc, frames, reserves, credits, held)?;

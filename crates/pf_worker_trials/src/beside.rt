@@ -172,7 +172,8 @@ fn beside_by_name<R: Threads + Wait + Sync>(
     beside::<Brand, Brand, R>(rt, alloc, blank(), blank(), watch, reserves, red, blue)
 }
 
-// The second tenant takes a frame that the first has filled and given back: it is shown nothing of that.
+// The first tenant gives back 32 frames, of which 16 stay in its stock. The second takes one of the other 16, which the
+// first has filled: it is shown nothing of that, and has it in its own stock in the end.
 #[test]
 fn a_frame_passes_from_one_tenant_to_the_other(rt: HostRuntime) -> Result<(), Fail> {
     let alloc = rt.alloc();
@@ -182,12 +183,12 @@ fn a_frame_passes_from_one_tenant_to_the_other(rt: HostRuntime) -> Result<(), Fa
         &rt,
         alloc,
         &watch,
-        [16, 16],
+        [32, 16],
         red.as_slice(),
         blue.as_slice(),
     );
-    assert_eq!(rt; held, Some((Some(0), Some(0), 32)));
-    assert!(rt; watch.is_told(16, 1));
+    assert_eq!(rt; held, Some((Some(0), Some(0), 31)));
+    assert!(rt; watch.is_told(32, 1));
     Ok(())
 }
 

@@ -32,13 +32,13 @@ fn pipe(told: Reply) -> Row {
 }
 
 fn bytes(alloc: Global, byte: u8, count: usize) -> Result<ByteString, AllocError> {
-    Ok(ByteString::new(Vec::from_elem(alloc, byte, count)?))
+    ByteString::new(alloc, Vec::from_elem(alloc, byte, count)?)
 }
 
-fn write(alloc: Global, byte: u8, count: usize) -> Result<Row, AllocError> {
+fn write(alloc: Global, fd: u32, byte: u8, count: usize) -> Result<Row, AllocError> {
     let step = Step::Write {
         pid: 1,
-        fd: 1,
+        fd,
         payload: bytes(alloc, byte, count)?,
     };
     let told = Reply::Num(count as u64);
@@ -51,26 +51,34 @@ fn read(alloc: Global, n: u64, byte: u8, count: usize) -> Result<Row, AllocError
     Ok(Row { step, told })
 }
 
-/// A process fills its pipe with bytes 61, and exits.
-pub(crate) fn fills_and_exits(alloc: Global) -> Result<[Row; 4], AllocError> {
-    let write = write(alloc, 0x61, 65_536)?;
+/// A process fills two pipes with bytes 61, and exits: it gives back twice as many frames as are kept in stock.
+pub(crate) fn fills_and_exits(alloc: Global) -> Result<[Row; 6], AllocError> {
+    let first = write(alloc, 1, 0x61, 65_536)?;
+    let second = write(alloc, 3, 0x61, 65_536)?;
     let exit = Row {
         step: Step::Exit { pid: 1 },
         told: Reply::Num(0),
     };
-    Ok([spawn(alloc), pipe(Reply::Fds(0, 1)), write, exit])
+    Ok([
+        spawn(alloc),
+        pipe(Reply::Fds(0, 1)),
+        first,
+        pipe(Reply::Fds(2, 3)),
+        second,
+        exit,
+    ])
 }
 
 /// Another writes a byte 7a, and asks for a hundred.
 pub(crate) fn asks_for_more(alloc: Global) -> Result<[Row; 4], AllocError> {
-    let write = write(alloc, 0x7A, 1)?;
+    let write = write(alloc, 1, 0x7A, 1)?;
     let read = read(alloc, 100, 0x7A, 1)?;
     Ok([spawn(alloc), pipe(Reply::Fds(0, 1)), write, read])
 }
 
 /// A process fills its pipe, all pages of its namespace, and is refused another pipe.
 pub(crate) fn fills_and_stays(alloc: Global) -> Result<[Row; 4], AllocError> {
-    let write = write(alloc, 0x61, 65_536)?;
+    let write = write(alloc, 1, 0x61, 65_536)?;
     let refused = pipe(Reply::Err(Errno::ENFILE));
     Ok([spawn(alloc), pipe(Reply::Fds(0, 1)), write, refused])
 }
@@ -81,7 +89,7 @@ pub(crate) fn has_one_page(alloc: Global) -> Result<[Row; 5], AllocError> {
         step: Step::GetSize { pid: 1, fd: 0 },
         told: Reply::Num(4096),
     };
-    let write = write(alloc, 0x62, 4096)?;
+    let write = write(alloc, 1, 0x62, 4096)?;
     let read = read(alloc, 2, 0x62, 2)?;
     Ok([spawn(alloc), pipe(Reply::Fds(0, 1)), size, write, read])
 }

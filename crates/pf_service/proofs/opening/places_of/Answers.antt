@@ -3,6 +3,20 @@ use Rattle.std.proofs.Common.{rules, ◌≡◌, ◌+◌, ◌∷◌, ◌++◌, []
 use Rattle.pf_service.proofs.PlaceLaws.{next_number}
 use Rattle.pf_service.proofs.opening.places_of.Goals as goal
 
+pub loop-config-init : goal.loop-config-init
+loop-config-init g c = record {
+  numbered = search rules;
+  reserved = search (c.into_iter-allotments.ensures.rest, c.into_iter-config-iterator.ensures.into_iter_gives, c.requires.reserved, rules);
+  all = search rules;
+  room = search rules;
+}
+
+pub overflow_cast-ns : goal.overflow_cast-ns
+overflow_cast-ns g c = omega (arith, c.loop-config.invariant.all, c.requires.few)
+
+pub returns : goal.returns
+returns g c = search (c.loop-config.invariant.numbered, c.loop-config.invariant.all, c.in-None.ensures.steps, rules)
+
 pub loop-config-preserved : goal.loop-config-preserved
 loop-config-preserved g c =
     let old = c.loop-config.places.items in

@@ -31,15 +31,15 @@ returns-in_default-clause-unchanged g c =
     let same = c.step_over.ensures.unchanged c.in_default.is in
     (stays c.self-inside.inside.0.1.0 c.step_over.new.placed c.self-inside.inside.0.1.1.0 c.step_over.new.loans c.self-inside.inside.0.1.1.1.0.config c.self-inside.inside.0.1.1.1.0.entries.items c.reserve.new.self.items same.0 same.2 c.reserve.ensures.items ∙ was, same.1)
 
-pub copy_into-told-requires-clause-fits : goal.copy_into-told-requires-clause-fits
-copy_into-told-requires-clause-fits g c =
+pub copy_into-told-requires : goal.copy_into-told-requires
+copy_into-told-requires g c =
     let step = c.args.step.now in
     let was = ap (λ (i : Inside g.row.A.Denot). log_of i.placed i.loans i.transcript) c.self-inside.view_is ∙ c.self.view_is in
     let log = subst (λ (i : Inside g.row.A.Denot). IsLog i.placed.space i.loans i.transcript) (sym c.self-inside.view_is) c.self.invariant in
     let answers = made c.self-inside.inside.0.1.0.space c.step_over.new.placed.space c.self-inside.inside.0.1.1.0 c.step_over.new.loans (record { limits = c.self-inside.inside.0.1.1.1.0.config; entries = c.self-inside.inside.0.1.1.1.0.entries.items }) step c.in-Done.reply log c.in-Done.ensures.moved.answers in
     let told : c.in-Done.reply ≡ (step_of c.args.self.now.limits c.args.self.now.state step).reply =
     ap (λ (o : Outcome). o.reply) answers ∙ ap (λ (l : Log g.row.A.Denot). (step_of l.limits l.state step).reply) was in
-    omega (arith, ap reply_length told, c.requires.covers, c.in_ok-room.ensures.capacity)
+    omega (arith, ap reply_length told, c.requires.covers, c.in_ok-room.ensures)
 
 pub invariant_of-self-2 : goal.invariant_of-self-2
 invariant_of-self-2 g c =

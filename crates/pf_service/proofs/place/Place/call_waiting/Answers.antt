@@ -6,7 +6,7 @@ use Rattle.pf_base.specs.declared.step.Reply.{Reply}
 use Rattle.pf_service.specs.Seats.{event_at}
 use Rattle.pf_service.specs.Told.{Told}
 use Rattle.pf_service.specs.Waited.{resume_of}
-use Rattle.pf_service.proofs.FaultLaws.{on_ok}
+use Rattle.pf_service.proofs.FaultLaws.{refused_event, on_ok}
 use Rattle.pf_service.proofs.WaitingLaws.{begun, gone_on, answered, left, tried_at}
 use Rattle.pf_service.proofs.place.Place.call_waiting.Goals as goal
 
@@ -40,3 +40,7 @@ returns-in_err-waits-2-clause-waited g c =
     c.args.seat.now c.loop.seat c.try_once-in-loop.new.seat c.args.receipts.now.items c.loop.receipts.items c.try_once-in-loop.new.receipts.items (i.0 ++ i.1 ∷ [])
     i.2.waited c.in_err-waits-2.ensures.seat c.in_err-waits-2.ensures.receipts in
     (i.0 ++ i.1 ∷ [], stays, on_ok _ c.from_residual-in_err-waits-2.result c.from_residual-in_err-waits-2.ensures.0)
+
+pub returns-in_err-waits-2-clause-fault : goal.returns-in_err-waits-2-clause-fault
+returns-in_err-waits-2-clause-fault g c =
+    refused_event _ _ c.from_residual-in_err-waits-2.result c.from_residual-in_err-waits-2.ensures.1 c.in_err-waits-2.ensures.fault
