@@ -7,6 +7,7 @@ use Rattle.std.proofs.lemmas.List.{length-map, get_or-map, drop_more, length-dro
 use Rattle.std.proofs.lemmas.Option.{slice_get-map}
 use Rattle.std.proofs.lemmas.Slice.Zip.{AllZip-long}
 use Rattle.std.specs.List.{All}
+use Rattle.std.specs.Option.{option_to_list}
 use Rattle.pf_base.specs.Limits.{Limits}
 use Rattle.pf_base.specs.declared.step.Step.{Step}
 use Rattle.pf_base.specs.declared.step.Answer.{Answer}
@@ -260,3 +261,19 @@ each_worked passed script z workers own is worked n low =
 pub worked_passed : (passed : Passed) (script : Draft) (n : ℕ) (answers : List Answer) →
     IsWorked passed script n answers → IsPassed passed script n
 worked_passed passed script n answers worked = subst (λ number. ArePassed passed n number) worked.0.0 worked.1
+
+-- The last of what one worker alone is told is all that it is told
+alone_at : {Z : Type 0} (passed : Passed) (script : Draft) (worker : OneWorker Z) {V : Type 0} (f : V → List Answer) (own left : List V) (last : V)
+    → AreWorked passed script (worker ∷ []) (map f own) → own ≡ left ++ last ∷ [] → IsWorked passed script worker.number (f last)
+alone_at passed script worker f [] left last worked is = absurd worked
+alone_at passed script worker f (v ∷ w ∷ more) left last worked is = absurd worked.1
+alone_at passed script worker f (v ∷ []) [] last worked is =
+    let same : v ≡ last = cc in
+    subst (λ x. IsWorked passed script worker.number (f x)) same worked.0
+alone_at passed script worker f (v ∷ []) (x ∷ []) last worked is = absurd (cc)
+alone_at passed script worker f (v ∷ []) (x ∷ y ∷ more) last worked is = absurd (cc)
+
+pub alone_worked : {Z : Type 0} (passed : Passed) (script : Draft) (worker : OneWorker Z) (workers : List (OneWorker Z)) {V : Type 0} (f : V → List Answer) (own left : List V) (last : Option V) (v : V)
+    → workers ≡ worker ∷ [] → AreWorked passed script workers (map f own) → own ≡ left ++ option_to_list last → last ≡ Some v → IsWorked passed script worker.number (f v)
+alone_worked passed script worker workers f own left last v one worked is some =
+    alone_at passed script worker f own left v (subst (λ ws. AreWorked passed script ws (map f own)) one worked) (is ∙ ap (λ o. left ++ option_to_list o) some)

@@ -1,6 +1,6 @@
 -- What the program does on the words of its command line: what it prints, and what it ends with.
 
-use Rattle.std.specs.Prelude.{ℕ, ◌≡◌, ◌≢◌, ◌⊎◌, ◌==◌, List, [], ◌++◌, codes, Option, Some, None, unwrap_or}
+use Rattle.std.specs.Prelude.{ℕ, ◌≡◌, ◌≢◌, ◌⊎◌, ◌==◌, true, false, List, [], ◌++◌, codes, Option, Some, None, unwrap_or}
 use Rattle.std.specs.Prelude.{Result, Ok, Err, if◌then◌else◌}
 use Rattle.pf_script.specs.Ports.{Input, Output, IsWritten, IsCut}
 use Rattle.pf_script.specs.Notices.{refusal_text}
@@ -10,7 +10,7 @@ use Rattle.pf_play.specs.declared.run.ReplayFault.TheVariants as faults
 use Rattle.pf_play.specs.declared.program.Status.{Status}
 use Rattle.pf_play.specs.declared.program.Status.TheVariants as statuses
 use Rattle.pf_play.specs.Replays.{IsReplayed, IsFault}
-use Rattle.pf_play.specs.CommandLine.{name_in, refusals}
+use Rattle.pf_play.specs.CommandLine.{name_in, needs_one_thread, refusals}
 use Rattle.pf_play.specs.Workers.{Passed, IsGated}
 
 -- the number that the process ends with
@@ -69,12 +69,20 @@ IsRun input rest old new name status =
     (end : Result Replayed ReplayFault) × (text : Output) × IsEnd input rest old text name end
     × IsToldLine text new (words_of name end) (status_of end) status
 
--- The words are taken, and the script is run as they ask; or they aren't, a text says so, and nothing is read; or
--- memory was wanted before anything was read, and a line says so
+-- what is told where threads are asked for and heaps for the files
+abbrev pub one_thread_line : List ℕ
+one_thread_line = codes "--tree-heap needs one thread\n"
+
+-- The words are taken, and the script is run as they ask; or they aren't, a text says so, and nothing is read; or they ask
+-- for what threads can't have, a line says so, and nothing is read; or memory was wanted before anything was read, and a
+-- line says so
 abbrev pub Obeys : List (List ℕ) → Input → Input → Output → Output → Status → Type 0
 Obeys words input rest old new status =
-    ((refusals words ≡ []) × IsRun input rest old new (name_in words) status)
-    ⊎ (((refusals words ≢ []) × (rest ≡ input) × IsUsage old new status) ⊎ ((rest ≡ input) × IsNoMemory old new status))
+    ((refusals words ≡ []) × (needs_one_thread words ≡ false) × IsRun input rest old new (name_in words) status)
+    ⊎ (((refusals words ≢ []) × (rest ≡ input) × IsUsage old new status)
+    ⊎ (((refusals words ≡ []) × (needs_one_thread words ≡ true) × (rest ≡ input)
+    × IsTold old new one_thread_line statuses.Usage status)
+    ⊎ ((rest ≡ input) × IsNoMemory old new status)))
 
 -- where all is done, the gate was told of each step, or of those of the name that is chosen
 abbrev pub IsGatedIfDone : Passed → Input → Input → Option (List ℕ) → Status → Type 0

@@ -1,9 +1,10 @@
 ghost use Rattle.std.specs.Prelude.{◌≡◌, IfOk, false, map, option_copied, string_bytes};
 ghost use Rattle.clap.specs.Words.{FailsBy, app_of, rule_of};
-ghost use Rattle.pf_play.specs.CommandLine.{only_rule, threads_rule, pfplay};
-ghost use Rattle.pf_play.specs.CommandLine.{is_true, name_in, wants_threads, refusals};
+ghost use Rattle.pf_play.specs.CommandLine.{only_rule, threads_rule, tree_heap_rule, pfplay};
+ghost use Rattle.pf_play.specs.CommandLine.{is_true, name_in, tree_heap_in, wants_threads, refusals};
 
-use crate::engine::Options;
+use crate::engine::{LEAST_TREE_HEAP, MOST_TREE_HEAP, Options};
+use clap::builder::ValueParser;
 use clap::{Arg, ArgAction, Command, Error};
 use std::alloc::{AllocError, Global};
 
@@ -18,6 +19,10 @@ const ABOUT_THREADS: &str = "Runs each namespace on a thread of its own; the tex
 
 /// What it says of `--only`.
 const ABOUT_ONLY: &str = "Runs this namespace's steps alone, and prints its section";
+
+/// What it says of `--tree-heap`.
+const ABOUT_TREE_HEAP: &str =
+    "Keeps each namespace's files in a heap of its own, of 1024 to 16777216 bytes";
 
 /// The end of what `--help` says: the lines of a script, and a script.
 const SCRIPT: &str = "Lines of a script:
@@ -75,6 +80,19 @@ fn only<'a>(alloc: Global) -> Arg<'a>
         .help(ABOUT_ONLY)
 }
 
+/// The option `--tree-heap BYTES`.
+fn tree_heap<'a>(alloc: Global) -> Arg<'a>
+    ensures rule { rule_of result ≡ tree_heap_rule }
+    ensures own { result.global ≡ false }
+{
+    let bytes = ValueParser::unsigned(LEAST_TREE_HEAP as u64, MOST_TREE_HEAP as u64);
+    Arg::new(alloc, "tree-heap")
+        .long("tree-heap")
+        .value_name("BYTES")
+        .value_parser(bytes)
+        .help(ABOUT_TREE_HEAP)
+}
+
 /// What the words of the command line may be.
 fn command<'a>(alloc: Global) -> Result<Command<'a>, AllocError>
     ensures { IfOk result (λ command. app_of command ≡ pfplay) }
@@ -84,6 +102,7 @@ fn command<'a>(alloc: Global) -> Result<Command<'a>, AllocError>
         .after_help(SCRIPT)
         .arg(threads(alloc))?
         .arg(only(alloc))?
+        .arg(tree_heap(alloc))?
         .bin_name("pfplay")
 }
 
@@ -102,6 +121,8 @@ fn is_used(kept: Option<&str>) -> bool
 pub fn options_of<'a>(alloc: Global, words: &'a [String]) -> Result<Asked<'a>, Error>
     ensures only { IfOk result (λ asked.
         option_copied asked.options.only ≡ name_in (map string_bytes words.entry.now)) }
+    ensures tree_heap { IfOk result (λ asked.
+        asked.options.tree_heap ≡ tree_heap_in (map string_bytes words.entry.now)) }
     ensures fill { IfOk result (λ asked. asked.options.fill ≡ 165) }
     ensures threads { IfOk result (λ asked. asked.threads ≡ wants_threads (map string_bytes words.entry.now)) }
     ensures refusals { FailsBy (refusals (map string_bytes words.entry.now)) result }
@@ -110,6 +131,7 @@ pub fn options_of<'a>(alloc: Global, words: &'a [String]) -> Result<Asked<'a>, E
     let matches = command.try_get_matches_from(words)?;
     let options = Options {
         only: matches.get_str("only"),
+        tree_heap: matches.get_one::<u32>("tree-heap"),
         fill: FILL,
     };
     let threads = is_used(matches.get_str("threads"));

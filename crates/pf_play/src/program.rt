@@ -1,4 +1,4 @@
-ghost use Rattle.std.specs.Prelude.{◌≡◌, ◌≢◌, ◌⊎◌, true, false, Err, map, option_copied, string_bytes};
+ghost use Rattle.std.specs.Prelude.{◌≡◌, ◌≢◌, ◌⊎◌, true, false, None, Err, map, option_copied, string_bytes};
 ghost use Rattle.std.specs.Process.{exit_status};
 ghost use Rattle.clap.specs.Words.{kind_of};
 ghost use Rattle.clap.specs.declared.error.kind.ErrorKind.TheVariants as kinds;
@@ -24,6 +24,9 @@ use std::{env, io};
 /// What is told where a word of the command line is no text.
 const NO_TEXT: &str = "error: a word of the command line isn't UTF-8\n";
 
+/// What is told where threads are asked for and heaps for the files.
+const ONE_THREAD: &str = "--tree-heap needs one thread\n";
+
 /// What the process ends with.
 #[derive(Debug, Clone, Copy)]
 pub enum Status {
@@ -31,7 +34,8 @@ pub enum Status {
     Done = 0,
     /// The script is refused.
     Refused = 1,
-    /// The words of the command line aren't taken, they ask for help, or no namespace has the name that they choose.
+    /// The words of the command line aren't taken, they ask for help or for what threads can't have, or no namespace has
+    /// the name that they choose.
     Usage = 2,
     /// Memory was wanted, by a step or outside of them.
     NoMemory = 3,
@@ -146,7 +150,8 @@ fn play_input_threads<T: Threads + Wait + Sync, R: Source, W: Sink, G: Gate + Sy
     asked: &Asked<'_>,
     gate: &G,
 ) -> Status
-    requires { asked.now.threads ≡ true }
+    requires threads { asked.now.threads ≡ true }
+    requires no_heap { asked.now.options.tree_heap ≡ None }
     ensures run { IsRun (R.input reader.old) (R.input reader.new) (W.output writer.old) (W.output writer.new)
         (option_copied asked.now.options.only) result }
     ensures gated { IsGatedIfDone (G.passed gate.now) (R.input reader.old) (R.input reader.new)
@@ -158,7 +163,7 @@ fn play_input_threads<T: Threads + Wait + Sync, R: Source, W: Sink, G: Gate + Sy
 
 /// Judges the words of the command line, of which the first is the program's name, and then does what they say. What is
 /// written is the same with threads and without. The gate is told of each step where threads are asked for, and of none
-/// else.
+/// else. A heap for the files is for one thread.
 pub fn obey<T: Threads + Wait + Sync, R: Source, W: Sink, G: Gate + Sync>(
     rt: &T,
     alloc: Global,
@@ -173,6 +178,9 @@ pub fn obey<T: Threads + Wait + Sync, R: Source, W: Sink, G: Gate + Sync>(
         (R.input reader.old) (R.input reader.new) (name_in (map string_bytes words.now)) result }
 {
     match options_of(alloc, words) {
+        Ok(asked) if asked.threads && asked.options.tree_heap.is_some() => {
+            tell_text(writer, ONE_THREAD, Status::Usage)
+        }
         Ok(asked) if asked.threads => play_input_threads(rt, alloc, reader, writer, &asked, gate),
         Ok(asked) => play_input(alloc, reader, writer, &asked),
         Err(error) => tell_usage(alloc, writer, error),

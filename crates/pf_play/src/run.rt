@@ -88,7 +88,8 @@ pub fn chosen(script: &Script, name: Option<&str>) -> Result<Option<u32>, NoName
 }
 
 /// Reads a script to its end, runs its steps, and writes the text of the answers. With one name chosen the steps of its
-/// namespace are run alone, over all of the script's frames, and its section alone is written.
+/// namespace are run alone, over all of the script's frames, and its section alone is written. With heaps for the files
+/// each namespace that is run has one of its own.
 ///
 /// All faults but `WriteFault` come before the writer is asked for anything. A read or a write fault comes with the
 /// first call that fails, and nothing is asked after it.
@@ -108,7 +109,7 @@ pub fn replay<R: Source, W: Sink>(
         return Err(ReplayFault::NoSuchName);
     };
     let frames = frames_of(alloc, script.frames(), options.fill)?;
-    let answers = play(alloc, &script, only, frames)?;
+    let answers = play(alloc, &script, only, options.tree_heap, frames)?;
     let nomem = count_nomem(answers.as_slice());
     print(writer, &script, answers.as_slice(), only)?;
     Ok(Replayed { nomem })

@@ -1,4 +1,4 @@
-ghost use Rattle.std.specs.Prelude.{IfOk, IfErr, IsOk, option_copied};
+ghost use Rattle.std.specs.Prelude.{◌≡◌, None, IfOk, IfErr, IsOk, option_copied};
 ghost use Rattle.pf_play.specs.Replays.{IsReplayed, IsFault};
 ghost use Rattle.pf_play.specs.Workers.{IsGated};
 
@@ -16,7 +16,8 @@ use std::thread::Threads;
 ///
 /// The gate is told of each step just before it is made, with the namespace's number in the script and the step's place
 /// among the namespace's own, while no lock is held; and of each frame before it is taken. A thread that can't be started
-/// counts as a growth of memory that was refused.
+/// counts as a growth of memory that was refused. The files stand in the global allocator's memory: a heap of
+/// `Options::tree_heap` is for one thread.
 pub fn replay_threads<T: Threads + Wait + Sync, R: Source, W: Sink, G: Gate + Sync>(
     rt: &T,
     alloc: Global,
@@ -25,6 +26,7 @@ pub fn replay_threads<T: Threads + Wait + Sync, R: Source, W: Sink, G: Gate + Sy
     options: &Options<'_>,
     gate: &G,
 ) -> Result<Replayed, ReplayFault>
+    requires { options.now.tree_heap ≡ None }
     ensures played { IfOk result (λ r. IsReplayed (R.input reader.old) (R.input reader.new)
         (W.output writer.old) (W.output writer.new) (option_copied options.now.only) r.nomem) }
     ensures fault { IfErr result (IsFault (R.input reader.old) (R.input reader.new)

@@ -10,6 +10,7 @@ use std::thread::Threads;
 
 pub(crate) const OPTIONS: Options<'static> = Options {
     only: None,
+    tree_heap: None,
     fill: 165,
 };
 

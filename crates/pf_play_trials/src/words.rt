@@ -1,8 +1,8 @@
-//! The program on words that ask for threads and on words that don't: the same text, and a gate that is told of each
-//! step or of none.
+//! The program on words that ask for threads or heaps and on words that don't: the same text, and a gate that is told of
+//! each step or of none; and on words that aren't taken.
 
 use crate::texts::Compared;
-use pf_play::{Gate, MemoryBytes, Status, obey};
+use pf_play::{Gate, MemoryBytes, obey};
 use std::alloc::{AllocError, Global};
 use std::sync::Wait;
 use std::sync::atomic::{AtomicU64, Ordering};
@@ -50,12 +50,35 @@ const BOTH: &str = "== red
 1: pid 1
 ";
 
-/// Words, the text, and how many steps the gate is told of.
-const ROWS: [(&[&str], &str, u64); 4] = [
-    (&["pfplay"], BOTH, 0),
-    (&["pfplay", "--threads"], BOTH, 3),
-    (&["pfplay", "--only", "red"], RED, 0),
-    (&["pfplay", "--only", "red", "--threads"], RED, 2),
+const ONE_THREAD: &str = "--tree-heap needs one thread
+";
+
+const TOO_SMALL: &str =
+    "error: invalid value '1023' for '--tree-heap <BYTES>': 1023 is not in 1024..=16777216
+
+For more information, try '--help'.
+";
+
+/// Words, the text, the status, and how many steps the gate is told of.
+const ROWS: [(&[&str], &str, u8, u64); 8] = [
+    (&["pfplay"], BOTH, 0, 0),
+    (&["pfplay", "--threads"], BOTH, 0, 3),
+    (&["pfplay", "--only", "red"], RED, 0, 0),
+    (&["pfplay", "--only", "red", "--threads"], RED, 0, 2),
+    (&["pfplay", "--tree-heap", "16777216"], BOTH, 0, 0),
+    (&["pfplay", "--tree-heap=1024", "--only", "red"], RED, 0, 0),
+    (
+        &["pfplay", "--tree-heap", "1023", "--threads"],
+        TOO_SMALL,
+        2,
+        0,
+    ),
+    (
+        &["pfplay", "--tree-heap", "4096", "--threads"],
+        ONE_THREAD,
+        2,
+        0,
+    ),
 ];
 
 fn words_of(alloc: Global, texts: &[&str]) -> Result<Vec<String>, AllocError> {
@@ -66,32 +89,32 @@ fn words_of(alloc: Global, texts: &[&str]) -> Result<Vec<String>, AllocError> {
     Ok(words)
 }
 
-/// How many steps the gate is told of, where all is done and the text is this one.
+/// The status, and how many steps the gate is told of, where the text is this one.
 fn told<T: Threads + Wait + Sync>(
     rt: &T,
     alloc: Global,
     words: &[String],
     text: &'static str,
-) -> Option<u64> {
+) -> Option<(u8, u64)> {
     let gate = Counter {
         steps: AtomicU64::new(0),
     };
     let mut reader = MemoryBytes::new(SCRIPT.as_bytes());
     let mut writer = Compared::new(text.as_bytes());
     let status = obey(rt, alloc, words, &mut reader, &mut writer, &gate);
-    if !matches!(status, Status::Done) || !writer.is_whole() {
+    if !writer.is_whole() {
         return None;
     }
-    Some(gate.steps.load(Ordering::SeqCst))
+    Some((status as u8, gate.steps.load(Ordering::SeqCst)))
 }
 
 #[test]
-fn threads_where_the_words_ask_for_them(rt: HostRuntime) -> Result<(), Fail> {
-    for (texts, text, steps) in ROWS {
+fn threads_and_heaps_where_the_words_ask_for_them(rt: HostRuntime) -> Result<(), Fail> {
+    for (texts, text, status, steps) in ROWS {
         let words = words_of(rt.alloc(), texts)?;
         assert_eq!(rt;
             told(&rt, rt.alloc(), words.as_slice(), text),
-            Some(steps),
+            Some((status, steps)),
             "{texts:?}"
         );
     }

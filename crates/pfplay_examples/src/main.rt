@@ -21,6 +21,7 @@ fn plays(alloc: Global, script: &str, text: &str) -> bool {
     let mut writer = Collected::new(alloc);
     let options = Options {
         only: None,
+        tree_heap: None,
         fill: 165,
     };
     replay(alloc, &mut reader, &mut writer, &options).is_ok()

@@ -26,7 +26,11 @@ fn is_told<R: Source>(
     text: &str,
 ) -> Result<bool, AllocError> {
     let mut writer = Collected::new(alloc);
-    let options = Options { only: None, fill };
+    let options = Options {
+        only: None,
+        tree_heap: None,
+        fill,
+    };
     match replay(alloc, reader, &mut writer, &options) {
         Ok(replayed) => Ok(replayed.nomem == 0 && writer.as_slice() == text.as_bytes()),
         Err(ReplayFault::Script(refusal)) => {

@@ -14,6 +14,9 @@ use std::alloc::{AllocError, Global};
 /// The bytes that all frames hold at the start, which no answer may depend on.
 const FILLS: [u8; 3] = [0, 165, 255];
 
+/// What the replayer's frames hold at the start, and the bytes of the heaps for the files.
+const WAYS: [(u8, Option<u32>); 4] = [(0, None), (165, None), (255, None), (165, Some(16_777_216))];
+
 /// How many letters of an answer are shown.
 const SHOWN: usize = 60;
 
@@ -171,11 +174,16 @@ fn is_written(alloc: Global, script: &str, options: &Options<'_>, text: &str) ->
     writer.as_slice() == text.as_bytes() && written.as_slice() == text.as_bytes()
 }
 
-/// Has the replayer write a table's text, or with a name that namespace's section, over frames of each kind.
+/// Has the replayer write a table's text, or with a name that namespace's section, over frames of each kind, and with heaps
+/// for the files.
 fn write(alloc: Global, table: &Table, only: Option<&str>) -> Result<(), Flaw> {
     let (script, text) = (table.script()?, table.text(only)?);
-    for fill in FILLS {
-        let options = Options { only, fill };
+    for (fill, tree_heap) in WAYS {
+        let options = Options {
+            only,
+            tree_heap,
+            fill,
+        };
         if !is_written(alloc, script.as_str(), &options, text.as_str()) {
             return Err(Flaw::Text(table.number, fill));
         }

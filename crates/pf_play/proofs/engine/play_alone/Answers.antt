@@ -1,18 +1,22 @@
-use Rattle.std.proofs.Common.{◌≡◌, ℕ, ◌+◌, [], ◌∷◌, ◌++◌, take, ap, sym, ◌∙◌}
+use Rattle.std.proofs.Common.{◌≡◌, ℕ, ◌+◌, [], ◌∷◌, ◌++◌, length, take, ap, sym, ◌∙◌}
 use Rattle.std.proofs.lemmas.List.{take_more}
 use Rattle.pf_base.specs.declared.step.Step.{Step}
+use Rattle.pf_hub.specs.Opening.{limits_of, new_hub}
 use Rattle.pf_play.proofs.EngineLaws.{went_on, went_by, opens, alone, take_all}
 use Rattle.pf_play.proofs.engine.play_alone.Goals as goal
 use Rattle.pf_play.proofs.engine.play_alone.Goals.{then-event-ns+in_ok-push, else-event-ns}
 
 pub loop-event-init : goal.loop-event-init
-loop-event-init c = (c.config.result, c.config.ensures.limits, opens _ _ _ _ _ c.in_ok-hub.ensures c.in_ok-answers.ensures.items)
+loop-event-init g c =
+    let one = c.push_reserved.ensures.items ∙ ap (λ xs. xs ++ (c.config.result, c.args.tree) ∷ []) c.in_ok-configs.ensures.items in
+    let opened = c.in_ok-hub.ensures.opened ∙ ap (λ xs. new_hub (limits_of xs) (length c.args.frames.items)) one in
+    (c.config.result, c.config.ensures.limits, opens _ _ _ _ _ opened c.in_ok-answers.ensures.items)
 
 pub step-requires : goal.step-requires
-step-requires c = record { exists = c.loop-event.invariant.2.exists }
+step-requires g c = record { exists = c.loop-event.invariant.2.exists }
 
 pub loop-event-preserved : goal.loop-event-preserved
-loop-event-preserved c =
+loop-event-preserved g c =
     let e = c.event-item.result in
     let limits = c.loop-event.invariant.0 in
     let went = c.loop-event.invariant.2 in
@@ -34,7 +38,7 @@ loop-event-preserved c =
     ]
 
 pub returns : goal.returns
-returns c =
+returns g c =
     let all = take_all c.steps-event-items.result.now c.loop-event-test.false in
     let went = rw (all, c.steps-event-items.ensures.steps) at c.loop-event.invariant.2 in
     alone c.args.script.now c.loop-event.invariant.0 c.args.ns c.loop-event.answers.items c.loop-event.hub.world went

@@ -1,6 +1,6 @@
 use Rattle.std.proofs.Common.{rules, ◌≡◌, [], ◌∷◌}
 use Rattle.pf_worker.specs.Workers.{new_worker}
-use Rattle.pf_play.proofs.WorkLaws.{one_opened}
+use Rattle.pf_play.proofs.WorkLaws.{one_opened, alone_worked}
 use Rattle.pf_play.proofs.threads.play_alone.Goals as goal
 
 pub work_all-requires-after_bounds : goal.work_all-requires-after_bounds
@@ -9,3 +9,10 @@ work_all-requires-after_bounds g c κs within =
     = search rules in
     one_opened c.args.script.now c.args.alloc c.args.ns c.config-config.result c.in_ok-workers.workers.items
     c.config-config.ensures.limits workers
+
+pub returns-clause-played : goal.returns-clause-played
+returns-clause-played g c =
+    let workers : c.in_ok-workers.workers.items ≡ new_worker c.args.ns (c.config-config.result, c.args.alloc) ∷ []
+    = search rules in
+    (alone_worked (g.G.Gate.passed c.args.gate.now) c.args.script.now (new_worker c.args.ns (c.config-config.result, c.args.alloc)) c.in_ok-workers.workers.items (λ v. v.items) c.in_ok-own.own.items c.pop.new.self.items c.pop.result c.unwrap.result
+    workers c.in_ok-own.ensures c.pop.ensures.items c.unwrap.ensures).0
