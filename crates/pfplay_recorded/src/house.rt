@@ -1,0 +1,100 @@
+use crate::flaw::Flaw;
+use pf_base::{Answer, Step};
+use pf_hub::Hub;
+use pf_play::frames_of;
+use pf_script::Script;
+use std::alloc::Global;
+
+/// A hub of two namespaces, 0 and 1: a tenant, and a neighbour that makes the steps of a script of its own.
+#[derive(Drop)]
+pub(crate) struct House<'a> {
+    hub: Hub<Global>,
+    tenant: u32,
+    neighbour: u32,
+    /// The neighbour's steps.
+    load: &'a [(u32, Step)],
+    /// How many of them were made.
+    made: usize,
+}
+
+/// A hub of these scripts' namespaces, over frames that hold this byte throughout.
+fn hub_of(alloc: Global, scripts: [&Script; 2], fill: u8) -> Result<Hub<Global>, Flaw> {
+    let mut count = 0u32;
+    let mut configs = Vec::new(alloc);
+    for script in scripts {
+        count = count.saturating_add(script.frames());
+        for config in &script.configs(alloc)? {
+            configs.push((*config, alloc))?;
+        }
+    }
+    let frames = frames_of(alloc, count, fill)?;
+    Hub::new(alloc, frames, configs).map_err(Flaw::NoHub)
+}
+
+impl<'a> House<'a> {
+    /// A hub where the tenant comes first.
+    pub(crate) fn before(
+        alloc: Global,
+        tenant: &Script,
+        neighbour: &'a Script,
+        fill: u8,
+    ) -> Result<Self, Flaw> {
+        Ok(House {
+            hub: hub_of(alloc, [tenant, neighbour], fill)?,
+            tenant: 0,
+            neighbour: 1,
+            load: neighbour.steps(),
+            made: 0,
+        })
+    }
+
+    /// A hub where the neighbour comes first.
+    pub(crate) fn behind(
+        alloc: Global,
+        tenant: &Script,
+        neighbour: &'a Script,
+        fill: u8,
+    ) -> Result<Self, Flaw> {
+        Ok(House {
+            hub: hub_of(alloc, [neighbour, tenant], fill)?,
+            tenant: 1,
+            neighbour: 0,
+            load: neighbour.steps(),
+            made: 0,
+        })
+    }
+
+    /// A step of the namespace with this number.
+    fn step(&mut self, ns: u32, step: &Step) -> Result<Answer, Flaw> {
+        if ns as usize >= self.hub.namespaces() {
+            return Err(Flaw::NoNamespace);
+        }
+        Ok(self.hub.step(ns, step))
+    }
+
+    /// The neighbour's next step, if it has one left.
+    fn step_of_neighbour(&mut self) -> Result<(), Flaw> {
+        let (load, neighbour) = (self.load, self.neighbour);
+        if let Some((_, step)) = load.get(self.made) {
+            let _ = self.step(neighbour, step)?;
+            self.made = self.made.saturating_add(1);
+        }
+        Ok(())
+    }
+
+    /// All steps of the neighbour. Then it begins anew.
+    pub(crate) fn load_whole(&mut self) -> Result<(), Flaw> {
+        for _ in 0..self.load.len() {
+            self.step_of_neighbour()?;
+        }
+        self.made = 0;
+        Ok(())
+    }
+
+    /// A step of the tenant, behind one of the neighbour's.
+    pub(crate) fn tell(&mut self, step: &Step) -> Result<Answer, Flaw> {
+        self.step_of_neighbour()?;
+        let tenant = self.tenant;
+        self.step(tenant, step)
+    }
+}
