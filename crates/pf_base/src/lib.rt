@@ -1,6 +1,7 @@
 //! The types that every crate speaks of, and, in `specs/`, the definitions that they are compared with.
 #![tactic(auto)]
 
+pub mod admission;
 pub mod bytes;
 pub mod capacity;
 pub mod config;
@@ -13,6 +14,7 @@ pub mod permissions;
 pub mod progress;
 pub mod step;
 
+pub use admission::{AdmitFault, EventAnswer, RetireFault};
 pub use bytes::{ByteRoom, ByteString};
 pub use capacity::{LimitFault, pages_for};
 pub use config::{Config, ConfigFault};
@@ -36,6 +38,9 @@ pub const BYTES_IN_PLACE: usize = 14;
 
 /// How many namespaces there may be at once (this profile's limit).
 pub const MAX_NAMESPACES: usize = 64;
+
+/// How many numbers of namespaces may ever be given (this profile's limit): 0 to 1,023, in rising order, each once.
+pub const MAX_NUMBERS: usize = 1_024;
 
 /// How many frames a pool may have (this profile's limit).
 pub const MAX_FRAMES: usize = 65_536;
