@@ -1,3 +1,4 @@
+pub mod Admission
 pub mod AllLoans
 pub mod Book
 pub mod Depot

@@ -3,15 +3,18 @@ ghost use Rattle.std.specs.List.{sum_by};
 ghost use Rattle.pf_base.specs.declared.TheConstants.{MAX_NAMESPACES};
 ghost use Rattle.pf_frame.specs.Faults.{fault_of, IsFault};
 ghost use Rattle.pf_frame.specs.Live.{Takes, Releases};
+ghost use Rattle.pf_depot.specs.Admission.{admit_fault, IsAdmitFault};
 ghost use Rattle.pf_depot.specs.AllLoans.{held_of, reserved_of};
-ghost use Rattle.pf_depot.specs.Book.{books_of, opening_books, Lends};
-ghost use Rattle.pf_depot.specs.Depot.{free_of, frames_of};
+ghost use Rattle.pf_depot.specs.Book.{books_of, opening_books, Lends, Admits, Retires, IsUndealt};
+ghost use Rattle.pf_depot.specs.Depot.{free_of, frames_of, slack_of};
 ghost use Rattle.pf_depot.specs.Loans.{loans_live};
 
 use crate::allotment::Allotment;
 use crate::depot::Depot;
 use crate::lender::Lender;
 use crate::loans::Loans;
+use crate::stock::Stock;
+use pf_base::{AdmitFault, MAX_NAMESPACES, MAX_NUMBERS};
 use pf_frame::{Frame, FrameNo, PoolFault};
 use std::alloc::{AllocError, Global};
 use std::marker::Model;
@@ -25,48 +28,74 @@ use std::sync::ledger::{Blank, Book, Ledger, Share};
 /// one. Each free frame is there for a credit, or is reserved for nobody, so whoever has a credit finds one. As that is
 /// true of every value, it is true whenever the lock around one is free.
 ///
+/// Namespaces come and go: one that comes is dealt a part of each ledger, and gives it back when it goes. A number is
+/// given once.
+///
 /// A contract sees the numbers alone.
 #[derive(Drop)]
 pub struct DepotBook<C: Ledger, H: Ledger> {
     depot: Depot,
     credits: Book<C>,
     held: Book<H>,
-    // How many frames are reserved for nobody: all but the reservations.
-    slack: u32,
+    // What is left of the ledgers: a part of each for each namespace that may still come.
+    undealt_credits: Share<C>,
+    undealt_held: Share<H>,
+    // How many namespaces live.
+    living: u32,
+    // How many numbers of namespaces are given.
+    given: u32,
 }
 
 impl<C: Ledger, H: Ledger> Model for DepotBook<C, H> {
-    ghost use Rattle.std.specs.Prelude.{◌≡◌, ◌+◌};
-    ghost use Rattle.pf_depot.specs.Book.{Books, books_of};
-    ghost use Rattle.pf_depot.specs.Depot.{free_of, frames_of};
+    ghost use Rattle.std.specs.Prelude.{◌≡◌, ◌+◌, ◌≤◌};
+    ghost use Rattle.pf_base.specs.declared.TheConstants.{MAX_NAMESPACES, MAX_NUMBERS};
+    ghost use Rattle.pf_depot.specs.Book.{Books, books_of, IsUndealt};
+    ghost use Rattle.pf_depot.specs.Depot.{free_of, frames_of, slack_of};
 
     ghost Value = { Books };
 
-    ghost view = { λ b. books_of b.depot b.slack b.credits.total b.held.total };
+    ghost view = { λ b. books_of b.depot b.credits.total b.held.total b.living b.given };
 
     ghost invariant = { λ b. (free_of b.depot + b.held.total ≡ frames_of b.depot)
-        × (free_of b.depot ≡ b.credits.total + b.slack) };
+        × (free_of b.depot ≡ b.credits.total + slack_of b.depot)
+        × IsUndealt C.parts b.undealt_credits.parts b.undealt_credits.amount b.living
+        × IsUndealt H.parts b.undealt_held.parts b.undealt_held.amount b.living
+        × (b.living ≤ MAX_NAMESPACES) × (b.given ≤ MAX_NUMBERS) };
 }
 
 impl<C: Ledger, H: Ledger> DepotBook<C, H> {
-    /// A depot with its books, and how many of its frames are reserved for nobody.
-    pub fn new(depot: Depot, credits: Book<C>, held: Book<H>, slack: u32) -> DepotBook<C, H>
+    /// A depot with its books, and what is left of the ledgers. So many namespaces live, and have the first numbers.
+    pub fn new(
+        depot: Depot,
+        credits: Book<C>,
+        held: Book<H>,
+        undealt_credits: Share<C>,
+        undealt_held: Share<H>,
+        living: u32,
+    ) -> DepotBook<C, H>
         requires counted { free_of depot + held.total ≡ frames_of depot }
-        requires covered { free_of depot ≡ credits.total + slack }
-        ensures { result ≡ books_of depot slack credits.total held.total }
+        requires covered { free_of depot ≡ credits.total + slack_of depot }
+        requires credits { IsUndealt C.parts undealt_credits.parts undealt_credits.amount living }
+        requires held { IsUndealt H.parts undealt_held.parts undealt_held.amount living }
+        requires few { living ≤ MAX_NAMESPACES }
+        ensures { result ≡ books_of depot credits.total held.total living living }
     {
         DepotBook {
             depot,
             credits,
             held,
-            slack,
+            undealt_credits,
+            undealt_held,
+            living,
+            given: living,
         }
     }
 
     /// A depot of these frames, all of them free, and what each namespace begins with, for as many as there are
-    /// reservations, by their places. What is left of the ledgers is dealt to nobody.
+    /// reservations, by their places. What is left of the ledgers is for namespaces that come later.
     ///
-    /// Each ledger has a part for each namespace that there may be. The faults are those of `Depot::new`, in their order.
+    /// Each ledger has a part for each namespace that there may be at once. The faults are those of `Depot::new`, in
+    /// their order.
     pub fn open(
         alloc: Global,
         frames: Vec<Frame>,
@@ -79,7 +108,7 @@ impl<C: Ledger, H: Ledger> DepotBook<C, H> {
         requires parts { (MAX_NAMESPACES ≤ credits.parts) × (MAX_NAMESPACES ≤ held.parts) }
         ensures { MatchResult result
             (λ made. (fault_of (length frames.items) reserves.items ≡ None)
-            × (made.0 ≡ opening_books (length frames.items) (sum reserves.items))
+            × (made.0 ≡ opening_books (length frames.items) (sum reserves.items) (length reserves.items))
             × (map (λ a. reserved_of a.loans) made.1.items ≡ reserves.items))
             (λ fault. IsFault (fault_of (length frames.items) reserves.items) fault) }
     {
@@ -102,23 +131,24 @@ impl<C: Ledger, H: Ledger> DepotBook<C, H> {
     ) -> Result<(DepotBook<C, H>, Vec<Allotment<C, H>>), AllocError>
         requires names { (credits.name ≡ C.name) × (held.name ≡ H.name) }
         requires cut { (credits.parts ≡ C.parts) × (held.parts ≡ H.parts) }
-        requires parts { (length loans.items ≤ credits.parts) × (length loans.items ≤ held.parts) }
+        requires parts { (MAX_NAMESPACES ≤ credits.parts) × (MAX_NAMESPACES ≤ held.parts) }
+        requires few { length loans.items ≤ MAX_NAMESPACES }
         requires free { free_of depot ≡ frames_of depot }
         requires none { sum_by held_of loans.items ≡ 0 }
-        requires reserved { sum_by reserved_of loans.items ≤ free_of depot }
+        requires reserved { slack_of depot + sum_by reserved_of loans.items ≡ free_of depot }
         ensures { IfOk result (λ made.
-            (made.0 ≡ opening_books (free_of depot) (sum_by reserved_of loans.items))
+            (made.0 ≡ opening_books (free_of depot) (sum_by reserved_of loans.items) (length loans.items))
             × (map (λ a. reserved_of a.loans) made.1.items ≡ map reserved_of loans.items)) }
     {
         let (mut unspent, mut credits) = credits.open::<C>();
         let (lent, mut held) = held.open::<H>();
-        let mut slack = depot.free();
+        let living = loans.len() as u32;
         let mut allotments = Vec::with_capacity(alloc, loans.len())?;
         for own in loans {
-            slack -= own.credits();
             allotments.push_reserved(Allotment::deal(own, &mut unspent, &mut credits, &mut held));
         }
-        Ok((DepotBook::new(depot, unspent, lent, slack), allotments))
+        let book = DepotBook::new(depot, unspent, lent, credits, held, living);
+        Ok((book, allotments))
     }
 
     /// How many frames are free. They and those held are all frames, and each is there for a credit or is reserved for
@@ -129,6 +159,61 @@ impl<C: Ledger, H: Ledger> DepotBook<C, H> {
         ensures covered { self.now.free ≡ self.now.credits + self.now.slack }
     {
         self.depot.free()
+    }
+
+    /// What one namespace more begins with, and its number: the least that was never given. Its reservation passes from
+    /// the slack to the credits, and no frame moves.
+    ///
+    /// `TooManyNamespaces` exactly where 64 live or 1,024 numbers are given; then `NoRoom` exactly where the
+    /// reservation is above the slack; then `NoMemory`. At a fault nothing has changed.
+    pub fn admit(&mut self, reserve: u32) -> Result<(u32, Allotment<C, H>), AdmitFault>
+        ensures { MatchResult result
+            (λ made. (admit_fault self.old.living self.old.given self.old.slack reserve ≡ None)
+            × Admits self.old self.new reserve
+            × (made.0 ≡ self.old.given)
+            × (reserved_of made.1.loans ≡ reserve))
+            (λ fault. (self.new ≡ self.old)
+            × IsAdmitFault (admit_fault self.old.living self.old.given self.old.slack reserve) fault) }
+    {
+        if self.living as usize >= MAX_NAMESPACES || self.given as usize >= MAX_NUMBERS {
+            return Err(AdmitFault::TooManyNamespaces);
+        }
+        let loans = self.depot.admit(reserve)?;
+        let number = self.given;
+        self.given += 1;
+        self.living += 1;
+        let allotment = Allotment::deal(
+            loans,
+            &mut self.credits,
+            &mut self.undealt_credits,
+            &mut self.undealt_held,
+        );
+        Ok((number, allotment))
+    }
+
+    /// Takes all that a namespace has which goes: its loans, which hold no frame, its shares, and its stock. The frames
+    /// of the stock are free again, and its reservation passes from the credits to the slack. Its number isn't given
+    /// again.
+    ///
+    /// For each frame that it may take there is a credit or a frame of its stock, and these are all that it holds.
+    pub fn retire(&mut self, loans: Loans, credits: Share<C>, held: Share<H>, stock: Stock)
+        requires none { held_of loans ≡ 0 }
+        requires unspent { credits.amount + stock ≡ reserved_of loans }
+        requires stocked { held.amount ≡ stock }
+        requires parts { (0 < credits.parts) × (0 < held.parts) }
+        ensures { Retires self.old self.new (reserved_of loans) stock }
+    {
+        let mut credits = credits;
+        let mut held = held;
+        let stocked = u64::from(stock.len());
+        self.held.sub(&mut held, stocked);
+        self.credits.add(&mut credits, stocked);
+        self.depot.unstock(stock);
+        self.credits.sub(&mut credits, u64::from(loans.credits()));
+        self.depot.retire(loans);
+        self.undealt_credits.merge(credits);
+        self.undealt_held.merge(held);
+        self.living -= 1;
     }
 
     /// Moves a free frame to a namespace's loans, for one of its credits.

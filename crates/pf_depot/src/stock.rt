@@ -25,7 +25,7 @@ impl Model for Stock {
 }
 
 impl Stock {
-    ghost use Rattle.std.specs.Prelude.{◌≡◌, ◌+◌, ◌<◌, ◌≤◌, ◌↔◌, IfOk, IfSome, IsTrue, IsSome, None};
+    ghost use Rattle.std.specs.Prelude.{◌≡◌, ◌+◌, ◌<◌, ◌≤◌, ◌↔◌, length, IfOk, IfSome, IsTrue, IsSome, None};
     ghost use Rattle.pf_depot.specs.declared.stock.TheConstants.{MOST_STOCKED};
 
     /// No frame, and room for as many as there may be: no later call takes memory.
@@ -65,5 +65,12 @@ impl Stock {
         ensures { self.new ≡ self.old + 1 }
     {
         self.frames.push_reserved(frame);
+    }
+
+    /// All of them.
+    pub(crate) fn into_frames(self) -> Vec<Frame>
+        ensures { length result.items ≡ self }
+    {
+        self.frames
     }
 }
