@@ -6,7 +6,13 @@
 #[cfg(test)]
 mod borrowing;
 #[cfg(test)]
+mod guest;
+#[cfg(test)]
+mod guests;
+#[cfg(test)]
 mod own;
+#[cfg(test)]
+mod passing;
 #[cfg(test)]
 mod shared;
 #[cfg(test)]

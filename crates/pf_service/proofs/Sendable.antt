@@ -37,7 +37,10 @@ module _ (C H : RattleType) (c : Ledger.Ghosts C.Denot) (h : Ledger.Ghosts H.Den
   in_book_send =
       let credits = as_row_send (Book.the_field C c) (book.the_send C c) in
       let held = as_row_send (Book.the_field H h) (book.the_send H h) in
-      declared_send (in_book.the_type C H c h) (depot.the_send, (credits, (held, (search (sendable, crosses) depth 20, tt))))
+      let undealt_credits = as_row_send (Share.the_field C c) (share.the_send C c) in
+      let undealt_held = as_row_send (Share.the_field H h) (share.the_send H h) in
+      let number = search (sendable, crosses) depth 20 in
+      declared_send (in_book.the_type C H c h) (depot.the_send, (credits, (held, (undealt_credits, (undealt_held, (number, (number, tt)))))))
 
   book_send : IsSend (DepotBook.the_row C H c h)
   book_send = view_send (in_book.the_row C H c h) _ _ _ _ in_book_send

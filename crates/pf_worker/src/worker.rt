@@ -172,7 +172,8 @@ pub fn open<A: Allocator + Clone, C: Ledger, H: Ledger>(
     requires parts { (MAX_NAMESPACES ≤ credits.parts) × (MAX_NAMESPACES ≤ held.parts) }
     ensures { MatchResult result
         (λ made. (first_fault (length frames.items) (limits_of configs.items) ≡ None)
-        × (made.0 ≡ opening_books (length frames.items) (sum (map (λ l. l.reserve) (limits_of configs.items))))
+        × (made.0 ≡ opening_books (length frames.items) (sum (map (λ l. l.reserve) (limits_of configs.items)))
+        (length configs.items))
         × (made.1.items ≡ new_workers configs.items))
         (λ fault. IsFault (first_fault (length frames.items) (limits_of configs.items)) fault) }
 {

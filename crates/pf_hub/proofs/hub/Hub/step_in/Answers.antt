@@ -1,5 +1,6 @@
 -- The depot and the loans do as the door says; and the namespace does as it says, beside its allocator.
-use Rattle.std.proofs.Common.{◌∙◌, rules}
+use Rattle.std.proofs.Common.{◌∙◌, ap, rules}
+use Rattle.pf_depot.specs.Depot.{DepotRest}
 use Rattle.pf_hub.proofs.DepotLemmas.{there, placed_here, placed_covered, placed_owned}
 use Rattle.pf_hub.proofs.DepotLemmas.{placed_shared, placed_stepped, placed_same}
 use Rattle.pf_hub.proofs.PlacedLaws.{allocators_same, world_same, allocators_kept}
@@ -28,14 +29,14 @@ invariant_of-self g c =
     placed_shared c.self.inside.spaces.items c.self.invariant c.self.view_is c.requires.exists
     c.index_mut-2.ensures.value c.index_mut.ensures.value
     c.step_over.new.lender c.step_over.new.loans c.step_over.new.placed
-    c.step_over.ensures.rest c.step_over.ensures.spare c.step_over.ensures.reserved c.step_over.ensures.moved
+    (ap (λ (r : DepotRest). r.frames) c.step_over.ensures.rest) c.step_over.ensures.spare c.step_over.ensures.reserved c.step_over.ensures.moved
 
 pub returns-clause-stepped : goal.returns-clause-stepped
 returns-clause-stepped g c =
     placed_stepped c.self.inside.spaces.items c.self.invariant c.self.view_is c.requires.exists
     c.index_mut-2.ensures.value c.index_mut.ensures.value
     c.step_over.new.lender c.step_over.new.loans c.step_over.new.placed
-    c.step_over.ensures.rest c.step_over.ensures.spare c.step_over.ensures.reserved c.step_over.ensures.moved
+    (ap (λ (r : DepotRest). r.frames) c.step_over.ensures.rest) c.step_over.ensures.spare c.step_over.ensures.reserved c.step_over.ensures.moved
 
 pub returns-clause-allocators : goal.returns-clause-allocators
 returns-clause-allocators g c =
