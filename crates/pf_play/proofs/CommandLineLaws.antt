@@ -13,7 +13,7 @@ use Rattle.clap.specs.Kinds.{Kinds, or_else}
 use Rattle.clap.specs.Faults.{check_fault, defaults_fault, entered_fault, settle_fault, step_fault, turn_fault}
 use Rattle.clap.specs.Faults.{word_fault}
 use Rattle.clap.proofs.OnLiterals.{clap_on_literals}
-use Rattle.pf_script.specs.Words.{is_name}
+use Rattle.pf_words.specs.Words.{is_name}
 use Rattle.pf_play.specs.CommandLine.{Asks, ChoosesEachName, is_true, pfplay}
 
 pub simple : is_simple pfplay ≡ true

@@ -10,7 +10,7 @@ use Rattle.clap.specs.Words.{App, Kinds, Rule, Text, fault_of, first_of, one_of,
 use Rattle.clap.specs.declared.builder.action.ArgAction.TheVariants.{SetTrue}
 use Rattle.clap.specs.declared.builder.value_parser.ValueParser.TheVariants.{Unsigned}
 use Rattle.pf_play.specs.declared.engine.TheConstants.{LEAST_TREE_HEAP, MOST_TREE_HEAP}
-use Rattle.pf_script.specs.Words.{is_name}
+use Rattle.pf_words.specs.Words.{is_name}
 
 -- the option `--threads`, which takes no value
 abbrev pub threads_rule : Rule

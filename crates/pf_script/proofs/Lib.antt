@@ -1,7 +1,3 @@
-pub mod CutLaws
-pub mod Digits
-pub mod Numbers
-pub mod Data
 pub mod Lines
 pub mod Readings
 pub mod ScriptNames

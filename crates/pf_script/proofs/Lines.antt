@@ -4,15 +4,16 @@ use Rattle.std.proofs.Common.{◌≡◌, ℕ, ◌+◌, List, [], ◌∷◌, ◌+
 use Rattle.std.proofs.lemmas.List.{append-nil}
 use Rattle.std.specs.Prelude.{Ok, Err}
 use Rattle.memchr.specs.Find.{IsFirstByte, is_byte}
-use Rattle.pf_script.specs.declared.refusal.Cause.{Cause}
+use Rattle.pf_words.specs.declared.cause.Cause.{Cause}
 use Rattle.pf_script.specs.Script.{Draft, line_of, rest_of, lines_from, numbered}
-use Rattle.pf_script.specs.Words.{pieces_of}
+use Rattle.pf_words.specs.Words.{pieces_of}
 use Rattle.pf_script.specs.declared.judge.Judge.{Judge}
 use Rattle.pf_script.specs.Judged.{told, Judges, IsOneLine}
-use Rattle.pf_script.specs.declared.fault.LineFault.{LineFault}
-use Rattle.pf_script.specs.declared.fault.LineFault.TheVariants as faults
-use Rattle.pf_script.specs.Faults.{Fails, Reads, at_line}
-use Rattle.pf_script.proofs.CutLaws.{front_before, some_piece}
+use Rattle.pf_words.specs.declared.fault.LineFault.{LineFault}
+use Rattle.pf_words.specs.declared.fault.LineFault.TheVariants as faults
+use Rattle.pf_words.specs.Faults.{Fails}
+use Rattle.pf_script.specs.Faults.{Reads, at_line}
+use Rattle.pf_words.proofs.CutLaws.{front_before, some_piece}
 
 first_line : (d : Draft) (k : ℕ) (text cs : List ℕ) → lines_from d k (text ∷ pieces_of 10 cs) ≡ numbered k (line_of d text) (λ e. lines_from e (k + 1) (pieces_of 10 cs))
 unfolding lines_from

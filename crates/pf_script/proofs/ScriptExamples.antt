@@ -3,18 +3,18 @@
 use Rattle.std.proofs.Common.{◌≡◌, ℕ, ◌+◌, ◌*◌, ◌^◌, List, [], ◌∷◌, refl, ap, ◌∙◌, arith}
 use Rattle.std.proofs.lemmas.Nat.{ones-le, ones_cat, pow_pos}
 use Rattle.std.specs.Int.Count.{ones_step}
-use Rattle.std.specs.Prelude.{count_ones, ◌==◌, codes, Bool, true, false, not, Some, None, ◌&&◌, if◌then◌else◌, Result, Ok, Err}
+use Rattle.std.specs.Prelude.{count_ones, ◌==◌, codes, Bool, true, false, not, ◌&&◌, if◌then◌else◌, Result, Ok, Err}
 use Rattle.std.specs.Int.{is_power_of_two}
 use Rattle.pf_base.specs.declared.config.ConfigFault.TheVariants.{BadMax}
-use Rattle.pf_script.specs.declared.refusal.Cause.TheVariants as causes
+use Rattle.pf_words.specs.declared.cause.Cause.TheVariants as causes
 use Rattle.pf_script.specs.declared.refusal.Refusal.{Refusal}
-use Rattle.pf_base.specs.declared.step.Step.TheVariants.{Spawn, Exit, Pipe, Close, Read, Write, Open, Resume}
+use Rattle.pf_base.specs.declared.step.Step.TheVariants.{Spawn, Exit, Pipe, Close, Read, Write}
 use Rattle.pf_base.specs.Limits.{Limits}
-use Rattle.pf_script.specs.declared.refusal.Cause.{Cause}
+use Rattle.pf_words.specs.declared.cause.Cause.{Cause}
 use Rattle.pf_script.specs.Script.{Draft, read_script, blank, lines_from, line_of, rest_of, words_line, first_word_line, pool_line, pool_with, space_line, space_words, space_with, limits_with, limits_or_cause, with_limits, numbered, step_line}
-use Rattle.pf_script.specs.Words.{pieces_of, digits_from, bytes_of}
-use Rattle.pf_script.specs.Arguments.{◌>>=◌, flags_with, flags_at, pid_of, descriptor_of, descriptor_with, sized_of, sized_with}
-use Rattle.pf_script.specs.Verbs.{step_words, call_of, process_call, spawn_step, spawn_with, exit_step, resume_step, pipe_step, pipe_with, close_step, read_step, write_step, write_with, file_call, open_step, open_with}
+use Rattle.pf_words.specs.Words.{pieces_of, digits_from}
+use Rattle.pf_words.specs.Arguments.{◌>>=◌, pid_of, descriptor_of, descriptor_with, sized_of, sized_with}
+use Rattle.pf_words.specs.Verbs.{step_words, call_of, process_call, spawn_step, spawn_with, exit_step, pipe_step, pipe_with, close_step, read_step, write_step, write_with}
 use Rattle.hex.specs.Hex.{decode_pairs}
 
 -- an empty script says nothing
@@ -71,45 +71,3 @@ hello_draft = record {
 pub hello : read_script (codes "pool 16\nspace red 16\nred spawn 5 5 022\nred pipe 1\nred write 1 1 68656c6c6f\nred read 1 0 3\nred read 1 0 10\nred close 1 1\nred read 1 0 10\nred exit 1\n") ≡ Ok hello_draft
 unfolding pieces_of lines_from rest_of line_of words_line first_word_line pool_line pool_with space_line space_words space_with limits_with with_limits digits_from step_line step_words call_of process_call spawn_step spawn_with exit_step pid_of pipe_step pipe_with close_step descriptor_of descriptor_with read_step sized_of sized_with write_step write_with decode_pairs
 hello = ap (goes_on 16 (codes "red") 16 (codes "red spawn 5 5 022\nred pipe 1\nred write 1 1 68656c6c6f\nred read 1 0 3\nred read 1 0 10\nred close 1 1\nred read 1 0 10\nred exit 1\n")) power
-
--- a byte so many times, and what is none
-pub three_times : bytes_of (codes "3*61") ≡ Some (codes "aaa")
-unfolding pieces_of digits_from decode_pairs
-three_times = refl
-
-pub no_time : bytes_of (codes "0*61") ≡ None
-unfolding pieces_of digits_from decode_pairs
-no_time = refl
-
-pub leading_zero : bytes_of (codes "03*61") ≡ None
-unfolding pieces_of digits_from decode_pairs
-leading_zero = refl
-
-pub half_a_byte : bytes_of (codes "3*6") ≡ None
-unfolding pieces_of digits_from decode_pairs
-half_a_byte = refl
-
-pub two_stars : bytes_of (codes "3*61*61") ≡ None
-unfolding pieces_of digits_from decode_pairs
-two_stars = refl
-
-pub capitals : bytes_of (codes "4A4b") ≡ Some (codes "JK")
-unfolding pieces_of digits_from decode_pairs
-capitals = refl
-
--- an open for both sides, with O_NONBLOCK, and one whose flags stand in another order
-pub opens_both : step_words (codes "open" ∷ codes "1" ∷ codes "/f" ∷ codes "rwn" ∷ []) ≡ Ok (Open 1 (codes "/f") (flags_with 7))
-unfolding step_words call_of process_call file_call open_step open_with digits_from
-opens_both = refl
-
-pub other_order : step_words (codes "open" ∷ codes "1" ∷ codes "/f" ∷ codes "nr" ∷ []) ≡ Err causes.BadFlags
-unfolding step_words call_of process_call file_call open_step open_with digits_from
-other_order = refl
-
--- O_NONBLOCK alone opens no side
-pub no_side : flags_at (codes "n") ≡ Err causes.BadFlags
-no_side = refl
-
-pub tried_again : step_words (codes "resume" ∷ codes "2" ∷ []) ≡ Ok (Resume 2)
-unfolding step_words call_of process_call resume_step pid_of digits_from
-tried_again = refl

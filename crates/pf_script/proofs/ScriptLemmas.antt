@@ -1,7 +1,7 @@
 -- The first faulty line of a script decides.
 
 use Rattle.std.proofs.Common.{◌≡◌, ℕ, ◌+◌, List, [], ◌∷◌, ◌++◌, length, Ok, Err, refl, arith, ◌∙◌}
-use Rattle.pf_script.specs.declared.refusal.Cause.{Cause}
+use Rattle.pf_words.specs.declared.cause.Cause.{Cause}
 use Rattle.pf_script.specs.Script.{Draft, piece_of, line_of, lines_from, FirstFaultDecides}
 
 -- a piece with a fault ends the fold

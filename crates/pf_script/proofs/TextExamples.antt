@@ -12,7 +12,7 @@ use Rattle.pf_script.proofs.ScriptExamples.{hello_draft}
 use Rattle.hex.specs.Hex.{encode_with}
 use Rattle.std.specs.Fmt.{digits}
 use Rattle.std.specs.Borrow.{Bor}
-use Rattle.pf_script.specs.declared.refusal.Cause.TheVariants as causes
+use Rattle.pf_words.specs.declared.cause.Cause.TheVariants as causes
 use Rattle.pf_script.specs.declared.notice.Notice.TheVariants as notices
 use Rattle.pf_script.specs.Notices.{notice_line}
 

@@ -14,7 +14,7 @@ use Rattle.pf_base.specs.Limits.{Limits}
 use Rattle.pf_script.specs.Script.{Draft}
 use Rattle.memchr.specs.Find.{IsFirstByte, is_byte}
 use Rattle.pf_script.specs.Text.{names_text, line_text, lines_text, answers_of, section, section_at, section_of, sections, chosen}
-use Rattle.pf_script.proofs.CutLaws.{next_of}
+use Rattle.pf_words.proofs.CutLaws.{next_of}
 
 encode_append : (t xs ys : List ℕ) → encode_with t (xs ++ ys) ≡ encode_with t xs ++ encode_with t ys
 unfolding encode_with

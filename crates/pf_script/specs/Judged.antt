@@ -4,7 +4,7 @@ use Rattle.std.specs.Prelude.{ℕ, ◌≡◌, List, [], ◌∷◌, ◌++◌, Opt
 use Rattle.pf_script.specs.declared.refusal.Refusal.{Refusal}
 use Rattle.pf_script.specs.declared.judge.Judge.{Judge}
 use Rattle.pf_script.specs.Script.{Draft, lines_from}
-use Rattle.pf_script.specs.Words.{pieces_of}
+use Rattle.pf_words.specs.Words.{pieces_of}
 
 -- the first fault, or what the lines from number k on say
 abbrev pub told_by : Option Refusal → Draft → ℕ → List ℕ → Result Draft Refusal

@@ -1,6 +1,3 @@
-pub mod Words
-pub mod Arguments
-pub mod Verbs
 pub mod Script
 pub mod Judged
 pub mod Ports

@@ -5,14 +5,14 @@ use Rattle.std.specs.List.{list_any, position_from}
 use Rattle.pf_base.specs.declared.TheConstants.{MAX_NAMESPACES, MAX_FRAMES, MAX_RESERVE}
 use Rattle.pf_base.specs.declared.config.TheConstants.Config.{DEFAULT_SOFT, DEFAULT_HARD, DEFAULT_MAX}
 use Rattle.pf_base.specs.declared.config.ConfigFault.{ConfigFault}
-use Rattle.pf_script.specs.declared.refusal.Cause.{Cause}
-use Rattle.pf_script.specs.declared.refusal.Cause.TheVariants as causes
+use Rattle.pf_words.specs.declared.cause.Cause.{Cause}
+use Rattle.pf_words.specs.declared.cause.Cause.TheVariants as causes
 use Rattle.pf_script.specs.declared.refusal.Refusal.{Refusal}
 use Rattle.pf_base.specs.declared.step.Step.{Step}
 use Rattle.pf_base.specs.Limits.{Limits, config_of}
-use Rattle.pf_script.specs.Words.{pieces_of, words_of, is_name}
-use Rattle.pf_script.specs.Arguments.{◌>>=◌, or_cause, number_at, u32_at}
-use Rattle.pf_script.specs.Verbs.{step_words}
+use Rattle.pf_words.specs.Words.{pieces_of, words_of, is_name}
+use Rattle.pf_words.specs.Arguments.{◌>>=◌, or_cause, number_at, u32_at}
+use Rattle.pf_words.specs.Verbs.{step_words}
 
 -- what lines say. frames: those of the pool line, 0 where there is none;  spaces: each namespace's name and limits;  steps: each with its namespace's number, from 0
 pub record Draft : Type 0 where

@@ -1,18 +1,10 @@
 ghost use Rattle.std.specs.Prelude.{◌≡◌};
 ghost use Rattle.pf_script.specs.Faults.{at_line};
 
-use crate::refusal::{Cause, Refusal};
-use std::alloc::{AllocError, AllocFailed};
+use crate::refusal::Refusal;
+use pf_words::LineFault;
+use std::alloc::AllocError;
 use thiserror::Error;
-
-/// Why a line isn't taken.
-#[derive(Debug, Clone, Copy)]
-pub enum LineFault {
-    /// A growth of memory was refused.
-    NoMemory,
-    /// The line is faulty.
-    Refused(Cause),
-}
 
 /// Why a script isn't read.
 #[derive(Debug, Clone, Copy, Error)]
@@ -28,35 +20,15 @@ pub enum ScriptFault {
     ReadFault,
 }
 
-impl LineFault {
+impl ScriptFault {
     /// The fault of the line with this number.
-    pub fn at(self, line: u64) -> ScriptFault
-        ensures { result ≡ at_line line self }
+    pub fn at(line: u64, fault: LineFault) -> ScriptFault
+        ensures { result ≡ at_line line fault }
     {
-        match self {
+        match fault {
             LineFault::NoMemory => ScriptFault::NoMemory,
             LineFault::Refused(cause) => ScriptFault::Refused(Refusal { line, cause }),
         }
-    }
-}
-
-impl From<AllocError> for LineFault {
-    ghost use Rattle.pf_script.specs.declared.fault.LineFault.TheVariants.{NoMemory};
-
-    ghost from_gives = { λ _ e. e ≡ NoMemory };
-
-    fn from(_: AllocError) -> Self {
-        LineFault::NoMemory
-    }
-}
-
-impl<T: Drop> From<AllocFailed<T>> for LineFault {
-    ghost use Rattle.pf_script.specs.declared.fault.LineFault.TheVariants.{NoMemory};
-
-    ghost from_gives = { λ _ e. e ≡ NoMemory };
-
-    fn from(_: AllocFailed<T>) -> Self {
-        LineFault::NoMemory
     }
 }
 

@@ -3,11 +3,11 @@ ghost use Rattle.pf_script.specs.Script.{blank};
 ghost use Rattle.pf_script.specs.Judged.{told, Judges, IsOneLine};
 ghost use Rattle.pf_script.specs.Faults.{Reads};
 
-use crate::cut::cut_at;
-use crate::fault::{LineFault, ScriptFault};
+use crate::fault::ScriptFault;
 use crate::refusal::Refusal;
 use crate::script::Script;
 use memchr::memchr;
+use pf_words::{LineFault, cut_at};
 use std::alloc::{AllocError, Global};
 
 /// Judges a script's lines one after another, until one is faulty.
@@ -79,7 +79,7 @@ impl Judge {
             return Err(ScriptFault::Refused(refusal));
         }
         if let Err(fault) = self.script.rest(rest) {
-            return Err(fault.at(self.number));
+            return Err(ScriptFault::at(self.number, fault));
         }
         Ok(self.script)
     }

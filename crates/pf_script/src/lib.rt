@@ -3,8 +3,6 @@
 #![tactic(auto)]
 
 mod adapters;
-mod arguments;
-mod cut;
 mod fault;
 mod judge;
 mod memory;
@@ -17,15 +15,14 @@ mod script;
 mod steps;
 mod text;
 mod transcript;
-mod verbs;
-mod words;
 
 pub use adapters::{Reading, Writing};
 pub use fault::ScriptFault;
 pub use memory::{Collected, MemoryBytes};
 pub use notice::{Notice, print_notice};
+pub use pf_words::Cause;
 pub use port::{Failed, INPUT_LIMIT, Sink, Source, WriteFault, write_out};
 pub use read::read_script;
-pub use refusal::{Cause, Refusal};
+pub use refusal::Refusal;
 pub use script::Script;
 pub use transcript::print;

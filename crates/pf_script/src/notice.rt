@@ -1,12 +1,14 @@
 ghost use Rattle.std.specs.Prelude.{OnOk, OnErr};
 ghost use Rattle.pf_script.specs.Ports.{IsWritten, IsCut};
 ghost use Rattle.pf_script.specs.Puts.{Puts};
-ghost use Rattle.pf_script.specs.Notices.{cause_text, refusal_text, notice_text, notice_line};
+ghost use Rattle.pf_words.specs.Causes.{cause_text};
+ghost use Rattle.pf_script.specs.Notices.{refusal_text, notice_text, notice_line};
 
 use crate::port::{Sink, WriteFault};
 use crate::printer::Printer;
-use crate::refusal::{Cause, Refusal};
+use crate::refusal::Refusal;
 use crate::text::put_number;
+use pf_words::Cause;
 
 /// Why there is no text, which a user is told in a line.
 #[derive(Debug, Clone, Copy)]

@@ -5,17 +5,12 @@ ghost use Rattle.pf_script.specs.Script as grammar;
 ghost use Rattle.pf_script.specs.Script.{blank, place_of, reserved, number_or};
 ghost use Rattle.pf_script.specs.Places.{places_of};
 ghost use Rattle.pf_script.specs.Sound.{first_stray};
-ghost use Rattle.pf_script.specs.Faults.{Gives, Moves};
+ghost use Rattle.pf_words.specs.Faults.{Gives, Moves};
 
-use crate::arguments::{number_32, small_number};
-use crate::cut::cut_into;
-use crate::fault::LineFault;
-use crate::refusal::Cause;
 use crate::steps::Steps;
-use crate::verbs::step_of;
-use crate::words::is_name_word;
 use indexmap::IndexMap;
 use pf_base::{Config, MAX_FRAMES, MAX_NAMESPACES, MAX_RESERVE, Step};
+use pf_words::{Cause, LineFault, cut_into, is_name_word, number_32, small_number, step_of};
 use std::alloc::{AllocError, Global};
 use std::marker::Model;
 

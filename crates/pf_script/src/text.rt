@@ -4,12 +4,12 @@ ghost use Rattle.pf_script.specs.Puts.{Puts};
 ghost use Rattle.pf_script.specs.declared.text.TheConstants.{PIECE};
 ghost use Rattle.hex.specs.Hex.{encode_lower};
 
-use crate::cut::cut_at;
 use crate::port::Sink;
 use crate::printer::Printer;
 use itoa::Buffer;
 use memchr::memchr;
 use pf_base::{Answer, Kind, Meta, Mode, Reply};
+use pf_words::cut_at;
 
 /// How many bytes are turned into digits at once.
 const PIECE: usize = 64;

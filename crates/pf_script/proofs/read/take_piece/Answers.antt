@@ -1,4 +1,4 @@
-use Rattle.pf_script.proofs.CutLaws.{whole, joined}
+use Rattle.pf_words.proofs.CutLaws.{whole, joined}
 use Rattle.pf_script.proofs.read.take_piece.Goals as goal
 
 pub returns-in_default-clause-one_line : goal.returns-in_default-clause-one_line

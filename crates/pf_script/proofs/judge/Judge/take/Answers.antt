@@ -1,5 +1,5 @@
 use Rattle.std.proofs.Common.{arith}
-use Rattle.pf_script.proofs.CutLaws.{whole}
+use Rattle.pf_words.proofs.CutLaws.{whole}
 use Rattle.pf_script.proofs.Lines.{judges_on, judges_fault, no_byte}
 use Rattle.pf_script.proofs.judge.Judge.take.Goals as goal
 

@@ -1,0 +1,5 @@
+pub mod CutLaws
+pub mod Digits
+pub mod Numbers
+pub mod Data
+mod WordExamples

@@ -1,0 +1,5 @@
+pub mod Words
+pub mod Arguments
+pub mod Verbs
+pub mod Causes
+pub mod Faults

@@ -1,0 +1,17 @@
+//! The words of a script: how a text is cut, numbers, names and data, and the call that a verb and the words behind it
+//! stand for.
+#![tactic(auto)]
+
+mod arguments;
+mod cause;
+mod cut;
+mod fault;
+mod verbs;
+mod words;
+
+pub use arguments::{number_32, small_number};
+pub use cause::Cause;
+pub use cut::{cut_at, cut_into};
+pub use fault::LineFault;
+pub use verbs::step_of;
+pub use words::is_name_word;
