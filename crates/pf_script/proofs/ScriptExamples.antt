@@ -14,7 +14,7 @@ use Rattle.pf_words.specs.declared.cause.Cause.{Cause}
 use Rattle.pf_script.specs.Script.{Draft, read_script, blank, lines_from, line_of, rest_of, words_line, first_word_line, pool_line, pool_with, space_line, space_words, space_with, limits_with, limits_or_cause, with_limits, numbered, step_line}
 use Rattle.pf_words.specs.Words.{pieces_of, digits_from}
 use Rattle.pf_words.specs.Arguments.{◌>>=◌, pid_of, descriptor_of, descriptor_with, sized_of, sized_with}
-use Rattle.pf_words.specs.Verbs.{step_words, call_of, process_call, spawn_step, spawn_with, exit_step, pipe_step, pipe_with, close_step, read_step, write_step, write_with}
+use Rattle.pf_words.specs.Verbs.{step_words, call_of, crossing_call, process_call, spawn_of, spawn_with, pipe_of, pipe_with, write_of, write_with}
 use Rattle.hex.specs.Hex.{decode_pairs}
 
 -- an empty script says nothing
@@ -69,5 +69,5 @@ hello_draft = record {
 }
 
 pub hello : read_script (codes "pool 16\nspace red 16\nred spawn 5 5 022\nred pipe 1\nred write 1 1 68656c6c6f\nred read 1 0 3\nred read 1 0 10\nred close 1 1\nred read 1 0 10\nred exit 1\n") ≡ Ok hello_draft
-unfolding pieces_of lines_from rest_of line_of words_line first_word_line pool_line pool_with space_line space_words space_with limits_with with_limits digits_from step_line step_words call_of process_call spawn_step spawn_with exit_step pid_of pipe_step pipe_with close_step descriptor_of descriptor_with read_step sized_of sized_with write_step write_with decode_pairs
+unfolding pieces_of lines_from rest_of line_of words_line first_word_line pool_line pool_with space_line space_words space_with limits_with with_limits digits_from step_line step_words call_of crossing_call process_call spawn_of spawn_with pid_of pipe_of pipe_with descriptor_of descriptor_with sized_of sized_with write_of write_with decode_pairs
 hello = ap (goes_on 16 (codes "red") 16 (codes "red spawn 5 5 022\nred pipe 1\nred write 1 1 68656c6c6f\nred read 1 0 3\nred read 1 0 10\nred close 1 1\nred read 1 0 10\nred exit 1\n")) power

@@ -2,4 +2,8 @@ pub mod CutLaws
 pub mod Digits
 pub mod Numbers
 pub mod Data
+pub mod NumberWords
+pub mod JoinLaws
+pub mod DataWords
+pub mod SpellingLaws
 mod WordExamples

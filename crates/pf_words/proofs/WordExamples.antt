@@ -6,7 +6,7 @@ use Rattle.pf_base.specs.declared.step.Step.TheVariants.{Open, Resume}
 use Rattle.pf_words.specs.declared.cause.Cause.TheVariants as causes
 use Rattle.pf_words.specs.Words.{pieces_of, digits_from, bytes_of}
 use Rattle.pf_words.specs.Arguments.{flags_with, flags_at, pid_of}
-use Rattle.pf_words.specs.Verbs.{step_words, call_of, process_call, resume_step, file_call, open_step, open_with}
+use Rattle.pf_words.specs.Verbs.{step_words, call_of, crossing_call, process_call, file_call, open_of, open_with}
 use Rattle.hex.specs.Hex.{decode_pairs}
 
 -- a byte so many times, and what is none
@@ -36,11 +36,11 @@ capitals = refl
 
 -- an open for both sides, with O_NONBLOCK, and one whose flags stand in another order
 pub opens_both : step_words (codes "open" ∷ codes "1" ∷ codes "/f" ∷ codes "rwn" ∷ []) ≡ Ok (Open 1 (codes "/f") (flags_with 7))
-unfolding step_words call_of process_call file_call open_step open_with digits_from
+unfolding step_words call_of crossing_call process_call file_call open_of open_with digits_from
 opens_both = refl
 
 pub other_order : step_words (codes "open" ∷ codes "1" ∷ codes "/f" ∷ codes "nr" ∷ []) ≡ Err causes.BadFlags
-unfolding step_words call_of process_call file_call open_step open_with digits_from
+unfolding step_words call_of crossing_call process_call file_call open_of open_with digits_from
 other_order = refl
 
 -- O_NONBLOCK alone opens no side
@@ -48,5 +48,5 @@ pub no_side : flags_at (codes "n") ≡ Err causes.BadFlags
 no_side = refl
 
 pub tried_again : step_words (codes "resume" ∷ codes "2" ∷ []) ≡ Ok (Resume 2)
-unfolding step_words call_of process_call resume_step pid_of digits_from
+unfolding step_words call_of crossing_call process_call pid_of digits_from
 tried_again = refl

@@ -1,5 +1,6 @@
 pub mod Words
 pub mod Arguments
 pub mod Verbs
+pub mod Spelling
 pub mod Causes
 pub mod Faults

@@ -4,10 +4,13 @@ use Rattle.std.specs.Prelude.{ℕ, List, [], ◌∷◌, codes, bytes_eq, Option,
 use Rattle.pf_words.specs.declared.cause.Cause.{Cause}
 use Rattle.pf_words.specs.declared.cause.Cause.TheVariants as causes
 use Rattle.pf_base.specs.declared.step.Step.{Step}
-use Rattle.pf_base.specs.declared.step.Step.TheVariants.{Spawn, Fork, Exit, Pipe, Dup, Close, Read, Write, Tee, Splice, SetSize, GetSize, SetNonblock, Mkdir, Mkfifo, Open, Unlink, Rmdir, Chmod, Stat, List as ListNames, Resume}
-use Rattle.pf_words.specs.Arguments.{◌>>=◌, u32_at, octal_at, groups_at, flag_at, switch_at, flags_at, bytes_at, pid_of, descriptor_of, sized_of, crossing_of, named_of, moded_of}
+use Rattle.pf_base.specs.declared.step.Step.TheVariants.{Spawn, Fork, Exit, Pipe, Dup, Close, Read, Write, Tee}
+use Rattle.pf_base.specs.declared.step.Step.TheVariants.{Splice, SetSize, GetSize, SetNonblock, Mkdir, Mkfifo, Open}
+use Rattle.pf_base.specs.declared.step.Step.TheVariants.{Unlink, Rmdir, Chmod, Stat, List as ListNames, Resume}
+use Rattle.pf_words.specs.Arguments.{◌>>=◌, u32_at, octal_at, groups_at, flag_at, switch_at, flags_at, bytes_at}
+use Rattle.pf_words.specs.Arguments.{pid_of, descriptor_of, sized_of, crossing_of, named_of, moded_of}
 
--- Processes
+-- Verbs whose words no other verb has
 
 unfoldable pub spawn_with : List ℕ → List ℕ → List ℕ → Option (List ℕ) → Result Step Cause
 spawn_with uid gid umask groups = do
@@ -18,42 +21,22 @@ spawn_with uid gid umask groups = do
   Ok (Spawn u g gs m)
 
 -- spawn UID GID UMASK [GROUP,GROUP,..]
-unfoldable pub spawn_step : List (List ℕ) → Result Step Cause
-spawn_step (uid ∷ gid ∷ umask ∷ []) = spawn_with uid gid umask None
-spawn_step (uid ∷ gid ∷ umask ∷ groups ∷ []) = spawn_with uid gid umask (Some groups)
-spawn_step _ = Err causes.WrongWords
+unfoldable pub spawn_of : List (List ℕ) → Result Step Cause
+spawn_of (uid ∷ gid ∷ umask ∷ []) = spawn_with uid gid umask None
+spawn_of (uid ∷ gid ∷ umask ∷ groups ∷ []) = spawn_with uid gid umask (Some groups)
+spawn_of _ = Err causes.WrongWords
 
--- fork PID
-unfoldable pub fork_step : List (List ℕ) → Result Step Cause
-fork_step words = do
-  p ← pid_of words
-  Ok (Fork p)
+unfoldable pub pipe_with : List ℕ → Option (List ℕ) → Result Step Cause
+pipe_with pid flag = do
+  p ← u32_at pid
+  n ← flag_at flag
+  Ok (Pipe p n)
 
--- exit PID
-unfoldable pub exit_step : List (List ℕ) → Result Step Cause
-exit_step words = do
-  p ← pid_of words
-  Ok (Exit p)
-
--- resume PID
-unfoldable pub resume_step : List (List ℕ) → Result Step Cause
-resume_step words = do
-  p ← pid_of words
-  Ok (Resume p)
-
--- Descriptors
-
--- dup PID FD
-unfoldable pub dup_step : List (List ℕ) → Result Step Cause
-dup_step words = do
-  a ← descriptor_of words
-  Ok (Dup a.pid a.fd)
-
--- close PID FD
-unfoldable pub close_step : List (List ℕ) → Result Step Cause
-close_step words = do
-  a ← descriptor_of words
-  Ok (Close a.pid a.fd)
+-- pipe PID [n]
+unfoldable pub pipe_of : List (List ℕ) → Result Step Cause
+pipe_of (pid ∷ []) = pipe_with pid None
+pipe_of (pid ∷ flag ∷ []) = pipe_with pid (Some flag)
+pipe_of _ = Err causes.WrongWords
 
 unfoldable pub nonblock_with : List ℕ → List ℕ → List ℕ → Result Step Cause
 nonblock_with pid fd switch = do
@@ -63,43 +46,9 @@ nonblock_with pid fd switch = do
   Ok (SetNonblock p d b)
 
 -- nonblock PID FD on|off
-unfoldable pub nonblock_step : List (List ℕ) → Result Step Cause
-nonblock_step (pid ∷ fd ∷ switch ∷ []) = nonblock_with pid fd switch
-nonblock_step _ = Err causes.WrongWords
-
--- Pipes
-
-unfoldable pub pipe_with : List ℕ → Option (List ℕ) → Result Step Cause
-pipe_with pid flag = do
-  p ← u32_at pid
-  n ← flag_at flag
-  Ok (Pipe p n)
-
--- pipe PID [n]
-unfoldable pub pipe_step : List (List ℕ) → Result Step Cause
-pipe_step (pid ∷ []) = pipe_with pid None
-pipe_step (pid ∷ flag ∷ []) = pipe_with pid (Some flag)
-pipe_step _ = Err causes.WrongWords
-
--- setsize PID FD BYTES
-unfoldable pub setsize_step : List (List ℕ) → Result Step Cause
-setsize_step words = do
-  a ← sized_of words
-  Ok (SetSize a.pid a.fd a.n)
-
--- getsize PID FD
-unfoldable pub getsize_step : List (List ℕ) → Result Step Cause
-getsize_step words = do
-  a ← descriptor_of words
-  Ok (GetSize a.pid a.fd)
-
--- Transfers
-
--- read PID FD LEN
-unfoldable pub read_step : List (List ℕ) → Result Step Cause
-read_step words = do
-  a ← sized_of words
-  Ok (Read a.pid a.fd a.n)
+unfoldable pub nonblock_of : List (List ℕ) → Result Step Cause
+nonblock_of (pid ∷ fd ∷ switch ∷ []) = nonblock_with pid fd switch
+nonblock_of _ = Err causes.WrongWords
 
 unfoldable pub write_with : List ℕ → List ℕ → List ℕ → Result Step Cause
 write_with pid fd data_word = do
@@ -109,35 +58,9 @@ write_with pid fd data_word = do
   Ok (Write p d bytes)
 
 -- write PID FD DATA
-unfoldable pub write_step : List (List ℕ) → Result Step Cause
-write_step (pid ∷ fd ∷ data_word ∷ []) = write_with pid fd data_word
-write_step _ = Err causes.WrongWords
-
--- tee PID IN OUT LEN [n]
-unfoldable pub tee_step : List (List ℕ) → Result Step Cause
-tee_step words = do
-  a ← crossing_of words
-  Ok (Tee a.pid a.source a.sink a.n a.nonblock)
-
--- splice PID IN OUT LEN [n]
-unfoldable pub splice_step : List (List ℕ) → Result Step Cause
-splice_step words = do
-  a ← crossing_of words
-  Ok (Splice a.pid a.source a.sink a.n a.nonblock)
-
--- Files
-
--- mkdir PID PATH MODE
-unfoldable pub mkdir_step : List (List ℕ) → Result Step Cause
-mkdir_step words = do
-  a ← moded_of words
-  Ok (Mkdir a.pid a.path a.mode)
-
--- mkfifo PID PATH MODE
-unfoldable pub mkfifo_step : List (List ℕ) → Result Step Cause
-mkfifo_step words = do
-  a ← moded_of words
-  Ok (Mkfifo a.pid a.path a.mode)
+unfoldable pub write_of : List (List ℕ) → Result Step Cause
+write_of (pid ∷ fd ∷ data_word ∷ []) = write_with pid fd data_word
+write_of _ = Err causes.WrongWords
 
 unfoldable pub open_with : List ℕ → List ℕ → List ℕ → Result Step Cause
 open_with pid path flags = do
@@ -146,76 +69,56 @@ open_with pid path flags = do
   Ok (Open p path f)
 
 -- open PID PATH FLAGS
-unfoldable pub open_step : List (List ℕ) → Result Step Cause
-open_step (pid ∷ path ∷ flags ∷ []) = open_with pid path flags
-open_step _ = Err causes.WrongWords
+unfoldable pub open_of : List (List ℕ) → Result Step Cause
+open_of (pid ∷ path ∷ flags ∷ []) = open_with pid path flags
+open_of _ = Err causes.WrongWords
 
--- unlink PID PATH
-unfoldable pub unlink_step : List (List ℕ) → Result Step Cause
-unlink_step words = do
-  a ← named_of words
-  Ok (Unlink a.pid a.path)
+-- The table of verbs: a line has a verb's word, how the words behind it are read, and the step. It is in groups, one
+-- after the other.
 
--- rmdir PID PATH
-unfoldable pub rmdir_step : List (List ℕ) → Result Step Cause
-rmdir_step words = do
-  a ← named_of words
-  Ok (Rmdir a.pid a.path)
-
--- chmod PID PATH MODE
-unfoldable pub chmod_step : List (List ℕ) → Result Step Cause
-chmod_step words = do
-  a ← moded_of words
-  Ok (Chmod a.pid a.path a.mode)
-
--- stat PID PATH
-unfoldable pub stat_step : List (List ℕ) → Result Step Cause
-stat_step words = do
-  a ← named_of words
-  Ok (Stat a.pid a.path)
-
--- list PID PATH
-unfoldable pub list_step : List (List ℕ) → Result Step Cause
-list_step words = do
-  a ← named_of words
-  Ok (ListNames a.pid a.path)
-
--- Verbs, a group of them after the other
+-- the step that is made of what words say
+abbrev pub made : {A : Type 0} → (A → Step) → Result A Cause → Result Step Cause
+made step (Ok said) = Ok (step said)
+made step (Err cause) = Err cause
 
 unfoldable pub file_call : List ℕ → List (List ℕ) → Result Step Cause
 file_call verb words =
-    if bytes_eq verb (codes "mkdir") then mkdir_step words
-    else if bytes_eq verb (codes "mkfifo") then mkfifo_step words
-    else if bytes_eq verb (codes "open") then open_step words
-    else if bytes_eq verb (codes "unlink") then unlink_step words
-    else if bytes_eq verb (codes "rmdir") then rmdir_step words
-    else if bytes_eq verb (codes "chmod") then chmod_step words
-    else if bytes_eq verb (codes "stat") then stat_step words
-    else if bytes_eq verb (codes "list") then list_step words
+    if bytes_eq verb (codes "mkdir") then made (λ a. Mkdir a.pid a.path a.mode) (moded_of words)
+    else if bytes_eq verb (codes "mkfifo") then made (λ a. Mkfifo a.pid a.path a.mode) (moded_of words)
+    else if bytes_eq verb (codes "chmod") then made (λ a. Chmod a.pid a.path a.mode) (moded_of words)
+    else if bytes_eq verb (codes "unlink") then made (λ a. Unlink a.pid a.path) (named_of words)
+    else if bytes_eq verb (codes "rmdir") then made (λ a. Rmdir a.pid a.path) (named_of words)
+    else if bytes_eq verb (codes "stat") then made (λ a. Stat a.pid a.path) (named_of words)
+    else if bytes_eq verb (codes "list") then made (λ a. ListNames a.pid a.path) (named_of words)
+    else if bytes_eq verb (codes "open") then open_of words
     else Err causes.UnknownVerb
 
 unfoldable pub process_call : List ℕ → List (List ℕ) → Result Step Cause
 process_call verb words =
-    if bytes_eq verb (codes "spawn") then spawn_step words
-    else if bytes_eq verb (codes "fork") then fork_step words
-    else if bytes_eq verb (codes "exit") then exit_step words
-    else if bytes_eq verb (codes "resume") then resume_step words
-    else if bytes_eq verb (codes "dup") then dup_step words
-    else if bytes_eq verb (codes "nonblock") then nonblock_step words
+    if bytes_eq verb (codes "spawn") then spawn_of words
+    else if bytes_eq verb (codes "fork") then made (λ p. Fork p) (pid_of words)
+    else if bytes_eq verb (codes "exit") then made (λ p. Exit p) (pid_of words)
+    else if bytes_eq verb (codes "resume") then made (λ p. Resume p) (pid_of words)
     else file_call verb words
+
+unfoldable pub crossing_call : List ℕ → List (List ℕ) → Result Step Cause
+crossing_call verb words =
+    if bytes_eq verb (codes "tee") then made (λ c. Tee c.pid c.source c.sink c.n c.nonblock) (crossing_of words)
+    else if bytes_eq verb (codes "splice") then made (λ c. Splice c.pid c.source c.sink c.n c.nonblock) (crossing_of words)
+    else process_call verb words
 
 -- the call that a verb and its words stand for
 unfoldable pub call_of : List ℕ → List (List ℕ) → Result Step Cause
 call_of verb words =
-    if bytes_eq verb (codes "write") then write_step words
-    else if bytes_eq verb (codes "read") then read_step words
-    else if bytes_eq verb (codes "tee") then tee_step words
-    else if bytes_eq verb (codes "splice") then splice_step words
-    else if bytes_eq verb (codes "pipe") then pipe_step words
-    else if bytes_eq verb (codes "close") then close_step words
-    else if bytes_eq verb (codes "setsize") then setsize_step words
-    else if bytes_eq verb (codes "getsize") then getsize_step words
-    else process_call verb words
+    if bytes_eq verb (codes "write") then write_of words
+    else if bytes_eq verb (codes "read") then made (λ a. Read a.pid a.fd a.n) (sized_of words)
+    else if bytes_eq verb (codes "pipe") then pipe_of words
+    else if bytes_eq verb (codes "close") then made (λ a. Close a.pid a.fd) (descriptor_of words)
+    else if bytes_eq verb (codes "dup") then made (λ a. Dup a.pid a.fd) (descriptor_of words)
+    else if bytes_eq verb (codes "setsize") then made (λ a. SetSize a.pid a.fd a.n) (sized_of words)
+    else if bytes_eq verb (codes "getsize") then made (λ a. GetSize a.pid a.fd) (descriptor_of words)
+    else if bytes_eq verb (codes "nonblock") then nonblock_of words
+    else crossing_call verb words
 
 -- the words behind a namespace's name
 unfoldable pub step_words : List (List ℕ) → Result Step Cause

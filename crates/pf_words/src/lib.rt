@@ -6,6 +6,7 @@ mod arguments;
 mod cause;
 mod cut;
 mod fault;
+mod spelling;
 mod verbs;
 mod words;
 
@@ -13,5 +14,6 @@ pub use arguments::{number_32, small_number};
 pub use cause::Cause;
 pub use cut::{cut_at, cut_into};
 pub use fault::LineFault;
+pub use spelling::each_step_is_read;
 pub use verbs::step_of;
 pub use words::is_name_word;

@@ -3,8 +3,8 @@ ghost use Rattle.pf_words.specs.Verbs;
 ghost use Rattle.pf_words.specs.Faults.{Gives};
 
 use crate::arguments::{
-    Moded, Named, bits, crossing_of, descriptor_of, flag, groups, moded_of, named_of, number_32,
-    open_flags, path_of, pid_of, sized_of, switch,
+    Crossing, Descriptor, Moded, Named, Sized, bits, crossing_of, descriptor_of, flag, groups,
+    moded_of, named_of, number_32, open_flags, path_of, pid_of, sized_of, switch,
 };
 use crate::cause::Cause;
 use crate::fault::LineFault;
@@ -12,7 +12,7 @@ use crate::words::data_of;
 use pf_base::Step;
 use std::alloc::Global;
 
-// Processes
+// Verbs whose words no other verb has
 
 #[tactic(auto, unfolding(crate::specs::Verbs::spawn_with))]
 fn spawn_with(
@@ -37,9 +37,9 @@ fn spawn_with(
 }
 
 /// spawn UID GID UMASK [GROUP,GROUP,..].
-#[tactic(auto, unfolding(crate::specs::Verbs::spawn_step))]
-fn spawn_step(alloc: Global, words: &[&[u8]]) -> Result<Step, LineFault>
-    ensures { Gives result (Verbs.spawn_step (map (λ w. w.now) words.now)) }
+#[tactic(auto, unfolding(crate::specs::Verbs::spawn_of))]
+fn spawn_of(alloc: Global, words: &[&[u8]]) -> Result<Step, LineFault>
+    ensures { Gives result (Verbs.spawn_of (map (λ w. w.now) words.now)) }
 {
     match words {
         [uid, gid, umask] => spawn_with(alloc, uid, gid, umask, None),
@@ -48,57 +48,25 @@ fn spawn_step(alloc: Global, words: &[&[u8]]) -> Result<Step, LineFault>
     }
 }
 
-/// fork PID.
-#[tactic(auto, unfolding(crate::specs::Verbs::fork_step))]
-fn fork_step(words: &[&[u8]]) -> Result<Step, LineFault>
-    ensures { Gives result (Verbs.fork_step (map (λ w. w.now) words.now)) }
+#[tactic(auto, unfolding(crate::specs::Verbs::pipe_with))]
+fn pipe_with(pid: &[u8], flag_word: Option<&[u8]>) -> Result<Step, LineFault>
+    ensures { Gives result (Verbs.pipe_with pid.now (option_copied flag_word.entry)) }
 {
-    let pid = pid_of(words)?;
-    Ok(Step::Fork { pid })
+    let pid = number_32(pid)?;
+    let nonblock = flag(flag_word)?;
+    Ok(Step::Pipe { pid, nonblock })
 }
 
-/// exit PID.
-#[tactic(auto, unfolding(crate::specs::Verbs::exit_step))]
-fn exit_step(words: &[&[u8]]) -> Result<Step, LineFault>
-    ensures { Gives result (Verbs.exit_step (map (λ w. w.now) words.now)) }
+/// pipe PID [n].
+#[tactic(auto, unfolding(crate::specs::Verbs::pipe_of))]
+fn pipe_of(words: &[&[u8]]) -> Result<Step, LineFault>
+    ensures { Gives result (Verbs.pipe_of (map (λ w. w.now) words.now)) }
 {
-    let pid = pid_of(words)?;
-    Ok(Step::Exit { pid })
-}
-
-/// resume PID.
-#[tactic(auto, unfolding(crate::specs::Verbs::resume_step))]
-fn resume_step(words: &[&[u8]]) -> Result<Step, LineFault>
-    ensures { Gives result (Verbs.resume_step (map (λ w. w.now) words.now)) }
-{
-    let pid = pid_of(words)?;
-    Ok(Step::Resume { pid })
-}
-
-// Descriptors
-
-/// dup PID FD.
-#[tactic(auto, unfolding(crate::specs::Verbs::dup_step))]
-fn dup_step(words: &[&[u8]]) -> Result<Step, LineFault>
-    ensures { Gives result (Verbs.dup_step (map (λ w. w.now) words.now)) }
-{
-    let given = descriptor_of(words)?;
-    Ok(Step::Dup {
-        pid: given.pid,
-        fd: given.fd,
-    })
-}
-
-/// close PID FD.
-#[tactic(auto, unfolding(crate::specs::Verbs::close_step))]
-fn close_step(words: &[&[u8]]) -> Result<Step, LineFault>
-    ensures { Gives result (Verbs.close_step (map (λ w. w.now) words.now)) }
-{
-    let given = descriptor_of(words)?;
-    Ok(Step::Close {
-        pid: given.pid,
-        fd: given.fd,
-    })
+    match words {
+        [pid] => pipe_with(pid, None),
+        [pid, flag] => pipe_with(pid, Some(flag)),
+        _ => Err(LineFault::Refused(Cause::WrongWords)),
+    }
 }
 
 #[tactic(auto, unfolding(crate::specs::Verbs::nonblock_with))]
@@ -112,77 +80,14 @@ fn nonblock_with(pid: &[u8], fd: &[u8], word: &[u8]) -> Result<Step, LineFault>
 }
 
 /// nonblock PID FD on|off.
-#[tactic(auto, unfolding(crate::specs::Verbs::nonblock_step))]
-fn nonblock_step(words: &[&[u8]]) -> Result<Step, LineFault>
-    ensures { Gives result (Verbs.nonblock_step (map (λ w. w.now) words.now)) }
+#[tactic(auto, unfolding(crate::specs::Verbs::nonblock_of))]
+fn nonblock_of(words: &[&[u8]]) -> Result<Step, LineFault>
+    ensures { Gives result (Verbs.nonblock_of (map (λ w. w.now) words.now)) }
 {
     match words {
         [pid, fd, word] => nonblock_with(pid, fd, word),
         _ => Err(LineFault::Refused(Cause::WrongWords)),
     }
-}
-
-// Pipes
-
-#[tactic(auto, unfolding(crate::specs::Verbs::pipe_with))]
-fn pipe_with(pid: &[u8], flag_word: Option<&[u8]>) -> Result<Step, LineFault>
-    ensures { Gives result (Verbs.pipe_with pid.now (option_copied flag_word.entry)) }
-{
-    let pid = number_32(pid)?;
-    let nonblock = flag(flag_word)?;
-    Ok(Step::Pipe { pid, nonblock })
-}
-
-/// pipe PID [n].
-#[tactic(auto, unfolding(crate::specs::Verbs::pipe_step))]
-fn pipe_step(words: &[&[u8]]) -> Result<Step, LineFault>
-    ensures { Gives result (Verbs.pipe_step (map (λ w. w.now) words.now)) }
-{
-    match words {
-        [pid] => pipe_with(pid, None),
-        [pid, flag] => pipe_with(pid, Some(flag)),
-        _ => Err(LineFault::Refused(Cause::WrongWords)),
-    }
-}
-
-/// setsize PID FD BYTES.
-#[tactic(auto, unfolding(crate::specs::Verbs::setsize_step))]
-fn setsize_step(words: &[&[u8]]) -> Result<Step, LineFault>
-    ensures { Gives result (Verbs.setsize_step (map (λ w. w.now) words.now)) }
-{
-    let given = sized_of(words)?;
-    Ok(Step::SetSize {
-        pid: given.pid,
-        fd: given.fd,
-        bytes: given.n,
-    })
-}
-
-/// getsize PID FD.
-#[tactic(auto, unfolding(crate::specs::Verbs::getsize_step))]
-fn getsize_step(words: &[&[u8]]) -> Result<Step, LineFault>
-    ensures { Gives result (Verbs.getsize_step (map (λ w. w.now) words.now)) }
-{
-    let given = descriptor_of(words)?;
-    Ok(Step::GetSize {
-        pid: given.pid,
-        fd: given.fd,
-    })
-}
-
-// Transfers
-
-/// read PID FD LEN.
-#[tactic(auto, unfolding(crate::specs::Verbs::read_step))]
-fn read_step(words: &[&[u8]]) -> Result<Step, LineFault>
-    ensures { Gives result (Verbs.read_step (map (λ w. w.now) words.now)) }
-{
-    let given = sized_of(words)?;
-    Ok(Step::Read {
-        pid: given.pid,
-        fd: given.fd,
-        n: given.n,
-    })
 }
 
 #[tactic(auto, unfolding(crate::specs::Verbs::write_with))]
@@ -196,64 +101,14 @@ fn write_with(alloc: Global, pid: &[u8], fd: &[u8], word: &[u8]) -> Result<Step,
 }
 
 /// write PID FD DATA.
-#[tactic(auto, unfolding(crate::specs::Verbs::write_step))]
-fn write_step(alloc: Global, words: &[&[u8]]) -> Result<Step, LineFault>
-    ensures { Gives result (Verbs.write_step (map (λ w. w.now) words.now)) }
+#[tactic(auto, unfolding(crate::specs::Verbs::write_of))]
+fn write_of(alloc: Global, words: &[&[u8]]) -> Result<Step, LineFault>
+    ensures { Gives result (Verbs.write_of (map (λ w. w.now) words.now)) }
 {
     match words {
         [pid, fd, word] => write_with(alloc, pid, fd, word),
         _ => Err(LineFault::Refused(Cause::WrongWords)),
     }
-}
-
-/// tee PID IN OUT LEN [n].
-#[tactic(auto, unfolding(crate::specs::Verbs::tee_step))]
-fn tee_step(words: &[&[u8]]) -> Result<Step, LineFault>
-    ensures { Gives result (Verbs.tee_step (map (λ w. w.now) words.now)) }
-{
-    let given = crossing_of(words)?;
-    Ok(Step::Tee {
-        pid: given.pid,
-        source: given.source,
-        sink: given.sink,
-        n: given.n,
-        nonblock: given.nonblock,
-    })
-}
-
-/// splice PID IN OUT LEN [n].
-#[tactic(auto, unfolding(crate::specs::Verbs::splice_step))]
-fn splice_step(words: &[&[u8]]) -> Result<Step, LineFault>
-    ensures { Gives result (Verbs.splice_step (map (λ w. w.now) words.now)) }
-{
-    let given = crossing_of(words)?;
-    Ok(Step::Splice {
-        pid: given.pid,
-        source: given.source,
-        sink: given.sink,
-        n: given.n,
-        nonblock: given.nonblock,
-    })
-}
-
-// Files
-
-/// mkdir PID PATH MODE.
-#[tactic(auto, unfolding(crate::specs::Verbs::mkdir_step))]
-fn mkdir_step(alloc: Global, words: &[&[u8]]) -> Result<Step, LineFault>
-    ensures { Gives result (Verbs.mkdir_step (map (λ w. w.now) words.now)) }
-{
-    let Moded { pid, path, mode } = moded_of(alloc, words)?;
-    Ok(Step::Mkdir { pid, path, mode })
-}
-
-/// mkfifo PID PATH MODE.
-#[tactic(auto, unfolding(crate::specs::Verbs::mkfifo_step))]
-fn mkfifo_step(alloc: Global, words: &[&[u8]]) -> Result<Step, LineFault>
-    ensures { Gives result (Verbs.mkfifo_step (map (λ w. w.now) words.now)) }
-{
-    let Moded { pid, path, mode } = moded_of(alloc, words)?;
-    Ok(Step::Mkfifo { pid, path, mode })
 }
 
 #[tactic(auto, unfolding(crate::specs::Verbs::open_with))]
@@ -267,9 +122,9 @@ fn open_with(alloc: Global, pid: &[u8], path: &[u8], word: &[u8]) -> Result<Step
 }
 
 /// open PID PATH FLAGS.
-#[tactic(auto, unfolding(crate::specs::Verbs::open_step))]
-fn open_step(alloc: Global, words: &[&[u8]]) -> Result<Step, LineFault>
-    ensures { Gives result (Verbs.open_step (map (λ w. w.now) words.now)) }
+#[tactic(auto, unfolding(crate::specs::Verbs::open_of))]
+fn open_of(alloc: Global, words: &[&[u8]]) -> Result<Step, LineFault>
+    ensures { Gives result (Verbs.open_of (map (λ w. w.now) words.now)) }
 {
     match words {
         [pid, path, word] => open_with(alloc, pid, path, word),
@@ -277,50 +132,8 @@ fn open_step(alloc: Global, words: &[&[u8]]) -> Result<Step, LineFault>
     }
 }
 
-/// unlink PID PATH.
-#[tactic(auto, unfolding(crate::specs::Verbs::unlink_step))]
-fn unlink_step(alloc: Global, words: &[&[u8]]) -> Result<Step, LineFault>
-    ensures { Gives result (Verbs.unlink_step (map (λ w. w.now) words.now)) }
-{
-    let Named { pid, path } = named_of(alloc, words)?;
-    Ok(Step::Unlink { pid, path })
-}
-
-/// rmdir PID PATH.
-#[tactic(auto, unfolding(crate::specs::Verbs::rmdir_step))]
-fn rmdir_step(alloc: Global, words: &[&[u8]]) -> Result<Step, LineFault>
-    ensures { Gives result (Verbs.rmdir_step (map (λ w. w.now) words.now)) }
-{
-    let Named { pid, path } = named_of(alloc, words)?;
-    Ok(Step::Rmdir { pid, path })
-}
-
-/// chmod PID PATH MODE.
-#[tactic(auto, unfolding(crate::specs::Verbs::chmod_step))]
-fn chmod_step(alloc: Global, words: &[&[u8]]) -> Result<Step, LineFault>
-    ensures { Gives result (Verbs.chmod_step (map (λ w. w.now) words.now)) }
-{
-    let Moded { pid, path, mode } = moded_of(alloc, words)?;
-    Ok(Step::Chmod { pid, path, mode })
-}
-
-/// stat PID PATH.
-#[tactic(auto, unfolding(crate::specs::Verbs::stat_step))]
-fn stat_step(alloc: Global, words: &[&[u8]]) -> Result<Step, LineFault>
-    ensures { Gives result (Verbs.stat_step (map (λ w. w.now) words.now)) }
-{
-    let Named { pid, path } = named_of(alloc, words)?;
-    Ok(Step::Stat { pid, path })
-}
-
-/// list PID PATH.
-#[tactic(auto, unfolding(crate::specs::Verbs::list_step))]
-fn list_step(alloc: Global, words: &[&[u8]]) -> Result<Step, LineFault>
-    ensures { Gives result (Verbs.list_step (map (λ w. w.now) words.now)) }
-{
-    let Named { pid, path } = named_of(alloc, words)?;
-    Ok(Step::List { pid, path })
-}
+// The table of verbs: an arm has a verb's word, how the words behind it are read, and the step. It is in groups, one
+// after the other.
 
 /// The call on a file that a verb and its words stand for.
 #[tactic(auto, unfolding(crate::specs::Verbs::file_call))]
@@ -328,45 +141,91 @@ fn file_call(alloc: Global, verb: &[u8], words: &[&[u8]]) -> Result<Step, LineFa
     ensures { Gives result (Verbs.file_call verb.now (map (λ w. w.now) words.now)) }
 {
     if verb == b"mkdir".as_slice() {
-        mkdir_step(alloc, words)
+        let Moded { pid, path, mode } = moded_of(alloc, words)?;
+        Ok(Step::Mkdir { pid, path, mode })
     } else if verb == b"mkfifo".as_slice() {
-        mkfifo_step(alloc, words)
-    } else if verb == b"open".as_slice() {
-        open_step(alloc, words)
-    } else if verb == b"unlink".as_slice() {
-        unlink_step(alloc, words)
-    } else if verb == b"rmdir".as_slice() {
-        rmdir_step(alloc, words)
+        let Moded { pid, path, mode } = moded_of(alloc, words)?;
+        Ok(Step::Mkfifo { pid, path, mode })
     } else if verb == b"chmod".as_slice() {
-        chmod_step(alloc, words)
+        let Moded { pid, path, mode } = moded_of(alloc, words)?;
+        Ok(Step::Chmod { pid, path, mode })
+    } else if verb == b"unlink".as_slice() {
+        let Named { pid, path } = named_of(alloc, words)?;
+        Ok(Step::Unlink { pid, path })
+    } else if verb == b"rmdir".as_slice() {
+        let Named { pid, path } = named_of(alloc, words)?;
+        Ok(Step::Rmdir { pid, path })
     } else if verb == b"stat".as_slice() {
-        stat_step(alloc, words)
+        let Named { pid, path } = named_of(alloc, words)?;
+        Ok(Step::Stat { pid, path })
     } else if verb == b"list".as_slice() {
-        list_step(alloc, words)
+        let Named { pid, path } = named_of(alloc, words)?;
+        Ok(Step::List { pid, path })
+    } else if verb == b"open".as_slice() {
+        open_of(alloc, words)
     } else {
         Err(LineFault::Refused(Cause::UnknownVerb))
     }
 }
 
-/// The call of a process or on its descriptors that a verb and its words stand for, or one on a file.
+/// The call of a process, or one on a file.
 #[tactic(auto, unfolding(crate::specs::Verbs::process_call))]
 fn process_call(alloc: Global, verb: &[u8], words: &[&[u8]]) -> Result<Step, LineFault>
     ensures { Gives result (Verbs.process_call verb.now (map (λ w. w.now) words.now)) }
 {
     if verb == b"spawn".as_slice() {
-        spawn_step(alloc, words)
+        spawn_of(alloc, words)
     } else if verb == b"fork".as_slice() {
-        fork_step(words)
+        let pid = pid_of(words)?;
+        Ok(Step::Fork { pid })
     } else if verb == b"exit".as_slice() {
-        exit_step(words)
+        let pid = pid_of(words)?;
+        Ok(Step::Exit { pid })
     } else if verb == b"resume".as_slice() {
-        resume_step(words)
-    } else if verb == b"dup".as_slice() {
-        dup_step(words)
-    } else if verb == b"nonblock".as_slice() {
-        nonblock_step(words)
+        let pid = pid_of(words)?;
+        Ok(Step::Resume { pid })
     } else {
         file_call(alloc, verb, words)
+    }
+}
+
+/// The call on two pipes, or one of another kind.
+#[tactic(auto, unfolding(crate::specs::Verbs::crossing_call))]
+fn crossing_call(alloc: Global, verb: &[u8], words: &[&[u8]]) -> Result<Step, LineFault>
+    ensures { Gives result (Verbs.crossing_call verb.now (map (λ w. w.now) words.now)) }
+{
+    if verb == b"tee".as_slice() {
+        let Crossing {
+            pid,
+            source,
+            sink,
+            n,
+            nonblock,
+        } = crossing_of(words)?;
+        Ok(Step::Tee {
+            pid,
+            source,
+            sink,
+            n,
+            nonblock,
+        })
+    } else if verb == b"splice".as_slice() {
+        let Crossing {
+            pid,
+            source,
+            sink,
+            n,
+            nonblock,
+        } = crossing_of(words)?;
+        Ok(Step::Splice {
+            pid,
+            source,
+            sink,
+            n,
+            nonblock,
+        })
+    } else {
+        process_call(alloc, verb, words)
     }
 }
 
@@ -376,23 +235,28 @@ fn call_of(alloc: Global, verb: &[u8], words: &[&[u8]]) -> Result<Step, LineFaul
     ensures { Gives result (Verbs.call_of verb.now (map (λ w. w.now) words.now)) }
 {
     if verb == b"write".as_slice() {
-        write_step(alloc, words)
+        write_of(alloc, words)
     } else if verb == b"read".as_slice() {
-        read_step(words)
-    } else if verb == b"tee".as_slice() {
-        tee_step(words)
-    } else if verb == b"splice".as_slice() {
-        splice_step(words)
+        let Sized { pid, fd, n } = sized_of(words)?;
+        Ok(Step::Read { pid, fd, n })
     } else if verb == b"pipe".as_slice() {
-        pipe_step(words)
+        pipe_of(words)
     } else if verb == b"close".as_slice() {
-        close_step(words)
+        let Descriptor { pid, fd } = descriptor_of(words)?;
+        Ok(Step::Close { pid, fd })
+    } else if verb == b"dup".as_slice() {
+        let Descriptor { pid, fd } = descriptor_of(words)?;
+        Ok(Step::Dup { pid, fd })
     } else if verb == b"setsize".as_slice() {
-        setsize_step(words)
+        let Sized { pid, fd, n: bytes } = sized_of(words)?;
+        Ok(Step::SetSize { pid, fd, bytes })
     } else if verb == b"getsize".as_slice() {
-        getsize_step(words)
+        let Descriptor { pid, fd } = descriptor_of(words)?;
+        Ok(Step::GetSize { pid, fd })
+    } else if verb == b"nonblock".as_slice() {
+        nonblock_of(words)
     } else {
-        process_call(alloc, verb, words)
+        crossing_call(alloc, verb, words)
     }
 }
 
