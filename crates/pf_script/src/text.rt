@@ -1,4 +1,4 @@
-ghost use Rattle.std.specs.Prelude.{◌≡◌, ◌≤◌, [], decimal, length};
+ghost use Rattle.std.specs.Prelude.{◌≡◌, ◌≤◌, ◌<◌, [], decimal, length};
 ghost use Rattle.pf_script.specs.Text.{hex_text, octal_text, kind_text, number_of_names, names_text, meta_text, reply_text, answer_text, line_text, header};
 ghost use Rattle.pf_script.specs.Puts.{Puts};
 ghost use Rattle.pf_script.specs.declared.text.TheConstants.{PIECE};
@@ -40,12 +40,25 @@ fn put_digits<W: Sink>(out: &mut Printer, writer: &mut W, bytes: &[u8])
     put_piece(out, writer, rest)
 }
 
+/// Puts a number of one digit.
+fn put_digit<W: Sink>(out: &mut Printer, writer: &mut W, n: u64)
+    requires { n < 10 }
+    ensures { Puts (W.output writer.old) out.old (W.output writer.new) out.new (decimal n) }
+{
+    out.put(writer, &[b'0' + n as u8]);
+}
+
 /// Puts a number in decimal.
 pub fn put_number<W: Sink>(out: &mut Printer, writer: &mut W, n: u64)
     ensures { Puts (W.output writer.old) out.old (W.output writer.new) out.new (decimal n) }
 {
-    let mut buffer = Buffer::new();
-    out.put(writer, buffer.format(n).as_bytes());
+    // Most numbers have one digit.
+    if n < 10 {
+        put_digit(out, writer, n);
+    } else {
+        let mut buffer = Buffer::new();
+        out.put(writer, buffer.format(n).as_bytes());
+    }
 }
 
 /// Puts bytes in digits, or `-` for none.
