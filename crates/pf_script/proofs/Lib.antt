@@ -7,5 +7,6 @@ pub mod Streams
 pub mod PrinterPut
 pub mod Texts
 pub mod ScriptLemmas
+pub mod StepLineLaws
 mod ScriptExamples
 mod TextExamples

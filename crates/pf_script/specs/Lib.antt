@@ -1,4 +1,5 @@
 pub mod Script
+pub mod StepLines
 pub mod Judged
 pub mod Ports
 pub mod Faults

@@ -5,6 +5,7 @@
 mod adapters;
 mod fault;
 mod judge;
+mod laws;
 mod memory;
 mod notice;
 mod port;
@@ -18,11 +19,12 @@ mod transcript;
 
 pub use adapters::{Reading, Writing};
 pub use fault::ScriptFault;
+pub use laws::each_step_has_a_line;
 pub use memory::{Collected, MemoryBytes};
 pub use notice::{Notice, print_notice};
 pub use pf_words::Cause;
 pub use port::{Failed, INPUT_LIMIT, Sink, Source, WriteFault, write_out};
 pub use read::read_script;
-pub use refusal::Refusal;
+pub use refusal::{Refusal, first_fault_decides};
 pub use script::Script;
 pub use transcript::print;
