@@ -1,0 +1,51 @@
+//! A call that waits.
+
+use crate::pool::{pages, reserve};
+use crate::trouble::Trouble;
+use pf_base::{Answer, ByteString, Groups, Step};
+use pf_hub::Hub;
+use std::alloc::Global;
+
+/// What a reader is told whose pipe is empty, once it is resumed too early, and once bytes are there.
+pub(crate) fn waits(alloc: Global) -> Result<[Answer; 3], Trouble> {
+    let limits = vec![in alloc; (reserve(16)?, alloc)]?;
+    let mut hub = Hub::new(alloc, pages(alloc, 16)?, limits)?;
+    let (red, groups) = (0, Groups::new(Vec::new(alloc)));
+    hub.step(
+        red,
+        &Step::Spawn {
+            uid: 5,
+            gid: 5,
+            groups,
+            umask: 0o022,
+        },
+    );
+    hub.step(
+        red,
+        &Step::Pipe {
+            pid: 1,
+            nonblock: false,
+        },
+    );
+    hub.step(red, &Step::Fork { pid: 1 });
+    let parked = hub.step(
+        red,
+        &Step::Read {
+            pid: 1,
+            fd: 0,
+            n: 100,
+        },
+    );
+    let still = hub.step(red, &Step::Resume { pid: 1 });
+    let payload = ByteString::from_slice(alloc, b"hello")?;
+    hub.step(
+        red,
+        &Step::Write {
+            pid: 2,
+            fd: 1,
+            payload,
+        },
+    );
+    let told = hub.step(red, &Step::Resume { pid: 1 });
+    Ok([parked, still, told])
+}
