@@ -7,7 +7,8 @@ use crate::PAGE_SIZE;
 use crate::errno::Errno;
 use thiserror::Error;
 
-/// Why a pipe may not have so many pages (pipe(7), "/proc files").
+/// Why a pipe may not have so many pages (pipe(7), "/proc files"). What a process is told depends on its call (ENFILE,
+/// ENOMEM or EPERM) besides.
 #[derive(Clone, Copy, Debug, PartialEq, Eq, Error)]
 pub enum LimitFault {
     /// Its owner's pages would pass pipe-user-pages-hard.

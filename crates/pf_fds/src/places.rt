@@ -18,7 +18,7 @@ pub const PLACES: usize = 256;
 #[derive(Drop)]
 pub struct Places<T> {
     values: Vec<Option<T>>,
-    // The numbers that have a value.
+    // The numbers that have a value, as bits: the lowest free one is found without a walk over all places.
     taken: Marks,
 }
 

@@ -20,7 +20,8 @@ pub struct Key {
 /// Why a value was not inserted. It is handed back, and nothing changed.
 #[derive(Debug, Drop)]
 pub enum InsertFault<T> {
-    /// Every number is drawn: the last one is 2^64 - 2.
+    /// Every number is drawn. The last one is 2^64 - 2, since how many are drawn is told in 64 bits: it comes exactly
+    /// where 2^64 - 1 are drawn.
     Spent(T),
     /// Memory has run out.
     NoMemory(T),
@@ -42,9 +43,11 @@ struct Entry<T> {
 pub struct Registry<T> {
     slab: Slab<Entry<T>>,
     drawn: u64,
-    // How many more values are sure to fit.
+    // How many more values are sure to fit. It is kept, and isn't the slab's capacity less its values: the slab's contract
+    // doesn't say that a refused growth keeps the capacity.
     room: usize,
-    // The key whose value was taken out, while its slot is the slab's next.
+    // The key whose value was taken out, while its slot is the slab's next: `put_back` asks for that very key, or one that
+    // was removed long ago could be given a value again.
     out: Option<Key>,
 }
 

@@ -6,6 +6,7 @@ use pf_base::PAGE_SIZE;
 use std::alloc::{AllocError, Global};
 
 /// One page of bytes, on the heap: moving a frame moves a pointer, and never its bytes.
+// It has no Model: with one, a vector of frames would be a list of lists, and nothing would say that each is a whole page.
 #[derive(Drop)]
 pub struct Frame {
     bytes: Vec<u8>,

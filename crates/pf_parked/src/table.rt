@@ -12,7 +12,8 @@ use std::marker::Model;
 /// The calls in which the processes of a namespace wait: at most one for each pid from 1 to 256. Each call of the table
 /// takes constant time, and none but `new` takes memory.
 ///
-/// A contract sees the call of each process, that of pid 1 first.
+/// A contract sees the call of each process, that of pid 1 first. What names a description is a parameter: the table
+/// doesn't know how one is found.
 #[derive(Drop)]
 pub struct ParkedTable<D> {
     calls: Vec<Option<Call<D>>>,

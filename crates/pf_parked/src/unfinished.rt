@@ -6,6 +6,7 @@ use std::marker::Model;
 /// A write of which some bytes went in, or none yet. Each call takes constant time and no memory.
 ///
 /// A contract sees all bytes of the write, and how many of them went in.
+// All bytes are kept, as the machine's definition has it: the rest is never moved.
 #[derive(Debug, PartialEq, Eq, Drop)]
 pub struct UnfinishedWrite {
     bytes: ByteString,

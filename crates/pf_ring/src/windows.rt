@@ -199,6 +199,7 @@ pub fn move_onto<F: Frames>(
 
 /// Moves bytes from the front of the first window onto the end of a vector that has room for them: as many as it has, but
 /// at most so many. Where these are all, it goes, and its frame is released.
+// A take passes each slot once. A copy of all bytes and then a discard of them costs a small read some 20 instructions more.
 #[inline(always)]
 fn move_front_onto<F: Frames>(
     windows: &mut VecDeque<Window>,

@@ -65,7 +65,8 @@ pub struct Tables<A: Allocator> {
     pipes: Registry<Pipe>,
     // The pipe of each FIFO that somebody has open, by the FIFO's number.
     fifos: HashMap<u64, Key>,
-    // The files, which are all that stands in memory of A, and how many were ever made besides the root.
+    // The files, which are all that stands in memory of A, and how many were ever made besides the root: the count stands
+    // beside the tree, since a file's number must never come back.
     files: FileTree<A>,
     files_made: u64,
 }

@@ -12,6 +12,8 @@ use pf_base::{Errno, Fault, MAX_NAME, MAX_PATH};
 use std::alloc::{AllocError, Global};
 
 /// A path, cut at its slashes. Slashes that meet are as one.
+// The names stand in a vector, so each step on files may want memory, Unlink and Stat too: a walk without it would look
+// each name up from the root again.
 #[derive(Debug, Drop)]
 pub struct Words<'a> {
     /// The components in their order, as parts of the path's bytes: each has 1 to 255 bytes, none of them a slash.

@@ -85,7 +85,8 @@ impl<A: Allocator> Tables<A> {
         if i >= MAX_PROCESSES {
             return Err(Errno::EAGAIN.into());
         }
-        // What may be refused comes first.
+        // What may be refused comes first. All descriptions are named before the child stands, which is put down with all of
+        // its descriptors at once: so what is said of this call is said of one loop over counts.
         let cred = parent.cred.copy(alloc)?;
         let descriptors = parent.descriptors.copy(alloc)?;
         name_all(&mut self.descriptions, &descriptors);

@@ -146,6 +146,8 @@ impl<A: Allocator> Tables<A> {
 
     /// Brings at most n bytes from the front of the pipe that one descriptor of a process reads to the end of the pipe that
     /// another one writes: a copy of them, or the bytes themselves.
+    // A tee and a splice differ in what the source holds afterwards, and in nothing else. No count of a frame passes 32 bits:
+    // a frame is named by at most as many slots as all pipes have, which are within the reservation, at most 65,536.
     // Inlined, it makes a write and a read slower by a third.
     #[inline(never)]
     pub fn cross_now<F: Frames>(
