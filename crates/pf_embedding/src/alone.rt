@@ -6,7 +6,7 @@ use pf_frame::Frame;
 use pf_hub::{Hub, RunFault};
 use std::alloc::Global;
 
-/// What a process of the first of two tenants is told that makes a pipe.
+/// What a process of the first of two tenants is told that makes a pipe and reads of it.
 pub(crate) fn hello(alloc: Global) -> Result<Result<Vec<Answer>, RunFault>, Trouble> {
     let mut frames = Vec::new(alloc); // the pool: 32 pages, with whatever bytes
     for _ in 0..32 {
@@ -26,16 +26,18 @@ pub(crate) fn hello(alloc: Global) -> Result<Result<Vec<Answer>, RunFault>, Trou
         groups: Groups::new(Vec::new(alloc)),
         umask: 0o022,
     };
-    let events = vec![in alloc;
-        (0, spawn),
-        (
-            0,
-            Step::Pipe {
-                pid: 1,
-                nonblock: false
-            }
-        ),
-    ]?;
-    let answers = hub.run(&events); // Ok: Done(Pid(1)), Done(Fds(0, 1))
+    let (pipe, read) = (
+        Step::Pipe {
+            pid: 1,
+            nonblock: false,
+        },
+        Step::Read {
+            pid: 1,
+            fd: 0,
+            n: 5,
+        },
+    );
+    let events = vec![in alloc; (0, spawn), (0, pipe), (0, read)]?;
+    let answers = hub.run(&events); // Ok: Done(Pid(1)), Done(Fds(0, 1)), Done(Parked)
     Ok(answers)
 }
