@@ -8,6 +8,7 @@ pub mod EventLaws
 pub mod FileLaws
 pub mod HoldsLaws
 pub mod ReplyLaws
+pub mod HouseLaws
 pub mod FileLimitLaws
 mod WorkedQueues
 mod WorkedPages
@@ -18,3 +19,4 @@ mod WorkedPaths
 mod WorkedSharing
 mod WorkedWaiting
 mod WorkedScript
+mod WorkedHouses

@@ -21,3 +21,4 @@ pub mod Machine
 pub mod Replies
 pub mod Runs
 pub mod Events
+pub mod Houses

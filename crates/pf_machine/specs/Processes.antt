@@ -4,7 +4,7 @@ use Rattle.std.specs.Prelude.{ℕ, ◌+◌, nat_le, not, None, Result, Ok}
 use Rattle.pf_machine.specs.Refusals.{◌>>◌, refuse_if}
 use Rattle.pf_machine.specs.Queue.{Queue}
 use Rattle.pf_base.specs.Credentials.{is_valid}
-use Rattle.pf_machine.specs.Numbered.{first_free}
+use Rattle.pf_machine.specs.Numbered.{first_free, sum_of}
 use Rattle.pf_machine.specs.State.{State, Process, Outcome, vacant, with_process, without_process, told, done}
 use Rattle.pf_base.specs.declared.TheConstants.{MAX_PROCESSES, MAX_DESCRIPTORS}
 use Rattle.pf_base.specs.declared.cred.Cred.{Cred}
@@ -31,3 +31,7 @@ fork s p = born s p
 -- the process goes, and with it its parked call and its descriptors
 abbrev pub exit : State Queue → ℕ → Result Outcome Errno
 exit s pid = Ok (done (without_process s pid) 0)
+
+-- how many processes live, also those that wait in a call
+abbrev pub alive : {Q : Type 0} → State Q → ℕ
+alive s = sum_of (λ p. 1) s.processes
