@@ -20,8 +20,10 @@ pub struct Placed<A: Allocator> {
 impl<A: Allocator> Placed<A> {
     ghost use Rattle.std.specs.Prelude.{◌≡◌, ◌≤◌};
     ghost use Rattle.pf_machine.specs.Machine.{call_of};
+    ghost use Rattle.pf_machine.specs.Processes.{alive};
     ghost use Rattle.pf_machine.specs.Replies.{most_of, written_in};
     ghost use Rattle.pf_tables.specs.Bounds.{Covers};
+    ghost use Rattle.pf_tables.specs.Held.{HoldsNone};
 
     /// A number of bytes that the vector of a step's reply is no longer than, as `Space::reply_bound` says.
     pub fn reply_bound(&self, step: &Step) -> usize
@@ -29,6 +31,14 @@ impl<A: Allocator> Placed<A> {
         ensures most { result ≤ most_of step.now }
     {
         self.space.reply_bound(step)
+    }
+
+    /// How many processes live, as `Space::processes` says.
+    pub fn processes(&self) -> u32
+        ensures number { result ≡ alive self.now.space.state }
+        ensures none { result ≡ 0 → HoldsNone self.now.space }
+    {
+        self.space.processes()
     }
 
     /// How many bytes of its write went in before a process waited, as `Space::parked_written` says.

@@ -32,6 +32,7 @@ pub mod RowsShown
 mod TablesSettled
 mod Transfers
 mod ProcessTableEmpty
+mod ProcessesAlive
 mod Parked
 mod TransfersWhole
 mod FileTree

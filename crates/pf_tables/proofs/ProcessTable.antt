@@ -1,15 +1,15 @@
 -- How the processes and their calls, seen as one list, go through looking up and changing.
 
-use Rattle.std.proofs.Common.{◌≡◌, Bor, true, false, option_copied, is_some, is_none, ℕ, zero, suc, ◌+◌, ◌-◌, ◌<◌, ◌≤◌, List, [], ◌∷◌, length, set, subst, Option, Some, None, Ok, Err, IsOk, refl, sym, ap, ◌∙◌, inl, inr, arith}
+use Rattle.std.proofs.Common.{◌≡◌, Bor, true, false, option_copied, is_some, is_none, ℕ, zero, suc, ◌+◌, ◌-◌, ◌<◌, ◌≤◌, List, [], ◌∷◌, length, set, take, subst, Option, Some, None, Ok, Err, IsOk, refl, sym, ap, ◌∙◌, inl, inr, arith}
 use Rattle.std.specs.Option.{option_map, option_and_then}
 use Rattle.std.proofs.lemmas.Bool.{cases_eq}
-use Rattle.std.proofs.lemmas.List.{length-set, set-set}
-use Rattle.pf_machine.specs.Numbered.{at, put_at, clear_at, change_at, first_free}
+use Rattle.std.proofs.lemmas.List.{length-set, set-set, take_more, take_all}
+use Rattle.pf_machine.specs.Numbered.{at, put_at, clear_at, change_at, first_free, weight, sum_of}
 use Rattle.pf_machine.specs.Refusals.{◌>>=◌, or_refuse}
 use Rattle.pf_machine.specs.State.{vacant}
 use Rattle.pf_base.specs.declared.TheConstants.{MAX_PROCESSES, MAX_DESCRIPTORS}
 use Rattle.pf_base.specs.declared.errno.Errno.TheVariants.{ESRCH, EBUSY}
-use Rattle.pf_machine.proofs.NumberedLaws.{at-put_same, at-put_other, at_within, same_at}
+use Rattle.pf_machine.proofs.NumberedLaws.{at-put_same, at-put_other, at_within, same_at, sum_of-push}
 use Rattle.pf_parked.specs.Parked.{call_at, without_call}
 use Rattle.pf_parked.specs.declared.call.Call.TheVariants.{Open, Read, Write, Cross}
 use Rattle.pf_tables.specs.Rows.{HasSpare, HasLowest, Key, Call, Process, ProcessRows, seated, idle, seated_rows, IsSeated, process_at, process_in, awake, ready_in, call_in, Lives, IsAwake, MayWait, over, woken, with_call, key_at, with_key, with_keys, without_key}
@@ -206,6 +206,26 @@ module _ (ps : List (Option Stored)) (calls : List (Option (Call Key))) (s : IsS
 
   pub lowest_is : first_free ps ≡ first_free rows
   lowest_is = sym (first_free-seated ps calls) ∙ ap first_free is
+
+  -- How many live, counted place by place
+
+  long : length rows ≡ MAX_PROCESSES
+  long = ap length (sym is) ∙ length-seated ps calls ∙ s.places
+
+  one_place : (k : ℕ) → k < MAX_PROCESSES → sum_of (λ (p : Process). 1) (take (k + 1) rows) ≡ sum_of (λ (p : Process). 1) (take k rows) + weight (λ (p : Process). 1) (at rows k)
+  one_place k less =
+      ap (sum_of (λ (p : Process). 1)) (take_more rows k None (subst (λ n. k < n) (sym long) less)) ∙ sum_of-push (λ (p : Process). 1) (take k rows) (at rows k)
+
+  pub one_alive : (k : ℕ) (r : Option (Bor Stored)) → k < MAX_PROCESSES → option_copied r ≡ at ps k → is_some r ≡ true → sum_of (λ (p : Process). 1) (take (k + 1) rows) ≡ sum_of (λ (p : Process). 1) (take k rows) + 1
+  one_alive k None less there some = absurd (cc)
+  one_alive k (Some b) less there some = one_place k less ∙ ap (λ o. sum_of (λ (p : Process). 1) (take k rows) + weight (λ (p : Process). 1) o) (row_is k b.now (sym there))
+
+  pub nobody_there : (k : ℕ) (r : Option (Bor Stored)) → k < MAX_PROCESSES → option_copied r ≡ at ps k → is_some r ≡ false → sum_of (λ (p : Process). 1) (take (k + 1) rows) ≡ sum_of (λ (p : Process). 1) (take k rows)
+  nobody_there k None less there none = omega (arith, one_place k less ∙ ap (λ o. sum_of (λ (p : Process). 1) (take k rows) + weight (λ (p : Process). 1) o) (no_row k (sym there)))
+  nobody_there k (Some b) less there none = absurd (cc)
+
+  pub all_alive : sum_of (λ (p : Process). 1) (take MAX_PROCESSES rows) ≡ sum_of (λ (p : Process). 1) rows
+  all_alive = ap (sum_of (λ (p : Process). 1)) (take_all MAX_PROCESSES rows (omega (arith, long)))
 
   -- Read back from the rows
 

@@ -1,12 +1,12 @@
 //! The processes of a namespace, each with the call in which it waits.
 
 ghost use Rattle.std.specs.Prelude.{◌≡◌, ◌-◌, ◌<◌, ◌≤◌, None, Some, Ok, Err, IfOk, IsOk, MatchResult, option_copied, slice_set};
-ghost use Rattle.pf_machine.specs.Numbered.{at, put_at, clear_at, change_at, first_free};
+ghost use Rattle.pf_machine.specs.Numbered.{at, put_at, clear_at, change_at, first_free, sum_of};
 ghost use Rattle.pf_machine.specs.State.{vacant};
 ghost use Rattle.pf_base.specs.declared.TheConstants.{MAX_DESCRIPTORS, MAX_PROCESSES};
 ghost use Rattle.pf_tables.specs.Rows.{process_at, process_in, ready_in, call_in, idle, woken, Lives, IsAwake, HasSpare, HasLowest, MayWait, key_at, with_key, with_keys, without_key, with_call};
 
-use pf_base::{Cred, Errno};
+use pf_base::{Cred, Errno, MAX_PROCESSES};
 use pf_fds::{FdTable, Key, Places};
 use pf_parked::{Call, ParkedTable};
 use std::alloc::{AllocError, Global};
@@ -76,6 +76,19 @@ impl ProcessTable {
             return Err(Errno::ESRCH);
         }
         Ok(())
+    }
+
+    /// How many processes live, also those that wait in a call. It looks at each place.
+    pub fn alive(&self) -> u32
+        ensures { result ≡ sum_of (λ p. 1) self.now }
+    {
+        let mut alive = 0;
+        for i in 0..MAX_PROCESSES {
+            if self.places.get(i).is_some() {
+                alive += 1;
+            }
+        }
+        alive
     }
 
     /// The call in which a process waits, if it lives and waits.

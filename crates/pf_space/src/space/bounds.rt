@@ -1,9 +1,12 @@
-//! What is known of a reply before its step is made, and of a write that waits: numbers, which take no memory.
+//! What is known of a reply before its step is made, of a write that waits, and of how many live: numbers, which take no
+//! memory.
 
 ghost use Rattle.std.specs.Prelude.{◌≡◌, ◌≤◌};
 ghost use Rattle.pf_machine.specs.Machine.{call_of};
 ghost use Rattle.pf_tables.specs.Bounds.{Covers};
+ghost use Rattle.pf_machine.specs.Processes.{alive};
 ghost use Rattle.pf_machine.specs.Replies.{most_of, written_in};
+ghost use Rattle.pf_tables.specs.Held.{HoldsNone};
 
 use super::Space;
 use pf_base::Step;
@@ -15,6 +18,14 @@ impl<A: Allocator> Space<A> {
         ensures { result ≡ written_in (call_of self.now.state pid) }
     {
         self.tables.parked_written(pid)
+    }
+
+    /// How many processes live, also those that wait in a call. Where none does, no frame is this namespace's.
+    pub fn processes(&self) -> u32
+        ensures number { result ≡ alive self.now.state }
+        ensures none { result ≡ 0 → HoldsNone self.now }
+    {
+        self.tables.processes()
     }
 
     /// A number of bytes that the vector of a step's reply is no longer than, in this state, to reserve memory for a copy of it.

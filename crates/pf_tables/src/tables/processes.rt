@@ -2,8 +2,10 @@
 
 ghost use Rattle.std.specs.Prelude.{◌≡◌, ◌+◌, ◌≤◌, Err, IsOk, IfSome, IfNone, OnOk, OnErr, length};
 ghost use Rattle.pf_machine.specs.Numbered.{first_free};
+ghost use Rattle.pf_machine.specs.Processes.{alive};
 ghost use Rattle.pf_machine.specs.State.{ready, with_process, vacant};
 ghost use Rattle.pf_base.specs.declared.TheConstants.{MAX_DESCRIPTORS, MAX_PROCESSES};
+ghost use Rattle.pf_tables.specs.Held.{HoldsNone};
 ghost use Rattle.pf_tables.specs.Meaning.{meaning};
 ghost use Rattle.pf_tables.specs.Owns.{Owns};
 ghost use Rattle.pf_tables.specs.Rows.{AllFind, AreFew, named_once_more};
@@ -44,6 +46,15 @@ impl<A: Allocator> Tables<A> {
             return None;
         }
         Some(i as u32 + 1)
+    }
+
+    /// How many processes live, also those that wait in a call. Where none does, nobody can reach a pipe: so none is
+    /// there, and no frame is this namespace's.
+    pub fn processes(&self) -> u32
+        ensures number { result ≡ alive self.now.state }
+        ensures none { result ≡ 0 → HoldsNone self.now }
+    {
+        self.processes.alive()
     }
 
     /// Makes a process with no descriptors under the lowest free pid. Where memory is refused, nothing has changed.

@@ -1,0 +1,55 @@
+-- How many processes live, and that nothing is left where none does.
+
+use Rattle.std.proofs.Common.{◌≡◌, ℕ, suc, ◌+◌, ◌<◌, ◌≤◌, Bool, true, false, List, [], ◌∷◌, length, take, Option, Some, None, is_some, nat_lt, if◌then◌else◌, refl, sym, ap, subst, ◌∙◌, arith}
+use Rattle.pf_machine.specs.Numbered.{at, weight, sum_of, keep_from, keep}
+use Rattle.pf_machine.proofs.NumberedLaws.{sum_of-map}
+use Rattle.pf_machine.specs.State.{State, Pipe}
+use Rattle.pf_machine.specs.Counts.{names, ends}
+use Rattle.pf_machine.specs.Processes.{alive}
+use Rattle.pf_machine.specs.Sweep.{live_descriptions, live_pipes, sweep}
+use Rattle.pf_frame.specs.Live.{Live, IsSound}
+use Rattle.pf_tables.specs.Meaning.{Namespace, occupied}
+use Rattle.pf_tables.specs.Held.{HoldsNone}
+use Rattle.pf_tables.specs.Owns.{Owns}
+use Rattle.pf_tables.specs.Rows.{Process, ProcessRows, process_of, processes_of}
+use Rattle.pf_tables.proofs.OwnsLaws.{held_occupied}
+
+-- those that live in the rows are those that live for the machine
+pub shown_alive : (ps : ProcessRows) → sum_of (λ p. 1) (processes_of ps) ≡ sum_of (λ (p : Process). 1) ps
+shown_alive ps = sum_of-map process_of (λ p. 1) ps
+
+-- Nobody lives
+
+module _ {X : Type 0} where
+  -- where nothing stands, no sum is above 0
+  none_summed : (h : X → ℕ) (xs : List (Option X)) → sum_of (λ x. 1) xs ≡ 0 → sum_of h xs ≡ 0
+  none_summed h [] e = refl
+  none_summed h (None ∷ xs) e = omega (arith, none_summed h xs (omega arith))
+  none_summed h (Some x ∷ xs) e = absurd (omega arith)
+
+  -- where no number stays, nothing stands
+  none_kept_from : (h : X → ℕ) (test : ℕ → Bool) (n : ℕ) (xs : List (Option X)) → ((k : ℕ) → test k ≡ false) → sum_of h (keep_from test n xs) ≡ 0
+  none_kept_from h test n [] fails = refl
+  none_kept_from h test n (x ∷ xs) fails =
+      let gone : (if test n then x else None) ≡ None = ap (λ (b : Bool). if b then x else None) (fails n) in
+      omega (arith, ap (weight h) gone, none_kept_from h test (suc n) xs fails)
+
+  none_kept : (h : X → ℕ) (count : ℕ → ℕ) (xs : List (Option X)) → ((k : ℕ) → count k ≡ 0) → sum_of h (keep (λ n. nat_lt 0 (count n)) xs) ≡ 0
+  none_kept h count xs zeros = none_kept_from h (λ n. nat_lt 0 (count n)) 0 xs (λ k. ap (λ (n : ℕ). nat_lt 0 n) (zeros k))
+
+module _ {Q : Type 0} (s : State Q) (nobody : alive s ≡ 0) where
+  unnamed : (n : ℕ) → names s.processes n ≡ 0
+  unnamed n = none_summed _ s.processes nobody
+
+  unused : (p : ℕ) → ends (live_descriptions s.processes s.descriptions) p ≡ 0
+  unused p = none_kept _ (names s.processes) s.descriptions unnamed
+
+  -- the sweep leaves no pipe
+  no_pipes : (h : Pipe Q → ℕ) → sum_of h (sweep s).pipes ≡ 0
+  no_pipes h = none_kept h (ends (live_descriptions s.processes s.descriptions)) s.pipes unused
+
+-- so a namespace that is swept has no frame
+pub holds_none : (n : Namespace) → n.state ≡ sweep n.state → alive n.state ≡ 0 → HoldsNone n
+holds_none n swept nobody f sound owns =
+    let slots : occupied n.state ≡ 0 = ap occupied swept ∙ no_pipes n.state nobody (λ p. length p.queue.windows) in
+    omega (arith, slots, held_occupied f n sound owns)
