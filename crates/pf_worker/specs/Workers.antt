@@ -1,6 +1,8 @@
 -- What a contract sees of a worker, and what is true of it at all times.
 
-use Rattle.std.specs.Prelude.{◌≡◌, ℕ, suc, ◌+◌, ◌<◌, List, [], ◌∷◌}
+use Rattle.std.specs.Prelude.{◌≡◌, ℕ, suc, ◌+◌, ◌<◌, ⊤, List, [], ◌∷◌}
+use Rattle.pf_base.specs.declared.admission.AdmitFault.{AdmitFault}
+use Rattle.pf_base.specs.declared.admission.AdmitFault.TheVariants.{NoRoom, TooManyNamespaces, NoMemory}
 use Rattle.pf_base.specs.Limits.{Limits}
 use Rattle.pf_depot.specs.declared.loans.Loans.{Loans}
 use Rattle.pf_depot.specs.AllLoans.{held_of, reserved_of}
@@ -45,3 +47,10 @@ pub record IsKept (space : Namespace) (loans : Loans) (credits held stock credit
   pub lent : held ≡ held_of loans + stock
   pub credits_part : 0 < credits_parts
   pub held_part : 0 < held_parts
+
+-- what is known of a refusal to admit so large a reservation, whatever the depot was when it was asked: the slack that is
+-- told is below it
+abbrev pub IsRefusal : ℕ → AdmitFault → Type 0
+IsRefusal reserve (NoRoom slack) = slack < reserve
+IsRefusal reserve TooManyNamespaces = ⊤
+IsRefusal reserve NoMemory = ⊤

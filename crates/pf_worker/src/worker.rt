@@ -8,7 +8,7 @@ ghost use Rattle.pf_worker.specs.Workers.{new_workers};
 
 use crate::gate::Gate;
 use crate::gated::GatedDepot;
-use pf_base::{Answer, Config, Step};
+use pf_base::{AdmitFault, Answer, Config, RetireFault, Step};
 use pf_depot::{Allotment, DepotBook, Loans, Stock};
 use pf_frame::{Frame, PoolFault};
 use pf_hub::{first_fault, reserves_of, step_over};
@@ -23,6 +23,9 @@ use std::sync::{Mutex, Wait};
 ///
 /// It has no lock and no transcript, so it can be stepped for ever. Its steps wait for nothing but the depot's lock, which
 /// is held for one frame at a time, and only where the stock has none to give or no room for one that comes back.
+///
+/// The first workers come with the depot, by `open`. Later ones are admitted, for a job as it starts, and any of them is
+/// retired once its job has ended. A worker that is dropped instead leaves its reservation and its frames taken for ever.
 ///
 /// A contract sees its number, and its namespace as a hub's: the limits, the state of the lone machine that it is in, and
 /// how many frames it holds; and the allocator whose memory its files stand in.
@@ -47,14 +50,19 @@ impl<A: Allocator, C: Ledger, H: Ledger> Model for Worker<A, C, H> {
 }
 
 impl<A: Allocator + Clone, C: Ledger, H: Ledger> Worker<A, C, H> {
-    ghost use Rattle.std.specs.Prelude.{false};
+    ghost use Rattle.std.specs.Prelude.{false, ◌<◌};
+    ghost use Rattle.pf_base.specs.declared.TheConstants.{MAX_NUMBERS};
     ghost use Rattle.pf_machine.specs.Machine.{Answers, may_want_memory};
     ghost use Rattle.pf_machine.specs.Events.{IsDone};
+    ghost use Rattle.pf_machine.specs.Processes.{alive};
+    ghost use Rattle.pf_machine.specs.State.{opening};
+    ghost use Rattle.pf_depot.specs.Admission.{admit_fault, IsAdmitFault};
+    ghost use Rattle.pf_depot.specs.Book.{Admits};
     ghost use Rattle.pf_hub.specs.Covered.{IsRising};
-    ghost use Rattle.pf_worker.specs.Workers.{new_worker};
+    ghost use Rattle.pf_worker.specs.Workers.{new_worker, IsRefusal};
 
-    /// The worker of a namespace of these limits, at its opening state. Its files, and nothing else, stand in memory of the
-    /// allocator `tree`.
+    /// The worker of a namespace of these limits, at its opening state, with what it was dealt. Its files, and nothing else,
+    /// stand in memory of the allocator `tree`.
     pub fn new(
         alloc: Global,
         number: u32,
@@ -65,21 +73,115 @@ impl<A: Allocator + Clone, C: Ledger, H: Ledger> Worker<A, C, H> {
         requires reserved { reserved_of allotment.loans ≡ config.reserve }
         ensures { IfOk result (λ w. w ≡ new_worker number (config, tree)) }
     {
+        let placed = Placed::new(alloc, tree, config)?;
+        let stock = Stock::new(alloc)?;
+        Ok(Worker::begun(number, placed, stock, allotment))
+    }
+
+    // The worker of a namespace at its opening state, with what it was dealt.
+    fn begun(number: u32, placed: Placed<A>, stock: Stock, allotment: Allotment<C, H>) -> Self
+        requires opening { placed.space.state ≡ opening }
+        requires none { stock ≡ 0 }
+        requires reserved { reserved_of allotment.loans ≡ placed.space.limits.reserve }
+        ensures { result ≡ new_worker number (placed.space.limits, placed.allocator) }
+    {
         let Allotment {
             loans,
             credits,
             held,
         } = allotment;
-        let placed = Placed::new(alloc, tree, config)?;
-        let stock = Stock::new(alloc)?;
-        Ok(Worker {
+        Worker {
             number,
             placed,
             loans,
             credits,
             held,
             stock,
-        })
+        }
+    }
+
+    /// The worker of one namespace more at a depot, of these limits, at its opening state. Its files, and nothing else,
+    /// stand in memory of the allocator `tree`.
+    ///
+    /// Its number is the least that was never given there, and its reservation is of the frames that nobody has reserved.
+    /// `TooManyNamespaces` where 64 live or 1,024 numbers are given; then `NoRoom` where the reservation is above these
+    /// frames; and `NoMemory` in place of each. At a fault nothing has changed.
+    ///
+    /// It may wait for the depot's lock, which is held once. All memory but that of the loans is had before.
+    pub fn admit<R: Wait>(
+        rt: &R,
+        alloc: Global,
+        book: &Mutex<DepotBook<C, H>>,
+        config: Config,
+        tree: A,
+    ) -> Result<Self, AdmitFault>
+        ensures { MatchResult result
+            (λ w. (w ≡ new_worker w.number (config, tree)) × (w.number < MAX_NUMBERS))
+            (λ fault. IsRefusal config.reserve fault) }
+    {
+        let Ok(placed) = Placed::new(alloc, tree, config) else {
+            return Err(AdmitFault::NoMemory);
+        };
+        let Ok(stock) = Stock::new(alloc) else {
+            return Err(AdmitFault::NoMemory);
+        };
+        let mut book = book.lock(rt);
+        Worker::admitted(&mut *book, config, placed, stock)
+    }
+
+    // What is done under the depot's lock.
+    fn admitted(
+        book: &mut DepotBook<C, H>,
+        config: Config,
+        placed: Placed<A>,
+        stock: Stock,
+    ) -> Result<Self, AdmitFault>
+        requires opening { placed.space ≡ record { limits = config; state = opening } }
+        requires none { stock ≡ 0 }
+        ensures { MatchResult result
+            (λ w. (admit_fault book.old.living book.old.given book.old.slack config.reserve ≡ None)
+            × Admits book.old book.new config.reserve
+            × (w ≡ new_worker book.old.given (config, placed.allocator)))
+            (λ fault. (book.new ≡ book.old)
+            × IsAdmitFault (admit_fault book.old.living book.old.given book.old.slack config.reserve) fault) }
+    {
+        let (number, allotment) = book.admit(config.reserve())?;
+        Ok(Worker::begun(number, placed, stock, allotment))
+    }
+
+    /// Ends its namespace, which has no process: its files' memory is freed, the frames of its stock are free for others,
+    /// its reservation is of nobody, and a place is free for a namespace more. Its number isn't given again.
+    ///
+    /// `Alive` exactly where a process lives, also where it waits in a call; then the worker is handed back as it was.
+    ///
+    /// It may wait for the depot's lock, which is held once, and takes no memory. The depot is the one that the worker's
+    /// shares are of.
+    pub fn retire<R: Wait>(
+        self,
+        rt: &R,
+        book: &Mutex<DepotBook<C, H>>,
+    ) -> Result<(), (Self, RetireFault)>
+        ensures { MatchResult result
+            (λ _. alive self.tenant.state ≡ 0)
+            (λ e. (e.0 ≡ self) × (e.1 ≡ RetireFault.Alive (alive self.tenant.state))
+            × (0 < alive self.tenant.state)) }
+    {
+        let processes = self.placed.processes();
+        if processes > 0 {
+            return Err((self, RetireFault::Alive { processes }));
+        }
+        let Worker {
+            number: _,
+            placed,
+            loans,
+            credits,
+            held,
+            stock,
+        } = self;
+        // no other worker waits while the files go
+        drop(placed);
+        book.lock(rt).retire(loans, credits, held, stock);
+        Ok(())
     }
 
     /// The number of its namespace.
