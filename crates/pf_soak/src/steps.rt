@@ -80,9 +80,10 @@ fn payload(alloc: Global, random: &mut Pcg32) -> Result<ByteString, AllocError> 
     ByteString::new(alloc, Vec::from_elem(alloc, byte, count(random) as usize)?)
 }
 
-/// A process comes, with another's descriptors or with none, or goes.
+/// A process comes, with another's descriptors or with none, or goes. So many go that all numbers up to 32 are seldom
+/// taken, and none above them stays for ever.
 fn process(alloc: Global, random: &mut Pcg32) -> Result<Step, AllocError> {
-    Ok(match below(random, 4) {
+    Ok(match below(random, 8) {
         0 => Step::Spawn {
             uid: below(random, 3),
             gid: below(random, 3),
@@ -91,7 +92,7 @@ fn process(alloc: Global, random: &mut Pcg32) -> Result<Step, AllocError> {
         },
         1 => Step::Fork { pid: pid(random) },
         _ => Step::Exit {
-            pid: below(random, 12) + 1,
+            pid: below(random, 32) + 1,
         },
     })
 }
