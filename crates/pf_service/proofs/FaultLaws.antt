@@ -2,12 +2,17 @@
 
 use Rattle.std.proofs.Common.{◌≡◌, ℕ, ◌<◌, List, sym, subst}
 use Rattle.std.specs.Prelude.{Result, Ok, Err, IfOk, IfErr, IsErr, IsErrAnd, OnOk}
+use Rattle.pf_base.specs.declared.TheConstants.{MAX_NUMBERS}
 use Rattle.pf_base.specs.declared.step.Step.{Step}
 use Rattle.pf_base.specs.declared.step.Reply.{Reply}
 use Rattle.pf_service.specs.declared.fault.ServiceFault.{ServiceFault}
-use Rattle.pf_service.specs.declared.fault.ServiceFault.TheVariants.{NoMemory, TranscriptFull, NoSuchNamespace, TooManySeats}
+use Rattle.pf_service.specs.declared.fault.ServiceFault.TheVariants.{NoMemory, TranscriptFull, NoSuchNamespace, TooManySeats, Gone}
 use Rattle.pf_service.specs.declared.receipt.Receipt.{Receipt}
+use Rattle.pf_service.specs.declared.living.Living.{Living as OneLiving}
+use Rattle.pf_service.specs.declared.seated.Tenant.{Tenant}
+use Rattle.pf_service.specs.declared.seated.Tenant.TheVariants.{Living, Retired}
 use Rattle.pf_service.specs.Faults.{IsApplyFault, IsEventFault, IsCallFault}
+use Rattle.pf_service.specs.Tenants.{IsTenantFault}
 use Rattle.pf_service.specs.Told.{Told}
 
 -- without the entries
@@ -16,23 +21,30 @@ unseen es NoMemory fault = tt
 unseen es TranscriptFull fault = tt
 unseen es NoSuchNamespace fault = absurd fault
 unseen es TooManySeats fault = absurd fault
+unseen es Gone fault = absurd fault
 
-pub event_fault : {T : Type 0} (es : List (Step × Reply)) (r : Result T ServiceFault) → IfErr r (IsApplyFault es) → IfErr r IsEventFault
-event_fault es (Ok x) fault = tt
-event_fault es (Err e) fault = unseen es e fault
+-- without the namespace
+unknown : {A C H : Type 0} (t : Tenant (OneLiving A C H)) (e : ServiceFault) → IsTenantFault t e → IsEventFault e
+unknown (Living l) e fault = unseen l.logged.transcript e fault
+unknown (Retired t) e fault = subst IsEventFault (sym fault) tt
+
+pub event_fault : {A C H T : Type 0} (t : Tenant (OneLiving A C H)) (r : Result T ServiceFault) → IfErr r (IsTenantFault t) → IfErr r IsEventFault
+event_fault t (Ok x) fault = tt
+event_fault t (Err e) fault = unknown t e fault
 
 -- and where it is handed on
-pub refused_event : {T : Type 0} (es : List (Step × Reply)) (e : ServiceFault) (r : Result T ServiceFault) → IsErrAnd r (λ x. x ≡ e) → IsApplyFault es e → IfErr r IsEventFault
-refused_event es e (Ok x) is fault = tt
-refused_event es e (Err x) is fault = unseen es x (subst (IsApplyFault es) (sym is) fault)
+pub refused_event : {A C H T : Type 0} (t : Tenant (OneLiving A C H)) (e : ServiceFault) (r : Result T ServiceFault) → IsErrAnd r (λ x. x ≡ e) → IsTenantFault t e → IfErr r IsEventFault
+refused_event t e (Ok x) is fault = tt
+refused_event t e (Err x) is fault = unknown t x (subst (IsTenantFault t) (sym is) fault)
 
 -- of a namespace that is there
-pub call_fault : {T : Type 0} (namespaces ns : ℕ) (r : Result T ServiceFault) → ns < namespaces → IfErr r IsEventFault → IfErr r (IsCallFault namespaces ns)
-call_fault namespaces ns (Ok x) there fault = tt
-call_fault namespaces ns (Err NoMemory) there fault = there
-call_fault namespaces ns (Err TranscriptFull) there fault = there
-call_fault namespaces ns (Err NoSuchNamespace) there fault = absurd fault
-call_fault namespaces ns (Err TooManySeats) there fault = absurd fault
+pub call_fault : {T : Type 0} (first ns : ℕ) (r : Result T ServiceFault) → ns < MAX_NUMBERS → IfErr r IsEventFault → IfErr r (IsCallFault first ns)
+call_fault first ns (Ok x) there fault = tt
+call_fault first ns (Err NoMemory) there fault = there
+call_fault first ns (Err TranscriptFull) there fault = there
+call_fault first ns (Err NoSuchNamespace) there fault = absurd fault
+call_fault first ns (Err TooManySeats) there fault = absurd fault
+call_fault first ns (Err Gone) there fault = there
 
 -- a receipt's namespace, beside what its caller is told
 pub told_at : (ns place : ℕ) (step : Step) (r : Result Receipt ServiceFault) → IfOk r (λ x. (x.ns ≡ ns) × (x.place ≡ place))

@@ -1,7 +1,7 @@
 -- A namespace's transcript, and those that aren't there.
 
 use Rattle.std.proofs.Common.{◌≡◌, ℕ, ◌+◌, ◌<◌, ◌≤◌, List, [], ◌∷◌, length, inl, inr, Bool, true, false, nat_eq, get_or, refl, ap, sym, ◌∙◌, subst, arith, if◌then◌else◌, zero-add}
-use Rattle.std.specs.Prelude.{All, slice_get, slice_index, option_map, Some, None, count_by}
+use Rattle.std.specs.Prelude.{All, slice_get, slice_index, option_map, Some, None, count_by, Result, Ok, Err, IfErr, IsErrAnd}
 use Rattle.std.specs.List.{flat_map}
 use Rattle.std.proofs.lemmas.Bool.{cases_lt, ne_eqb, and_left, eq-eqb, and_from, le-ltb}
 use Rattle.std.proofs.lemmas.List.{get_or_past}
@@ -10,7 +10,8 @@ use Rattle.std.proofs.lemmas.Option.{slice_get_read, slice_get_past, slice_get-g
 use Rattle.std.proofs.lemmas.List.Sums.{sum_by-cons}
 use Rattle.pf_base.specs.Limits.{Limits}
 use Rattle.pf_service.specs.declared.event.Event.{Event}
-use Rattle.pf_service.specs.Judged.{Fits, Agrees, IsClosed}
+use Rattle.pf_service.specs.declared.fault.CloseFault.{CloseFault}
+use Rattle.pf_service.specs.Judged.{Fits, Agrees, IsCause, IsClosed, IsClosedFault}
 use Rattle.pf_service.specs.Merge.{at, stands, Rises, IsMerge}
 use Rattle.pf_service.specs.Seats.{OneSeat, is_seat, lists_of, AreGiven, IsGiven}
 use Rattle.pf_service.specs.Transcripts.{OneTranscript, IsLone, transcript_at, no_transcript}
@@ -57,7 +58,7 @@ module _ (configs : List Limits) (ts : List OneTranscript) (seats : List OneSeat
   fits_agrees n t within is f =
       let some : slice_get ts n ≡ Some t = slice_get_read ts (length ts) n t refl within is in
       record {
-        limits = ap (option_map (λ (u : OneTranscript). u.limits)) some ∙ sym f.limits;
+        limits = λ there. ap (option_map (λ (u : OneTranscript). u.limits)) some ∙ sym (f.limits there);
         merge = subst (λ (u : OneTranscript). IsMerge u.entries (lists_of n seats)) (sym (get_or_from_slice_get ts n t no_transcript some)) f.merge;
       }
 
@@ -65,7 +66,7 @@ module _ (configs : List Limits) (ts : List OneTranscript) (seats : List OneSeat
   agrees_fits n t within is a =
       let some : slice_get ts n ≡ Some t = slice_get_read ts (length ts) n t refl within is in
       record {
-        limits = sym a.limits ∙ ap (option_map (λ (u : OneTranscript). u.limits)) some;
+        limits = λ there. sym (a.limits there) ∙ ap (option_map (λ (u : OneTranscript). u.limits)) some;
         merge = subst (λ (u : OneTranscript). IsMerge u.entries (lists_of n seats)) (get_or_from_slice_get ts n t no_transcript some) a.merge;
       }
 
@@ -74,7 +75,7 @@ module _ (configs : List Limits) (ts : List OneTranscript) (seats : List OneSeat
   too_few lt a =
       let none : slice_get ts (length ts) ≡ None = slice_get_past ts (length ts) (omega arith) in
       let some : slice_get configs (length ts) ≡ Some (get_or configs (length ts) no_transcript.limits) = slice_get-get_or configs (length ts) no_transcript.limits lt in
-      let both : None ≡ Some (get_or configs (length ts) no_transcript.limits) = sym (ap (option_map (λ (u : OneTranscript). u.limits)) none) ∙ a.limits ∙ some in
+      let both : None ≡ Some (get_or configs (length ts) no_transcript.limits) = sym (ap (option_map (λ (u : OneTranscript). u.limits)) none) ∙ a.limits lt ∙ some in
       absurd (cc)
 
   -- a namespace that isn't there
@@ -83,7 +84,7 @@ module _ (configs : List Limits) (ts : List OneTranscript) (seats : List OneSeat
       let none : (k : ℕ) → count_by (is_seat n k) seats ≡ 0 =
       λ k. all n k ∙ ap (λ (b : Bool). if b then 1 else 0) (le-ltb k (slice_index given n) (omega (arith, get_or_past given n 0 (omega arith)))) in
       record {
-        limits = ap (option_map (λ (u : OneTranscript). u.limits)) (slice_get_past ts n over) ∙ sym (slice_get_past configs n (omega arith));
+        limits = λ there. absurd (omega (arith, there, few, over));
         merge =
             subst (λ (u : OneTranscript). IsMerge u.entries (lists_of n seats)) (sym (get_or_past ts n no_transcript over))
             (subst (λ (ls : List (List Event)). IsMerge [] ls) (sym (no_lists n seats none)) (record { rising = All-nil Rises; each = no_events }));
@@ -96,6 +97,17 @@ lone_at ts all n =
       | inl within ↦ all n no_transcript within
       | inr past ↦ subst IsLone (sym (get_or_past ts n no_transcript past)) refl
     ]
+
+-- a fault of what was compared, where it is handed on
+pub closed_fault : {T : Type 0} (configs configs' : List Limits) (seats seats' : List OneSeat) (ts : List OneTranscript) (given : List ℕ) (fault : CloseFault) (r : Result T CloseFault)
+    → configs' ≡ configs → seats' ≡ seats → IsErrAnd r (λ x. x ≡ fault) → IsCause configs' ts given seats' fault → IfErr r (IsClosedFault configs seats)
+closed_fault configs configs' seats seats' ts given fault (Ok x) c s is cause = tt
+closed_fault configs configs' seats seats' ts given fault (Err x) c s is cause = (
+  ts,
+  given,
+  subst (IsCause configs ts given seats) (sym is)
+      (subst (λ (cs : List Limits). IsCause cs ts given seats fault) c (subst (λ (ss : List OneSeat). IsCause configs' ts given ss fault) s cause)),
+)
 
 -- what was compared is what was given and what comes back
 pub closed : (configs configs' : List Limits) (seats seats' : List OneSeat) (ts ts' : List OneTranscript) (given : List ℕ) → configs' ≡ configs → seats' ≡ seats → ts' ≡ ts

@@ -1,12 +1,17 @@
 -- The namespaces of a service, by their numbers.
 
-use Rattle.std.proofs.Common.{◌≡◌, ℕ, zero, suc, ◌+◌, ◌<◌, ◌≤◌, ◌++◌, [], ◌∷◌, List, length, map, get_or, ap, ◌∙◌, arith}
-use Rattle.std.specs.Prelude.{None}
+use Rattle.std.proofs.Common.{◌≡◌, ℕ, zero, suc, Bool, true, false, refl, if◌then◌else◌, ◌+◌, ◌<◌, ◌≤◌, ◌++◌, [], ◌∷◌, List, length, map, get_or, ap, ◌∙◌, arith}
+use Rattle.std.specs.Prelude.{Option, Some, None, nat_lt}
 use Rattle.std.specs.List.{range_with_len}
+use Rattle.std.proofs.lemmas.Bool.{ltb-true}
 use Rattle.std.proofs.lemmas.Bool.Decides.{nat_tests}
 use Rattle.std.proofs.lemmas.List.{length-map}
 use Rattle.std.proofs.lemmas.List.FromFn.{get_or-range_with_len, length-range_with_len}
 use Rattle.pf_base.specs.Limits.{Limits}
+use Rattle.pf_base.specs.declared.TheConstants.{MAX_NAMESPACES, MAX_NUMBERS}
+use Rattle.pf_base.specs.declared.admission.AdmitFault.{AdmitFault}
+use Rattle.pf_base.specs.declared.admission.AdmitFault.TheVariants.{TooManyNamespaces}
+use Rattle.pf_depot.specs.Admission.{room_fault, admit_fault}
 use Rattle.pf_frame.specs.Faults.{fault_of}
 use Rattle.pf_hub.specs.Opening.{limits_of, first_fault}
 
@@ -34,3 +39,16 @@ passes frames reserves none = grind (arith, nat_tests)
 pub few : {Z : Type 0} (frames : ℕ) (given : List (Limits × Z)) → first_fault frames (limits_of given) ≡ None → length given ≤ 64
 few {Z} frames given none =
     omega (arith, passes frames (map (λ (l : Limits). l.reserve) (limits_of given)) none, length-map (limits_of given) (λ (l : Limits). l.reserve), length-map given (λ (e : Limits × Z). e.0))
+
+-- who is admitted gets one of the numbers
+
+passed : (living given : Bool) (room : Option AdmitFault)
+    → (if living then (if given then room else Some TooManyNamespaces) else Some TooManyNamespaces) ≡ None → given ≡ true
+passed true true room none = refl
+passed true false room none = absurd (cc)
+passed false given room none = absurd (cc)
+
+pub number_fits : (living given slack reserve ns : ℕ) → admit_fault living given slack reserve ≡ None → ns ≡ given → ns < MAX_NUMBERS
+number_fits living given slack reserve ns none is =
+    let fits : given < MAX_NUMBERS = ltb-true given MAX_NUMBERS (passed (nat_lt living MAX_NAMESPACES) (nat_lt given MAX_NUMBERS) (room_fault slack reserve) none) in
+    omega (arith, fits, is)

@@ -1,6 +1,6 @@
 -- What the end of a service compares.
 
-use Rattle.std.specs.Prelude.{◌≡◌, ℕ, ◌<◌, List, slice_get, Some, option_map}
+use Rattle.std.specs.Prelude.{◌≡◌, ℕ, ◌<◌, List, length, slice_get, Some, option_map}
 use Rattle.pf_base.specs.Limits.{Limits}
 use Rattle.pf_service.specs.declared.fault.CloseFault.{CloseFault}
 use Rattle.pf_service.specs.declared.fault.CloseFault.TheVariants.{Disagree, SeatsMissing, NoMemory}
@@ -8,15 +8,19 @@ use Rattle.pf_service.specs.Merge.{IsMerge}
 use Rattle.pf_service.specs.Seats.{OneSeat, lists_of, AreGiven}
 use Rattle.pf_service.specs.Transcripts.{OneTranscript, IsLone, transcript_at}
 
+-- these are the limits that a namespace was given. One that was admitted was given none here
+abbrev pub HasLimits : List Limits → ℕ → Limits → Type 0
+HasLimits configs n limits = n < length configs → slice_get configs n ≡ Some limits
+
 -- a namespace was given the limits of this transcript, which is a merge of what the namespace's seats keep
 pub record Fits (configs : List Limits) (t : OneTranscript) (seats : List OneSeat) (n : ℕ) : Type 0 where
-  pub limits : slice_get configs n ≡ Some t.limits
+  pub limits : HasLimits configs n t.limits
   pub merge : IsMerge t.entries (lists_of n seats)
 
 -- a namespace has a transcript where it was given limits, under these limits, and it is a merge of what the namespace's
 -- seats keep
 pub record Agrees (configs : List Limits) (ts : List OneTranscript) (seats : List OneSeat) (n : ℕ) : Type 0 where
-  pub limits : option_map (λ t. t.limits) (slice_get ts n) ≡ slice_get configs n
+  pub limits : n < length configs → option_map (λ t. t.limits) (slice_get ts n) ≡ slice_get configs n
   pub merge : IsMerge (transcript_at ts n).entries (lists_of n seats)
 
 -- why seats don't fit these transcripts, of namespaces that gave so many seats each

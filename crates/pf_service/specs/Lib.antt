@@ -8,3 +8,4 @@ pub mod Marks
 pub mod Judged
 pub mod Woken
 pub mod Waited
+pub mod Tenants

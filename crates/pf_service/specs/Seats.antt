@@ -3,9 +3,10 @@
 use Rattle.std.specs.Prelude.{◌≡◌, ℕ, ◌<◌, ◌≤◌, ◌++◌, List, map, filter, Bool, nat_eq, nat_lt, ◌&&◌, count_by, if◌then◌else◌, slice_index}
 use Rattle.pf_base.specs.declared.step.Step.{Step}
 use Rattle.pf_base.specs.declared.step.Reply.{Reply}
+use Rattle.pf_base.specs.declared.TheConstants.{MAX_NUMBERS}
 use Rattle.pf_service.specs.declared.event.Event.{Event}
 use Rattle.pf_service.specs.declared.fault.ServiceFault.{ServiceFault}
-use Rattle.pf_service.specs.declared.fault.ServiceFault.TheVariants.{NoSuchNamespace, TooManySeats}
+use Rattle.pf_service.specs.declared.fault.ServiceFault.TheVariants.{NoSuchNamespace, TooManySeats, Gone}
 
 -- what a contract sees of a seat; spare: how many further events it has room for
 pub record OneSeat : Type 0 where
@@ -39,8 +40,9 @@ IsGiven ns given seats = (number : ℕ) → count_by (is_seat ns number) seats �
 abbrev pub AreGiven : List ℕ → List OneSeat → Type 0
 AreGiven given seats = (ns : ℕ) → IsGiven ns (slice_index given ns) seats
 
--- why a seat was refused at this number, of so many namespaces
+-- why a seat was refused at this number, where so many were given from the start
 abbrev pub IsSeatFault : ℕ → ℕ → ServiceFault → Type 0
-IsSeatFault namespaces ns NoSuchNamespace = namespaces ≤ ns
-IsSeatFault namespaces ns TooManySeats = ns < namespaces
-IsSeatFault namespaces ns _ = ⊥
+IsSeatFault first ns NoSuchNamespace = first ≤ ns
+IsSeatFault first ns TooManySeats = ns < MAX_NUMBERS
+IsSeatFault first ns Gone = ns < MAX_NUMBERS
+IsSeatFault first ns _ = ⊥

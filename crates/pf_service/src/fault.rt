@@ -16,6 +16,9 @@ pub enum ServiceFault {
     /// The namespace has given 4,096 seats.
     #[error("the namespace has given 4096 seats")]
     TooManySeats,
+    /// The namespace is retired.
+    #[error("the namespace is retired")]
+    Gone,
 }
 
 impl From<AllocError> for ServiceFault {
@@ -33,7 +36,8 @@ impl From<AllocError> for ServiceFault {
 /// stand in place of each.
 #[derive(Clone, Copy, Debug, PartialEq, Eq, Error)]
 pub enum CloseFault {
-    /// The first namespace that has other limits than it was given, or whose transcript isn't what its seats keep.
+    /// The first namespace that has other limits than it was given, or whose transcript isn't what its seats keep. Of a
+    /// namespace that was admitted no limits are compared.
     #[error("namespace {ns} disagrees with its seats")]
     Disagree {
         /// The namespace.

@@ -1,5 +1,6 @@
 ghost use Rattle.std.specs.Prelude.{◌≡◌, ℕ, ◌+◌, ◌<◌, ◌≤◌, length, slice_index_or, true, false, IfOk};
 ghost use Rattle.std.specs.Bool.{OnTrue, OnFalse, MatchBool};
+ghost use Rattle.pf_base.specs.declared.TheConstants.{MAX_NUMBERS};
 ghost use Rattle.pf_service.specs.Seats.{IsGiven, AreGiven};
 
 use crate::merge::all_marked;
@@ -25,7 +26,7 @@ fn is_given(alloc: Global, seats: &[Seat], ns: u32, given: u32) -> Result<bool, 
 
 /// Whether these are all seats that were given, each once.
 pub(crate) fn are_given(alloc: Global, seats: &[Seat], given: &[u32]) -> Result<bool, AllocError>
-    requires { length given.now ≤ 64 }
+    requires { length given.now ≤ MAX_NUMBERS }
     ensures { IfOk result (λ b. MatchBool b (AreGiven given.now seats.now)
         (AreGiven given.now seats.now → ⊥)) }
 {

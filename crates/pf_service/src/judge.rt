@@ -1,6 +1,7 @@
 ghost use Rattle.std.specs.Prelude.{◌≡◌, ℕ, ◌<◌, ◌≤◌, ◌↔◌, length, slice_get, IsTrue, IfOk, IfErr, OnOk, Some};
 ghost use Rattle.std.specs.Bool.{MatchBool};
-ghost use Rattle.pf_service.specs.Judged.{Fits, Agrees, IsCause};
+ghost use Rattle.pf_base.specs.declared.TheConstants.{MAX_NUMBERS};
+ghost use Rattle.pf_service.specs.Judged.{HasLimits, Fits, Agrees, IsCause};
 ghost use Rattle.pf_service.specs.Seats.{AreGiven};
 
 use crate::fault::CloseFault;
@@ -17,17 +18,18 @@ fn is_same_config(a: &Config, b: &Config) -> bool
     a == b
 }
 
-// Whether a namespace was given the limits of its transcript.
+// Whether a namespace was given the limits of its transcript, if it was given any.
 fn has_limits(configs: &[Config], transcript: &Transcript, ns: u32) -> bool
-    ensures { IsTrue result ↔ (slice_get configs.now ns ≡ Some transcript.now.limits) }
+    ensures { IsTrue result ↔ HasLimits configs.now ns transcript.now.limits }
 {
     match configs.get(ns as usize) {
         Some(config) => is_same_config(config, &transcript.config()),
-        None => false,
+        None => true,
     }
 }
 
-// Whether a namespace was given the limits of its transcript, and this is a merge of what its seats keep.
+// Whether a namespace was given the limits of its transcript, if it was given any, and this is a merge of what its seats
+// keep.
 fn fits(
     alloc: Global,
     configs: &[Config],
@@ -44,8 +46,8 @@ fn fits(
     is_merge(alloc, transcript.entries(), seats, ns)
 }
 
-/// Whether all seats fit all transcripts, of namespaces that were given these limits and gave so many seats each; or the
-/// first cause why they don't.
+/// Whether all seats fit all transcripts, of namespaces of which the first were given these limits, and which gave so many
+/// seats each; or the first cause why they don't.
 ///
 /// It takes time in proportion to the entries, to the events of all seats, and to the seats times the namespaces.
 pub fn compare(
@@ -55,7 +57,7 @@ pub fn compare(
     given: &[u32],
     seats: &[Seat],
 ) -> Result<(), CloseFault>
-    requires few { length given.now ≤ 64 }
+    requires few { length given.now ≤ MAX_NUMBERS }
     requires each { length transcripts.now ≡ length given.now }
     ensures given { OnOk result (AreGiven given.now seats.now) }
     ensures agree { OnOk result ((n : ℕ) → Agrees configs.now transcripts.now seats.now n) }

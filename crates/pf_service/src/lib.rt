@@ -1,17 +1,20 @@
-//! Namespaces behind a lock each, over a depot behind a lock of its own: seats that keep what their callers were told, calls
-//! that wait, and at the end a comparison of all seats with all transcripts.
+//! Namespaces behind a lock each, which come and go, over a depot behind a lock of its own: seats that keep what their
+//! callers were told, calls that wait, and at the end a comparison of all seats with all transcripts.
 #![tactic(auto)]
 
 mod copies;
 pub mod event;
 pub mod fault;
 pub mod given;
+mod guests;
 pub mod judge;
+mod living;
 pub mod logged;
 pub mod merge;
 mod opening;
 mod place;
 pub mod receipt;
+mod retired;
 pub mod seat;
 mod seated;
 pub mod service;

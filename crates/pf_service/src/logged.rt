@@ -1,6 +1,7 @@
 use crate::MAX_ENTRIES;
 use crate::copies::copy_into;
 use crate::fault::ServiceFault;
+use crate::retired::Retired;
 use crate::transcript::Transcript;
 use pf_base::{Answer, ByteRoom, Config, Reply, Step};
 use pf_depot::{Lender, Loans};
@@ -34,14 +35,16 @@ impl<A: Allocator> Model for Logged<A> {
 impl<A: Allocator + Clone> Logged<A> {
     ghost use Rattle.std.specs.Prelude.{◌≡◌, ◌+◌, ◌<◌, ◌≤◌, ◌++◌, [], ◌∷◌, length, IfOk, IfErr, OnOk, OnErr};
     ghost use Rattle.pf_machine.specs.State.{opening};
+    ghost use Rattle.pf_machine.specs.Processes.{alive};
     ghost use Rattle.pf_machine.specs.Runs.{run_of};
     ghost use Rattle.pf_machine.specs.Machine.{step_of, call_of};
     ghost use Rattle.pf_machine.specs.Replies.{reply_length, most_of, written_in};
     ghost use Rattle.pf_frame.specs.Live.{IsIdle};
+    ghost use Rattle.pf_depot.specs.AllLoans.{held_of, reserved_of};
     ghost use Rattle.pf_depot.specs.Loans.{loans_live};
     ghost use Rattle.pf_service.specs.Log.{new_log, IsLogged};
     ghost use Rattle.pf_service.specs.Faults.{IsApplyFault};
-    ghost use Rattle.pf_service.specs.Transcripts.{steps_in, replies_in, IsLone};
+    ghost use Rattle.pf_service.specs.Transcripts.{steps_in, replies_in, new_transcript, IsLone};
     ghost use Rattle.pf_service.specs.declared.TheConstants.{MAX_ENTRIES};
 
     /// A namespace at its opening state, of which nothing was asked yet. Its files, and nothing else, stand in memory of
@@ -54,12 +57,21 @@ impl<A: Allocator + Clone> Logged<A> {
         ensures fault { IfErr result (λ e. e ≡ ServiceFault.NoMemory) }
     {
         let placed = Placed::new(alloc, tree, config)?;
-        Ok(Logged {
+        Ok(Logged::over(alloc, placed, config, loans))
+    }
+
+    /// The same over a namespace that was made before. It takes no memory.
+    pub(crate) fn over(alloc: Global, placed: Placed<A>, config: Config, loans: Loans) -> Self
+        requires opening { placed.space ≡ record { limits = config; state = opening } }
+        requires idle { IsIdle config.reserve (loans_live loans) }
+        ensures { result ≡ new_log config placed.allocator }
+    {
+        Logged {
             alloc,
             placed,
             loans,
             transcript: Transcript::new(alloc, config),
-        })
+        }
     }
 
     /// What the namespace was asked and told. The replies are those of the lone machine on the steps, and the namespace
@@ -106,6 +118,21 @@ impl<A: Allocator + Clone> Logged<A> {
         ensures { result ≡ written_in (call_of self.now.state pid) }
     {
         self.placed.parked_written(pid)
+    }
+
+    /// How many processes live, also those that wait in a call. Where none does, the namespace holds no frame.
+    pub fn processes(&self) -> u32
+        ensures number { result ≡ alive self.now.state }
+        ensures none { result ≡ 0 → self.now.held ≡ 0 }
+    {
+        self.placed.processes()
+    }
+
+    /// What a namespace of the same limits was asked and told of which nothing was asked yet. It takes no memory.
+    pub(crate) fn nothing(&self) -> Retired
+        ensures { result ≡ new_transcript self.now.limits }
+    {
+        Retired::new(Transcript::new(self.alloc, self.transcript.config()))
     }
 
     /// One event: the step is made, and stands at the end of the transcript with its reply.
@@ -168,11 +195,13 @@ impl<A: Allocator + Clone> Logged<A> {
         Ok(reply)
     }
 
-    /// Gives up the namespace and its frames, and keeps what it was asked and told.
-    pub(crate) fn into_transcript(self) -> Transcript
-        ensures limits { result.limits ≡ self.limits }
-        ensures entries { result.entries ≡ self.transcript }
-        ensures alone { IsLone result }
+    /// Gives up the namespace, and keeps what it was asked and told, and its frames.
+    pub(crate) fn into_parts(self) -> (Transcript, Loans)
+        ensures limits { result.0.limits ≡ self.limits }
+        ensures entries { result.0.entries ≡ self.transcript }
+        ensures alone { IsLone result.0 }
+        ensures held { held_of result.1 ≡ self.held }
+        ensures reserved { reserved_of result.1 ≡ self.limits.reserve }
     {
         let Logged {
             alloc: _,
@@ -181,7 +210,6 @@ impl<A: Allocator + Clone> Logged<A> {
             transcript,
         } = self;
         drop(placed);
-        drop(loans);
-        transcript
+        (transcript, loans)
     }
 }

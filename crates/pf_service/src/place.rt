@@ -1,7 +1,8 @@
-ghost use Rattle.std.specs.Prelude.{◌≡◌, ◌<◌, [], ◌∷◌, ◌&&◌, false, nat_eq, length, All, IfOk, IfErr, OnErr};
-ghost use Rattle.pf_service.specs.Faults.{IsApplyFault, IsEventFault};
+ghost use Rattle.std.specs.Prelude.{◌≡◌, ◌<◌, [], ◌∷◌, ◌&&◌, false, nat_eq, length, All, IfOk, IfErr, OnOk, OnErr};
+ghost use Rattle.pf_service.specs.Faults.{IsApplyFault, IsEventFault, IsRefusal, IsRetirementFault};
 ghost use Rattle.pf_service.specs.Log.{IsLogged};
 ghost use Rattle.pf_service.specs.Seats.{Gains, event_at};
+ghost use Rattle.pf_service.specs.Tenants.{Lives, IsTenantFault};
 ghost use Rattle.pf_service.specs.Told.{Told};
 ghost use Rattle.pf_service.specs.Transcripts.{IsLone};
 ghost use Rattle.pf_service.specs.Woken.{is_parked_again, written_by, is_idle};
@@ -9,13 +10,14 @@ ghost use Rattle.pf_service.specs.Woken.{is_parked_again, written_by, is_idle};
 use crate::copies::copy_into;
 use crate::event::Event;
 use crate::fault::ServiceFault;
+use crate::living::Living;
 use crate::logged::Logged;
 use crate::receipt::Receipt;
 use crate::seat::Seat;
-use crate::seated::Seated;
+use crate::seated::{Seated, Tenant};
 use crate::transcript::Transcript;
 use crate::waiters::Waiters;
-use pf_base::{ByteRoom, Reply, Step};
+use pf_base::{ByteRoom, Reply, RetireFault, Step};
 use pf_depot::DepotBook;
 use pf_worker::Gate;
 use std::alloc::{AllocError, Allocator, Global};
@@ -31,6 +33,8 @@ pub(crate) struct Place<A: Allocator, C: Ledger, H: Ledger> {
     ns: u32,
     pub(crate) seated: Mutex<Seated<A, C, H>>,
     pub(crate) woken: Condvar,
+    // Keeps two places apart, so that no cache line has what the callers of two namespaces write.
+    apart: [u64; 16],
 }
 
 impl<A: Allocator, C: Ledger, H: Ledger> Model for Place<A, C, H> {
@@ -70,37 +74,36 @@ pub(crate) fn event<A: Allocator + Clone, R: Wait, G: Gate, C: Ledger, H: Ledger
     rt: &R,
     gate: &G,
     book: &Mutex<DepotBook<C, H>>,
-    seated: &mut Seated<A, C, H>,
+    living: &mut Living<A, C, H>,
     waiters: &W,
     seat: &mut Seat,
     step: &Step,
 ) -> Result<Receipt, ServiceFault>
     ensures place { IfOk result (λ r. (r.ns ≡ seat.old.ns)
-        × (r.place ≡ length seated.old.logged.transcript)) }
+        × (r.place ≡ length living.old.logged.transcript)) }
     ensures kept { IfOk result (λ r.
         Gains seat.old seat.new (event_at r.place step.now r.reply ∷ [])) }
-    ensures logged { IfOk result (λ r. IsLogged seated.old.logged seated.new.logged step.now r.reply) }
+    ensures logged { IfOk result (λ r. IsLogged living.old.logged living.new.logged step.now r.reply) }
     ensures told { IfOk result (λ r. Told step.now r.place r.reply) }
     ensures passed { IfOk result (λ r. G.passed gate.now r.ns r.place) }
     ensures woken { IfOk result (λ r.
-        is_idle seated.old.logged.state seated.new.logged.state step.now r.reply ≡ false
+        is_idle living.old.logged.state living.new.logged.state step.now r.reply ≡ false
         → W.woken waiters.now) }
-    ensures given { seated.new.given ≡ seated.old.given }
-    ensures fault { IfErr result (IsApplyFault seated.old.logged.transcript) }
+    ensures fault { IfErr result (IsApplyFault living.old.logged.transcript) }
     ensures refused { OnErr result (Gains seat.old seat.new []) }
-    ensures unchanged { OnErr result (seated.new.logged ≡ seated.old.logged) }
+    ensures unchanged { OnErr result (living.new.logged ≡ living.old.logged) }
 {
     let ns = seat.ns();
-    let place = seated.get_ref().place()?;
+    let place = living.get_ref().place()?;
     seat.reserve()?;
-    let alloc = seated.get_ref().alloc();
+    let alloc = living.get_ref().alloc();
     let asked = step.copy(alloc)?;
-    let bound = seated.get_ref().reply_bound(step);
+    let bound = living.get_ref().reply_bound(step);
     let room = ByteRoom::new(alloc, bound)?;
-    let before = resumed_written(seated.get_ref(), step);
+    let before = resumed_written(living.get_ref(), step);
     gate.pass(ns, place);
-    let reply = seated.log(rt, gate, book, ns, step, bound)?;
-    let after = resumed_written(seated.get_ref(), step);
+    let reply = living.log(rt, gate, book, ns, step, bound)?;
+    let after = resumed_written(living.get_ref(), step);
     if !is_idle(step, &reply, before, after) {
         waiters.wake_all();
     }
@@ -111,6 +114,31 @@ pub(crate) fn event<A: Allocator + Clone, R: Wait, G: Gate, C: Ledger, H: Ledger
         reply: told,
     });
     Ok(Receipt { ns, place, reply })
+}
+
+/// `event`, where the namespace lives. `Gone` where it is retired, first of all, and nothing changes.
+pub(crate) fn event_of<A: Allocator + Clone, R: Wait, G: Gate, C: Ledger, H: Ledger, W: Waiters>(
+    rt: &R,
+    gate: &G,
+    book: &Mutex<DepotBook<C, H>>,
+    seated: &mut Seated<A, C, H>,
+    waiters: &W,
+    seat: &mut Seat,
+    step: &Step,
+) -> Result<Receipt, ServiceFault>
+    ensures lives { OnOk result (Lives seated.old.tenant) }
+    ensures kept { IfOk result (λ r.
+        Gains seat.old seat.new (event_at r.place step.now r.reply ∷ [])) }
+    ensures told { IfOk result (λ r. (r.ns ≡ seat.old.ns) × Told step.now r.place r.reply) }
+    ensures passed { IfOk result (λ r. G.passed gate.now r.ns r.place) }
+    ensures given { seated.new.given ≡ seated.old.given }
+    ensures fault { IfErr result (IsTenantFault seated.old.tenant) }
+    ensures refused { OnErr result (Gains seat.old seat.new []) }
+{
+    match &mut seated.tenant {
+        Tenant::Living(living) => event(rt, gate, book, living, waiters, seat, step),
+        Tenant::Retired(_) => Err(ServiceFault::Gone),
+    }
 }
 
 impl<A: Allocator + Clone, C: Ledger, H: Ledger> Place<A, C, H> {
@@ -124,19 +152,27 @@ impl<A: Allocator + Clone, C: Ledger, H: Ledger> Place<A, C, H> {
             ns,
             seated: Mutex::new(seated),
             woken: Condvar::new(),
+            apart: [0; 16],
         }
+    }
+
+    /// Its number.
+    pub(crate) fn ns(&self) -> u32
+        ensures { result ≡ self.now }
+    {
+        self.ns
     }
 
     /// A seat, with the next number.
     pub(crate) fn seat<R: Wait>(&self, rt: &R, alloc: Global) -> Result<Seat, ServiceFault>
         ensures seat { IfOk result (λ s. (s.ns ≡ self.now) × (s.number < MAX_SEATS) × (s.events ≡ [])) }
-        ensures full { IfErr result (λ e. e ≡ ServiceFault.TooManySeats) }
+        ensures fault { IfErr result IsRefusal }
     {
         let number = self.seated.lock(rt).give()?;
         Ok(Seat::new(alloc, self.ns, number))
     }
 
-    /// One event of a seat of the namespace (`event`).
+    /// One event of a seat of the namespace (`event_of`).
     pub(crate) fn call<R: Wait, G: Gate>(
         &self,
         rt: &R,
@@ -153,7 +189,18 @@ impl<A: Allocator + Clone, C: Ledger, H: Ledger> Place<A, C, H> {
         ensures refused { OnErr result (Gains seat.old seat.new []) }
     {
         let mut seated = self.seated.lock(rt);
-        event(rt, gate, book, &mut *seated, &self.woken, seat, step)
+        event_of(rt, gate, book, &mut *seated, &self.woken, seat, step)
+    }
+
+    /// The namespace is retired, where it lives and has no process.
+    pub(crate) fn retire<R: Wait>(
+        &self,
+        rt: &R,
+        book: &Mutex<DepotBook<C, H>>,
+    ) -> Result<(), RetireFault>
+        ensures { IfErr result IsRetirementFault }
+    {
+        self.seated.lock(rt).retire(rt, book, &self.woken)
     }
 
     /// What the namespace was asked and told, and how many seats it gave.
@@ -164,6 +211,7 @@ impl<A: Allocator + Clone, C: Ledger, H: Ledger> Place<A, C, H> {
             ns: _,
             seated,
             woken,
+            apart: _,
         } = self;
         drop(woken);
         seated.into_inner().into_parts()

@@ -1,93 +1,61 @@
-ghost use Rattle.std.specs.Prelude.{◌≡◌, ◌+◌, ◌<◌};
+ghost use Rattle.std.specs.Prelude.{◌≡◌, ◌+◌, ◌<◌, ◌≤◌};
 
 use crate::MAX_SEATS;
 use crate::fault::ServiceFault;
-use crate::logged::Logged;
+use crate::living::Living;
+use crate::retired::Retired;
 use crate::transcript::Transcript;
-use pf_base::{Config, Reply, Step};
-use pf_depot::{Allotment, DepotBook, Stock};
-use pf_worker::{Gate, GatedDepot};
-use std::alloc::{AllocError, Allocator, Global};
-use std::sync::ledger::{Ledger, Share};
+use crate::waiters::Waiters;
+use pf_base::RetireFault;
+use pf_depot::DepotBook;
+use std::alloc::Allocator;
+use std::mem;
+use std::sync::ledger::Ledger;
 use std::sync::{Mutex, Wait};
 
-/// What lies behind a namespace's lock: the namespace with its transcript, its shares of the depot's two ledgers, its stock of
-/// frames, and how many seats it gave.
-///
-/// As that is all within its type, whoever takes the lock finds it so: a frame for each credit at the depot, and a
-/// transcript that is the lone machine's.
+/// A namespace that lives, or what stays of one that is retired.
+#[derive(Drop)]
+pub(crate) enum Tenant<L> {
+    Living(L),
+    Retired(Retired),
+}
+
+/// What lies behind a namespace's lock: the namespace, and how many seats it gave.
 #[derive(Drop)]
 pub(crate) struct Seated<A: Allocator, C: Ledger, H: Ledger> {
-    logged: Logged<A>,
-    credits: Share<C>,
-    held: Share<H>,
-    stock: Stock,
+    pub(crate) tenant: Tenant<Living<A, C, H>>,
     given: u32,
-
-    /// For each frame that the namespace may still take, one is in stock or there is a credit.
-    pub ghost unspent: { credits.amount + stock + logged.held ≡ logged.limits.reserve },
-
-    /// Its other share is what the namespace holds and what is in stock.
-    pub ghost lent: { held.amount ≡ logged.held + stock },
-
-    /// Both shares have a part of their ledger, so each can grow.
-    pub ghost parts: { (0 < credits.parts) × (0 < held.parts) },
 }
 
 impl<A: Allocator + Clone, C: Ledger, H: Ledger> Seated<A, C, H> {
-    ghost use Rattle.std.specs.Prelude.{◌≤◌, length, IfOk, IfErr, OnOk, OnErr};
-    ghost use Rattle.pf_machine.specs.Machine.{step_of};
-    ghost use Rattle.pf_machine.specs.Replies.{reply_length};
-    ghost use Rattle.pf_depot.specs.AllLoans.{reserved_of};
-    ghost use Rattle.pf_service.specs.Log.{new_log, IsLogged};
+    ghost use Rattle.std.specs.Prelude.{IfOk, IfErr, OnOk, OnErr};
+    ghost use Rattle.pf_service.specs.Tenants.{Lives, IsGiveFault, IsRetirement, IsRetireFault, transcript_of};
     ghost use Rattle.pf_service.specs.Transcripts.{IsLone};
-    ghost use Rattle.pf_service.specs.declared.TheConstants.{MAX_ENTRIES, MAX_SEATS};
+    ghost use Rattle.pf_service.specs.declared.TheConstants.{MAX_SEATS};
 
-    /// A namespace at its opening state that gave no seat yet. Its files stand in memory of the allocator `tree`.
-    ///
-    /// Its loans have as many places as its limits reserve. The fault is want of memory.
-    pub(crate) fn new(
-        alloc: Global,
-        tree: A,
-        config: Config,
-        allotment: Allotment<C, H>,
-    ) -> Result<Self, ServiceFault>
-        requires reserved { reserved_of allotment.loans ≡ config.reserve }
-        ensures opened { IfOk result (λ s. s.logged ≡ new_log config tree) }
-        ensures none { IfOk result (λ s. s.given ≡ 0) }
-        ensures fault { IfErr result (λ e. e ≡ ServiceFault.NoMemory) }
+    /// A namespace that gave no seat yet.
+    pub(crate) fn new(living: Living<A, C, H>) -> Self
+        ensures lives { result.tenant ≡ Tenant.Living living }
+        ensures none { result.given ≡ 0 }
     {
-        let Allotment {
-            loans,
-            credits,
-            held,
-        } = allotment;
-        let logged = Logged::new(alloc, tree, config, loans)?;
-        let stock = Stock::new(alloc)?;
-        Ok(Seated {
-            logged,
-            credits,
-            held,
-            stock,
+        Seated {
+            tenant: Tenant::Living(living),
             given: 0,
-        })
+        }
     }
 
-    /// The namespace, to look at.
-    pub(crate) fn get_ref(&self) -> &Logged<A>
-        ensures { result.now ≡ self.now.logged }
-    {
-        &self.logged
-    }
-
-    /// The number of one more seat.
+    /// The number of one more seat, where the namespace lives.
     pub(crate) fn give(&mut self) -> Result<u32, ServiceFault>
+        ensures lives { OnOk result (Lives self.old.tenant) }
         ensures number { IfOk result (λ number. (number ≡ self.old.given) × (self.new.given ≡ number + 1)) }
         ensures room { OnOk result (self.old.given < MAX_SEATS) }
-        ensures full { IfErr result (λ e. (e ≡ ServiceFault.TooManySeats) × (MAX_SEATS ≤ self.old.given)) }
+        ensures fault { IfErr result (IsGiveFault self.old.tenant self.old.given) }
         ensures unchanged { OnErr result (self.new.given ≡ self.old.given) }
-        ensures logged { self.new.logged ≡ self.old.logged }
+        ensures tenant { self.new.tenant ≡ self.old.tenant }
     {
+        if let Tenant::Retired(_) = &self.tenant {
+            return Err(ServiceFault::Gone);
+        }
         let number = self.given;
         if number >= MAX_SEATS {
             return Err(ServiceFault::TooManySeats);
@@ -96,53 +64,48 @@ impl<A: Allocator + Clone, C: Ledger, H: Ledger> Seated<A, C, H> {
         Ok(number)
     }
 
-    /// One event, of which the gate was told: the namespace, and the place where it will stand. The transcript isn't full,
-    /// and the reply's vector is known to be no longer than `bound`.
-    pub(crate) fn log<R: Wait, G: Gate>(
+    /// The namespace is retired, where it lives and has no process: what it has at the depot goes back there, and what it
+    /// was asked and told stays. Those who wait are woken.
+    ///
+    /// It takes no memory, and holds the depot's lock once.
+    pub(crate) fn retire<R: Wait, W: Waiters>(
         &mut self,
         rt: &R,
-        gate: &G,
         book: &Mutex<DepotBook<C, H>>,
-        ns: u32,
-        step: &Step,
-        bound: usize,
-    ) -> Result<Reply, AllocError>
-        requires passed { G.passed gate.now ns (length self.old.logged.transcript) }
-        requires room { length self.old.logged.transcript < MAX_ENTRIES }
-        requires covers { reply_length
-            (step_of self.old.logged.limits self.old.logged.state step.now).reply ≤ bound }
-        ensures logged { IfOk result (IsLogged self.old.logged self.new.logged step.now) }
+        waiters: &W,
+    ) -> Result<(), RetireFault>
+        ensures retired { OnOk result (IsRetirement self.old.tenant self.new.tenant) }
+        ensures woken { OnOk result (W.woken waiters.now) }
+        ensures fault { IfErr result (IsRetireFault self.old.tenant) }
+        ensures unchanged { OnErr result (self.new.tenant ≡ self.old.tenant) }
         ensures given { self.new.given ≡ self.old.given }
-        ensures unchanged { OnErr result (self.new.logged ≡ self.old.logged) }
     {
-        let Seated {
-            logged,
-            credits,
-            held,
-            stock,
-            given: _,
-        } = self;
-        let mut depot = GatedDepot::new(rt, gate, ns, book, credits, held, stock);
-        logged.log(&mut depot, step, bound)
+        let Tenant::Living(living) = &self.tenant else {
+            return Err(RetireFault::NoSuchNamespace);
+        };
+        let processes = living.get_ref().processes();
+        if processes > 0 {
+            return Err(RetireFault::Alive { processes });
+        }
+        let nothing = Tenant::Retired(living.get_ref().nothing());
+        if let Tenant::Living(living) = mem::replace(&mut self.tenant, nothing) {
+            self.tenant = Tenant::Retired(living.retire(rt, book));
+        }
+        waiters.wake_all();
+        Ok(())
     }
 
-    /// Gives up the namespace, its frames and its shares, and keeps what it was asked and told, and how many seats it gave.
+    /// What the namespace was asked and told, and how many seats it gave.
     pub(crate) fn into_parts(self) -> (Transcript, u32)
-        ensures limits { result.0.limits ≡ self.logged.limits }
-        ensures entries { result.0.entries ≡ self.logged.transcript }
+        ensures transcript { result.0 ≡ transcript_of self.tenant }
         ensures alone { IsLone result.0 }
         ensures given { result.1 ≡ self.given }
     {
-        let Seated {
-            logged,
-            credits,
-            held,
-            stock,
-            given,
-        } = self;
-        drop(credits);
-        drop(held);
-        drop(stock);
-        (logged.into_transcript(), given)
+        let Seated { tenant, given } = self;
+        let transcript = match tenant {
+            Tenant::Living(living) => living.into_transcript(),
+            Tenant::Retired(retired) => retired.into_transcript(),
+        };
+        (transcript, given)
     }
 }

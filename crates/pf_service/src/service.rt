@@ -1,15 +1,19 @@
 ghost use Rattle.std.specs.Prelude.{◌≡◌, ◌≤◌, IfOk, length, map};
 ghost use Rattle.std.specs.List.{range_with_len};
+ghost use Rattle.pf_base.specs.declared.TheConstants.{MAX_NAMESPACES};
 ghost use Rattle.pf_hub.specs.Opening.{limits_of};
 
 use crate::fault::{CloseFault, ServiceFault};
+use crate::guests::Guests;
 use crate::judge::compare;
-use crate::opening::{configs_of, places_of};
+use crate::living::Living;
+use crate::opening::{configs_of, furnished, places_of};
 use crate::place::{Place, parts_of};
 use crate::receipt::Receipt;
 use crate::seat::Seat;
+use crate::seated::Seated;
 use crate::transcript::Transcripts;
-use pf_base::{Config, Step};
+use pf_base::{AdmitFault, Config, RetireFault, Step};
 use pf_depot::DepotBook;
 use pf_frame::{Frame, PoolFault};
 use pf_hub::{first_fault, reserves_of};
@@ -22,8 +26,10 @@ use std::sync::{Mutex, Wait};
 /// Many namespaces behind a lock each, over a depot of frames behind a lock of its own.
 ///
 /// Whoever calls has a seat at a namespace, which keeps what its caller asked and was told. At the end all seats are
-/// compared with all transcripts. A contract sees the limits that the namespaces were given: what lies behind a lock is
-/// known while it is held, and at the end.
+/// compared with all transcripts. A contract sees the limits of the namespaces that the service began with: what lies behind
+/// a lock is known while it is held, and at the end.
+///
+/// Namespaces come and go: 64 at a time, and each has a number of its own, of 1,024.
 ///
 /// A namespace's lock is taken first, and the depot's inside of it, for a moment, where a step takes or gives back a frame.
 /// `C` and `H` name the depot's two ledgers: the credits, and the frames that are held.
@@ -31,14 +37,17 @@ use std::sync::{Mutex, Wait};
 pub struct Service<A: Allocator, G: Gate, C: Ledger, H: Ledger> {
     alloc: Global,
     configs: Vec<Config>,
+    // Those that it began with.
     places: Vec<Place<A, C, H>>,
+    // Those that came since.
+    guests: Guests<A, C, H>,
     book: Mutex<DepotBook<C, H>>,
     gate: G,
 
     /// There is a place for each of the limits, and its number is that of the namespace.
     pub ghost numbered: { places.items ≡ range_with_len 0 (length configs.items) },
 
-    pub ghost few: { length configs.items ≤ 64 },
+    pub ghost few: { length configs.items ≤ MAX_NAMESPACES },
 }
 
 impl<A: Allocator, G: Gate, C: Ledger, H: Ledger> Model for Service<A, G, C, H> {
@@ -52,10 +61,10 @@ impl<A: Allocator, G: Gate, C: Ledger, H: Ledger> Model for Service<A, G, C, H> 
 
 impl<A: Allocator + Clone, G: Gate, C: Ledger, H: Ledger> Service<A, G, C, H> {
     ghost use Rattle.std.specs.Prelude.{ℕ, ◌<◌, ◌++◌, [], ◌∷◌, List, IfErr, IsOk, OnOk, OnErr, Err, None};
-    ghost use Rattle.pf_base.specs.declared.TheConstants.{MAX_NAMESPACES};
+    ghost use Rattle.pf_base.specs.declared.TheConstants.{MAX_NUMBERS};
     ghost use Rattle.pf_frame.specs.Faults.{IsFault};
     ghost use Rattle.pf_service.specs.declared.event.Event.{Event as OneEvent};
-    ghost use Rattle.pf_service.specs.Faults.{IsCallFault};
+    ghost use Rattle.pf_service.specs.Faults.{IsCallFault, IsAdmissionFault, IsRetirementFault};
     ghost use Rattle.pf_service.specs.Judged.{IsClosed, IsClosedFault};
     ghost use Rattle.pf_hub.specs.Opening.{first_fault};
     ghost use Rattle.pf_service.specs.Seats.{Gains, event_at, IsSeatFault};
@@ -94,6 +103,9 @@ impl<A: Allocator + Clone, G: Gate, C: Ledger, H: Ledger> Service<A, G, C, H> {
         let Ok(reserves) = reserves_of(alloc, &configs) else {
             return Err(PoolFault::NoMemory);
         };
+        let Ok(guests) = Guests::new(alloc) else {
+            return Err(PoolFault::NoMemory);
+        };
         let (book, allotments) = DepotBook::open(alloc, frames, reserves, credits, held)?;
         let Ok(places) = places_of(alloc, configs, allotments) else {
             return Err(PoolFault::NoMemory);
@@ -102,28 +114,74 @@ impl<A: Allocator + Clone, G: Gate, C: Ledger, H: Ledger> Service<A, G, C, H> {
             alloc,
             configs: kept,
             places,
+            guests,
             book: Mutex::new(book),
             gate,
         })
     }
 
-    // What stands at the place of a namespace. The fault is that there is none of this number.
+    // The place of a namespace, whether it lives or is retired. The fault is that none has this number.
     fn place(&self, ns: u32) -> Result<&Place<A, C, H>, ServiceFault>
-        ensures found { IfOk result (λ p. (p.now ≡ ns) × (ns < length self.now)) }
+        ensures found { IfOk result (λ p. (p.now ≡ ns) × (ns < MAX_NUMBERS)) }
         ensures missing { IfErr result (λ e. (e ≡ ServiceFault.NoSuchNamespace) × (length self.now ≤ ns)) }
+        ensures past { MAX_NUMBERS ≤ ns → result ≡ Err ServiceFault.NoSuchNamespace }
     {
-        match self.places.get(ns as usize) {
+        if let Some(place) = self.places.get(ns as usize) {
+            return Ok(place);
+        }
+        match self.guests.place(ns) {
             Some(place) => Ok(place),
             None => Err(ServiceFault::NoSuchNamespace),
         }
     }
 
+    /// A namespace of these limits comes, with the least number that was never given. Its files, and nothing else, stand in
+    /// memory of the allocator `tree`; its frames are reserved from now on, and no other namespace is told, or has, anything
+    /// else for it.
+    ///
+    /// `TooManyNamespaces` where 64 live or 1,024 numbers are given; then `NoRoom` where the reservation is above the slack,
+    /// the number of frames less the reservations of the living namespaces; then `NoMemory`, which may stand in place of
+    /// each. At a fault nothing has changed. The depot's lock is held once, and no namespace's.
+    pub fn admit<R: Wait>(&self, rt: &R, config: Config, tree: A) -> Result<u32, AdmitFault>
+        ensures number { IfOk result (λ ns. ns < MAX_NUMBERS) }
+        ensures fault { IfErr result (IsAdmissionFault config.reserve) }
+    {
+        let alloc = self.alloc;
+        let Ok((placed, stock)) = furnished(alloc, tree, config) else {
+            return Err(AdmitFault::NoMemory);
+        };
+        let Ok(room) = Box::new(alloc, None) else {
+            return Err(AdmitFault::NoMemory);
+        };
+        let (ns, allotment) = self.book.lock(rt).admit(config.reserve())?;
+        let living = Living::new(alloc, placed, stock, config, allotment);
+        let place = Place::new(ns, Seated::new(living));
+        self.guests.admit(rt, room, place);
+        Ok(ns)
+    }
+
+    /// A namespace goes that has no process. Its reservation is others' from now on, and its number isn't given again. What it
+    /// was asked and told stays until the service's end; a seat or an event there is `Gone`.
+    ///
+    /// `NoSuchNamespace` where none of this number lives, and else `Alive` where it has processes; then nothing has changed.
+    /// It takes no memory. The namespace's lock is held, and inside of it once the depot's.
+    pub fn retire<R: Wait>(&self, rt: &R, ns: u32) -> Result<(), RetireFault>
+        ensures missing { MAX_NUMBERS ≤ ns → result ≡ Err RetireFault.NoSuchNamespace }
+        ensures fault { IfErr result IsRetirementFault }
+    {
+        match self.place(ns) {
+            Ok(place) => place.retire(rt, &self.book),
+            Err(_) => Err(RetireFault::NoSuchNamespace),
+        }
+    }
+
     /// A seat at a namespace, with the next number. It takes no memory.
     ///
-    /// `NoSuchNamespace` where there is none of this number, and `TooManySeats` where the namespace gave 4,096.
+    /// `NoSuchNamespace` where this number wasn't given, then `Gone` where its namespace is retired, and `TooManySeats` where
+    /// it gave 4,096.
     pub fn seat<R: Wait>(&self, rt: &R, ns: u32) -> Result<Seat, ServiceFault>
         ensures seat { IfOk result (λ s. (s.ns ≡ ns) × (s.number < MAX_SEATS) × (s.events ≡ [])) }
-        ensures missing { length self.now ≤ ns → result ≡ Err ServiceFault.NoSuchNamespace }
+        ensures missing { MAX_NUMBERS ≤ ns → result ≡ Err ServiceFault.NoSuchNamespace }
         ensures fault { IfErr result (IsSeatFault (length self.now) ns) }
     {
         self.place(ns)?.seat(rt, self.alloc)
@@ -133,7 +191,7 @@ impl<A: Allocator + Clone, G: Gate, C: Ledger, H: Ledger> Service<A, G, C, H> {
     ///
     /// The reply is the last that the lone machine gives on some steps of which this is the last, as many as the place
     /// says before it. `NoSuchNamespace` where the seat's namespace isn't there, as that of another service may be; then
-    /// `TranscriptFull` where the namespace had 1,000,000 events; then `NoMemory`. Nothing is logged or changed by a
+    /// `Gone` where it is retired; then `TranscriptFull` where the namespace had 1,000,000 events; then `NoMemory`. Nothing is logged or changed by a
     /// refused event.
     pub fn call<R: Wait>(
         &self,
@@ -144,7 +202,7 @@ impl<A: Allocator + Clone, G: Gate, C: Ledger, H: Ledger> Service<A, G, C, H> {
         ensures kept { IfOk result (λ r. Gains seat.old seat.new (event_at r.place step.now r.reply ∷ [])) }
         ensures told { IfOk result (λ r. (r.ns ≡ seat.old.ns) × Told step.now r.place r.reply) }
         ensures passed { IfOk result (λ r. (gate : G) × G.passed gate r.ns r.place) }
-        ensures missing { length self.now ≤ seat.old.ns → result ≡ Err ServiceFault.NoSuchNamespace }
+        ensures missing { MAX_NUMBERS ≤ seat.old.ns → result ≡ Err ServiceFault.NoSuchNamespace }
         ensures fault { IfErr result (IsCallFault (length self.now) seat.old.ns) }
         ensures refused { OnErr result (Gains seat.old seat.new []) }
     {
@@ -169,7 +227,7 @@ impl<A: Allocator + Clone, G: Gate, C: Ledger, H: Ledger> Service<A, G, C, H> {
             × IsWaited (λ s p r. Told s p r × G.passed gate seat.old.ns p) step.now seat.old seat.new
             receipts.old.items receipts.new.items es
             × OnOk result (IsAnswered es) }
-        ensures missing { length self.now ≤ seat.old.ns → result ≡ Err ServiceFault.NoSuchNamespace }
+        ensures missing { MAX_NUMBERS ≤ seat.old.ns → result ≡ Err ServiceFault.NoSuchNamespace }
         ensures fault { IfErr result (IsCallFault (length self.now) seat.old.ns) }
     {
         let gate = &self.gate;
@@ -179,9 +237,11 @@ impl<A: Allocator + Clone, G: Gate, C: Ledger, H: Ledger> Service<A, G, C, H> {
 
     /// Ends the service, and gives what each namespace was asked and told, where these seats fit that.
     ///
-    /// At Ok each transcript is a merge of what its namespace's seats keep, each event at its place and nothing else; its
-    /// replies are the lone machine's on its steps, under the limits that the namespace was given; and the seats of each
-    /// namespace are those numbered from 0 up to some number, each once. Seats of another service are judged alike.
+    /// There is a transcript for each number that was given, whether its namespace lives or is retired. At Ok each is a
+    /// merge of what its namespace's seats keep, each event at its place and nothing else; its replies are the lone
+    /// machine's on its steps, under the limits that the namespace was given, or where it was admitted, under the limits
+    /// that it kept; and the seats of each namespace are those numbered from 0 up to some number, each once. Seats of
+    /// another service are judged alike.
     ///
     /// How many seats were given lies behind the locks, where no clause of this call sees it. That they are all here, and
     /// that each fault has its cause, is a promise of `compare`, to which this call hands what lay there.
@@ -195,11 +255,15 @@ impl<A: Allocator + Clone, G: Gate, C: Ledger, H: Ledger> Service<A, G, C, H> {
             alloc,
             configs,
             places,
+            guests,
             book,
             gate,
         } = self;
         drop(book);
         drop(gate);
+        let Ok(places) = guests.after(places) else {
+            return Err(CloseFault::NoMemory);
+        };
         let Ok((transcripts, given)) = parts_of(alloc, places) else {
             return Err(CloseFault::NoMemory);
         };

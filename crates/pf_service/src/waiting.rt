@@ -4,15 +4,17 @@ ghost use Rattle.pf_base.specs.declared.step.Reply.TheVariants.{Parked};
 ghost use Rattle.pf_machine.specs.Machine.{pid_of};
 ghost use Rattle.pf_service.specs.declared.event.Event.{Event as OneEvent};
 ghost use Rattle.pf_service.specs.Faults.{IsApplyFault, IsEventFault};
+ghost use Rattle.pf_service.specs.Tenants.{IsTenantFault};
 ghost use Rattle.pf_service.specs.Seats.{Gains};
 ghost use Rattle.pf_service.specs.Told.{Told};
 ghost use Rattle.pf_service.specs.Waited.{maker, resume_of, IsTried, IsWaited, IsAnswered};
 
 use crate::fault::ServiceFault;
+use crate::living::Living;
 use crate::place::{Place, event};
 use crate::receipt::Receipt;
 use crate::seat::Seat;
-use crate::seated::Seated;
+use crate::seated::{Seated, Tenant};
 use crate::waiters::Waiters;
 use pf_base::{Reply, Step};
 use pf_depot::DepotBook;
@@ -53,21 +55,21 @@ fn maker(step: &Step) -> u32
 
 // Makes room for a receipt. Where there is none, the transcript's end is looked at before want of memory is answered.
 fn make_room<A: Allocator + Clone, C: Ledger, H: Ledger>(
-    seated: &Seated<A, C, H>,
+    living: &Living<A, C, H>,
     receipts: &mut Vec<Receipt>,
 ) -> Result<(), ServiceFault>
     ensures room { OnOk result (length receipts.new.items < vec_capacity receipts.new) }
     ensures kept { receipts.new.items ≡ receipts.old.items }
-    ensures fault { IfErr result (IsApplyFault seated.now.logged.transcript) }
+    ensures fault { IfErr result (IsApplyFault living.now.logged.transcript) }
 {
     if receipts.reserve(1).is_err() {
-        seated.get_ref().place()?;
+        living.get_ref().place()?;
         return Err(ServiceFault::NoMemory);
     }
     Ok(())
 }
 
-// One event under the lock, whose receipt is appended. Whether its process waits.
+// One event under the lock, whose receipt is appended, where the namespace lives. Whether its process waits.
 fn try_once<A: Allocator + Clone, R: Wait, G: Gate, C: Ledger, H: Ledger, W: Waiters>(
     rt: &R,
     gate: &G,
@@ -82,12 +84,15 @@ fn try_once<A: Allocator + Clone, R: Wait, G: Gate, C: Ledger, H: Ledger, W: Wai
         × IsTried (λ s p r. Told s p r × G.passed gate.now seat.old.ns p) step.now seat.old seat.new
         receipts.old.items receipts.new.items place reply
         × (IsTrue waits ↔ (reply ≡ Parked))) }
-    ensures fault { IfErr result (IsApplyFault seated.old.logged.transcript) }
+    ensures fault { IfErr result (IsTenantFault seated.old.tenant) }
     ensures seat { OnErr result (Gains seat.old seat.new []) }
     ensures receipts { OnErr result (receipts.new.items ≡ receipts.old.items) }
 {
-    make_room(seated, receipts)?;
-    let receipt = event(rt, gate, book, seated, waiters, seat, step)?;
+    let Tenant::Living(living) = &mut seated.tenant else {
+        return Err(ServiceFault::Gone);
+    };
+    make_room(living, receipts)?;
+    let receipt = event(rt, gate, book, living, waiters, seat, step)?;
     let waits = receipt.reply.is_same(&Reply::Parked);
     receipts.push_reserved(receipt);
     Ok(waits)

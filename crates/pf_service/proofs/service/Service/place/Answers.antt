@@ -1,4 +1,4 @@
--- The places are numbered as they stand.
+-- The first places are numbered as they stand.
 use Rattle.std.proofs.Common.{rules, ◌≡◌, ◌<◌, ◌≤◌, ℕ, List, length, refl, ap, ◌∙◌, arith}
 use Rattle.std.specs.List.{range_with_len}
 use Rattle.std.proofs.lemmas.List.FromFn.{length-range_with_len}
@@ -11,9 +11,16 @@ returns-in-Some-clause-found g c =
     let n = length c.self.inside.configs.items in
     let numbered : c.deref.result.now ≡ range_with_len 0 n = c.deref.ensures.value ∙ c.self.inside.numbered in
     let counted : length c.deref.result.now ≡ n = ap (λ (ns : List ℕ). length ns) numbered ∙ length-range_with_len 0 n in
-    let all : n ≡ length c.args.self.now = ap (λ (ls : List Limits). length ls) c.self.view_is in
     let within : c.args.ns < length c.deref.result.now = search (c.in-Some.ensures.lookup.0, rules) in
-    (number_at c.deref.result.now n c.args.ns c.in-Some.place.now numbered (omega (arith, within, counted)) c.in-Some.ensures.lookup.1, omega (arith, within, counted, all))
+    (number_at c.deref.result.now n c.args.ns c.in-Some.place.now numbered (omega (arith, within, counted)) c.in-Some.ensures.lookup.1, omega (arith, within, counted, c.self.inside.few))
+
+pub returns-in-Some-clause-past : goal.returns-in-Some-clause-past
+returns-in-Some-clause-past g c = λ past.
+    let n = length c.self.inside.configs.items in
+    let numbered : c.deref.result.now ≡ range_with_len 0 n = c.deref.ensures.value ∙ c.self.inside.numbered in
+    let counted : length c.deref.result.now ≡ n = ap (λ (ns : List ℕ). length ns) numbered ∙ length-range_with_len 0 n in
+    let within : c.args.ns < length c.deref.result.now = search (c.in-Some.ensures.lookup.0, rules) in
+    absurd (omega (arith, within, counted, c.self.inside.few, past))
 
 pub returns-in-None-clause-missing : goal.returns-in-None-clause-missing
 returns-in-None-clause-missing g c =
@@ -21,5 +28,5 @@ returns-in-None-clause-missing g c =
     let numbered : c.deref.result.now ≡ range_with_len 0 n = c.deref.ensures.value ∙ c.self.inside.numbered in
     let counted : length c.deref.result.now ≡ n = ap (λ (ns : List ℕ). length ns) numbered ∙ length-range_with_len 0 n in
     let all : n ≡ length c.args.self.now = ap (λ (ls : List Limits). length ls) c.self.view_is in
-    let past : length c.deref.result.now ≤ c.args.ns = search (c.in-None.ensures.lookup, rules) in
+    let past : length c.deref.result.now ≤ c.args.ns = search (c.in_default.ensures.lookup, rules) in
     (refl, omega (arith, past, counted, all))

@@ -1,0 +1,25 @@
+-- One place more.
+use Rattle.std.proofs.Common.{rules, ◌≡◌, ◌+◌, ◌<◌, ◌≤◌, [], ◌∷◌, ◌++◌, ℕ, List, length, ap, arith, length-append}
+use Rattle.pf_service.proofs.PlaceLaws.{next_number}
+use Rattle.pf_service.proofs.guests.Guests.after.Goals as goal
+
+pub loop-ns-init : goal.loop-ns-init
+loop-ns-init g c =
+    let counted : c.len-ns.result ≡ length c.args.places.items = search (c.len-ns.ensures, rules) in
+    record { numbered = c.requires.numbered; here = omega (arith, counted); first = omega (arith, counted); most = omega (arith, counted, c.requires.few) }
+
+pub loop-ns-preserved : goal.loop-ns-preserved
+loop-ns-preserved g c =
+    let old = c.loop-ns.places.items in
+    let pushed : c.push.new.self.items ≡ old ++ c.in-Some.place ∷ [] = search (c.in_ok-push.ensures.items, rules) in
+    let here : c.in-Some.place ≡ length old = omega (arith, c.in-Some.ensures, c.loop-ns.invariant.here) in
+    let counted : length c.push.new.self.items ≡ length old + 1 = omega (arith, ap (λ (ns : List ℕ). length ns) pushed, length-append old (c.in-Some.place ∷ [])) in
+    record {
+      numbered = next_number old c.push.new.self.items (length old) (length c.push.new.self.items) c.in-Some.place c.loop-ns.invariant.numbered here pushed counted;
+      here = omega (arith, counted, c.loop-ns.invariant.here);
+      first = omega (arith, c.loop-ns.invariant.first);
+      most = omega (arith, c.loop-ns-test.true);
+    }
+
+pub returns-clause-few : goal.returns-clause-few
+returns-clause-few g c = omega (arith, c.loop-ns.invariant.here, c.loop-ns.invariant.most)

@@ -1,0 +1,44 @@
+-- A namespace of a service that lives, or is retired.
+
+use Rattle.std.specs.Prelude.{◌≡◌, ℕ, ◌<◌, ◌≤◌}
+use Rattle.pf_base.specs.declared.admission.RetireFault.{RetireFault}
+use Rattle.pf_base.specs.declared.admission.RetireFault.TheVariants.{NoSuchNamespace, Alive}
+use Rattle.pf_machine.specs.Processes.{alive}
+use Rattle.pf_service.specs.Faults.{IsApplyFault}
+use Rattle.pf_service.specs.Transcripts.{OneTranscript}
+use Rattle.pf_service.specs.declared.TheConstants.{MAX_SEATS}
+use Rattle.pf_service.specs.declared.fault.ServiceFault.{ServiceFault}
+use Rattle.pf_service.specs.declared.fault.ServiceFault.TheVariants.{TooManySeats, Gone}
+use Rattle.pf_service.specs.declared.living.Living.{Living as OneLiving}
+use Rattle.pf_service.specs.declared.seated.Tenant.{Tenant}
+use Rattle.pf_service.specs.declared.seated.Tenant.TheVariants.{Living, Retired}
+
+-- it lives
+abbrev pub Lives : {A C H : Type 0} → Tenant (OneLiving A C H) → Type 0
+Lives (Living l) = Unit {0}
+Lives (Retired t) = ⊥
+
+-- what it was asked and told
+abbrev pub transcript_of : {A C H : Type 0} → Tenant (OneLiving A C H) → OneTranscript
+transcript_of (Living l) = record { limits = l.logged.limits; entries = l.logged.transcript }
+transcript_of (Retired t) = t
+
+-- why it gives no seat, where so many were given: that it is retired comes first
+abbrev pub IsGiveFault : {A C H : Type 0} → Tenant (OneLiving A C H) → ℕ → ServiceFault → Type 0
+IsGiveFault (Living l) given fault = (fault ≡ TooManySeats) × (MAX_SEATS ≤ given)
+IsGiveFault (Retired t) given fault = fault ≡ Gone
+
+-- why an event is refused: that it is retired comes first
+abbrev pub IsTenantFault : {A C H : Type 0} → Tenant (OneLiving A C H) → ServiceFault → Type 0
+IsTenantFault (Living l) fault = IsApplyFault l.logged.transcript fault
+IsTenantFault (Retired t) fault = fault ≡ Gone
+
+-- one that lived, with no process, is retired: its limits and its transcript stay, and nothing else
+abbrev pub IsRetirement : {A C H : Type 0} → Tenant (OneLiving A C H) → Tenant (OneLiving A C H) → Type 0
+IsRetirement (Living l) (Retired t) = (alive l.logged.state ≡ 0) × (t ≡ transcript_of (Living l))
+IsRetirement _ _ = ⊥
+
+-- why it isn't retired
+abbrev pub IsRetireFault : {A C H : Type 0} → Tenant (OneLiving A C H) → RetireFault → Type 0
+IsRetireFault (Living l) fault = (fault ≡ Alive (alive l.logged.state)) × (0 < alive l.logged.state)
+IsRetireFault (Retired t) fault = fault ≡ NoSuchNamespace

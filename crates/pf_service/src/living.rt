@@ -1,0 +1,145 @@
+ghost use Rattle.std.specs.Prelude.{◌≡◌, ◌+◌, ◌<◌};
+
+use crate::logged::Logged;
+use crate::retired::Retired;
+use crate::transcript::Transcript;
+use pf_base::{Config, Reply, Step};
+use pf_depot::{Allotment, DepotBook, Stock};
+use pf_space::Placed;
+use pf_worker::{Gate, GatedDepot};
+use std::alloc::{AllocError, Allocator, Global};
+use std::sync::ledger::{Ledger, Share};
+use std::sync::{Mutex, Wait};
+
+/// A namespace that lives: the namespace with its transcript, its shares of the depot's two ledgers, and its stock of frames.
+///
+/// As that is all within its type, whoever takes the lock that it lies behind finds it so: a frame for each credit at the
+/// depot, and a transcript that is the lone machine's.
+#[derive(Drop)]
+pub(crate) struct Living<A: Allocator, C: Ledger, H: Ledger> {
+    logged: Logged<A>,
+    credits: Share<C>,
+    held: Share<H>,
+    stock: Stock,
+
+    /// For each frame that the namespace may still take, one is in stock or there is a credit.
+    pub ghost unspent: { credits.amount + stock + logged.held ≡ logged.limits.reserve },
+
+    /// Its other share is what the namespace holds and what is in stock.
+    pub ghost lent: { held.amount ≡ logged.held + stock },
+
+    /// Both shares have a part of their ledger, so each can grow.
+    pub ghost parts: { (0 < credits.parts) × (0 < held.parts) },
+}
+
+impl<A: Allocator + Clone, C: Ledger, H: Ledger> Living<A, C, H> {
+    ghost use Rattle.std.specs.Prelude.{◌≤◌, length, IfOk, OnErr};
+    ghost use Rattle.pf_machine.specs.State.{opening};
+    ghost use Rattle.pf_machine.specs.Machine.{step_of};
+    ghost use Rattle.pf_machine.specs.Replies.{reply_length};
+    ghost use Rattle.pf_depot.specs.AllLoans.{reserved_of};
+    ghost use Rattle.pf_service.specs.Log.{new_log, IsLogged};
+    ghost use Rattle.pf_service.specs.Transcripts.{IsLone};
+    ghost use Rattle.pf_service.specs.declared.TheConstants.{MAX_ENTRIES};
+
+    /// A namespace at its opening state, with what it begins with at the depot, and nothing in stock. It takes no memory.
+    ///
+    /// Its loans have as many places as its limits reserve.
+    pub(crate) fn new(
+        alloc: Global,
+        placed: Placed<A>,
+        stock: Stock,
+        config: Config,
+        allotment: Allotment<C, H>,
+    ) -> Self
+        requires opening { placed.space ≡ record { limits = config; state = opening } }
+        requires none { stock ≡ 0 }
+        requires reserved { reserved_of allotment.loans ≡ config.reserve }
+        ensures { result.logged ≡ new_log config placed.allocator }
+    {
+        let Allotment {
+            loans,
+            credits,
+            held,
+        } = allotment;
+        Living {
+            logged: Logged::over(alloc, placed, config, loans),
+            credits,
+            held,
+            stock,
+        }
+    }
+
+    /// The namespace, to look at.
+    pub(crate) fn get_ref(&self) -> &Logged<A>
+        ensures { result.now ≡ self.now.logged }
+    {
+        &self.logged
+    }
+
+    /// One event, of which the gate was told: the namespace, and the place where it will stand. The transcript isn't full,
+    /// and the reply's vector is known to be no longer than `bound`.
+    pub(crate) fn log<R: Wait, G: Gate>(
+        &mut self,
+        rt: &R,
+        gate: &G,
+        book: &Mutex<DepotBook<C, H>>,
+        ns: u32,
+        step: &Step,
+        bound: usize,
+    ) -> Result<Reply, AllocError>
+        requires passed { G.passed gate.now ns (length self.old.logged.transcript) }
+        requires room { length self.old.logged.transcript < MAX_ENTRIES }
+        requires covers { reply_length
+            (step_of self.old.logged.limits self.old.logged.state step.now).reply ≤ bound }
+        ensures logged { IfOk result (IsLogged self.old.logged self.new.logged step.now) }
+        ensures unchanged { OnErr result (self.new.logged ≡ self.old.logged) }
+    {
+        let Living {
+            logged,
+            credits,
+            held,
+            stock,
+        } = self;
+        let mut depot = GatedDepot::new(rt, gate, ns, book, credits, held, stock);
+        logged.log(&mut depot, step, bound)
+    }
+
+    /// Gives what the namespace has at the depot back, and keeps what it was asked and told. It holds no frame.
+    ///
+    /// The depot's lock is held once.
+    pub(crate) fn retire<R: Wait>(self, rt: &R, book: &Mutex<DepotBook<C, H>>) -> Retired
+        requires none { self.logged.held ≡ 0 }
+        ensures { result ≡ record { limits = self.logged.limits; entries = self.logged.transcript } }
+    {
+        let Living {
+            logged,
+            credits,
+            held,
+            stock,
+        } = self;
+        let (transcript, loans) = logged.into_parts();
+        book.lock(rt).retire(loans, credits, held, stock);
+        Retired::new(transcript)
+    }
+
+    /// Gives up the namespace, its frames and its shares, and keeps what it was asked and told.
+    pub(crate) fn into_transcript(self) -> Transcript
+        ensures limits { result.limits ≡ self.logged.limits }
+        ensures entries { result.entries ≡ self.logged.transcript }
+        ensures alone { IsLone result }
+    {
+        let Living {
+            logged,
+            credits,
+            held,
+            stock,
+        } = self;
+        drop(credits);
+        drop(held);
+        drop(stock);
+        let (transcript, loans) = logged.into_parts();
+        drop(loans);
+        transcript
+    }
+}
