@@ -19,16 +19,16 @@ use std::thread::{Threads, join};
 // What the frames hold before anyone writes to them.
 const OLD: u8 = 0xA5;
 
-type Tenant<C, H> = Worker<Global, C, H>;
+pub(crate) type Tenant<C, H> = Worker<Global, C, H>;
 
 // A ledger with a part for each namespace that there may be.
-fn blank() -> Blank
+pub(crate) fn blank() -> Blank
     ensures { result.parts ≡ MAX_NAMESPACES }
 {
     Blank::new(MAX_NAMESPACES as u64)
 }
 
-fn old_frames(alloc: Global, count: u32) -> Result<Vec<Frame>, AllocError> {
+pub(crate) fn old_frames(alloc: Global, count: u32) -> Result<Vec<Frame>, AllocError> {
     let mut frames = Vec::with_capacity(alloc, count as usize)?;
     for _ in 0..count {
         frames.push(Frame::filled(alloc, OLD)?)?;
@@ -36,23 +36,28 @@ fn old_frames(alloc: Global, count: u32) -> Result<Vec<Frame>, AllocError> {
     Ok(frames)
 }
 
-// The limits of two namespaces, each with the allocator of its files.
+// The limits of a namespace with this reservation.
+pub(crate) fn config(reserve: u32) -> Option<Config> {
+    let config = Config::new(
+        reserve,
+        Config::DEFAULT_SOFT,
+        Config::DEFAULT_HARD,
+        Config::DEFAULT_MAX,
+    );
+    config.ok()
+}
+
+// Those of two namespaces, each with the allocator of its files.
 fn configs(alloc: Global, reserves: [u32; 2]) -> Option<Vec<(Config, Global)>> {
     let mut configs = Vec::with_capacity(alloc, 2).ok()?;
     for reserve in reserves {
-        let config = Config::new(
-            reserve,
-            Config::DEFAULT_SOFT,
-            Config::DEFAULT_HARD,
-            Config::DEFAULT_MAX,
-        );
-        configs.push((config.ok()?, alloc)).ok()?;
+        configs.push((config(reserve)?, alloc)).ok()?;
     }
     Some(configs)
 }
 
 // Whether a step is told what is wanted. Where a growth is refused it is made once more: it is to find all as it was.
-fn is_told<R: Wait, G: Gate, C: Ledger, H: Ledger>(
+pub(crate) fn is_told<R: Wait, G: Gate, C: Ledger, H: Ledger>(
     rt: &R,
     book: &Mutex<DepotBook<C, H>>,
     gate: &G,

@@ -51,21 +51,46 @@ fn read(alloc: Global, n: u64, byte: u8, count: usize) -> Result<Row, AllocError
     Ok(Row { step, told })
 }
 
+fn exit() -> Row {
+    Row {
+        step: Step::Exit { pid: 1 },
+        told: Reply::Num(0),
+    }
+}
+
 /// A process fills two pipes with bytes 61, and exits: it gives back twice as many frames as are kept in stock.
 pub(crate) fn fills_and_exits(alloc: Global) -> Result<[Row; 6], AllocError> {
     let first = write(alloc, 1, 0x61, 65_536)?;
     let second = write(alloc, 3, 0x61, 65_536)?;
-    let exit = Row {
-        step: Step::Exit { pid: 1 },
-        told: Reply::Num(0),
-    };
     Ok([
         spawn(alloc),
         pipe(Reply::Fds(0, 1)),
         first,
         pipe(Reply::Fds(2, 3)),
         second,
-        exit,
+        exit(),
+    ])
+}
+
+/// A process makes a file and a pipe, writes a byte, and asks for a hundred; it exits, and its file is left.
+pub(crate) fn works(alloc: Global) -> Result<[Row; 6], AllocError> {
+    let file = Row {
+        step: Step::Mkfifo {
+            pid: 1,
+            path: ByteString::from_slice(alloc, b"/f")?,
+            mode: 0o644,
+        },
+        told: Reply::Num(0),
+    };
+    let write = write(alloc, 1, 0x7A, 1)?;
+    let read = read(alloc, 100, 0x7A, 1)?;
+    Ok([
+        spawn(alloc),
+        file,
+        pipe(Reply::Fds(0, 1)),
+        write,
+        read,
+        exit(),
     ])
 }
 
