@@ -1,8 +1,9 @@
 pub mod TenantLaws
 pub mod StepLemmas
-pub mod PlacedLaws
-pub mod DepotLemmas
 pub mod OwnerLemmas
+pub mod ComingLemmas
+pub mod HouseLemmas
+pub mod EventLemmas
 pub mod OpeningLemmas
 pub mod NeedLemmas
 pub mod RunLemmas

@@ -1,22 +1,19 @@
 -- Why the frames of a hub have one owner each, and why its windows hold their segments.
 
-use Rattle.std.proofs.Common.{◌≡◌, ℕ, zero, suc, ◌+◌, ◌<◌, ◌≤◌, ◌==◌, true, false, List, [], ◌∷◌, ◌++◌, length, map}
+use Rattle.std.proofs.Common.{◌≡◌, ℕ, zero, suc, ◌+◌, ◌<◌, ◌≤◌, true, false, List, [], ◌∷◌, length, map}
 use Rattle.std.proofs.Common.{take, drop, refl, ap, sym, ◌∙◌, subst, arith, length-append}
-use Rattle.std.specs.Prelude.{Option, Some, None, IsSome, slice_get, slice_index, slice_index_or, if◌then◌else◌}
+use Rattle.std.specs.Prelude.{Option, Some, None, IsSome, slice_index, slice_index_or}
 use Rattle.std.specs.List.{sum_by}
 use Rattle.std.specs.Option.{option_map}
 use Rattle.std.proofs.lemmas.Bool.Decides.{nat_tests}
 use Rattle.std.proofs.lemmas.List.{get_or-map}
 use Rattle.std.proofs.lemmas.List.Sums.{sum_by-cons}
-use Rattle.std.proofs.lemmas.Option.{get_or_from_slice_get, slice_get_within}
 use Rattle.pf_base.specs.declared.TheConstants.{PAGE_SIZE}
 use Rattle.pf_machine.specs.Numbered.{at, sum_of}
 use Rattle.pf_machine.proofs.NumberedLaws.{at_within, at-map}
-use Rattle.pf_machine.specs.Queue.{Queue}
 use Rattle.pf_machine.specs.State.{Pipe}
 use Rattle.pf_frame.specs.declared.frame.Frame.{Frame}
 use Rattle.pf_frame.specs.Counted.{positives}
-use Rattle.pf_frame.specs.Live.{Live}
 use Rattle.pf_frame.specs.Pages.{page_of}
 use Rattle.pf_frame.specs.Sound.{page_shown}
 use Rattle.pf_ring.specs.declared.ring.Window.{Window}
@@ -25,18 +22,17 @@ use Rattle.pf_ring.specs.Table.{named_by}
 use Rattle.pf_ring.specs.Windows.{named, reach}
 use Rattle.pf_depot.specs.declared.depot.Depot.{Depot}
 use Rattle.pf_depot.specs.declared.loans.Loans.{Loans}
-use Rattle.pf_depot.specs.AllLoans.{held_of, live_at}
+use Rattle.pf_depot.specs.AllLoans.{held_of}
 use Rattle.pf_depot.specs.Loans.{loans_live}
 use Rattle.pf_depot.specs.Places.{page_at, AreLent}
-use Rattle.pf_depot.proofs.AllLoansLaws.{live_is}
-use Rattle.pf_tables.specs.Meaning.{Namespace, meaning, pipe_meaning, ring_or, rings_of}
+use Rattle.pf_tables.specs.Meaning.{Namespace, meaning, pipe_meaning, ring_or}
 use Rattle.pf_tables.specs.Owns.{Owns}
 use Rattle.pf_tables.proofs.OwnsLaws.{stands_at}
 use Rattle.pf_hub.specs.Owners.{lying, owned, windows_on, Shows, ShowEach, ShowQueue, IsOwner, AreOwned}
-use Rattle.pf_hub.specs.Shared.{IsShared, hub_of, no_space, space_at}
-use Rattle.pf_hub.specs.Tenants.{Tenants, tenant_of, tenant_at}
-use Rattle.pf_hub.proofs.DepotLemmas.{fits, frames_are}
-use Rattle.pf_hub.proofs.TenantLaws.{length-tenants_from, tenants-at}
+use Rattle.pf_hub.specs.declared.tenant.Tenant.{Tenant as Lodger}
+use Rattle.pf_hub.specs.Shared.{IsShared, hub_of, held_in}
+use Rattle.pf_hub.specs.Tenants.{Tenants, tenant_of}
+use Rattle.pf_hub.proofs.TenantLaws.{tenant_is, lives_is, number_is, frames_are, slack_is}
 
 -- Frames at places
 
@@ -58,11 +54,11 @@ lying_held (suc c ∷ cs) (Some f ∷ ps) same lent =
 own_held : (l : Loans) → length (lying l.places.items) ≡ held_of l
 own_held l = lying_held l.counts.items l.places.items (omega (arith, l.kept.paged)) l.lent
 
-all_held : (ls : List Loans) → length (owned ls) ≡ sum_by held_of ls
+all_held : {Z : Type 0} (ts : List (Option (Lodger Z))) → length (owned ts) ≡ sum_of held_in ts
 all_held [] = refl
-all_held (l ∷ ls) =
-    let both = length-append (lying l.places.items) (owned ls) in
-    omega (arith, both, own_held l, all_held ls, sum_by-cons held_of l ls)
+all_held (None ∷ ts) = let rest = all_held ts in omega (arith, rest)
+all_held (Some t ∷ ts) =
+    let both = length-append (lying t.loans.places.items) (owned ts) in omega (arith, both, own_held t.loans, all_held ts)
 
 -- Windows
 
@@ -132,27 +128,16 @@ module _ (l : Loans) where
 
 -- The hub
 
-pub are_owned : {d : Depot} {ls : List Loans} {ss : List Namespace} {t : Tenants} → IsShared d ls ss →
-    hub_of d ls ss ≡ t → AreOwned t d ls ss
-are_owned {d} {ls} {ss} {t} shared is = subst (λ (h : Tenants). AreOwned h d ls ss) is (record {
-  paired = (shared.doors ∙ sym number, sym number);
+pub are_owned : {Z : Type 0} {d : Depot} {ts : List (Option (Lodger Z))} {alive : ℕ} {h : Tenants} → IsShared d ts alive →
+    hub_of d ts ≡ h → AreOwned h d ts
+are_owned {Z} {d} {ts} shared is = subst (λ (x : Tenants). AreOwned x d ts) is (record {
+  paired = sym (number_is d ts);
+  living = λ n. sym (lives_is d ts n);
   free = refl;
-  once = omega (arith, length-append d.free.items (owned ls), all_held ls, shared.all);
-  all = sym (frames_are d ls ss shared);
-  owners = owners;
+  once = omega (arith, length-append d.free.items (owned ts), all_held ts, shared.all);
+  all = sym (frames_are d ts shared);
+  slack = sym (slack_is d ts shared);
+  owners = λ n t there.
+      subst (IsOwner t.loans t.placed.space) (sym (tenant_is d ts n t there))
+      (is_owner t.loans t.placed.space (shared.owned n t there));
 })
-  where
-    number : length (hub_of d ls ss).tenants ≡ length ss
-    number = length-tenants_from (live_at ls) 0 ss
-
-    owners : (n : ℕ) (l : Loans) (s : Namespace) → slice_get ls n ≡ Some l → slice_get ss n ≡ Some s →
-        IsOwner l s (tenant_at (hub_of d ls ss) n)
-    owners n l s loans space =
-        let live : live_at ls n ≡ loans_live l
-        = live_is ls n l (slice_get_within ls n l loans) ∙ ap loans_live (get_or_from_slice_get ls n l l loans) in
-        let own : space_at ss n ≡ s = get_or_from_slice_get ss n s no_space space in
-        let owns : Owns (loans_live l) s
-        = subst (λ (f : Live). Owns f s) live (subst (Owns (live_at ls n)) own (shared.owned n)) in
-        subst (IsOwner l s)
-        (sym (tenants-at (live_at ls) ss (fits d ls ss shared) n ∙ (λ i. tenant_of (live i) (own i))))
-        (is_owner l s owns)

@@ -1,9 +1,10 @@
 -- One more event of a run.
 
-use Rattle.std.proofs.Common.{◌≡◌, ◌≢◌, ℕ, zero, suc, cond, length-append, ◌+◌, ◌<◌, List, [], ◌∷◌, ◌++◌, length, get_or, refl, ap, sym, ◌∙◌, subst, arith, Bool, true, false}
-use Rattle.std.specs.Prelude.{Some, None, nat_le, nat_eq}
+use Rattle.std.proofs.Common.{◌≡◌, ◌≢◌, ℕ, zero, suc, cond, length-append, ◌+◌, ◌<◌, List, [], ◌∷◌, ◌++◌, length, map, get_or, refl, ap, sym, ◌∙◌, subst, arith, Bool, true, false, ◌≤◌}
+use Rattle.std.specs.Prelude.{Option, Some, None, nat_le, nat_eq, not, is_some}
 use Rattle.std.specs.List.{position_from}
-use Rattle.std.proofs.lemmas.Bool.{eqb-true, eqb-false, leb-false}
+use Rattle.std.proofs.Common.{inl, inr}
+use Rattle.std.proofs.lemmas.Bool.{cases_lt, eqb-true, eqb-false, leb-false, le-leb, lt-leb}
 use Rattle.pf_base.specs.Limits.{Limits}
 use Rattle.pf_machine.specs.Machine.{Answers, may_want_memory}
 use Rattle.pf_machine.specs.Runs.{Run, run_of, lone}
@@ -12,19 +13,22 @@ use Rattle.pf_machine.proofs.EventLaws.{told-own, told-other, kept-mine}
 use Rattle.pf_base.specs.declared.step.Step.{Step}
 use Rattle.pf_base.specs.declared.step.Answer.{Answer}
 use Rattle.pf_base.specs.declared.step.Answer.TheVariants.{NoMemory}
-use Rattle.pf_hub.specs.Tenants.{Tenants, Tenant, limits_at, state_at}
+use Rattle.pf_machine.specs.Numbered.{at}
+use Rattle.pf_hub.specs.Opening.{new_hub, new_tenant}
+use Rattle.pf_hub.specs.Tenants.{Tenants, Tenant, tenant_or, is_living, Lives, limits_at, state_at}
 use Rattle.pf_hub.specs.Stepped.{Stepped}
 use Rattle.pf_hub.specs.Isolation.{Ran, first_missing, AreAlone, TwoWorlds}
 use Rattle.pf_hub.proofs.NeedLemmas.{needed_next, may_want}
 
 -- one more event was answered
 pub at_next : (old mid new : Tenants) (es : List (ℕ × Step)) (e : ℕ × Step) (as' : List Answer) (a : Answer)
-    → Ran old es as' mid → Stepped mid new e.0 e.1 a → Ran old (es ++ e ∷ []) (as' ++ a ∷ []) new
-at_next old mid new es e as' a so made = record {
+    → Lives mid e.0 → Ran old es as' mid → Stepped mid new e.0 e.1 a → Ran old (es ++ e ∷ []) (as' ++ a ∷ []) new
+at_next old mid new es e as' a living so made = record {
   number = length-append as' (a ∷ []) ∙ ap (λ n. n + 1) so.number ∙ sym (length-append es (e ∷ []));
   tenants = made.number ∙ so.tenants;
+  lives = λ n. by_own (λ n. is_living new n ≡ is_living old n) (made.lives ∙ sym living ∙ so.lives e.0) (λ m ne. ap (λ (o : Option Tenant). is_some o) (made.others m ne) ∙ so.lives m) n;
   frames = made.frames ∙ so.frames;
-  limits = λ n. by_own (λ n. limits_at new n ≡ limits_at old n) (made.limits ∙ so.limits e.0) (λ m ne. ap (λ (t : Tenant). t.limits) (made.others m ne) ∙ so.limits m) n;
+  limits = λ n. by_own (λ n. limits_at new n ≡ limits_at old n) (made.limits ∙ so.limits e.0) (λ m ne. ap (λ (o : Option Tenant). (tenant_or o).limits) (made.others m ne) ∙ so.limits m) n;
   needed = λ n. needed_next (limits_at old n) (state_at old n) es as' n so.number e a (so.needed n) (needs n);
   own = λ n. by_own (λ n. run_of (limits_at old n) (state_at old n) (kept (es ++ e ∷ []) (as' ++ a ∷ []) n) ≡ record { state = state_at new n; replies = replies (es ++ e ∷ []) (as' ++ a ∷ []) n }) own_next others_next n;
 }
@@ -52,7 +56,7 @@ at_next old mid new es e as' a so made = record {
     others_next : (n : ℕ) → n ≢ e.0 → run_of (limits_at old n) (state_at old n) (kept (es ++ e ∷ []) (as' ++ a ∷ []) n) ≡ record { state = state_at new n; replies = replies (es ++ e ∷ []) (as' ++ a ∷ []) n }
     others_next n ne =
         told-other (limits_at old n) (state_at old n) (state_at mid n) es e as' a n (sym so.number) (λ (o : e.0 ≡ n). ne (sym o)) (so.own n)
-        ∙ (λ i. record { state = (sym (made.others n ne) i).state; replies = replies (es ++ e ∷ []) (as' ++ a ∷ []) n })
+        ∙ (λ i. record { state = (tenant_or (sym (made.others n ne) i)).state; replies = replies (es ++ e ∷ []) (as' ++ a ∷ []) n })
 
 -- all events were answered, so who was at the opening state was told what its lone machine is
 pub are_alone : (old new : Tenants) (es : List (ℕ × Step)) (as' : List Answer) → Ran old es as' new → AreAlone old es as'
@@ -66,9 +70,53 @@ none_passes test (x ∷ xs) from zero d none h = elim (test x) as (λ t. cond t 
 none_passes test (x ∷ xs) from (suc i) d none h =
     none_passes test xs (from + 1) i d (elim (test x) as (λ t. cond t (Some from) (position_from test (from + 1) xs) ≡ None → position_from test (from + 1) xs ≡ None) [ true ↦ λ some. absurd (cc) | false ↦ λ more. more ] none) (omega arith)
 
--- where no event names no namespace, each names one
-pub exists_at : (number : ℕ) (events : List (ℕ × Step)) (i : ℕ) (d : ℕ × Step) → first_missing number events ≡ None → i < length events → (get_or events i d).0 < number
+-- where no event names a namespace that doesn't live, each names one that does
+pub lives_at : (h : Tenants) (events : List (ℕ × Step)) (i : ℕ) (d : ℕ × Step) → first_missing h events ≡ None →
+    i < length events → Lives h (get_or events i d).0
+lives_at h events i d none low =
+    stands (is_living h (get_or events i d).0) (none_passes (λ e. not (is_living h e.0)) events 0 i d none low)
+  where
+    stands : (b : Bool) → not b ≡ false → b ≡ true
+    stands true is = refl
+    stands false is = absurd (cc)
+
+-- the next of them, too, as no namespace comes or goes in between
+pub lives_next : (old mid : Tenants) (events so_far : List (ℕ × Step)) (answers : List Answer) (i : ℕ) (e : ℕ × Step) →
+    first_missing old events ≡ None → Ran old so_far answers mid → i < length events → e ≡ get_or events i e → Lives mid e.0
+lives_next old mid events so_far answers i e none ran low is =
+    ran.lives e.0 ∙ subst (λ (x : ℕ × Step). Lives old x.0) (sym is) (lives_at old events i e none low)
+
+-- where no event names a number that isn't below this one, each names one below
+pub exists_at : (number : ℕ) (events : List (ℕ × Step)) (i : ℕ) (d : ℕ × Step) →
+    position_from (λ e. nat_le number e.0) 0 events ≡ None → i < length events → (get_or events i d).0 < number
 exists_at number events i d none h = leb-false number (get_or events i d).0 (none_passes (λ e. nat_le number e.0) events 0 i d none h)
+
+-- in a hub fresh from its opening, who lives is whose number is below that of the limits
+pub missing_new : (configs : List Limits) (frames : ℕ) (events : List (ℕ × Step)) →
+    first_missing (new_hub configs frames) events ≡ position_from (λ e. nat_le (length configs) e.0) 0 events
+missing_new configs frames events = from 0 events
+  where
+    there : (cs : List Limits) (k : ℕ) → k < length cs → is_some (at (map (λ c. Some (new_tenant c)) cs) k) ≡ true
+    there [] k low = absurd (omega arith)
+    there (c ∷ cs) zero low = refl
+    there (c ∷ cs) (suc k) low = there cs k (omega (arith, low))
+
+    past : (cs : List Limits) (k : ℕ) → length cs ≤ k → is_some (at (map (λ c. Some (new_tenant c)) cs) k) ≡ false
+    past [] k high = refl
+    past (c ∷ cs) zero high = absurd (omega arith)
+    past (c ∷ cs) (suc k) high = past cs k (omega (arith, high))
+
+    stands : (cs : List Limits) (k : ℕ) → not (is_some (at (map (λ c. Some (new_tenant c)) cs) k)) ≡ nat_le (length cs) k
+    stands cs k = elim (cases_lt k (length cs)) [
+      | inl h ↦ ap not (there cs k h) ∙ sym (lt-leb (length cs) k h)
+      | inr h ↦ ap not (past cs k h) ∙ sym (le-leb (length cs) k h)
+    ]
+
+    from : (i : ℕ) (es : List (ℕ × Step)) →
+        position_from (λ e. not (is_living (new_hub configs frames) e.0)) i es
+        ≡ position_from (λ e. nat_le (length configs) e.0) i es
+    from i [] = refl
+    from i (e ∷ es) = λ j. cond (stands configs e.0 j) (Some i) (from (i + 1) es j)
 
 pub two_worlds : TwoWorlds
 two_worlds first second es fs as' bs first' second' n ran ran' opened opened' limits same ample ample' =

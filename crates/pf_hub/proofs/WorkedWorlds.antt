@@ -1,5 +1,6 @@
 -- Two worlds that tell one namespace different things: the same spawn, for which memory was wanted in one of them.
 
+use Rattle.std.specs.Prelude.{Some}
 use Rattle.std.proofs.Common.{◌≡◌, ℕ, zero, suc, List, [], ◌∷◌, refl, arith, subst, true}
 use Rattle.std.proofs.lemmas.Bool.{ne_eqb}
 use Rattle.std.proofs.lemmas.Option.{same_Some}
@@ -13,7 +14,7 @@ use Rattle.pf_base.specs.declared.step.Step.{Step}
 use Rattle.pf_base.specs.declared.step.Step.TheVariants.{Spawn}
 use Rattle.pf_base.specs.declared.step.Answer.TheVariants.{Done, NoMemory}
 use Rattle.pf_hub.specs.Isolation.{Ran, NoWantWithoutNeed, MemoryMatters}
-use Rattle.pf_hub.specs.Tenants.{Tenants, limits_at, state_at}
+use Rattle.pf_hub.specs.Tenants.{Tenants, is_living, limits_at, state_at}
 
 abbrev limits : Limits
 limits = record { reserve = 0; soft = 0; hard = 0; max = 65536 }
@@ -26,7 +27,7 @@ told = step_of limits opening spawn
 
 -- a hub of one namespace in this state
 abbrev hub : State Queue → Tenants
-hub s = record { tenants = record { limits = limits; state = s; held = 0 } ∷ []; free = 0 }
+hub s = record { tenants = Some (record { limits = limits; state = s; held = 0 }) ∷ []; free = 0 }
 
 abbrev events : List (ℕ × Step)
 events = (0, spawn) ∷ []
@@ -37,8 +38,12 @@ May e = may_want_memory (limits_at (hub opening) e.0) (state_at (hub opening) e.
 
 -- both are runs, of the one step and of none
 made : Ran (hub opening) events (Done told.reply ∷ []) (hub told.state)
-made = record { number = refl; tenants = refl; frames = refl; limits = same; own = own; needed = needed }
+made = record { number = refl; tenants = refl; lives = living; frames = refl; limits = same; own = own; needed = needed }
   where
+    living : (n : ℕ) → is_living (hub told.state) n ≡ is_living (hub opening) n
+    living zero = refl
+    living (suc n) = refl
+
     same : (n : ℕ) → limits_at (hub told.state) n ≡ limits_at (hub opening) n
     same zero = refl
     same (suc n) = refl
@@ -53,7 +58,7 @@ made = record { number = refl; tenants = refl; frames = refl; limits = same; own
     needed n (suc place) step at at' = absurd (cc)
 
 refused : Ran (hub opening) events (NoMemory ∷ []) (hub opening)
-refused = record { number = refl; tenants = refl; frames = refl; limits = λ n. refl; own = own; needed = needed }
+refused = record { number = refl; tenants = refl; lives = λ n. refl; frames = refl; limits = λ n. refl; own = own; needed = needed }
   where
     own : (n : ℕ) → run_of (limits_at (hub opening) n) (state_at (hub opening) n) (kept events (NoMemory ∷ []) n) ≡ record { state = state_at (hub opening) n; replies = replies events (NoMemory ∷ []) n }
     own zero = refl

@@ -1,11 +1,11 @@
 -- What carries the isolation: what a namespace holds is what its own pipes hold, and what it may still take is there.
 
-use Rattle.std.specs.Prelude.{◌≡◌, ℕ, ◌-◌, ◌≤◌, [], length, map, sum, Some}
+use Rattle.std.specs.Prelude.{◌≡◌, ℕ, ◌+◌, ◌-◌, ◌≤◌, [], length, Some}
 use Rattle.pf_machine.specs.Numbered.{at, sum_of}
 use Rattle.pf_machine.specs.Queue.{Queue, bytes_of}
 use Rattle.pf_machine.specs.Counts.{total}
 use Rattle.pf_machine.specs.State.{State, Pipe}
-use Rattle.pf_hub.specs.Tenants.{Tenant, Tenants, tenant_at}
+use Rattle.pf_hub.specs.Tenants.{Tenant, Tenants, tenant_at, frames_in, reserved_in, slack_in}
 
 -- how many slots of all pipes are in use: one for each segment
 abbrev pub occupied : State Queue → ℕ
@@ -23,7 +23,9 @@ pub record IsRising (t : Tenant) : Type 0 where
 abbrev pub unspent : Tenant → ℕ
 unspent t = t.limits.reserve - t.held
 
--- each namespace is so, and at least as many frames are held by nobody as all of them together may still take
+-- each namespace is so; those who live have reserved no more frames than there are; and at least as many frames are held
+-- by nobody as nobody has reserved, and as all who live together may still take
 pub record IsCovered (h : Tenants) : Type 0 where
   pub each : (n : ℕ) → IsRising (tenant_at h n)
-  pub credits : sum (map unspent h.tenants) ≤ h.free
+  pub reserved : reserved_in h ≤ frames_in h
+  pub credits : slack_in h + sum_of unspent h.tenants ≤ h.free

@@ -1,6 +1,6 @@
 -- The isolation theorem: what each namespace is told is what its lone machine is told on its own steps alone.
 
-use Rattle.std.specs.Prelude.{◌≡◌, ℕ, ◌≤◌, true, List, length, take, nat_le, slice_get, Some, Option, None, ⊤}
+use Rattle.std.specs.Prelude.{◌≡◌, ℕ, ◌≤◌, true, not, List, length, take, slice_get, Some, Option, None, ⊤}
 use Rattle.std.specs.List.{position_from}
 use Rattle.pf_base.specs.Limits.{Limits}
 use Rattle.pf_machine.specs.Queue.{Queue}
@@ -12,13 +12,13 @@ use Rattle.pf_machine.specs.Events.{IsAmple}
 use Rattle.pf_base.specs.declared.step.Step.{Step}
 use Rattle.pf_base.specs.declared.step.Answer.{Answer}
 use Rattle.pf_base.specs.declared.step.Answer.TheVariants as answered
-use Rattle.pf_hub.specs.Tenants.{Tenants, limits_at, state_at, frames_in}
+use Rattle.pf_hub.specs.Tenants.{Tenants, is_living, limits_at, state_at, frames_in}
 use Rattle.pf_hub.specs.declared.hub.RunFault.{RunFault}
 use Rattle.pf_hub.specs.declared.hub.RunFault.TheVariants.{NoSuchNamespace, NoMemory}
 
--- the place of the first event that names no namespace, where there are so many
-abbrev pub first_missing : ℕ → List (ℕ × Step) → Option ℕ
-first_missing number events = position_from (λ e. nat_le number e.0) 0 events
+-- the place of the first event that names no namespace that lives
+abbrev pub first_missing : Tenants → List (ℕ × Step) → Option ℕ
+first_missing h events = position_from (λ e. not (is_living h e.0)) 0 events
 
 -- the state that n's event at this place meets, where n began in this one: n's kept steps before it led there
 abbrev pub met_at : Limits → State Queue → List (ℕ × Step) → List Answer → ℕ → ℕ → State Queue
@@ -30,12 +30,13 @@ NoWantWithoutNeed c begun events answers n = (place : ℕ) (step : Step) →
     slice_get events place ≡ Some (n, step) → slice_get answers place ≡ Some answered.NoMemory →
     may_want_memory c (met_at c begun events answers n place) step ≡ true
 
--- an answer for each event; no frame comes or goes; each namespace's replies and its end state are those of
+-- an answer for each event; no namespace and no frame comes or goes; each namespace's replies and its end state are those of
 -- the lone machine's run, from the state that it was in, on its own steps but for those that memory was
 -- wanted for; and these are steps that may want it
 pub record Ran (old : Tenants) (events : List (ℕ × Step)) (answers : List Answer) (new : Tenants) : Type 0 where
   pub number : length answers ≡ length events
   pub tenants : length new.tenants ≡ length old.tenants
+  pub lives : (n : ℕ) → is_living new n ≡ is_living old n
   pub frames : frames_in new ≡ frames_in old
   pub limits : (n : ℕ) → limits_at new n ≡ limits_at old n
   pub own : (n : ℕ) → run_of (limits_at old n) (state_at old n) (kept events answers n)
@@ -49,9 +50,9 @@ AreAlone old events answers = (n : ℕ) → state_at old n ≡ opening →
 
 -- refused before the first step, or the run of the events answered so far
 abbrev pub IsRunFault : Tenants → List (ℕ × Step) → Tenants → RunFault → Type 0
-IsRunFault old events new (NoSuchNamespace at) = (first_missing (length old.tenants) events ≡ Some at) × (new ≡ old)
+IsRunFault old events new (NoSuchNamespace at) = (first_missing old events ≡ Some at) × (new ≡ old)
 IsRunFault old events new (NoMemory answers) =
-    (first_missing (length old.tenants) events ≡ None)
+    (first_missing old events ≡ None)
     × (length answers.items ≤ length events)
     × Ran old (take (length answers.items) events) answers.items new
 

@@ -5,3 +5,5 @@ pub mod Stepped
 pub mod Isolation
 pub mod Opening
 pub mod Owners
+pub mod Coming
+pub mod Events

@@ -3,7 +3,7 @@
 -- window's own namespace, so it names no other's.
 
 use Rattle.std.specs.Prelude.{◌≡◌, ℕ, ◌+◌, ◌<◌, ◌≤◌, ⊤, List, [], ◌∷◌, ◌++◌, length, take, drop}
-use Rattle.std.specs.Prelude.{Option, Some, None, IsSome, slice_get, slice_index}
+use Rattle.std.specs.Prelude.{Option, Some, None, IsSome, is_some, slice_index}
 use Rattle.pf_base.specs.declared.TheConstants.{PAGE_SIZE}
 use Rattle.pf_machine.specs.Numbered.{at, sum_of}
 use Rattle.pf_machine.specs.Queue.{Queue, Segment}
@@ -16,7 +16,8 @@ use Rattle.pf_ring.specs.Windows.{named}
 use Rattle.pf_depot.specs.declared.depot.Depot.{Depot}
 use Rattle.pf_depot.specs.declared.loans.Loans.{Loans}
 use Rattle.pf_tables.specs.Meaning.{Namespace}
-use Rattle.pf_hub.specs.Tenants.{Tenant, Tenants, tenant_at, frames_in}
+use Rattle.pf_hub.specs.declared.tenant.Tenant.{Tenant as Lodger}
+use Rattle.pf_hub.specs.Tenants.{Tenant, Tenants, tenant_at, frames_in, slack_in}
 
 -- the frames that lie at some places
 abbrev pub lying : List (Option Frame) → List Frame
@@ -24,10 +25,11 @@ lying [] = []
 lying (None ∷ places) = lying places
 lying (Some frame ∷ places) = frame ∷ lying places
 
--- the frames that the namespaces of some loans own, one namespace after the other
-abbrev pub owned : List Loans → List Frame
+-- the frames that some tenants own, one after the other
+abbrev pub owned : {Z : Type 0} → List (Option (Lodger Z)) → List Frame
 owned [] = []
-owned (l ∷ ls) = lying l.places.items ++ owned ls
+owned (None ∷ ts) = owned ts
+owned (Some t ∷ ts) = lying t.loans.places.items ++ owned ts
 
 -- how many windows of a namespace, of all its pipes, are on the frame at a place
 abbrev pub windows_on : ℕ → Namespace → ℕ
@@ -65,13 +67,14 @@ pub record IsOwner (l : Loans) (s : Namespace) (t : Tenant) : Type 0 where
   pub vacant : (place : ℕ) → windows_on place s ≡ 0 → at l.places.items place ≡ None
   pub shown : (number : ℕ) → ShowQueue l.places.items (at s.state.pipes number) (at t.state.pipes number)
 
--- A hub is made of a depot, and of the loans and the own state of each namespace. Each frame lies in the depot or at
+-- A hub is made of a depot, and of the tenants: the loans and the own state of each. Each frame lies in the depot or at
 -- one place of one namespace: all that lie there, taken together, are as many as the depot was made with, and as the
 -- hub has. And each namespace owns the frames of its loans
-pub record AreOwned (h : Tenants) (depot : Depot) (loans : List Loans) (spaces : List Namespace) : Type 0 where
-  pub paired : (length loans ≡ length h.tenants) × (length spaces ≡ length h.tenants)
+pub record AreOwned {Z : Type 0} (h : Tenants) (depot : Depot) (tenants : List (Option (Lodger Z))) : Type 0 where
+  pub paired : length tenants ≡ length h.tenants
+  pub living : (n : ℕ) → is_some (at tenants n) ≡ is_some (at h.tenants n)
   pub free : length depot.free.items ≡ h.free
-  pub once : length (depot.free.items ++ owned loans) ≡ depot.all
+  pub once : length (depot.free.items ++ owned tenants) ≡ depot.all
   pub all : depot.all ≡ frames_in h
-  pub owners : (n : ℕ) (l : Loans) (s : Namespace) → slice_get loans n ≡ Some l → slice_get spaces n ≡ Some s →
-      IsOwner l s (tenant_at h n)
+  pub slack : depot.slack ≡ slack_in h
+  pub owners : (n : ℕ) (t : Lodger Z) → at tenants n ≡ Some t → IsOwner t.loans t.placed.space (tenant_at h n)

@@ -1,11 +1,13 @@
-ghost use Rattle.std.specs.Prelude.{◌≡◌, ◌+◌, ◌-◌, ◌≤◌, length, map, sum, IfOk};
-ghost use Rattle.pf_hub.specs.Opening.{new_placed, limits_of, first_fault};
+ghost use Rattle.std.specs.Prelude.{◌≡◌, ◌+◌, ◌-◌, ◌≤◌, length, map, sum, option_copied, IfOk};
+ghost use Rattle.pf_machine.specs.Numbered.{at};
+ghost use Rattle.pf_hub.specs.Opening.{new_lodgers, limits_of, first_fault};
 ghost use Rattle.pf_depot.specs.Door.{IsCovered as IsCoveredBy};
 ghost use Rattle.pf_depot.specs.Loans.{loans_live};
 ghost use Rattle.pf_hub.specs.Stepped.{Moved};
 ghost use Rattle.pf_tables.specs.Owns.{Owns};
 
 use crate::parts::HubParts;
+use crate::tenant::Tenant;
 use pf_base::{Answer, Config, MAX_FRAMES, MAX_NAMESPACES, Step};
 use pf_depot::{Depot, Lender, LoanDoor, Loans};
 use pf_frame::{Frame, PoolFault};
@@ -13,17 +15,26 @@ use pf_space::Placed;
 use std::alloc::{AllocError, Allocator, Global};
 use std::marker::Model;
 
+mod coming;
+pub mod events;
+
 /// Many namespaces over one pool of frames: a depot has the free ones, and each namespace the others on loan, as a
 /// value of its own.
 ///
-/// A contract sees each namespace's limits, the state of the lone machine that it is in, and how many frames it
-/// holds; how many frames nobody holds; and the allocator whose memory each namespace's files stand in.
+/// A namespace lives from its admission to its retirement. Those that a hub opens with have the first numbers; no
+/// number is given twice.
+///
+/// A contract sees, for each number given, the namespace's limits, the state of the lone machine that it is in, and
+/// how many frames it holds, or that it is retired; how many frames nobody holds; and the allocator whose memory each
+/// living namespace's files stand in.
 #[derive(Drop)]
 pub struct Hub<A: Allocator> {
     alloc: Global,
     depot: Depot,
-    loans: Vec<Loans>,
-    spaces: Vec<Placed<A>>,
+    // By number; nothing where a namespace is retired.
+    tenants: Vec<Option<Tenant<A>>>,
+    // How many there are.
+    living: u32,
 }
 
 impl<A: Allocator> Model for Hub<A> {
@@ -31,17 +42,17 @@ impl<A: Allocator> Model for Hub<A> {
 
     ghost Value = { Housed A };
 
-    ghost use Rattle.pf_hub.specs.Shared.{housed, spaces_in, IsShared};
+    ghost use Rattle.pf_hub.specs.Shared.{housed, IsShared};
 
-    ghost view = { λ h. housed h.depot h.loans.items h.spaces.items };
+    ghost view = { λ h. housed h.depot h.tenants.items };
 
-    ghost invariant = { λ h. IsShared h.depot h.loans.items (spaces_in h.spaces.items) };
+    ghost invariant = { λ h. IsShared h.depot h.tenants.items h.living };
 }
 
 /// Why a run of events ended early.
 #[derive(Debug, Drop)]
 pub enum RunFault {
-    /// The event at this place, counted from 0, is the first that names no namespace. No step was made.
+    /// The event at this place, counted from 0, is the first that names no namespace that lives. No step was made.
     NoSuchNamespace { at: usize },
     /// Memory for the answers was refused. The steps answered so far stand.
     NoMemory { answers: Vec<Answer> },
@@ -89,25 +100,42 @@ pub fn reserves_of<A: Allocator>(
         .collect(alloc)
 }
 
-// The namespaces of some limits, each at its opening state, with its files in memory of the allocator beside them.
-fn spaces_of<A: Allocator + Clone>(
+// The tenants of some limits, each at its opening state, with its files in memory of the allocator beside them, and
+// with its own loans.
+fn tenants_of<A: Allocator + Clone>(
     alloc: Global,
     configs: Vec<(Config, A)>,
-) -> Result<Vec<Placed<A>>, AllocError>
-    ensures { IfOk result (λ v. v.items ≡ map new_placed configs.items) }
+    loans: Vec<Loans>,
+) -> Result<Vec<Option<Tenant<A>>>, AllocError>
+    requires { length loans.items ≡ length configs.items }
+    ensures { IfOk result (λ v. v.items ≡ new_lodgers configs.items loans.items) }
 {
-    let mut spaces = Vec::with_capacity(alloc, configs.len())?;
+    let mut tenants = Vec::with_capacity(alloc, configs.len())?;
+    let mut each = loans.into_iter();
     for (config, allocator) in configs {
-        let space = Placed::new(alloc, allocator, config)?;
-        spaces.push_reserved(space);
+        let Some(own) = each.next() else {
+            unreachable!()
+        };
+        let placed = Placed::new(alloc, allocator, config)?;
+        tenants.push_reserved(Some(Tenant { loans: own, placed }));
     }
-    Ok(spaces)
+    Ok(tenants)
+}
+
+// The tenant of a number, where one lives.
+fn find<A: Allocator>(tenants: &[Option<Tenant<A>>], ns: u32) -> Option<&Tenant<A>>
+    ensures { option_copied result ≡ at tenants.now ns }
+{
+    match tenants.get(ns as usize) {
+        Some(Some(tenant)) => Some(tenant),
+        _ => None,
+    }
 }
 
 /// A step of a namespace, through the door of its loans and of whoever lends them.
 ///
-/// The lender is sure to give a frame for each of the namespace's credits, and can take back as many as it holds; so it is
-/// afterwards.
+/// The lender is sure to give a frame for each of the namespace's credits, and can take back as many as it holds; so
+/// it is afterwards.
 // It and `step_in` are inlined, or each answer is copied once more on its way out.
 #[inline(always)]
 pub fn step_over<A: Allocator + Clone, D: Lender>(
@@ -139,21 +167,24 @@ pub fn step_over<A: Allocator + Clone, D: Lender>(
 }
 
 impl<A: Allocator + Clone> Hub<A> {
-    ghost use Rattle.std.specs.Prelude.{◌≡◌, ◌≢◌, ℕ, ◌<◌, length, IfOk, IfErr, IsOk, None, false};
+    ghost use Rattle.std.specs.Prelude.{◌≡◌, ◌≢◌, ℕ, ◌≤◌, length, IfOk, IfErr, IsOk, None, false};
+    ghost use Rattle.pf_base.specs.declared.TheConstants.{MAX_NAMESPACES, MAX_NUMBERS};
     ghost use Rattle.pf_machine.specs.Machine.{Answers, may_want_memory, step_of};
     ghost use Rattle.pf_machine.specs.Events.{IsDone};
+    ghost use Rattle.pf_machine.specs.Houses.{number_living};
+    ghost use Rattle.pf_machine.specs.Numbered.{at};
     ghost use Rattle.pf_frame.specs.Faults.{IsFault};
     ghost use Rattle.pf_machine.specs.Replies.{reply_length, most_of};
-    ghost use Rattle.pf_hub.specs.Tenants.{tenant_at, limits_at, state_at, held_at, frames_in};
+    ghost use Rattle.pf_hub.specs.Tenants.{Lives, is_living, limits_at, state_at, held_at, frames_in, house_of};
     ghost use Rattle.pf_hub.specs.Covered.{IsCovered};
-    ghost use Rattle.pf_hub.specs.Opening.{new_hub, limits_of, allocators_of, first_fault};
+    ghost use Rattle.pf_hub.specs.Opening.{new_hub, limits_of, new_allocators, first_fault};
     ghost use Rattle.pf_hub.specs.Owners.{AreOwned};
-    ghost use Rattle.pf_hub.specs.Shared.{spaces_in, allocators_in};
+    ghost use Rattle.pf_hub.specs.Shared.{allocators_in};
     ghost use Rattle.pf_hub.specs.Stepped.{Stepped};
     ghost use Rattle.pf_hub.specs.Isolation.{Ran, first_missing, IsRunFault, AreAlone};
 
-    /// A hub of these frames, with a namespace of each of these limits: their numbers are their places. A namespace's files,
-    /// and nothing else, stand in memory of the allocator beside its limits.
+    /// A hub of these frames, with a namespace of each of these limits: their numbers are their places. A namespace's
+    /// files, and nothing else, stand in memory of the allocator beside its limits.
     ///
     /// The frames keep the bytes that they have; no read of a pipe shows them. The frames and limits are tested
     /// before any memory is asked for.
@@ -165,7 +196,7 @@ impl<A: Allocator + Clone> Hub<A> {
         ensures tested { IsOk result → first_fault (length frames.items) (limits_of configs.items) ≡ None }
         ensures opened { IfOk result
             (λ hub. hub.world ≡ new_hub (limits_of configs.items) (length frames.items)) }
-        ensures allocators { IfOk result (λ hub. hub.allocators ≡ allocators_of configs.items) }
+        ensures allocators { IfOk result (λ hub. hub.allocators ≡ new_allocators configs.items) }
         ensures covered { IfOk result (λ hub. IsCovered hub.world) }
         // the first test that fails, and want of memory only where none does
         ensures fault { IfErr result (IsFault (first_fault (length frames.items) (limits_of configs.items))) }
@@ -188,28 +219,29 @@ impl<A: Allocator + Clone> Hub<A> {
         requires { first_fault (length frames.items) (limits_of configs.items) ≡ None }
         ensures opened { IfOk result
             (λ hub. hub.world ≡ new_hub (limits_of configs.items) (length frames.items)) }
-        ensures allocators { IfOk result (λ hub. hub.allocators ≡ allocators_of configs.items) }
+        ensures allocators { IfOk result (λ hub. hub.allocators ≡ new_allocators configs.items) }
         ensures covered { IfOk result (λ hub. IsCovered hub.world) }
     {
         let reserves = reserves_of(alloc, &configs)?;
         let Ok((depot, loans)) = Depot::new(alloc, frames, reserves) else {
             return Err(AllocError);
         };
-        let spaces = spaces_of(alloc, configs)?;
+        let living = configs.len() as u32;
+        let tenants = tenants_of(alloc, configs, loans)?;
         Ok(Hub {
             alloc,
             depot,
-            loans,
-            spaces,
+            tenants,
+            living,
         })
     }
 
-    /// How many frames a namespace holds, 0 where there is none of this number.
+    /// How many frames a namespace holds, 0 where none of this number lives.
     pub fn held(&self, ns: u32) -> u32
         ensures { result ≡ held_at self.now.world ns }
     {
-        match self.loans.get(ns as usize) {
-            Some(loans) => loans.held(),
+        match find(&self.tenants, ns) {
+            Some(tenant) => tenant.loans.held(),
             None => 0,
         }
     }
@@ -227,26 +259,26 @@ impl<A: Allocator + Clone> Hub<A> {
     /// its owner; its count there is the number of the owner's windows on it; and each window holds the bytes of its
     /// segment, in its owner's queue.
     pub fn parts(&self) -> HubParts<'_, A>
-        ensures owned { AreOwned self.now.world result.depot.now result.loans.now (spaces_in result.spaces.now) }
-        ensures allocators { allocators_in result.spaces.now ≡ self.now.allocators }
+        ensures owned { AreOwned self.now.world result.depot.now result.tenants.now }
+        ensures allocators { allocators_in result.tenants.now ≡ self.now.allocators }
     {
         HubParts {
             depot: &self.depot,
-            loans: &self.loans,
-            spaces: &self.spaces,
+            tenants: &self.tenants,
         }
     }
 
     /// One step of one namespace. No other namespace is told, or has, anything else for it.
     pub fn step(&mut self, ns: u32, step: &Step) -> Answer
-        requires exists { ns < length self.old.world.tenants }
+        requires lives { Lives self.old.world ns }
         ensures number { length self.new.world.tenants ≡ length self.old.world.tenants }
+        ensures lives { Lives self.new.world ns }
         ensures frames { frames_in self.new.world ≡ frames_in self.old.world }
         ensures limits { limits_at self.new.world ns ≡ limits_at self.old.world ns }
         // its answer and its state are the lone machine's, and nobody else is told, or has, anything else
         ensures answers { Answers (limits_at self.old.world ns) result
             (state_at self.old.world ns) step.now (state_at self.new.world ns) }
-        ensures others { (m : ℕ) → m ≢ ns → tenant_at self.new.world m ≡ tenant_at self.old.world m }
+        ensures others { (m : ℕ) → m ≢ ns → at self.new.world.tenants m ≡ at self.old.world.tenants m }
         // want of memory changes nothing, and comes of no step that needs none
         ensures unchanged { result ≡ Answer.NoMemory → self.new ≡ self.old }
         ensures succeeds { may_want_memory (limits_at self.old.world ns) (state_at self.old.world ns) step.now ≡ false
@@ -260,47 +292,66 @@ impl<A: Allocator + Clone> Hub<A> {
     // The same, as one fact.
     #[inline(always)]
     fn step_in(&mut self, ns: u32, step: &Step) -> Answer
-        requires exists { ns < length self.old.world.tenants }
+        requires lives { Lives self.old.world ns }
         ensures stepped { Stepped self.old.world self.new.world ns step.now result }
         ensures allocators { self.new.allocators ≡ self.old.allocators }
         ensures unchanged { result ≡ Answer.NoMemory → self.new ≡ self.old }
     {
-        step_over(
-            &mut self.spaces[ns as usize],
-            &mut self.depot,
-            &mut self.loans[ns as usize],
-            step,
-        )
+        match &mut self.tenants[ns as usize] {
+            Some(tenant) => tenant.step(&mut self.depot, step),
+            None => unreachable!(),
+        }
     }
 
-    /// A number of bytes that the vector of the reply to a namespace's step is no longer than, as `Space::reply_bound` says.
+    /// A number of bytes that the vector of the reply to a namespace's step is no longer than, as `Space::reply_bound`
+    /// says.
     pub fn reply_bound(&self, ns: u32, step: &Step) -> usize
-        requires exists { ns < length self.now.world.tenants }
+        requires lives { Lives self.now.world ns }
         ensures covers { reply_length
             (step_of (limits_at self.now.world ns) (state_at self.now.world ns) step.now).reply ≤ result }
         ensures most { result ≤ most_of step.now }
     {
-        self.spaces[ns as usize].reply_bound(step)
+        match find(&self.tenants, ns) {
+            Some(tenant) => tenant.placed.reply_bound(step),
+            None => unreachable!(),
+        }
     }
 
-    /// How many namespaces there are.
+    /// Whether a namespace of this number lives: it is admitted, and not retired.
+    pub fn lives(&self, ns: u32) -> bool
+        ensures living { result ≡ is_living self.now.world ns }
+        // and what carries the isolation holds, as of every hub
+        ensures covered { IsCovered self.now.world }
+    {
+        find(&self.tenants, ns).is_some()
+    }
+
+    /// How many numbers of namespaces are given: the next one that is admitted gets this.
     pub fn namespaces(&self) -> usize
-        ensures { result ≡ length self.now.world.tenants }
+        ensures given { result ≡ length self.now.world.tenants }
+        ensures most { result ≤ MAX_NUMBERS }
     {
-        self.spaces.len()
+        self.tenants.len()
     }
 
-    // The place of the first event that names no namespace.
+    /// How many namespaces live.
+    pub fn living(&self) -> u32
+        ensures living { result ≡ number_living (house_of self.now.world) }
+        ensures most { result ≤ MAX_NAMESPACES }
+    {
+        self.living
+    }
+
+    // The place of the first event that names no namespace that lives.
     fn missing(&self, events: &[(u32, Step)]) -> Option<usize>
-        ensures { result ≡ first_missing (length self.now.world.tenants) events.now }
+        ensures { result ≡ first_missing self.now.world events.now }
     {
-        let number = self.namespaces();
-        events.iter().position(|event| event.0 as usize >= number)
+        events.iter().position(|event| !self.lives(event.0))
     }
 
-    /// Events in turn.
+    /// Steps in turn. Each is of a namespace that lives.
     pub fn run(&mut self, events: &[(u32, Step)]) -> Result<Vec<Answer>, RunFault>
-        ensures exist { IsOk result → first_missing (length self.old.world.tenants) events.now ≡ None }
+        ensures lives { IsOk result → first_missing self.old.world events.now ≡ None }
         ensures ran { IfOk result (λ answers. Ran self.old.world events.now answers.items self.new.world) }
         ensures alone { IfOk result (λ answers. AreAlone self.old.world events.now answers.items) }
         ensures fault { IfErr result (IsRunFault self.old.world events.now self.new.world) }

@@ -4,6 +4,9 @@
 pub mod hub;
 pub mod laws;
 pub mod parts;
+pub mod tenant;
 
+pub use hub::events::{Event, EventFault};
 pub use hub::{Hub, RunFault, first_fault, reserves_of, step_over};
 pub use parts::HubParts;
+pub use tenant::Tenant;

@@ -1,8 +1,8 @@
-use pf_depot::{Depot, Loans};
-use pf_space::Placed;
+use crate::tenant::Tenant;
+use pf_depot::Depot;
 use std::alloc::Allocator;
 
-/// What a hub is made of, by its namespaces' numbers.
+/// What a hub is made of.
 ///
 /// The frames are values: a free one lies in the depot, and any other at a place of its owner's loans. A window of a
 /// namespace's pipe names a frame by its place there.
@@ -10,8 +10,6 @@ use std::alloc::Allocator;
 pub struct HubParts<'a, A: Allocator> {
     /// The frames that nobody holds.
     pub depot: &'a Depot,
-    /// The frames that each namespace holds, at their places, and the count of each.
-    pub loans: &'a [Loans],
-    /// Each namespace's own state, beside the allocator of its files: its pipes are rings of windows.
-    pub spaces: &'a [Placed<A>],
+    /// The namespaces by number: the frames that each holds, and its own state. Nothing where one is retired.
+    pub tenants: &'a [Option<Tenant<A>>],
 }

@@ -1,22 +1,18 @@
--- The loans of a number say what its namespace holds.
-use Rattle.std.proofs.Common.{◌≡◌, ◌<◌, ◌≤◌, ◌∙◌, length, get_or, rules}
-use Rattle.pf_depot.proofs.AllLoansLaws.{held_is, held_past}
-use Rattle.pf_hub.specs.Shared.{spaces_in}
-use Rattle.pf_hub.proofs.DepotLemmas.{held_said}
-use Rattle.pf_hub.proofs.PlacedLaws.{world_same}
+-- The tenant's loans say what it holds, and nobody holds nothing.
+use Rattle.std.proofs.Common.{◌≡◌, option_copied, rules}
+use Rattle.pf_machine.specs.Numbered.{at}
+use Rattle.pf_hub.proofs.TenantLaws.{there, nowhere, held_there, held_nowhere, world_same}
 use Rattle.pf_hub.proofs.hub.Hub.held.Goals as goal
 
 pub returns-in-Some : goal.returns-in-Some
 returns-in-Some g c =
-    let less : c.args.ns < length c.self.inside.loans.items = search rules in
-    let at : c.in-Some.loans.now ≡ get_or c.self.inside.loans.items c.args.ns c.in-Some.loans.now = search rules in
-    held_said c.self.inside.depot c.self.inside.loans.items (spaces_in c.self.inside.spaces.items) c.self.invariant
-    c.args.self.now.world c.args.ns c.held.result (world_same c.self.view_is)
-    (c.held.ensures ∙ held_is c.self.inside.loans.items c.args.ns c.in-Some.loans.now less at)
+    let told : option_copied c.find.result ≡ at c.self.inside.tenants.items c.args.ns = search rules in
+    held_there c.self.inside.depot c.self.inside.tenants.items c.args.ns c.held.result c.in-Some.tenant.now
+    (world_same c.self.view_is) (there c.self.inside.tenants.items c.args.ns c.find.result c.in-Some.tenant told c.in-Some.is)
+    c.held.ensures
 
 pub returns-in-None : goal.returns-in-None
 returns-in-None g c =
-    let past : length c.self.inside.loans.items ≤ c.args.ns = search rules in
-    held_said c.self.inside.depot c.self.inside.loans.items (spaces_in c.self.inside.spaces.items) c.self.invariant
-    c.args.self.now.world c.args.ns 0 (world_same c.self.view_is)
-    (held_past c.self.inside.loans.items c.args.ns past)
+    let told : option_copied c.find.result ≡ at c.self.inside.tenants.items c.args.ns = search rules in
+    held_nowhere c.self.inside.depot c.self.inside.tenants.items c.args.ns (world_same c.self.view_is)
+    (nowhere c.self.inside.tenants.items c.args.ns c.find.result told c.in-None.is)

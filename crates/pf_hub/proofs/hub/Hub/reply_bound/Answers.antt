@@ -1,24 +1,20 @@
--- What bounds a namespace's replies bounds them here.
-use Rattle.std.proofs.Common.{subst, ◌∙◌, rules}
-use Rattle.std.proofs.lemmas.List.{get_or_default}
-use Rattle.pf_tables.specs.Meaning.{Namespace}
-use Rattle.pf_tables.specs.Bounds.{Covers}
-use Rattle.pf_machine.specs.Replies.{reply_length}
-use Rattle.pf_hub.specs.Shared.{spaces_in, no_space}
-use Rattle.pf_hub.proofs.DepotLemmas.{space_here, placed_here}
+-- What bounds a tenant's replies bounds them here.
+use Rattle.std.proofs.Common.{◌≡◌, option_copied, rules}
+use Rattle.pf_machine.specs.Numbered.{at}
 use Rattle.pf_hub.proofs.HubBounds.{bounded}
-use Rattle.pf_hub.proofs.PlacedLaws.{space_found, world_same}
+use Rattle.pf_hub.proofs.TenantLaws.{there, nowhere, not_nowhere, stands, world_same}
 use Rattle.pf_hub.proofs.hub.Hub.reply_bound.Goals as goal
 
-pub index-requires : goal.index-requires
-index-requires g c =
-    let h = placed_here c.self.inside.spaces.items c.self.invariant c.self.view_is c.requires.exists in search rules
+pub unreachable-requires : goal.unreachable-requires
+unreachable-requires g c =
+    let told : option_copied c.find.result ≡ at c.self.inside.tenants.items c.args.ns = search rules in
+    not_nowhere c.self.inside.tenants.items c.args.ns
+    (nowhere c.self.inside.tenants.items c.args.ns c.find.result told c.in-None.is)
+    (stands c.self.inside.depot c.self.inside.tenants.items c.args.ns (world_same c.self.view_is) c.requires.lives)
 
 pub returns-clause-covers : goal.returns-clause-covers
 returns-clause-covers g c =
-    let ps = c.self.inside.spaces.items in
-    let within = space_here ps c.self.invariant c.self.view_is c.requires.exists in
-    let found = space_found ps c.args.ns c.index.ensures in
-    let here = found ∙ get_or_default (spaces_in ps) c.args.ns c.index.result.now.space no_space within in
-    bounded reply_length c.args.step.now c.reply_bound.result c.args.ns c.self.invariant (world_same c.self.view_is)
-    (subst (λ (n : Namespace). Covers n c.args.step.now c.reply_bound.result) here c.reply_bound.ensures.covers)
+    let told : option_copied c.find.result ≡ at c.self.inside.tenants.items c.args.ns = search rules in
+    bounded c.args.ns c.in-Some.tenant.now c.args.step.now c.reply_bound.result c.self.invariant (world_same c.self.view_is)
+    (there c.self.inside.tenants.items c.args.ns c.find.result c.in-Some.tenant told c.in-Some.is)
+    c.reply_bound.ensures.covers

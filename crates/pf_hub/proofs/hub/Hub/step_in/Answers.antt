@@ -1,52 +1,61 @@
--- The depot and the loans do as the door says; and the namespace does as it says, beside its allocator.
-use Rattle.std.proofs.Common.{◌∙◌, ap, rules}
-use Rattle.pf_depot.specs.Depot.{DepotRest}
-use Rattle.pf_hub.proofs.DepotLemmas.{there, placed_here, placed_covered, placed_owned}
-use Rattle.pf_hub.proofs.DepotLemmas.{placed_shared, placed_stepped, placed_same}
-use Rattle.pf_hub.proofs.PlacedLaws.{allocators_same, world_same, allocators_kept}
+-- The tenant of a number that lives does as its step says, beside its allocator, and all others stay.
+use Rattle.std.proofs.Common.{◌<◌, length, rules}
+use Rattle.pf_hub.proofs.StepLemmas.{found, found_none, shared_after, step_seen, allocators_seen, same_seen}
+use Rattle.pf_hub.proofs.TenantLaws.{place, stands, not_nowhere, door_covered, world_same}
 use Rattle.pf_hub.proofs.hub.Hub.step_in.Goals as goal
 
 pub index_mut-requires : goal.index_mut-requires
 index_mut-requires g c =
-    let h = placed_here c.self.inside.spaces.items c.self.invariant c.self.view_is c.requires.exists in search rules
+    let lives = stands c.self.inside.depot c.self.inside.tenants.items c.args.ns (world_same c.self.view_is) c.requires.lives in
+    let less : c.args.ns < length c.self.inside.tenants.items = place c.self.inside.tenants.items c.args.ns lives in
+    search (less, rules)
 
-pub index_mut-requires-2 : goal.index_mut-requires-2
-index_mut-requires-2 g c =
-    let h = there c.self.invariant (world_same c.self.view_is) c.requires.exists in search rules
+pub step-requires-clause-covered : goal.step-requires-clause-covered
+step-requires-clause-covered g c =
+    let lives = stands c.self.inside.depot c.self.inside.tenants.items c.args.ns (world_same c.self.view_is) c.requires.lives in
+    let less : c.args.ns < length c.self.inside.tenants.items = place c.self.inside.tenants.items c.args.ns lives in
+    let there = found c.self.inside.tenants.items c.args.ns _ c.in-Some.tenant less c.index_mut.ensures.value c.in-Some.is in
+    door_covered c.self.inside.depot c.self.inside.tenants.items c.self.invariant c.args.ns c.in-Some.tenant there
 
-pub step_over-requires-clause-covered : goal.step_over-requires-clause-covered
-step_over-requires-clause-covered g c =
-    placed_covered c.self.inside.spaces.items c.self.invariant c.self.view_is c.requires.exists
-    c.index_mut-2.ensures.value c.index_mut.ensures.value
-
-pub step_over-requires-clause-owns : goal.step_over-requires-clause-owns
-step_over-requires-clause-owns g c =
-    placed_owned c.self.inside.spaces.items c.self.invariant c.self.view_is c.requires.exists
-    c.index_mut-2.ensures.value c.index_mut.ensures.value
+pub step-requires-clause-owns : goal.step-requires-clause-owns
+step-requires-clause-owns g c =
+    let lives = stands c.self.inside.depot c.self.inside.tenants.items c.args.ns (world_same c.self.view_is) c.requires.lives in
+    let less : c.args.ns < length c.self.inside.tenants.items = place c.self.inside.tenants.items c.args.ns lives in
+    let there = found c.self.inside.tenants.items c.args.ns _ c.in-Some.tenant less c.index_mut.ensures.value c.in-Some.is in
+    c.self.invariant.owned c.args.ns c.in-Some.tenant there
 
 pub invariant_of-self : goal.invariant_of-self
 invariant_of-self g c =
-    placed_shared c.self.inside.spaces.items c.self.invariant c.self.view_is c.requires.exists
-    c.index_mut-2.ensures.value c.index_mut.ensures.value
-    c.step_over.new.lender c.step_over.new.loans c.step_over.new.placed
-    (ap (λ (r : DepotRest). r.frames) c.step_over.ensures.rest) c.step_over.ensures.spare c.step_over.ensures.reserved c.step_over.ensures.moved
+    let lives = stands c.self.inside.depot c.self.inside.tenants.items c.args.ns (world_same c.self.view_is) c.requires.lives in
+    let less : c.args.ns < length c.self.inside.tenants.items = place c.self.inside.tenants.items c.args.ns lives in
+    let there = found c.self.inside.tenants.items c.args.ns _ c.in-Some.tenant less c.index_mut.ensures.value c.in-Some.is in
+    shared_after c.args.ns there c.self.invariant c.step.new.self c.step.ensures.lodges
 
 pub returns-clause-stepped : goal.returns-clause-stepped
 returns-clause-stepped g c =
-    placed_stepped c.self.inside.spaces.items c.self.invariant c.self.view_is c.requires.exists
-    c.index_mut-2.ensures.value c.index_mut.ensures.value
-    c.step_over.new.lender c.step_over.new.loans c.step_over.new.placed
-    (ap (λ (r : DepotRest). r.frames) c.step_over.ensures.rest) c.step_over.ensures.spare c.step_over.ensures.reserved c.step_over.ensures.moved
+    let lives = stands c.self.inside.depot c.self.inside.tenants.items c.args.ns (world_same c.self.view_is) c.requires.lives in
+    let less : c.args.ns < length c.self.inside.tenants.items = place c.self.inside.tenants.items c.args.ns lives in
+    let there = found c.self.inside.tenants.items c.args.ns _ c.in-Some.tenant less c.index_mut.ensures.value c.in-Some.is in
+    step_seen c.args.ns there c.self.invariant c.step.new.self c.step.ensures.lodges c.self.view_is
 
 pub returns-clause-allocators : goal.returns-clause-allocators
 returns-clause-allocators g c =
-    allocators_same c.self.inside.spaces.items c.args.ns c.index_mut.ensures.value
-    c.step_over.new.placed c.step_over.ensures.allocator ∙ allocators_kept c.self.view_is
+    let lives = stands c.self.inside.depot c.self.inside.tenants.items c.args.ns (world_same c.self.view_is) c.requires.lives in
+    let less : c.args.ns < length c.self.inside.tenants.items = place c.self.inside.tenants.items c.args.ns lives in
+    let there = found c.self.inside.tenants.items c.args.ns _ c.in-Some.tenant less c.index_mut.ensures.value c.in-Some.is in
+    allocators_seen c.args.ns there c.self.invariant c.step.new.self c.step.ensures.lodges c.self.view_is
 
 pub returns-clause-unchanged : goal.returns-clause-unchanged
-returns-clause-unchanged g c =
-    λ e.
-    let same = c.step_over.ensures.unchanged e in
-    placed_same c.self.inside.spaces.items c.self.invariant c.self.view_is c.requires.exists
-    c.index_mut-2.ensures.value c.index_mut.ensures.value
-    c.step_over.new.lender c.step_over.new.loans c.step_over.new.placed same.0 same.1 same.2
+returns-clause-unchanged g c = λ e.
+    let lives = stands c.self.inside.depot c.self.inside.tenants.items c.args.ns (world_same c.self.view_is) c.requires.lives in
+    let less : c.args.ns < length c.self.inside.tenants.items = place c.self.inside.tenants.items c.args.ns lives in
+    let there = found c.self.inside.tenants.items c.args.ns _ c.in-Some.tenant less c.index_mut.ensures.value c.in-Some.is in
+    let same = c.step.ensures.unchanged e in
+    same_seen c.args.ns there c.self.invariant c.step.new.self c.step.ensures.lodges c.self.view_is same.0 same.1
+
+pub unreachable-requires : goal.unreachable-requires
+unreachable-requires g c =
+    let lives = stands c.self.inside.depot c.self.inside.tenants.items c.args.ns (world_same c.self.view_is) c.requires.lives in
+    let less : c.args.ns < length c.self.inside.tenants.items = place c.self.inside.tenants.items c.args.ns lives in
+    not_nowhere c.self.inside.tenants.items c.args.ns
+    (found_none c.self.inside.tenants.items c.args.ns _ less c.index_mut.ensures.value c.in-None.is) lives

@@ -1,0 +1,39 @@
+ghost use Rattle.std.specs.Prelude.{◌≡◌, ◌-◌};
+ghost use Rattle.pf_depot.specs.Depot.{free_of, frames_of};
+ghost use Rattle.pf_depot.specs.Door.{IsCovered};
+ghost use Rattle.pf_depot.specs.Loans.{loans_live};
+ghost use Rattle.pf_hub.specs.Stepped.{Lodges};
+ghost use Rattle.pf_tables.specs.Owns.{Owns};
+
+use crate::hub::step_over;
+use pf_base::{Answer, Step};
+use pf_depot::{Depot, Loans};
+use pf_space::Placed;
+use std::alloc::Allocator;
+
+/// A namespace of a hub, as one value: the frames that it has on loan, and its own state beside the allocator of its
+/// files.
+///
+/// It is what comes with an admission and goes with a retirement. What it means is its lone machine: its limits and
+/// that machine's state, whose pipes hold the bytes of the frames that its windows name.
+#[derive(Drop)]
+pub struct Tenant<A: Allocator> {
+    /// The frames that it holds, at their places, and the count of each.
+    pub loans: Loans,
+    /// Its own state, beside the allocator of its files: its pipes are rings of windows on these frames.
+    pub placed: Placed<A>,
+}
+
+impl<A: Allocator + Clone> Tenant<A> {
+    /// One step, over this depot.
+    #[inline(always)]
+    pub(crate) fn step(&mut self, depot: &mut Depot, step: &Step) -> Answer
+        requires covered { IsCovered (loans_live self.old.loans) (free_of depot.old)
+            (frames_of depot.old - free_of depot.old) }
+        requires owns { Owns (loans_live self.old.loans) self.old.placed.space }
+        ensures lodges { Lodges depot.old depot.new self.old self.new step.now result }
+        ensures unchanged { result ≡ Answer.NoMemory → (self.new ≡ self.old) × (depot.new ≡ depot.old) }
+    {
+        step_over(&mut self.placed, depot, &mut self.loans, step)
+    }
+}
