@@ -1,8 +1,9 @@
-//! What README shows of embedding, as a program: a process of a tenant that makes a pipe, and a read that waits. It
-//! prints what they are told.
+//! What README shows of embedding, as a program: a process of a tenant that makes a pipe, a read that waits, and a
+//! tenant that comes for a job and goes. It prints what they are told.
 #![tactic(auto)]
 
 mod alone;
+mod guest;
 mod pool;
 mod trouble;
 mod waits;
@@ -15,5 +16,6 @@ fn main(rt: HostRuntime) -> Result<(), Trouble> {
     for answer in waits::waits(alloc)? {
         println!(rt; "{answer:?}")?;
     }
+    println!(rt; "{:?}", guest::job(alloc)?)?;
     Ok(())
 }
