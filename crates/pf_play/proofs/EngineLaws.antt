@@ -1,7 +1,7 @@
 -- From what the hub promises to what a script's namespaces are told.
 
 use Rattle.std.proofs.Common.{true, false, inl, inr}
-use Rattle.std.proofs.Common.{◌≡◌, ℕ, ◌+◌, ◌<◌, ◌≤◌, take, List, [], ◌∷◌, ◌++◌, length, length-append, append-nil, map, get_or, Option, Some, None, Ok, refl, ap, subst, sym, ◌∙◌, arith}
+use Rattle.std.proofs.Common.{◌≡◌, ℕ, zero, suc, ◌+◌, ◌≤◌, take, List, [], ◌∷◌, ◌++◌, length, length-append, append-nil, map, Option, Some, None, Ok, refl, ap, subst, sym, ◌∙◌, arith}
 use Rattle.std.specs.Prelude.{◌≢◌, Result, slice_get, IfSome, option_map, if◌then◌else◌}
 use Rattle.std.specs.declared.alloc.Global.{Global}
 use Rattle.std.proofs.lemmas.List.{take-append-drop, take-append-le, length-take}
@@ -13,12 +13,13 @@ use Rattle.pf_machine.specs.State.{opening as opened}
 use Rattle.pf_machine.proofs.EventLaws.{mine-append, keep_step-append, keep_reply-append}
 use Rattle.pf_machine.proofs.RunLaws.{run_of-answered}
 use Rattle.pf_hub.specs.Opening as opening
-use Rattle.std.proofs.lemmas.Option.{slice_get-map, get_or_from_slice_get}
+use Rattle.std.proofs.lemmas.Option.{slice_get-map}
 use Rattle.pf_base.specs.Limits.{Limits}
 use Rattle.pf_base.specs.declared.step.Answer.{Answer}
 use Rattle.pf_base.specs.declared.step.Answer.TheVariants.{NoMemory}
 use Rattle.pf_base.specs.declared.step.Step.{Step}
 use Rattle.pf_machine.specs.Events.{mine, kept, keep_step, keep_reply, IsDone}
+use Rattle.pf_machine.specs.Numbered.{at}
 use Rattle.pf_machine.specs.Runs.{Run, run_of, lone}
 use Rattle.pf_script.specs.Script.{Draft}
 use Rattle.pf_script.specs.Text.{text}
@@ -28,15 +29,16 @@ use Rattle.pf_play.specs.Replays.{IfAccepted, Names}
 use Rattle.pf_hub.specs.Isolation.{AreAlone, NoWantWithoutNeed}
 use Rattle.pf_hub.proofs.NeedLemmas.{at_grown, may_want}
 use Rattle.pf_hub.specs.Opening.{new_tenant, new_hub}
-use Rattle.pf_hub.specs.Tenants.{Tenant, Tenants, nobody, limits_at, state_at}
+use Rattle.pf_hub.specs.Tenants.{Tenant, Tenants, Lives, tenant_or, limits_at, state_at}
 use Rattle.pf_play.specs.Played.{IsPlayed, IsPlayedAlone, IsPlayedFor, kept_alone, replies_alone}
 use Rattle.pf_play.specs.Played.{IsTold, IsToldAlone, met_alone, NoWantAlone}
 
 -- the namespace of a number at the start
-at_place : (spaces : List (List ℕ × Limits)) (n : ℕ) (space : List ℕ × Limits) → slice_get spaces n ≡ Some space → get_or (map new_tenant (map (λ s. s.1) spaces)) n nobody ≡ new_tenant space.1
-at_place spaces n space is =
-    get_or_from_slice_get (map new_tenant (map (λ s. s.1) spaces)) n (new_tenant space.1) nobody
-    (slice_get-map new_tenant (map (λ s. s.1) spaces) n ∙ ap (option_map new_tenant) (slice_get-map (λ s. s.1) spaces n ∙ ap (option_map (λ s. s.1)) is))
+at_place : (spaces : List (List ℕ × Limits)) (n : ℕ) (space : List ℕ × Limits) → slice_get spaces n ≡ Some space →
+    tenant_or (at (map (λ c. Some (new_tenant c)) (map (λ s. s.1) spaces)) n) ≡ new_tenant space.1
+at_place [] n space is = absurd (cc)
+at_place (s ∷ ss) zero space is = let same : s ≡ space = cc in ap (λ (x : List ℕ × Limits). new_tenant x.1) same
+at_place (s ∷ ss) (suc n) space is = at_place ss n space is
 
 -- what a hub says of want of memory, of each of its namespaces
 abbrev Needed : Tenants → List (ℕ × Step) → List Answer → Type 0
@@ -130,7 +132,7 @@ module _ (c : Limits) (xs : List Step) (answers : List Answer) (many : length an
 
 -- the first so many steps of a script, of which those of one namespace were run: its hub is where its lone machine is
 pub record Went (limits : Limits) (n : ℕ) (steps : List (ℕ × Step)) (answers : List Answer) (hub : Tenants) : Type 0 where
-  pub exists : 0 < length hub.tenants
+  pub lives : Lives hub 0
   pub keeps : limits_at hub 0 ≡ limits
   pub many : length answers ≡ length (mine steps n)
   pub ran : run_of limits opened (kept_alone (mine steps n) answers) ≡ record { state = state_at hub 0; replies = replies_alone answers }
@@ -138,14 +140,14 @@ pub record Went (limits : Limits) (n : ℕ) (steps : List (ℕ × Step)) (answer
 
 -- a step of its own more
 pub went_on : (limits : Limits) (n : ℕ) (steps : List (ℕ × Step)) (e : ℕ × Step) (answers : List Answer) (a : Answer) (old new : Tenants) →
-    Went limits n steps answers old → e.0 ≡ n → length new.tenants ≡ length old.tenants → limits_at new 0 ≡ limits_at old 0 →
+    Went limits n steps answers old → e.0 ≡ n → Lives new 0 → limits_at new 0 ≡ limits_at old 0 →
     Answers (limits_at old 0) a (state_at old 0) e.1 (state_at new 0) →
     (may_want_memory (limits_at old 0) (state_at old 0) e.1 ≡ false → IsDone a) →
     Went limits n (steps ++ e ∷ []) (answers ++ a ∷ []) new
-went_on limits n steps e answers a old new went own same keeps answered succeeds =
+went_on limits n steps e answers a old new went own lives keeps answered succeeds =
     let gained : mine (steps ++ e ∷ []) n ≡ mine steps n ++ e.1 ∷ [] = mine-append steps (e ∷ []) n ∙ ap (λ b. mine steps n ++ (if b then e.1 ∷ [] else [])) (eq-eqb e.0 n own) in
     record {
-      exists = omega (arith, same, went.exists);
+      lives = lives;
       keeps = keeps ∙ went.keeps;
       many =
           length-append answers (a ∷ []) ∙ ap (λ k. k + 1) went.many ∙ sym (length-append (mine steps n) (e.1 ∷ [])) ∙ ap length (sym gained);
@@ -167,7 +169,7 @@ pub went_by : (limits : Limits) (n : ℕ) (steps : List (ℕ × Step)) (e : ℕ 
 went_by limits n steps e answers hub went other =
     let same : mine (steps ++ e ∷ []) n ≡ mine steps n = mine-append steps (e ∷ []) n ∙ ap (λ b. mine steps n ++ (if b then e.1 ∷ [] else [])) (ne_eqb e.0 n other) ∙ append-nil (mine steps n) in
     record {
-      exists = went.exists;
+      lives = went.lives;
       keeps = went.keeps;
       many = went.many ∙ ap length (sym same);
       ran = ap (λ xs. run_of limits opened (kept_alone xs answers)) same ∙ went.ran;
@@ -192,7 +194,7 @@ alone script limits n answers hub went is = (went.many, by (slice_get script.spa
 pub opens : (limits : Limits) (n frames : ℕ) (answers : List Answer) (hub : Tenants) → hub ≡ new_hub (limits ∷ []) frames → answers ≡ [] → Went limits n [] answers hub
 opens limits n frames answers hub is none =
     let needed : NoWantAlone limits [] [] = λ place step at at'. absurd (cc) in
-    rw (is, none) (record { exists = omega arith; keeps = refl; many = refl; ran = refl; needed = needed })
+    rw (is, none) (record { lives = refl; keeps = refl; many = refl; ran = refl; needed = needed })
 
 -- a text that broke off, of a script that was accepted
 pub cut_short : (old new : Output) (script : Draft) (read : Result Draft Refusal) (name : Option (List ℕ)) (only : Option ℕ) (answers told : List Answer) →

@@ -1,6 +1,6 @@
 -- A number of 32 bits that is read from a text is the number that it writes.
 
-use Rattle.std.proofs.Common.{arith, refl, ap, ℕ, ◌≡◌, ◌≤◌, ◌<◌, ◌^◌, List, Option, Some, None, Result, Ok, Err, true, false, Bool}
+use Rattle.std.proofs.Common.{arith, refl, ℕ, ◌≡◌, ◌<◌, ◌^◌, List, Option, Some, None, Result, Ok, Err, true, false, Bool}
 use Rattle.std.specs.Option.{option_and_then}
 use Rattle.std.specs.Str.Parse.{ParsesUnsigned, IsNumeral, digits_value, without_leading_plus}
 use Rattle.clap.specs.Words.{ReadsOne, Text}

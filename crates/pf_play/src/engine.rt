@@ -1,5 +1,5 @@
 ghost use Rattle.std.specs.Prelude.{◌≡◌, ◌<◌, ◌≤◌, length, map, take, None, IfOk};
-ghost use Rattle.pf_hub.specs.Opening.{new_hub, limits_of, allocators_of, first_fault};
+ghost use Rattle.pf_hub.specs.Opening.{new_hub, new_allocators, limits_of, allocators_of, first_fault};
 ghost use Rattle.pf_play.specs.Filled.{AreFilled};
 ghost use Rattle.pf_play.specs.Played.{IsPlayed, IsPlayedAlone, IsPlayedFor, IsChosen, nomem_of};
 
@@ -89,7 +89,7 @@ fn hub_of<A: Allocator + Clone>(
     requires { first_fault (length frames.items) (limits_of configs.items) ≡ None }
     ensures opened { IfOk result
         (λ hub. hub.world ≡ new_hub (limits_of configs.items) (length frames.items)) }
-    ensures allocators { IfOk result (λ hub. hub.allocators ≡ allocators_of configs.items) }
+    ensures allocators { IfOk result (λ hub. hub.allocators ≡ new_allocators configs.items) }
 {
     match Hub::new(alloc, frames, configs) {
         Ok(hub) => Ok(hub),

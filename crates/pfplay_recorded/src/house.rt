@@ -66,7 +66,7 @@ impl<'a> House<'a> {
 
     /// A step of the namespace with this number.
     fn step(&mut self, ns: u32, step: &Step) -> Result<Answer, Flaw> {
-        if ns as usize >= self.hub.namespaces() {
+        if !self.hub.lives(ns) {
             return Err(Flaw::NoNamespace);
         }
         Ok(self.hub.step(ns, step))

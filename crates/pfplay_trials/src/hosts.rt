@@ -35,7 +35,7 @@ impl Host for Hub<Global> {
     }
 
     fn step_of(&mut self, ns: u32, step: &Step) -> Option<Answer> {
-        if ns as usize >= self.namespaces() {
+        if !self.lives(ns) {
             return None;
         }
         Some(self.step(ns, step))
@@ -60,7 +60,7 @@ impl Host for Plain<Global> {
     }
 
     fn step_of(&mut self, ns: u32, step: &Step) -> Option<Answer> {
-        if ns as usize >= self.namespaces() {
+        if !self.lives(ns) {
             return None;
         }
         Some(self.step(ns, step))

@@ -1,4 +1,4 @@
-use Rattle.std.proofs.Common.{◌≡◌, map, ap, ◌∙◌}
+use Rattle.std.proofs.Common.{ap, ◌∙◌}
 use Rattle.pf_hub.specs.Opening.{limits_of}
 use Rattle.pf_play.proofs.EngineLaws.{limits_beside}
 use Rattle.pf_play.proofs.engine.play_all_in_global.Goals as goal

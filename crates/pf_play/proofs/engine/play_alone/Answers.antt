@@ -13,7 +13,7 @@ loop-event-init g c =
     (c.config.result, c.config.ensures.limits, opens _ _ _ _ _ opened c.in_ok-answers.ensures.items)
 
 pub step-requires : goal.step-requires
-step-requires g c = record { exists = c.loop-event.invariant.2.exists }
+step-requires g c = record { lives = c.loop-event.invariant.2.lives }
 
 pub loop-event-preserved : goal.loop-event-preserved
 loop-event-preserved g c =
@@ -28,7 +28,7 @@ loop-event-preserved g c =
         c.loop-event.invariant.1,
         rw (w.hub-is, w.answers-is, w.in_ok-push.ensures.items, taken)
             (went_on limits c.args.ns _ e _ w.step.result _ w.step.new.self.world went w.if-event-ns.true
-            w.step.ensures.number w.step.ensures.limits w.step.ensures.answers w.step.ensures.succeeds),
+            w.step.ensures.lives w.step.ensures.limits w.step.ensures.answers w.step.ensures.succeeds),
       )
       | else-event-ns w ↦ (
         limits,
