@@ -1,1 +1,2 @@
+pub mod PlainTenants
 pub mod PlainLemmas

@@ -49,7 +49,8 @@ impl<A: Allocator + Clone> Plain<A> {
     ghost use Rattle.pf_machine.specs.Machine.{Answers, may_want_memory};
     ghost use Rattle.pf_machine.specs.Events.{IsDone};
     ghost use Rattle.pf_frame.specs.declared.fault.PoolFault.TheVariants.{NoMemory};
-    ghost use Rattle.pf_hub.specs.Tenants.{tenant_at, limits_at, state_at, held_at, frames_in};
+    ghost use Rattle.pf_machine.specs.Numbered.{at};
+    ghost use Rattle.pf_hub.specs.Tenants.{Lives, is_living, limits_at, state_at, held_at, frames_in};
     ghost use Rattle.pf_hub.specs.Covered.{IsCovered};
     ghost use Rattle.pf_hub.specs.Opening.{new_hub, limits_of, first_fault};
     ghost use Rattle.pf_hub.specs.Stepped.{Stepped};
@@ -83,6 +84,13 @@ impl<A: Allocator + Clone> Plain<A> {
         self.spaces.len()
     }
 
+    /// Whether there is a namespace of this number: each that there is lives.
+    pub fn lives(&self, ns: u32) -> bool
+        ensures { result ≡ is_living self.now ns }
+    {
+        (ns as usize) < self.spaces.len()
+    }
+
     /// How many frames a namespace holds, 0 where there is none of this number.
     pub fn held(&self, ns: u32) -> u32
         ensures { result ≡ held_at self.now ns }
@@ -92,13 +100,14 @@ impl<A: Allocator + Clone> Plain<A> {
 
     /// One step of one namespace, as a hub makes it.
     pub fn step(&mut self, ns: u32, step: &Step) -> Answer
-        requires exists { ns < length self.old.tenants }
+        requires lives { Lives self.old ns }
         ensures number { length self.new.tenants ≡ length self.old.tenants }
+        ensures lives { Lives self.new ns }
         ensures frames { frames_in self.new ≡ frames_in self.old }
         ensures limits { limits_at self.new ns ≡ limits_at self.old ns }
         ensures answers { Answers (limits_at self.old ns) result
             (state_at self.old ns) step.now (state_at self.new ns) }
-        ensures others { (m : ℕ) → m ≢ ns → tenant_at self.new m ≡ tenant_at self.old m }
+        ensures others { (m : ℕ) → m ≢ ns → at self.new.tenants m ≡ at self.old.tenants m }
         ensures unchanged { result ≡ Answer.NoMemory → self.new ≡ self.old }
         ensures succeeds { may_want_memory (limits_at self.old ns) (state_at self.old ns) step.now ≡ false
             → IsDone result }
@@ -110,7 +119,7 @@ impl<A: Allocator + Clone> Plain<A> {
     // The same, as one fact, inlined as a hub's is.
     #[inline(always)]
     fn step_in(&mut self, ns: u32, step: &Step) -> Answer
-        requires exists { ns < length self.old.tenants }
+        requires lives { Lives self.old ns }
         ensures stepped { Stepped self.old self.new ns step.now result }
         ensures unchanged { result ≡ Answer.NoMemory → self.new ≡ self.old }
     {

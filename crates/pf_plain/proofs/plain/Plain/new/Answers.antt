@@ -6,7 +6,9 @@ use Rattle.pf_plain.proofs.plain.Plain.new.Goals as goal
 pub returns-in_err-pool-clause-fault : goal.returns-in_err-pool-clause-fault
 returns-in_err-pool-clause-fault g c =
     let reserves : c.in-Ok.reserves.items ≡ map (λ e. e.0.reserve) c.args.configs.items = search rules in
-    let told = is_told (length c.args.frames.items) c.in-Ok.reserves.items c.in_err-pool.field-0.0 c.args.configs.items reserves c.in_err-pool.ensures in
+    let told =
+    is_told (length c.args.frames.items) c.in-Ok.reserves.items c.in_err-pool.field-0.0 c.args.configs.items
+    reserves c.in_err-pool.ensures in
     search (told, rules)
 
 pub invariant_of-result : goal.invariant_of-result
