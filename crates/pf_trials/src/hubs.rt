@@ -72,7 +72,7 @@ fn plays(
 ) -> Result<bool, AllocError> {
     let mut answers = Vec::new(alloc);
     for (ns, step) in script.steps() {
-        if *ns as usize >= hub.namespaces() {
+        if !hub.lives(*ns) {
             return Ok(false);
         }
         answers.push(hub.step(*ns, step))?;

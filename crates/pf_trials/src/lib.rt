@@ -1,5 +1,6 @@
 //! Worked examples through public calls that no table of script lines can say: a namespace alone over frames of its
-//! own, memory that is refused, and readers and writers that fail. The tables are data of `pfplay_trials`.
+//! own, memory that is refused, namespaces that come to a hub and go, and readers and writers that fail. The tables are
+//! data of `pfplay_trials`.
 //! Nothing stands here but tests, so that the crates below are proved once and not a second time with them.
 #![tactic(auto)]
 
@@ -7,6 +8,8 @@
 mod files;
 #[cfg(test)]
 mod fronts;
+#[cfg(test)]
+mod guests;
 #[cfg(test)]
 mod hubs;
 #[cfg(test)]

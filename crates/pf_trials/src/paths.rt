@@ -55,7 +55,7 @@ fn is_answered(
     step: &Step,
     answer: &Answer,
 ) -> bool {
-    if hub.namespaces() == 0 || plain.namespaces() == 0 {
+    if !hub.lives(0) || !plain.lives(0) {
         return false;
     }
     hub.step(0, step) == *answer && plain.step(0, step) == *answer
