@@ -1,4 +1,4 @@
-//! A tenant that comes for a job, and goes when it is done.
+//! A tenant that comes for a job, and goes when the job has ended.
 
 use crate::pool::{pages, reserve};
 use crate::trouble::Trouble;
@@ -6,9 +6,9 @@ use pf_base::{EventAnswer, Groups, Step};
 use pf_hub::{Event, EventFault, Hub};
 use std::alloc::Global;
 
-/// What the host is told of a job, on a hub that opens with no tenant: a tenant is admitted and makes a process, which
-/// keeps it from going until it ends; and a step that comes too late.
+/// What is told of a tenant that comes to a hub where nobody is, has a process, and goes once that has exited.
 pub(crate) fn job(alloc: Global) -> Result<Result<Vec<EventAnswer>, EventFault>, Trouble> {
+    let limits = reserve(16)?;
     let mut hub = Hub::new(alloc, pages(alloc, 16)?, Vec::new(alloc))?;
     let spawn = Step::Spawn {
         uid: 5,
@@ -16,14 +16,13 @@ pub(crate) fn job(alloc: Global) -> Result<Result<Vec<EventAnswer>, EventFault>,
         groups: Groups::new(Vec::new(alloc)),
         umask: 0o022,
     };
+    let exit = Step::Exit { pid: 1 };
     let events = vec![in alloc;
-        Event::Admit(reserve(16)?, alloc),
+        Event::Admit(limits, alloc), // its number is the next one, here 0
         Event::Step(0, spawn),
-        Event::Retire(0),
-        Event::Step(0, Step::Exit { pid: 1 }),
-        Event::Retire(0),
-        Event::Step(0, Step::Exit { pid: 1 }),
+        Event::Step(0, exit),
+        Event::Retire(0)
     ]?;
-    let answers = hub.run_events(events);
+    let answers = hub.run_events(events); // Ok: Admitted(0), Answer(Done(Pid(1))), Answer(Done(Num(0))), Retired
     Ok(answers)
 }

@@ -1,5 +1,5 @@
-//! What README shows of embedding, as a program: a process of a tenant that makes a pipe, a read that waits, and a
-//! tenant that comes for a job and goes. It prints what they are told.
+//! What README shows of embedding, as a program: a process of a tenant that makes a pipe, a read that waits, and a tenant
+//! that comes and goes. It prints what they are told.
 #![tactic(auto)]
 
 mod alone;
