@@ -88,7 +88,7 @@ impl Tenant {
         ns: u32,
     ) -> Result<(), AllocError> {
         let step = step(alloc, &mut self.random)?;
-        if ns as usize >= hub.namespaces() {
+        if !hub.lives(ns) {
             return Ok(());
         }
         self.steps = self.steps.saturating_add(1);
