@@ -30,6 +30,7 @@ use Rattle.pf_worker.specs.contracts.gate.NoGateGate.TheImpl.{ghosts as no_gate}
 use Rattle.pf_worker.specs.declared.gate.Gate as Gate
 use Rattle.pf_service.proofs.seated.Tenant.TheSendSync as tenant
 use Rattle.pf_service.proofs.transcript.Transcript.TheSendSync as transcript
+use Rattle.pf_service.proofs.waiters.NextEvent.TheSendSync as next
 use Rattle.pf_service.specs.contracts.guests.Guests as Guests
 use Rattle.pf_service.specs.contracts.living.Living as Living
 use Rattle.pf_service.specs.contracts.logged.Logged as Logged
@@ -71,13 +72,13 @@ module _ (C H : RattleType) (c : Ledger.Ghosts C.Denot) (h : Ledger.Ghosts H.Den
     tenant_send = tenant.the_send (Living.the_row A C H g c h) living_send
 
     seated_send : IsSend (Seated.the_row A C H g c h)
-    seated_send = declared_send (Seated.the_type A C H g c h) (tenant_send, (search (sendable, crosses) depth 20, tt))
+    seated_send = declared_send (Seated.the_type A C H g c h) (tenant_send, (search (sendable, crosses) depth 20, (search (sendable, crosses) depth 20, tt)))
 
     in_place_send : IsSend (in_place.the_row A C H g c h)
     in_place_send =
         let seated = as_row_send (Mutex.the_field (Seated.the_row A C H g c h)) (mutex.the_send (Seated.the_row A C H g c h) seated_send) in
         declared_send (in_place.the_type A C H g c h)
-        (search (sendable, crosses) depth 20, (seated, (search (sendable, as_row_send, crosses) depth 40, (search (sendable, crosses) depth 20, tt))))
+        (search (sendable, crosses) depth 20, (seated, (next.the_send, (search (sendable, crosses) depth 20, tt))))
 
     place_send : IsSend (Place.the_row A C H g c h)
     place_send = view_send (in_place.the_row A C H g c h) _ _ _ _ in_place_send
@@ -86,7 +87,7 @@ module _ (C H : RattleType) (c : Ledger.Ghosts C.Denot) (h : Ledger.Ghosts H.Den
     in_place_sync =
         let seated = as_row_sync (Mutex.the_field (Seated.the_row A C H g c h)) (mutex.the_sync (Seated.the_row A C H g c h) seated_send) in
         declared_sync (in_place.the_type A C H g c h)
-        (search (sendable, crosses) depth 20, (seated, (search (sendable, as_row_sync, crosses) depth 40, (search (sendable, crosses) depth 20, tt))))
+        (search (sendable, crosses) depth 20, (seated, (next.the_sync, (search (sendable, crosses) depth 20, tt))))
 
     place_sync : IsSync (Place.the_row A C H g c h)
     place_sync = view_sync (in_place.the_row A C H g c h) _ _ _ _ in_place_sync

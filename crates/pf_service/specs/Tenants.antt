@@ -1,8 +1,10 @@
 -- A namespace of a service that lives, or is retired.
 
-use Rattle.std.specs.Prelude.{◌≡◌, ℕ, ◌<◌, ◌≤◌}
+use Rattle.std.specs.Prelude.{◌≡◌, ℕ, Bool, false, ◌<◌, ◌≤◌}
 use Rattle.pf_base.specs.declared.admission.RetireFault.{RetireFault}
 use Rattle.pf_base.specs.declared.admission.RetireFault.TheVariants.{NoSuchNamespace, Alive}
+use Rattle.pf_base.specs.declared.step.Reply.{Reply}
+use Rattle.pf_base.specs.declared.step.Step.{Step}
 use Rattle.pf_machine.specs.Processes.{alive}
 use Rattle.pf_service.specs.Faults.{IsApplyFault}
 use Rattle.pf_service.specs.Transcripts.{OneTranscript}
@@ -12,6 +14,7 @@ use Rattle.pf_service.specs.declared.fault.ServiceFault.TheVariants.{TooManySeat
 use Rattle.pf_service.specs.declared.living.Living.{Living as OneLiving}
 use Rattle.pf_service.specs.declared.seated.Tenant.{Tenant}
 use Rattle.pf_service.specs.declared.seated.Tenant.TheVariants.{Living, Retired}
+use Rattle.pf_service.specs.Woken.{is_idle}
 
 -- it lives
 abbrev pub Lives : {A C H : Type 0} → Tenant (OneLiving A C H) → Type 0
@@ -37,6 +40,11 @@ IsTenantFault (Retired t) fault = fault ≡ Gone
 abbrev pub IsRetirement : {A C H : Type 0} → Tenant (OneLiving A C H) → Tenant (OneLiving A C H) → Type 0
 IsRetirement (Living l) (Retired t) = (alive l.logged.state ≡ 0) × (t ≡ transcript_of (Living l))
 IsRetirement _ _ = ⊥
+
+-- an event there is of no use to whoever waits
+abbrev pub is_idle_at : {A C H : Type 0} → Tenant (OneLiving A C H) → Tenant (OneLiving A C H) → Step → Reply → Bool
+is_idle_at (Living l) (Living m) step reply = is_idle l.logged.state m.logged.state step reply
+is_idle_at _ _ _ _ = false
 
 -- why it isn't retired
 abbrev pub IsRetireFault : {A C H : Type 0} → Tenant (OneLiving A C H) → RetireFault → Type 0

@@ -1,8 +1,8 @@
-ghost use Rattle.std.specs.Prelude.{◌≡◌, ◌<◌, [], ◌∷◌, ◌&&◌, false, nat_eq, length, All, IfOk, IfErr, OnOk, OnErr};
+ghost use Rattle.std.specs.Prelude.{◌≡◌, ◌<◌, [], ◌∷◌, ◌&&◌, false, true, nat_eq, length, All, IfOk, IfErr, OnOk, OnErr};
 ghost use Rattle.pf_service.specs.Faults.{IsApplyFault, IsEventFault, IsRefusal, IsRetirementFault};
 ghost use Rattle.pf_service.specs.Log.{IsLogged};
 ghost use Rattle.pf_service.specs.Seats.{Gains, event_at};
-ghost use Rattle.pf_service.specs.Tenants.{Lives, IsTenantFault};
+ghost use Rattle.pf_service.specs.Tenants.{Lives, IsTenantFault, is_idle_at};
 ghost use Rattle.pf_service.specs.Told.{Told};
 ghost use Rattle.pf_service.specs.Transcripts.{IsLone};
 ghost use Rattle.pf_service.specs.Woken.{is_parked_again, written_by, is_idle};
@@ -16,14 +16,14 @@ use crate::receipt::Receipt;
 use crate::seat::Seat;
 use crate::seated::{Seated, Tenant};
 use crate::transcript::Transcript;
-use crate::waiters::Waiters;
+use crate::waiters::{NextEvent, Waiters};
 use pf_base::{ByteRoom, Reply, RetireFault, Step};
 use pf_depot::DepotBook;
 use pf_worker::Gate;
 use std::alloc::{AllocError, Allocator, Global};
 use std::marker::Model;
 use std::sync::ledger::Ledger;
-use std::sync::{Condvar, Mutex, Wait};
+use std::sync::{Mutex, Wait};
 
 /// A namespace of a service: its number, what lies behind its lock, and who waits there for its next event.
 ///
@@ -32,7 +32,7 @@ use std::sync::{Condvar, Mutex, Wait};
 pub(crate) struct Place<A: Allocator, C: Ledger, H: Ledger> {
     ns: u32,
     pub(crate) seated: Mutex<Seated<A, C, H>>,
-    pub(crate) woken: Condvar,
+    pub(crate) next: NextEvent,
     // Keeps two places apart, so that no cache line has what the callers of two namespaces write.
     apart: [u64; 16],
 }
@@ -66,7 +66,8 @@ fn is_idle(step: &Step, reply: &Reply, before: u64, after: u64) -> bool
 }
 
 /// One event of a namespace, whose lock is held: the step is made, the seat keeps it with its place and its reply, and
-/// those who wait are woken, but for an event that is of no use to them.
+/// those who wait are woken, but for an event that is of no use to them. Whether anybody waits is known behind the lock:
+/// from then on nobody does.
 ///
 /// The gate is told directly before the step is made. All memory is taken before the step is made, and the transcript's end
 /// is looked at first of all.
@@ -75,6 +76,7 @@ pub(crate) fn event<A: Allocator + Clone, R: Wait, G: Gate, C: Ledger, H: Ledger
     gate: &G,
     book: &Mutex<DepotBook<C, H>>,
     living: &mut Living<A, C, H>,
+    is_awaited: &mut bool,
     waiters: &W,
     seat: &mut Seat,
     step: &Step,
@@ -88,10 +90,14 @@ pub(crate) fn event<A: Allocator + Clone, R: Wait, G: Gate, C: Ledger, H: Ledger
     ensures passed { IfOk result (λ r. G.passed gate.now r.ns r.place) }
     ensures woken { IfOk result (λ r.
         is_idle living.old.logged.state living.new.logged.state step.now r.reply ≡ false
-        → W.woken waiters.now) }
+        → W.woken waiters.now is_awaited.old) }
+    ensures awaited { IfOk result (λ r.
+        is_idle living.old.logged.state living.new.logged.state step.now r.reply ≡ true
+        → is_awaited.new ≡ is_awaited.old) }
     ensures fault { IfErr result (IsApplyFault living.old.logged.transcript) }
     ensures refused { OnErr result (Gains seat.old seat.new []) }
     ensures unchanged { OnErr result (living.new.logged ≡ living.old.logged) }
+    ensures waiting { OnErr result (is_awaited.new ≡ is_awaited.old) }
 {
     let ns = seat.ns();
     let place = living.get_ref().place()?;
@@ -105,7 +111,8 @@ pub(crate) fn event<A: Allocator + Clone, R: Wait, G: Gate, C: Ledger, H: Ledger
     let reply = living.log(rt, gate, book, ns, step, bound)?;
     let after = resumed_written(living.get_ref(), step);
     if !is_idle(step, &reply, before, after) {
-        waiters.wake_all();
+        waiters.wake_all(*is_awaited);
+        *is_awaited = false;
     }
     let told = copy_into(alloc, room, &reply);
     seat.keep(Event {
@@ -131,12 +138,22 @@ pub(crate) fn event_of<A: Allocator + Clone, R: Wait, G: Gate, C: Ledger, H: Led
         Gains seat.old seat.new (event_at r.place step.now r.reply ∷ [])) }
     ensures told { IfOk result (λ r. (r.ns ≡ seat.old.ns) × Told step.now r.place r.reply) }
     ensures passed { IfOk result (λ r. G.passed gate.now r.ns r.place) }
+    ensures woken { IfOk result (λ r.
+        is_idle_at seated.old.tenant seated.new.tenant step.now r.reply ≡ false
+        → W.woken waiters.now seated.old.is_awaited) }
+    ensures awaited { IfOk result (λ r.
+        is_idle_at seated.old.tenant seated.new.tenant step.now r.reply ≡ true
+        → seated.new.is_awaited ≡ seated.old.is_awaited) }
     ensures given { seated.new.given ≡ seated.old.given }
     ensures fault { IfErr result (IsTenantFault seated.old.tenant) }
     ensures refused { OnErr result (Gains seat.old seat.new []) }
+    ensures waiting { OnErr result (seated.new.is_awaited ≡ seated.old.is_awaited) }
 {
     match &mut seated.tenant {
-        Tenant::Living(living) => event(rt, gate, book, living, waiters, seat, step),
+        Tenant::Living(living) => {
+            let is_awaited = &mut seated.is_awaited;
+            event(rt, gate, book, living, is_awaited, waiters, seat, step)
+        }
         Tenant::Retired(_) => Err(ServiceFault::Gone),
     }
 }
@@ -151,7 +168,7 @@ impl<A: Allocator + Clone, C: Ledger, H: Ledger> Place<A, C, H> {
         Place {
             ns,
             seated: Mutex::new(seated),
-            woken: Condvar::new(),
+            next: NextEvent::new(),
             apart: [0; 16],
         }
     }
@@ -189,7 +206,7 @@ impl<A: Allocator + Clone, C: Ledger, H: Ledger> Place<A, C, H> {
         ensures refused { OnErr result (Gains seat.old seat.new []) }
     {
         let mut seated = self.seated.lock(rt);
-        event_of(rt, gate, book, &mut *seated, &self.woken, seat, step)
+        event_of(rt, gate, book, &mut *seated, &self.next, seat, step)
     }
 
     /// The namespace is retired, where it lives and has no process.
@@ -200,7 +217,7 @@ impl<A: Allocator + Clone, C: Ledger, H: Ledger> Place<A, C, H> {
     ) -> Result<(), RetireFault>
         ensures { IfErr result IsRetirementFault }
     {
-        self.seated.lock(rt).retire(rt, book, &self.woken)
+        self.seated.lock(rt).retire(rt, book, &self.next)
     }
 
     /// What the namespace was asked and told, and how many seats it gave.
@@ -210,10 +227,10 @@ impl<A: Allocator + Clone, C: Ledger, H: Ledger> Place<A, C, H> {
         let Place {
             ns: _,
             seated,
-            woken,
+            next,
             apart: _,
         } = self;
-        drop(woken);
+        drop(next);
         seated.into_inner().into_parts()
     }
 }

@@ -1,4 +1,4 @@
-ghost use Rattle.std.specs.Prelude.{◌≡◌, ◌+◌, ◌<◌, ◌≤◌};
+ghost use Rattle.std.specs.Prelude.{◌≡◌, ◌+◌, ◌<◌, ◌≤◌, false, true};
 
 use crate::MAX_SEATS;
 use crate::fault::ServiceFault;
@@ -20,11 +20,13 @@ pub(crate) enum Tenant<L> {
     Retired(Retired),
 }
 
-/// What lies behind a namespace's lock: the namespace, and how many seats it gave.
+/// What lies behind a namespace's lock: the namespace, how many seats it gave, and whether anybody may wait for its next
+/// event.
 #[derive(Drop)]
 pub(crate) struct Seated<A: Allocator, C: Ledger, H: Ledger> {
     pub(crate) tenant: Tenant<Living<A, C, H>>,
     given: u32,
+    pub(crate) is_awaited: bool,
 }
 
 impl<A: Allocator + Clone, C: Ledger, H: Ledger> Seated<A, C, H> {
@@ -33,14 +35,16 @@ impl<A: Allocator + Clone, C: Ledger, H: Ledger> Seated<A, C, H> {
     ghost use Rattle.pf_service.specs.Transcripts.{IsLone};
     ghost use Rattle.pf_service.specs.declared.TheConstants.{MAX_SEATS};
 
-    /// A namespace that gave no seat yet.
+    /// A namespace that gave no seat yet, and for which nobody waits.
     pub(crate) fn new(living: Living<A, C, H>) -> Self
         ensures lives { result.tenant ≡ Tenant.Living living }
         ensures none { result.given ≡ 0 }
+        ensures alone { result.is_awaited ≡ false }
     {
         Seated {
             tenant: Tenant::Living(living),
             given: 0,
+            is_awaited: false,
         }
     }
 
@@ -52,6 +56,7 @@ impl<A: Allocator + Clone, C: Ledger, H: Ledger> Seated<A, C, H> {
         ensures fault { IfErr result (IsGiveFault self.old.tenant self.old.given) }
         ensures unchanged { OnErr result (self.new.given ≡ self.old.given) }
         ensures tenant { self.new.tenant ≡ self.old.tenant }
+        ensures awaited { self.new.is_awaited ≡ self.old.is_awaited }
     {
         if let Tenant::Retired(_) = &self.tenant {
             return Err(ServiceFault::Gone);
@@ -75,10 +80,11 @@ impl<A: Allocator + Clone, C: Ledger, H: Ledger> Seated<A, C, H> {
         waiters: &W,
     ) -> Result<(), RetireFault>
         ensures retired { OnOk result (IsRetirement self.old.tenant self.new.tenant) }
-        ensures woken { OnOk result (W.woken waiters.now) }
+        ensures woken { OnOk result (W.woken waiters.now true) }
         ensures fault { IfErr result (IsRetireFault self.old.tenant) }
         ensures unchanged { OnErr result (self.new.tenant ≡ self.old.tenant) }
         ensures given { self.new.given ≡ self.old.given }
+        ensures awaited { self.new.is_awaited ≡ self.old.is_awaited }
     {
         let Tenant::Living(living) = &self.tenant else {
             return Err(RetireFault::NoSuchNamespace);
@@ -91,7 +97,7 @@ impl<A: Allocator + Clone, C: Ledger, H: Ledger> Seated<A, C, H> {
         if let Tenant::Living(living) = mem::replace(&mut self.tenant, nothing) {
             self.tenant = Tenant::Retired(living.retire(rt, book));
         }
-        waiters.wake_all();
+        waiters.wake_all(true);
         Ok(())
     }
 
@@ -101,7 +107,11 @@ impl<A: Allocator + Clone, C: Ledger, H: Ledger> Seated<A, C, H> {
         ensures alone { IsLone result.0 }
         ensures given { result.1 ≡ self.given }
     {
-        let Seated { tenant, given } = self;
+        let Seated {
+            tenant,
+            given,
+            is_awaited: _,
+        } = self;
         let transcript = match tenant {
             Tenant::Living(living) => living.into_transcript(),
             Tenant::Retired(retired) => retired.into_transcript(),

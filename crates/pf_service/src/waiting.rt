@@ -87,12 +87,14 @@ fn try_once<A: Allocator + Clone, R: Wait, G: Gate, C: Ledger, H: Ledger, W: Wai
     ensures fault { IfErr result (IsTenantFault seated.old.tenant) }
     ensures seat { OnErr result (Gains seat.old seat.new []) }
     ensures receipts { OnErr result (receipts.new.items ≡ receipts.old.items) }
+    ensures waiting { OnErr result (seated.new.is_awaited ≡ seated.old.is_awaited) }
 {
     let Tenant::Living(living) = &mut seated.tenant else {
         return Err(ServiceFault::Gone);
     };
     make_room(living, receipts)?;
-    let receipt = event(rt, gate, book, living, waiters, seat, step)?;
+    let is_awaited = &mut seated.is_awaited;
+    let receipt = event(rt, gate, book, living, is_awaited, waiters, seat, step)?;
     let waits = receipt.reply.is_same(&Reply::Parked);
     receipts.push_reserved(receipt);
     Ok(waits)
@@ -126,7 +128,7 @@ impl<A: Allocator + Clone, C: Ledger, H: Ledger> Place<A, C, H> {
             gate,
             book,
             &mut *seated,
-            &self.woken,
+            &self.next,
             seat,
             step,
             receipts,
@@ -135,13 +137,14 @@ impl<A: Allocator + Clone, C: Ledger, H: Ledger> Place<A, C, H> {
             if !waits {
                 return Ok(());
             }
-            seated = self.woken.wait(rt, seated);
+            seated.is_awaited = true;
+            seated = self.next.wait(rt, seated);
             waits = try_once(
                 rt,
                 gate,
                 book,
                 &mut *seated,
-                &self.woken,
+                &self.next,
                 seat,
                 &Step::Resume { pid },
                 receipts,
