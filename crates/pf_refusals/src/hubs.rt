@@ -1,69 +1,168 @@
 //! Rows that a hub plays.
 
 use crate::end::End;
-use crate::row::Row;
-use crate::scripts::{configs_of, frames_of, tell};
-use pf_base::Answer;
-use pf_hub::{Hub, RunFault};
-use pf_script::{Script, Sink};
+use crate::host::{Host, first_of, make_all};
+use crate::row::{Row, Way};
+use crate::scripts::{configs_of, frames_of};
+use crate::told::{Told, admission, retirement};
+use pf_base::{AdmitFault, Answer, Config, EventAnswer, Step};
+use pf_hub::{Event, EventFault, Hub, RunFault};
+use pf_script::Script;
 use std::alloc::Global;
 
-/// A hub of a script's namespaces over its frames.
-fn hub_of(alloc: Global, script: &Script) -> Result<Hub<Global>, End> {
-    let frames = frames_of(alloc, script.frames())?;
-    let configs = configs_of(alloc, script)?;
-    Ok(Hub::new(alloc, frames, configs)?)
+/// A hub that makes steps one by one.
+#[derive(Drop)]
+struct Single<'a> {
+    alloc: Global,
+    hub: &'a mut Hub<Global>,
 }
 
-/// The answers of a hub that is asked for all steps at once. Where it stops, those that have none count as refused.
-fn run_all(alloc: Global, script: &Script, hub: &mut Hub<Global>) -> Result<Vec<Answer>, End> {
-    let mut answers = match hub.run(script.steps()) {
-        Ok(answers) => answers,
-        Err(RunFault::NoMemory { answers }) => answers,
-        Err(RunFault::NoSuchNamespace { .. }) => Vec::new(alloc),
-    };
-    for _ in answers.len()..script.steps().len() {
-        answers.push(Answer::NoMemory)?;
+impl Host for Single<'_> {
+    fn make(&mut self, ns: u32, step: &Step) -> Result<Answer, End> {
+        if !self.hub.lives(ns) {
+            return Err(End::NoScript);
+        }
+        Ok(self.hub.step(ns, step))
     }
-    Ok(answers)
+
+    fn comes(&mut self, config: Config) -> Result<EventAnswer, End> {
+        Ok(admission(self.hub.admit(config, self.alloc)))
+    }
+
+    fn goes(&mut self, ns: u32) -> Result<EventAnswer, End> {
+        Ok(retirement(self.hub.retire(ns)))
+    }
 }
 
-/// The answers of a hub that is asked for one step after the other.
-fn step_all(
+/// Has a hub make all steps at once. Where it stops, those that have no answer count as refused.
+fn run_all(script: &Script, hub: &mut Hub<Global>, told: &mut Told) -> Result<(), End> {
+    told.answers = match hub.run(script.steps()) {
+        Ok(answers) | Err(RunFault::NoMemory { answers }) => answers,
+        Err(RunFault::NoSuchNamespace { .. }) => return Err(End::NoScript),
+    };
+    for _ in told.answers.len()..script.steps().len() {
+        told.answers.push(Answer::NoMemory)?;
+    }
+    Ok(())
+}
+
+/// Adds steps to a list of events.
+fn add_steps(
+    alloc: Global,
+    steps: &[(u32, Step)],
+    events: &mut Vec<Event<Global>>,
+) -> Result<(), End> {
+    for (ns, step) in steps {
+        events.push(Event::Step(*ns, step.copy(alloc)?))?;
+    }
+    Ok(())
+}
+
+/// Adds what happens in a row with this guest, which comes in front of the step of this place.
+fn add_all(
+    alloc: Global,
+    steps: &[(u32, Step)],
+    comes: usize,
+    guest: (u32, Config),
+    events: &mut Vec<Event<Global>>,
+) -> Result<(), End> {
+    let (before, after) = steps.split_at(comes.min(steps.len()));
+    let (ns, config) = guest;
+    add_steps(alloc, before, events)?;
+    events.push(Event::Admit(config, alloc))?;
+    events.push(Event::Admit(config, alloc))?;
+    add_steps(alloc, after, events)?;
+    events.push(Event::Retire(ns))?;
+    events.push(Event::Admit(config, alloc))?;
+    Ok(())
+}
+
+/// Adds what an event was told.
+fn add_answer(answer: EventAnswer, told: &mut Told) -> Result<(), End> {
+    match answer {
+        EventAnswer::Answer(answer) => told.answers.push(answer)?,
+        EventAnswer::Gone => return Err(End::NoScript),
+        coming => told.comings.push(coming)?,
+    }
+    Ok(())
+}
+
+/// Adds what so many events were told, of which the guest's are the ones at this place, the next, and the last two. Those
+/// that have no answer count as refused.
+fn add_answers(
+    answers: Vec<EventAnswer>,
+    events: usize,
+    comes: usize,
+    told: &mut Told,
+) -> Result<(), End> {
+    let answered = answers.len();
+    for answer in answers {
+        add_answer(answer, told)?;
+    }
+    for place in answered..events {
+        let is_guests = place == comes || place == comes.saturating_add(1);
+        if is_guests || events.saturating_sub(place) <= 2 {
+            told.comings
+                .push(EventAnswer::NotAdmitted(AdmitFault::NoMemory))?;
+        } else {
+            told.answers.push(Answer::NoMemory)?;
+        }
+    }
+    Ok(())
+}
+
+/// Has a hub make all steps at once, and a guest come and go among them. The requests of that are counted, and none before.
+fn run_events(
     alloc: Global,
     row: &Row<'_>,
     script: &Script,
     hub: &mut Hub<Global>,
-) -> Result<Vec<Answer>, End> {
-    let mut answers = Vec::new(alloc);
-    for (place, (ns, step)) in script.steps().iter().enumerate() {
-        if *ns as usize >= hub.namespaces() {
-            return Err(End::NoScript);
+    told: &mut Told,
+) -> Result<(), End> {
+    let Some(guest) = row.guest(script) else {
+        return Err(End::NoScript);
+    };
+    let comes = first_of(script.steps(), guest.0);
+    let mut events = Vec::new(alloc);
+    add_all(alloc, script.steps(), comes, guest, &mut events)?;
+    let count = events.len();
+    let begun = row.give_sign(alloc);
+    let end = hub.run_events(events);
+    let ended = row.give_sign(alloc);
+    match end {
+        Ok(answers) | Err(EventFault::NoMemory { answers }) => {
+            add_answers(answers, count, comes, told)?;
         }
-        row.give_sign_at(alloc, place)?;
-        let answer = hub.step(*ns, step);
-        row.give_sign_at(alloc, place)?;
-        answers.push(answer)?;
     }
-    Ok(answers)
+    begun?;
+    ended
 }
 
-/// Has a hub run the steps of a script. What owns a script or a hub hands it on, with one way out: each drops it, which
-/// is dear to prove.
-pub(crate) fn run<W: Sink>(alloc: Global, writer: &mut W, script: &Script) -> Result<(), End> {
-    let mut hub = hub_of(alloc, script)?;
-    let answers = run_all(alloc, script, &mut hub)?;
-    tell(writer, script, &answers)
-}
-
-/// Has a hub make the steps of a row's script one by one.
-pub(crate) fn step<W: Sink>(
+/// Has a hub make the steps of a row's script.
+fn make(
     alloc: Global,
-    writer: &mut W,
     row: &Row<'_>,
     script: &Script,
+    hub: &mut Hub<Global>,
+    told: &mut Told,
 ) -> Result<(), End> {
-    let mut hub = hub_of(alloc, script)?;
-    let answers = step_all(alloc, row, script, &mut hub)?;
-    tell(writer, script, &answers)
+    match row.way {
+        Way::Run => run_all(script, hub, told),
+        Way::GuestEvents => run_events(alloc, row, script, hub, told),
+        _ => make_all(alloc, row, script, &mut Single { alloc, hub }, told),
+    }
+}
+
+/// Has a hub of a row's namespaces make its steps. What owns a hub hands it on, with one way out: each drops it, which is
+/// dear to prove.
+pub(crate) fn play(
+    alloc: Global,
+    row: &Row<'_>,
+    script: &Script,
+    told: &mut Told,
+) -> Result<(), End> {
+    let frames = frames_of(alloc, script.frames())?;
+    let configs = configs_of(alloc, row, script)?;
+    let mut hub = Hub::new(alloc, frames, configs)?;
+    make(alloc, row, script, &mut hub, told)
 }

@@ -6,72 +6,118 @@
 
 mod alone;
 mod end;
+mod host;
 mod hubs;
+mod parking;
 mod row;
 mod scripts;
 mod served;
+mod told;
 mod workers;
 
 use crate::end::End;
 use crate::row::{Row, Way};
-use pf_script::{Script, Sink, Writing};
+use crate::told::Told;
+use pf_script::{Script, Writing, print};
 use std::alloc::Global;
 use std::sync::Wait;
+use std::thread::Threads;
 use std::{env, fs, io};
 
 /// The files that are played where no word names another.
-const FILES: [&str; 3] = ["growing.rows", "steady.rows", "whole.rows"];
+const FILES: [&str; 6] = [
+    "growing.rows",
+    "steady.rows",
+    "whole.rows",
+    "coming.rows",
+    "going.rows",
+    "parking.rows",
+];
 
 /// Plays a row's script in its way. The sign is given before all that these ways ask for, where they don't give it beside
 /// a step.
-fn play_script<R: Wait, W: Sink>(
+fn play<R: Threads + Wait + Sync>(
     rt: &R,
     alloc: Global,
-    writer: &mut W,
     row: &Row<'_>,
     script: &Script,
+    told: &mut Told,
 ) -> Result<(), End> {
+    if matches!(row.way, Way::Run | Way::Calls | Way::Waits) {
+        row.give_sign(alloc)?;
+    }
     match row.way {
-        Way::Space => alone::play(alloc, writer, row, script),
-        Way::Steps => hubs::step(alloc, writer, row, script),
-        Way::Workers => workers::play(rt, alloc, writer, row, script),
-        Way::Run => {
-            row.give_sign(alloc)?;
-            hubs::run(alloc, writer, script)
+        Way::Space => alone::play(alloc, row, script, told),
+        Way::Steps | Way::Run | Way::GuestSteps | Way::GuestEvents => {
+            hubs::play(alloc, row, script, told)
         }
-        Way::Calls => {
-            row.give_sign(alloc)?;
-            served::play(rt, alloc, writer, script, false)
-        }
-        Way::Waits => {
-            row.give_sign(alloc)?;
-            served::play(rt, alloc, writer, script, true)
-        }
+        Way::Workers | Way::GuestWorkers => workers::play(rt, alloc, row, script, told),
+        Way::Calls | Way::Waits | Way::GuestCalls => served::play(rt, alloc, row, script, told),
+        Way::Parks => parking::play(rt, alloc, row, script, told),
     }
 }
 
-/// Plays a row, and writes its text.
-fn play<R: Wait, W: Sink>(rt: &R, alloc: Global, writer: &mut W, row: &Row<'_>) -> Result<(), End> {
-    let script = row.read(alloc)?;
-    play_script(rt, alloc, writer, row, &script)
+/// Writes what a script's steps are told.
+fn write_told(rt: &HostRuntime, script: &Script, told: &Told) -> Result<(), End> {
+    let mut writer = Writing::new(io::writer(rt));
+    if script.steps().len() != told.answers.len()
+        || print(&mut writer, script, &told.answers, None).is_err()
+    {
+        return Err(End::NoScript);
+    }
+    for coming in &told.comings {
+        if println!(rt; "guest: {coming:?}").is_err() {
+            return Err(End::NoScript);
+        }
+    }
+    if told.is_open {
+        return Err(End::NotClosed);
+    }
+    Ok(())
 }
 
-/// Plays the row of these lines, between a line that says which it is and one that says how it ended. `waiting` is the
-/// same runtime, as what may wait.
-fn play_lines<R: Wait>(rt: &HostRuntime, waiting: &R, lines: &str) -> io::Result<()> {
+/// Plays a script, and writes its text.
+fn play_script<R: Threads + Wait + Sync>(
+    rt: &HostRuntime,
+    shared: &R,
+    row: &Row<'_>,
+    script: &Script,
+    told: &mut Told,
+) -> Result<(), End> {
+    play(shared, rt.alloc(), row, script, told)?;
+    write_told(rt, script, told)
+}
+
+/// Plays a row, and writes its text. What owns a script or what was told hands it on, with one way out.
+fn play_row<R: Threads + Wait + Sync>(
+    rt: &HostRuntime,
+    shared: &R,
+    row: &Row<'_>,
+) -> Result<(), End> {
+    let script = row.read(rt.alloc())?;
+    let mut told = Told::new(rt.alloc());
+    play_script(rt, shared, row, &script, &mut told)
+}
+
+/// Plays the row of these lines, between a line that says which it is and one that says how it ended. `shared` is the same
+/// runtime, as what may wait.
+fn play_lines<R: Threads + Wait + Sync>(
+    rt: &HostRuntime,
+    shared: &R,
+    lines: &str,
+) -> io::Result<()> {
     let Some(row) = Row::of(lines) else {
         return println!(rt; "no row");
     };
     println!(rt; "== {}", row.head)?;
-    let mut writer = Writing::new(io::writer(rt));
-    match play(waiting, rt.alloc(), &mut writer, &row) {
+    match play_row(rt, shared, &row) {
         Ok(()) => println!(rt; "end: told"),
         Err(end) => println!(rt; "end: {end}"),
     }
 }
 
 /// Plays a file's rows: an empty line stands behind each.
-fn play_file<R: Wait>(rt: &HostRuntime, waiting: &R, name: &str) -> io::Result<()> {
+fn play_file<R: Threads + Wait + Sync>(rt: &HostRuntime, shared: &R, name: &str) -> io::Result<()> {
     let file = fs::read_to_string(rt, name)?;
     let mut lines = String::new(rt.alloc());
     for line in file.as_str().split('\n') {
@@ -79,7 +125,7 @@ fn play_file<R: Wait>(rt: &HostRuntime, waiting: &R, name: &str) -> io::Result<(
             lines.push_str(line)?;
             lines.push('\n')?;
         } else if !lines.is_empty() {
-            play_lines(rt, waiting, lines.as_str())?;
+            play_lines(rt, shared, lines.as_str())?;
             lines.clear();
         }
     }

@@ -1,7 +1,9 @@
-//! Rows. Each begins with a line of three words: how its steps are made, the place of one step, from 0, and a name. The
-//! lines of a script come behind it.
+//! Rows. Each begins with a line of three words: how its steps are made, a number, and a name. The lines of a script come
+//! behind it. Where the steps are made one by one the number is a step's place, from 0; of a row with a guest it is 0 for
+//! its coming and 1 for its going; of one whose step waits it is that step's place.
 
 use crate::end::End;
+use pf_base::Config;
 use pf_script::{MemoryBytes, Script, read_script};
 use std::alloc::Global;
 
@@ -10,7 +12,7 @@ use std::alloc::Global;
 const SIGN: usize = 7_777_777;
 
 /// How a row's steps are made.
-#[derive(Clone, Copy)]
+#[derive(Clone, Copy, PartialEq, Eq)]
 pub(crate) enum Way {
     /// In a namespace that is alone over frames of its own, one by one.
     Space,
@@ -24,6 +26,17 @@ pub(crate) enum Way {
     Calls,
     /// By a service, by calls that may wait.
     Waits,
+    /// By a service, where one of them waits for the next, which is made on a thread of its own.
+    Parks,
+    /// By a hub, one by one. Here, and below, the last namespace is a guest: it comes before its first step, and goes
+    /// behind the last one of all.
+    GuestSteps,
+    /// By a hub, all at once, with a guest.
+    GuestEvents,
+    /// By a worker for each namespace, with a guest.
+    GuestWorkers,
+    /// By a service, with a guest.
+    GuestCalls,
 }
 
 impl Way {
@@ -35,8 +48,25 @@ impl Way {
             "workers" => Some(Way::Workers),
             "calls" => Some(Way::Calls),
             "waits" => Some(Way::Waits),
+            "parks" => Some(Way::Parks),
+            "guest_steps" => Some(Way::GuestSteps),
+            "guest_events" => Some(Way::GuestEvents),
+            "guest_workers" => Some(Way::GuestWorkers),
+            "guest_calls" => Some(Way::GuestCalls),
             _ => None,
         }
+    }
+
+    /// Whether the requests of one step are counted.
+    fn counts_a_step(self) -> bool {
+        matches!(self, Way::Space | Way::Steps | Way::Workers)
+    }
+
+    fn has_guest(self) -> bool {
+        matches!(
+            self,
+            Way::GuestSteps | Way::GuestEvents | Way::GuestWorkers | Way::GuestCalls
+        )
     }
 }
 
@@ -46,12 +76,17 @@ pub(crate) struct Row<'a> {
     /// Its first line.
     pub(crate) head: &'a str,
     pub(crate) way: Way,
-    /// The place of the step whose requests are counted. Where the steps aren't made one by one, those of all are.
-    at: usize,
+    pub(crate) at: usize,
     pub(crate) script: &'a str,
 }
 
 impl Row<'_> {
+    /// The number of a row whose guest's coming is counted.
+    pub(crate) const COMES: usize = 0;
+
+    /// The number of a row whose guest's going is counted.
+    pub(crate) const GOES: usize = 1;
+
     pub(crate) fn of(lines: &str) -> Option<Row<'_>> {
         let (head, script) = lines.split_once('\n')?;
         let mut words = head.split(' ');
@@ -77,10 +112,32 @@ impl Row<'_> {
 
     /// Gives the sign if it is to be beside the step of this place.
     pub(crate) fn give_sign_at(&self, alloc: Global, place: usize) -> Result<(), End> {
-        if place == self.at {
+        if place == self.at && self.way.counts_a_step() {
             self.give_sign(alloc)?;
         }
         Ok(())
+    }
+
+    /// Gives the sign if it is to be beside the guest's coming, or its going.
+    pub(crate) fn give_sign_of(&self, alloc: Global, part: usize) -> Result<(), End> {
+        if part == self.at && self.way.has_guest() {
+            self.give_sign(alloc)?;
+        }
+        Ok(())
+    }
+
+    /// How many of a script's namespaces are there from the start.
+    pub(crate) fn residents(&self, script: &Script) -> u32 {
+        (script.count_spaces() as u32).saturating_sub(u32::from(self.way.has_guest()))
+    }
+
+    /// The number and the limits of its guest.
+    pub(crate) fn guest(&self, script: &Script) -> Option<(u32, Config)> {
+        let ns = self.residents(script);
+        if ns as usize >= script.count_spaces() {
+            return None;
+        }
+        Some((ns, script.config(ns as usize)))
     }
 
     /// Its script.

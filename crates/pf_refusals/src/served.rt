@@ -4,10 +4,13 @@ ghost use Rattle.std.specs.Prelude.{◌≡◌, ◌≤◌};
 ghost use Rattle.pf_base.specs.declared.TheConstants.{MAX_NAMESPACES};
 
 use crate::end::End;
-use crate::scripts::{configs_of, frames_of, tell};
-use pf_base::{Answer, MAX_NAMESPACES, Step};
-use pf_script::{Script, Sink};
-use pf_service::{CloseFault, NoGate, Seat, Service, ServiceFault};
+use crate::host::{Host, make_all};
+use crate::row::{Row, Way};
+use crate::scripts::{blank, configs_of, frames_of};
+use crate::told::{Told, retirement};
+use pf_base::{Answer, Config, EventAnswer, MAX_NAMESPACES, Step};
+use pf_script::Script;
+use pf_service::{CloseFault, Gate, NoGate, Seat, Service, ServiceFault};
 use std::alloc::Global;
 use std::marker::Brand;
 use std::sync::Wait;
@@ -15,58 +18,36 @@ use std::sync::ledger::{Blank, Ledger};
 
 type Shared<C, H> = Service<Global, NoGate, C, H>;
 
-/// A ledger with a part for each namespace that there may be.
-pub(crate) fn blank() -> Blank
-    ensures { result.parts ≡ MAX_NAMESPACES }
-{
-    Blank::new(MAX_NAMESPACES as u64)
-}
-
-/// A service of a script's namespaces over its frames.
-fn service_of<C: Ledger, H: Ledger>(
+/// A service of a row's namespaces over its frames.
+pub(crate) fn service_of<G: Gate + Drop, C: Ledger, H: Ledger>(
     alloc: Global,
+    row: &Row<'_>,
     script: &Script,
+    gate: G,
     credits: Blank,
     held: Blank,
-) -> Result<Shared<C, H>, End>
+) -> Result<Service<Global, G, C, H>, End>
     requires names { (credits.name ≡ C.name) × (held.name ≡ H.name) }
     requires cut { (credits.parts ≡ C.parts) × (held.parts ≡ H.parts) }
     requires parts { (MAX_NAMESPACES ≤ credits.parts) × (MAX_NAMESPACES ≤ held.parts) }
 {
     let frames = frames_of(alloc, script.frames())?;
-    let configs = configs_of(alloc, script)?;
-    Ok(Service::new(alloc, frames, configs, NoGate, credits, held)?)
+    let configs = configs_of(alloc, row, script)?;
+    Ok(Service::new(alloc, frames, configs, gate, credits, held)?)
 }
 
-/// A seat at each namespace.
-fn seats_of<R: Wait, C: Ledger, H: Ledger>(
+/// The answer to a call whose receipt is to have this place. A refused call leaves its seat.
+pub(crate) fn answer_at<R: Wait, G: Gate, C: Ledger, H: Ledger>(
     rt: &R,
-    alloc: Global,
-    service: &Shared<C, H>,
-    script: &Script,
-) -> Result<Vec<Seat>, End> {
-    let mut seats = Vec::new(alloc);
-    for ns in 0..script.count_spaces() as u32 {
-        match service.seat(rt, ns) {
-            Ok(seat) => seats.push(seat)?,
-            Err(ServiceFault::NoMemory) => return Err(End::NoMemory),
-            Err(_) => return Err(End::NoScript),
-        }
-    }
-    Ok(seats)
-}
-
-/// The answer to a call. Its receipt has the next place of the namespace's one seat, and a refused call has none.
-fn answer_of<R: Wait, C: Ledger, H: Ledger>(
-    rt: &R,
-    service: &Shared<C, H>,
+    service: &Service<Global, G, C, H>,
     seat: &mut Seat,
     step: &Step,
+    place: usize,
 ) -> Result<Answer, End> {
-    let place = seat.events().len();
+    let kept = seat.events().len();
     match service.call(rt, seat, step) {
         Ok(receipt) if receipt.place == place as u64 => Ok(Answer::Done(receipt.reply)),
-        Err(ServiceFault::NoMemory) if seat.events().len() == place => Ok(Answer::NoMemory),
+        Err(ServiceFault::NoMemory) if seat.events().len() == kept => Ok(Answer::NoMemory),
         _ => Err(End::NoScript),
     }
 }
@@ -79,10 +60,10 @@ fn answer_after_wait<R: Wait, C: Ledger, H: Ledger>(
     seat: &mut Seat,
     step: &Step,
 ) -> Result<Answer, End> {
-    let place = seat.events().len();
+    let kept = seat.events().len();
     let mut receipts = Vec::new(alloc);
     let end = service.call_waiting(rt, seat, step, &mut receipts);
-    if seat.events().len().saturating_sub(place) != receipts.len() {
+    if seat.events().len().saturating_sub(kept) != receipts.len() {
         return Err(End::NoScript);
     }
     match (end, receipts.pop()) {
@@ -92,36 +73,102 @@ fn answer_after_wait<R: Wait, C: Ledger, H: Ledger>(
     }
 }
 
-/// The answers to the calls of all steps.
-fn call_all<R: Wait, C: Ledger, H: Ledger>(
-    rt: &R,
+/// A caller at each namespace, with the only seat there.
+#[derive(Drop)]
+struct Callers<'a, R: Wait, C: Ledger, H: Ledger> {
+    rt: &'a R,
     alloc: Global,
-    service: &Shared<C, H>,
-    seats: &mut [Seat],
-    script: &Script,
+    service: &'a Shared<C, H>,
+    seats: &'a mut Vec<Seat>,
     waits: bool,
-) -> Result<Vec<Answer>, End> {
-    let mut answers = Vec::new(alloc);
-    for (ns, step) in script.steps() {
-        let Some(seat) = seats.get_mut(*ns as usize) else {
-            return Err(End::NoScript);
-        };
-        answers.push(if waits {
-            answer_after_wait(rt, alloc, service, seat, step)?
-        } else {
-            answer_of(rt, service, seat, step)?
-        })?;
-    }
-    Ok(answers)
 }
 
-/// Has a service play a script, and closes it.
-fn play_script<W: Sink, R: Wait, C: Ledger, H: Ledger>(
+impl<R: Wait, C: Ledger, H: Ledger> Callers<'_, R, C, H> {
+    /// Takes a seat at a namespace.
+    fn sit(&mut self, ns: u32) -> Result<(), End> {
+        match self.service.seat(self.rt, ns) {
+            Ok(seat) => Ok(self.seats.push(seat)?),
+            Err(ServiceFault::NoMemory) => Err(End::NoMemory),
+            Err(_) => Err(End::NoScript),
+        }
+    }
+}
+
+impl<R: Wait, C: Ledger, H: Ledger> Host for Callers<'_, R, C, H> {
+    fn make(&mut self, ns: u32, step: &Step) -> Result<Answer, End> {
+        let Some(seat) = self.seats.get_mut(ns as usize) else {
+            return Err(End::NoScript);
+        };
+        if self.waits {
+            return answer_after_wait(self.rt, self.alloc, self.service, seat, step);
+        }
+        let place = seat.events().len();
+        answer_at(self.rt, self.service, seat, step, place)
+    }
+
+    fn comes(&mut self, config: Config) -> Result<EventAnswer, End> {
+        match self.service.admit(self.rt, config, self.alloc) {
+            Ok(ns) => {
+                self.sit(ns)?;
+                Ok(EventAnswer::Admitted(ns))
+            }
+            Err(fault) => Ok(EventAnswer::NotAdmitted(fault)),
+        }
+    }
+
+    fn goes(&mut self, ns: u32) -> Result<EventAnswer, End> {
+        Ok(retirement(self.service.retire(self.rt, ns)))
+    }
+}
+
+/// Has callers of a service make a row's steps. There is room for the seats of those that come.
+fn make<R: Wait, C: Ledger, H: Ledger>(
     rt: &R,
     alloc: Global,
-    writer: &mut W,
+    row: &Row<'_>,
     script: &Script,
-    waits: bool,
+    service: &Shared<C, H>,
+    seats: &mut Vec<Seat>,
+    told: &mut Told,
+) -> Result<(), End> {
+    let waits = row.way == Way::Waits;
+    let residents = row.residents(script);
+    seats.reserve(MAX_NAMESPACES)?;
+    let mut callers = Callers {
+        rt,
+        alloc,
+        service,
+        seats,
+        waits,
+    };
+    for ns in 0..residents {
+        callers.sit(ns)?;
+    }
+    make_all(alloc, row, script, &mut callers, told)
+}
+
+/// Closes a service with all its seats.
+pub(crate) fn close<G: Gate + Drop, C: Ledger, H: Ledger>(
+    service: Service<Global, G, C, H>,
+    seats: Vec<Seat>,
+    told: &mut Told,
+) -> Result<(), End> {
+    match service.close(seats) {
+        Ok(_) => Ok(()),
+        Err(CloseFault::NoMemory) => {
+            told.is_open = true;
+            Ok(())
+        }
+        Err(_) => Err(End::NoScript),
+    }
+}
+
+fn play_over<R: Wait, C: Ledger, H: Ledger>(
+    rt: &R,
+    alloc: Global,
+    row: &Row<'_>,
+    script: &Script,
+    told: &mut Told,
     credits: Blank,
     held: Blank,
 ) -> Result<(), End>
@@ -129,24 +176,21 @@ fn play_script<W: Sink, R: Wait, C: Ledger, H: Ledger>(
     requires cut { (credits.parts ≡ C.parts) × (held.parts ≡ H.parts) }
     requires parts { (MAX_NAMESPACES ≤ credits.parts) × (MAX_NAMESPACES ≤ held.parts) }
 {
-    let service = service_of::<C, H>(alloc, script, credits, held)?;
-    let mut seats = seats_of(rt, alloc, &service, script)?;
-    let answers = call_all(rt, alloc, &service, &mut seats, script, waits)?;
-    tell(writer, script, &answers)?;
-    match service.close(seats) {
-        Ok(_) => Ok(()),
-        Err(CloseFault::NoMemory) => Err(End::NotClosed),
-        Err(_) => Err(End::NoScript),
-    }
+    let service = service_of::<_, C, H>(alloc, row, script, NoGate, credits, held)?;
+    let mut seats = Vec::new(alloc);
+    let made = make(rt, alloc, row, script, &service, &mut seats, told);
+    let closed = close(service, seats, told);
+    made?;
+    closed
 }
 
-/// Has a service play a script, by calls that may wait or by others.
-pub(crate) fn play<W: Sink, R: Wait>(
+/// Has a service play a script, and closes it.
+pub(crate) fn play<R: Wait>(
     rt: &R,
     alloc: Global,
-    writer: &mut W,
+    row: &Row<'_>,
     script: &Script,
-    waits: bool,
+    told: &mut Told,
 ) -> Result<(), End> {
-    play_script::<W, R, Brand, Brand>(rt, alloc, writer, script, waits, blank(), blank())
+    play_over::<R, Brand, Brand>(rt, alloc, row, script, told, blank(), blank())
 }

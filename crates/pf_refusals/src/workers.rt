@@ -4,46 +4,89 @@ ghost use Rattle.std.specs.Prelude.{◌≡◌, ◌≤◌};
 ghost use Rattle.pf_base.specs.declared.TheConstants.{MAX_NAMESPACES};
 
 use crate::end::End;
+use crate::host::{Host, make_all};
 use crate::row::Row;
-use crate::scripts::{configs_of, frames_of, tell};
-use crate::served::blank;
-use pf_base::Answer;
+use crate::scripts::{blank, configs_of, frames_of};
+use crate::told::Told;
+use pf_base::{Answer, Config, EventAnswer, Step};
 use pf_depot::DepotBook;
-use pf_script::{Script, Sink};
+use pf_script::Script;
 use pf_worker::{NoGate, Worker, open};
 use std::alloc::Global;
 use std::marker::Brand;
 use std::sync::ledger::{Blank, Ledger};
 use std::sync::{Mutex, Wait};
 
-/// The answers of the workers, each of which is asked for its namespace's steps.
-fn step_all<R: Wait, C: Ledger, H: Ledger>(
+type Team<C, H> = Vec<Worker<Global, C, H>>;
+
+/// Workers, by number, that make steps one by one.
+#[derive(Drop)]
+struct Shift<'a, R: Wait, C: Ledger, H: Ledger> {
+    rt: &'a R,
+    alloc: Global,
+    book: &'a Mutex<DepotBook<C, H>>,
+    team: &'a mut Team<C, H>,
+}
+
+impl<R: Wait, C: Ledger, H: Ledger> Host for Shift<'_, R, C, H> {
+    fn make(&mut self, ns: u32, step: &Step) -> Result<Answer, End> {
+        match self.team.get_mut(ns as usize) {
+            Some(worker) => Ok(worker.step(self.rt, self.book, &NoGate, step)),
+            None => Err(End::NoScript),
+        }
+    }
+
+    fn comes(&mut self, config: Config) -> Result<EventAnswer, End> {
+        match Worker::admit(self.rt, self.alloc, self.book, config, self.alloc) {
+            Ok(worker) => {
+                let number = worker.number();
+                self.team.push(worker)?;
+                Ok(EventAnswer::Admitted(number))
+            }
+            Err(fault) => Ok(EventAnswer::NotAdmitted(fault)),
+        }
+    }
+
+    fn goes(&mut self, ns: u32) -> Result<EventAnswer, End> {
+        let Some(worker) = self.team.pop() else {
+            return Err(End::NoScript);
+        };
+        match worker.retire(self.rt, self.book) {
+            Ok(()) => Ok(EventAnswer::Retired),
+            Err((worker, fault)) => {
+                self.team.push(worker)?;
+                Ok(EventAnswer::NotRetired(fault))
+            }
+        }
+    }
+}
+
+/// Has workers make a row's steps. There is room for those that come.
+fn make<R: Wait, C: Ledger, H: Ledger>(
     rt: &R,
     alloc: Global,
     row: &Row<'_>,
     script: &Script,
     book: &Mutex<DepotBook<C, H>>,
-    workers: &mut [Worker<Global, C, H>],
-) -> Result<Vec<Answer>, End> {
-    let mut answers = Vec::new(alloc);
-    for (place, (ns, step)) in script.steps().iter().enumerate() {
-        let Some(worker) = workers.get_mut(*ns as usize) else {
-            return Err(End::NoScript);
-        };
-        row.give_sign_at(alloc, place)?;
-        let answer = worker.step(rt, book, &NoGate, step);
-        row.give_sign_at(alloc, place)?;
-        answers.push(answer)?;
-    }
-    Ok(answers)
+    team: &mut Team<C, H>,
+    told: &mut Told,
+) -> Result<(), End> {
+    team.reserve(2)?;
+    let mut shift = Shift {
+        rt,
+        alloc,
+        book,
+        team,
+    };
+    make_all(alloc, row, script, &mut shift, told)
 }
 
-fn play_script<W: Sink, R: Wait, C: Ledger, H: Ledger>(
+fn play_over<R: Wait, C: Ledger, H: Ledger>(
     rt: &R,
     alloc: Global,
-    writer: &mut W,
     row: &Row<'_>,
     script: &Script,
+    told: &mut Told,
     credits: Blank,
     held: Blank,
 ) -> Result<(), End>
@@ -52,20 +95,19 @@ fn play_script<W: Sink, R: Wait, C: Ledger, H: Ledger>(
     requires parts { (MAX_NAMESPACES ≤ credits.parts) × (MAX_NAMESPACES ≤ held.parts) }
 {
     let frames = frames_of(alloc, script.frames())?;
-    let configs = configs_of(alloc, script)?;
-    let (book, mut workers) = open::<_, C, H>(alloc, frames, configs, credits, held)?;
+    let configs = configs_of(alloc, row, script)?;
+    let (book, mut team) = open::<_, C, H>(alloc, frames, configs, credits, held)?;
     let book = Mutex::new(book);
-    let answers = step_all(rt, alloc, row, script, &book, &mut workers)?;
-    tell(writer, script, &answers)
+    make(rt, alloc, row, script, &book, &mut team, told)
 }
 
 /// Has workers make the steps of a row's script one by one.
-pub(crate) fn play<W: Sink, R: Wait>(
+pub(crate) fn play<R: Wait>(
     rt: &R,
     alloc: Global,
-    writer: &mut W,
     row: &Row<'_>,
     script: &Script,
+    told: &mut Told,
 ) -> Result<(), End> {
-    play_script::<W, R, Brand, Brand>(rt, alloc, writer, row, script, blank(), blank())
+    play_over::<R, Brand, Brand>(rt, alloc, row, script, told, blank(), blank())
 }

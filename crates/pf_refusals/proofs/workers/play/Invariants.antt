@@ -1,7 +1,7 @@
 use Rattle.pf_refusals.proofs.workers.play.Given as goal
 
-abbrev pub ghosts-play_script-C-Ledger : goal.ghosts-play_script-C-Ledger
-ghosts-play_script-C-Ledger g a = record { name = a.credits.name; parts = a.credits.parts }
+abbrev pub ghosts-play_over-C-Ledger : goal.ghosts-play_over-C-Ledger
+ghosts-play_over-C-Ledger g a = record { name = a.credits.name; parts = a.credits.parts }
 
-abbrev pub ghosts-play_script-H-Ledger : goal.ghosts-play_script-H-Ledger
-ghosts-play_script-H-Ledger g a = record { name = a.held.name; parts = a.held.parts }
+abbrev pub ghosts-play_over-H-Ledger : goal.ghosts-play_over-H-Ledger
+ghosts-play_over-H-Ledger g a = record { name = a.held.name; parts = a.held.parts }

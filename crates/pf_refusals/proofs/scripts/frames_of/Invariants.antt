@@ -1,6 +1,6 @@
 use Rattle.std.proofs.Common.{◌≡◌, length}
 use Rattle.std.specs.Vec.{vec_capacity}
-use Rattle.pf_refusals.proofs.alone.frames_of.Given as goal
+use Rattle.pf_refusals.proofs.scripts.frames_of.Given as goal
 
 abbrev pub invariant-loop : goal.invariant-loop
 invariant-loop l = record {
