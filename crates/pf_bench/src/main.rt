@@ -1,10 +1,12 @@
 //! Pairs of a write and a read through a hub, whose frames are on loan from a depot, tees and splices between two of its
-//! pipes, and reads that wait; the same through the plain form, whose frames are one array; and pairs through a service.
+//! pipes, and reads that wait; the same through the plain form, whose frames are one array; and pairs through a worker
+//! and through a service.
 //! With no word, it plays a short fixed load through each and looks at each byte; with a number, it plays so many of each
 //! size, and prints how long one takes.
 #![tactic(auto)]
 
 mod served;
+mod worked;
 
 use pf_base::{Answer, ByteString, Config, Crossing, Groups, PAGE_SIZE, Reply, Step};
 use pf_frame::Frame;
@@ -152,7 +154,7 @@ trait Host {
 
 impl Host for Hub<Global> {
     fn step(&mut self, step: &Step) -> Answer {
-        if self.namespaces() == 0 {
+        if !self.lives(0) {
             return Answer::NoMemory;
         }
         Hub::step(self, 0, step)
@@ -165,7 +167,7 @@ impl Host for Hub<Global> {
 
 impl Host for Plain<Global> {
     fn step(&mut self, step: &Step) -> Answer {
-        if self.namespaces() == 0 {
+        if !self.lives(0) {
             return Answer::NoMemory;
         }
         Plain::step(self, 0, step)
@@ -213,26 +215,18 @@ impl Shape {
         Ok(configs)
     }
 
-    /// A hub of this shape, with two processes that share two pipes in namespace 0.
-    fn hub(self, alloc: Global) -> Result<Option<Hub<Global>>, AllocError> {
-        let Ok(mut hub) = Hub::new(alloc, self.frames(alloc)?, self.configs(alloc)?) else {
-            return Ok(None);
-        };
-        if !starts(alloc, &mut hub) {
-            return Ok(None);
-        }
-        Ok(Some(hub))
+    /// A hub of this shape.
+    fn hub(self, alloc: Global) -> Option<Hub<Global>> {
+        let frames = self.frames(alloc).ok()?;
+        let configs = self.configs(alloc).ok()?;
+        Hub::new(alloc, frames, configs).ok()
     }
 
     /// The plain form of it.
-    fn plain(self, alloc: Global) -> Result<Option<Plain<Global>>, AllocError> {
-        let Ok(mut plain) = Plain::new(alloc, self.frames(alloc)?, self.configs(alloc)?) else {
-            return Ok(None);
-        };
-        if !starts(alloc, &mut plain) {
-            return Ok(None);
-        }
-        Ok(Some(plain))
+    fn plain(self, alloc: Global) -> Option<Plain<Global>> {
+        let frames = self.frames(alloc).ok()?;
+        let configs = self.configs(alloc).ok()?;
+        Plain::new(alloc, frames, configs).ok()
     }
 }
 
@@ -367,8 +361,11 @@ fn play_size<H: Host>(alloc: Global, host: &mut H, size: usize) -> Result<bool, 
     )
 }
 
-/// Plays the fixed load, and says whether each answer was right.
-fn play_fixed<H: Host>(alloc: Global, host: &mut H) -> Result<bool, AllocError> {
+/// Starts, plays the fixed load, and says whether each answer was right.
+fn play_loads<H: Host>(alloc: Global, host: &mut H) -> Result<bool, AllocError> {
+    if !starts(alloc, host) {
+        return Ok(false);
+    }
     for size in SIZES {
         if !play_size(alloc, host, size)? {
             return Ok(false);
@@ -377,19 +374,36 @@ fn play_fixed<H: Host>(alloc: Global, host: &mut H) -> Result<bool, AllocError> 
     Ok(true)
 }
 
-/// The same through a hub and through its plain form.
-fn play_both(alloc: Global) -> Result<bool, AllocError> {
+// What owns a hub, its plain form, a worker or a service has one way out from then on: each drops it, which is dear to
+// prove.
+
+/// The fixed load through a hub.
+fn play_hub(alloc: Global, shape: Shape) -> Result<bool, AllocError> {
+    let Some(mut hub) = shape.hub(alloc) else {
+        return Ok(false);
+    };
+    play_loads(alloc, &mut hub)
+}
+
+/// The same through the plain form of it.
+fn play_plain(alloc: Global, shape: Shape) -> Result<bool, AllocError> {
+    let Some(mut plain) = shape.plain(alloc) else {
+        return Ok(false);
+    };
+    play_loads(alloc, &mut plain)
+}
+
+/// The same through a hub, through its plain form and through a worker.
+fn play_fixed<R: Wait>(rt: &R, alloc: Global) -> Result<bool, AllocError> {
     let shape = Shape {
         namespaces: 4,
         frames: 128,
     };
-    let Some(mut hub) = shape.hub(alloc)? else {
-        return Ok(false);
-    };
-    let Some(mut plain) = shape.plain(alloc)? else {
-        return Ok(false);
-    };
-    Ok(play_fixed(alloc, &mut hub)? && play_fixed(alloc, &mut plain)?)
+    Ok(
+        play_hub(alloc, shape)?
+            && play_plain(alloc, shape)?
+            && worked::play_fixed(rt, alloc, shape)?,
+    )
 }
 
 /// How many nanoseconds a pair takes, if each answer was right.
@@ -542,21 +556,23 @@ fn time_wait<H: Host>(
     Ok(Some((read.each(), resume.each())))
 }
 
-/// Times so many pairs of each size through both forms, in turn.
-fn time_pairs(
+/// Times so many pairs of each size through two hosts of these names, in turn.
+fn time_pairs<G: Host, H: Host>(
     rt: &HostRuntime,
-    hub: &mut Hub<Global>,
-    plain: &mut Plain<Global>,
+    name: &str,
+    host: &mut G,
+    beside: &str,
+    other: &mut H,
     pairs: u32,
 ) -> io::Result<bool> {
     for size in SIZES {
-        let Some(depot) = time_pair(rt, hub, size, pairs)? else {
+        let Some(time) = time_pair(rt, host, size, pairs)? else {
             return Ok(false);
         };
-        let Some(array) = time_pair(rt, plain, size, pairs)? else {
+        let Some(other_time) = time_pair(rt, other, size, pairs)? else {
             return Ok(false);
         };
-        println!(rt; "hub {size} bytes: {depot} ns a pair; over an array: {array}")?;
+        println!(rt; "{name} {size} bytes: {time} ns a pair; {beside}: {other_time}")?;
     }
     Ok(true)
 }
@@ -584,21 +600,58 @@ fn time_crossings<H: Host>(
     Ok(true)
 }
 
-/// Times so many pairs, tees, splices and waiting reads through both forms, and says whether each answer was right.
-fn time(rt: &HostRuntime, shape: Shape, pairs: u32) -> io::Result<bool> {
-    let Some(mut hub) = shape.hub(rt.alloc())? else {
+/// Times so many pairs through a hub and its plain form, and tees, splices and waiting reads through each.
+fn time_both(
+    rt: &HostRuntime,
+    hub: &mut Hub<Global>,
+    plain: &mut Plain<Global>,
+    pairs: u32,
+) -> io::Result<bool> {
+    Ok(
+        starts(rt.alloc(), plain)
+            && time_pairs(rt, "hub", hub, "over an array", plain, pairs)?
+            && time_crossings(rt, hub, "hub", pairs)?
+            && time_crossings(rt, plain, "over an array", pairs)?,
+    )
+}
+
+/// Times a hub that has started beside the plain form of its shape.
+fn time_with_plain(
+    rt: &HostRuntime,
+    shape: Shape,
+    hub: &mut Hub<Global>,
+    pairs: u32,
+) -> io::Result<bool> {
+    let Some(mut plain) = shape.plain(rt.alloc()) else {
         return Ok(false);
     };
-    let Some(mut plain) = shape.plain(rt.alloc())? else {
-        return Ok(false);
-    };
+    time_both(rt, hub, &mut plain, pairs)
+}
+
+/// Times a hub beside its plain form and a worker.
+fn time_hub<R: Wait>(
+    rt: &HostRuntime,
+    threads: &R,
+    shape: Shape,
+    hub: &mut Hub<Global>,
+    pairs: u32,
+) -> io::Result<bool> {
     let Shape { namespaces, frames } = shape;
     println!(rt; "{namespaces} namespaces, {frames} frames")?;
     Ok(
-        time_pairs(rt, &mut hub, &mut plain, pairs)?
-            && time_crossings(rt, &mut hub, "hub", pairs)?
-            && time_crossings(rt, &mut plain, "over an array", pairs)?,
+        starts(rt.alloc(), hub)
+            && time_with_plain(rt, shape, hub, pairs)?
+            && worked::time(rt, threads, shape, hub, pairs)?,
     )
+}
+
+/// Times so many pairs, tees, splices and waiting reads through both forms, and pairs through a worker, and says
+/// whether each answer was right.
+fn time<R: Wait>(rt: &HostRuntime, threads: &R, shape: Shape, pairs: u32) -> io::Result<bool> {
+    let Some(mut hub) = shape.hub(rt.alloc()) else {
+        return Ok(false);
+    };
+    time_hub(rt, threads, shape, &mut hub, pairs)
 }
 
 /// Plays what the command line asks for, and says whether each answer was right. `threads` is the same runtime, as what
@@ -607,11 +660,11 @@ fn run<R: Threads + Wait + Sync>(rt: &HostRuntime, threads: &R) -> io::Result<bo
     let mut words = env::args(rt)?;
     let _program = words.next();
     let Some(word) = words.next() else {
-        if !play_both(rt.alloc())? {
+        if !play_fixed(threads, rt.alloc())? {
             return Ok(false);
         }
         println!(rt;
-            "played 5000 pairs, 500 tees, 500 splices and 500 waiting reads through each form"
+            "played 5000 pairs, 500 tees, 500 splices and 500 waiting reads through each form and a worker"
         )?;
         if !served::play_fixed(threads, rt.alloc())? {
             return Ok(false);
@@ -631,7 +684,11 @@ fn run<R: Threads + Wait + Sync>(rt: &HostRuntime, threads: &R) -> io::Result<bo
         namespaces: 64,
         frames: 65_536,
     };
-    Ok(time(rt, few, pairs)? && time(rt, many, pairs)? && served::time(rt, threads, pairs)?)
+    Ok(
+        time(rt, threads, few, pairs)?
+            && time(rt, threads, many, pairs)?
+            && served::time(rt, threads, pairs)?,
+    )
 }
 
 fn main(rt: HostRuntime) -> io::Result<ExitCode> {

@@ -35,7 +35,7 @@ const MOST_PAIRS: u32 = 50_000;
 const MOST_PAGE_PAIRS: u32 = 5_000;
 
 /// A ledger with a part for each namespace that there may be.
-fn blank() -> Blank
+pub(crate) fn blank() -> Blank
     ensures { result.parts ≡ MAX_NAMESPACES }
 {
     Blank::new(MAX_NAMESPACES as u64)
@@ -132,6 +132,18 @@ fn play_at_once<C: Ledger + Send + Sync, H: Ledger + Send + Sync, R: Threads + W
     Some(seats)
 }
 
+/// Makes so many pairs with a seat at each namespace.
+fn played<C: Ledger + Send + Sync, H: Ledger + Send + Sync, R: Threads + Wait + Sync>(
+    rt: &R,
+    alloc: Global,
+    service: &Shared<C, H>,
+    pair: &Pair,
+    pairs: u32,
+) -> Option<Vec<Seat>> {
+    let seats = seats(rt, alloc, service)?;
+    play_at_once(rt, alloc, service, seats, pair, pairs)
+}
+
 /// Whether the callers are told what is right, so many pairs each, and all seats agree with all transcripts.
 fn plays<C: Ledger + Send + Sync, H: Ledger + Send + Sync, R: Threads + Wait + Sync>(
     rt: &R,
@@ -146,8 +158,7 @@ fn plays<C: Ledger + Send + Sync, H: Ledger + Send + Sync, R: Threads + Wait + S
     requires parts { (MAX_NAMESPACES ≤ credits.parts) × (MAX_NAMESPACES ≤ held.parts) }
 {
     let service = service::<C, H>(alloc, SHAPE, credits, held)?;
-    let seats = seats(rt, alloc, &service)?;
-    let seats = play_at_once(rt, alloc, &service, seats, pair, pairs)?;
+    let seats = played(rt, alloc, &service, pair, pairs)?;
     Some(service.close(seats).is_ok())
 }
 
@@ -161,7 +172,15 @@ pub(crate) fn play_fixed<R: Threads + Wait + Sync>(
     Ok(told == Some(true))
 }
 
-/// Times one caller's pairs, and gives the seat back with how many nanoseconds one takes, if each answer was right.
+/// How many nanoseconds a pair of one caller takes: in the fastest batch, and in the mean of all batches, in which the
+/// growth of what is kept counts too.
+#[derive(Clone, Copy)]
+struct Alone {
+    least: u128,
+    mean: u128,
+}
+
+/// Times one caller's pairs, and gives the seat back with how long one takes, if each answer was right.
 fn time_alone<R: Wait, C: Ledger, H: Ledger>(
     rt: &HostRuntime,
     threads: &R,
@@ -169,17 +188,78 @@ fn time_alone<R: Wait, C: Ledger, H: Ledger>(
     mut seat: Seat,
     pair: &Pair,
     pairs: u32,
-) -> io::Result<Option<(Seat, u128)>> {
+) -> io::Result<Option<(Seat, Alone)>> {
     let mut least = u128::MAX;
-    for _ in 0..(pairs / BATCH).max(1) {
+    let mut all: u128 = 0;
+    let batches = (pairs / BATCH).max(1);
+    for _ in 0..batches {
         let start = Instant::now(rt)?;
         let Some(back) = play(threads, service, seat, pair, BATCH) else {
             return Ok(None);
         };
         seat = back;
-        least = least.min(start.elapsed(rt)?.as_nanos());
+        let spent = start.elapsed(rt)?.as_nanos();
+        least = least.min(spent);
+        all = all.saturating_add(spent);
     }
-    Ok(Some((seat, least / u128::from(BATCH))))
+    let alone = Alone {
+        least: least / u128::from(BATCH),
+        mean: all / u128::from(BATCH) / u128::from(batches),
+    };
+    Ok(Some((seat, alone)))
+}
+
+/// How long a pair took, of one caller and of all at once, with the seats that made them.
+#[derive(Drop)]
+struct Timed {
+    seats: Vec<Seat>,
+    alone: Alone,
+    at_once: u128,
+}
+
+/// Times so many pairs of one caller alone, and of all at once, if each answer was right.
+fn time_seats<C: Ledger + Send + Sync, H: Ledger + Send + Sync, R: Threads + Wait + Sync>(
+    rt: &HostRuntime,
+    threads: &R,
+    service: &Shared<C, H>,
+    pair: &Pair,
+    pairs: u32,
+) -> io::Result<Option<Timed>> {
+    let alloc = rt.alloc();
+    let Some(mut seats) = seats(threads, alloc, service) else {
+        return Ok(None);
+    };
+    let Some(first) = seats.pop() else {
+        return Ok(None);
+    };
+    let Some((first, alone)) = time_alone(rt, threads, service, first, pair, pairs)? else {
+        return Ok(None);
+    };
+    seats.push(first)?;
+    let start = Instant::now(rt)?;
+    let Some(seats) = play_at_once(threads, alloc, service, seats, pair, pairs) else {
+        return Ok(None);
+    };
+    let at_once = start.elapsed(rt)?.as_nanos() / u128::from(pairs.max(1));
+    Ok(Some(Timed {
+        seats,
+        alone,
+        at_once,
+    }))
+}
+
+/// How many nanoseconds the comparison at the end takes for each of so many pairs, if all seats agree with all transcripts.
+fn time_close<C: Ledger, H: Ledger>(
+    rt: &HostRuntime,
+    service: Shared<C, H>,
+    seats: Vec<Seat>,
+    start: Instant,
+    pairs: u32,
+) -> io::Result<Option<u128>> {
+    if service.close(seats).is_err() {
+        return Ok(None);
+    }
+    Ok(Some(start.elapsed(rt)?.as_nanos() / u128::from(pairs.max(1))))
 }
 
 /// Times so many pairs of one size: of one caller alone, of all at once, and the comparison at the end.
@@ -195,32 +275,25 @@ fn time_size<C: Ledger + Send + Sync, H: Ledger + Send + Sync, R: Threads + Wait
     requires cut { (credits.parts ≡ C.parts) × (held.parts ≡ H.parts) }
     requires parts { (MAX_NAMESPACES ≤ credits.parts) × (MAX_NAMESPACES ≤ held.parts) }
 {
-    let alloc = rt.alloc();
-    let pair = Pair::new(alloc, size)?;
-    let Some(service) = service::<C, H>(alloc, SHAPE, credits, held) else {
+    let pair = Pair::new(rt.alloc(), size)?;
+    let Some(service) = service::<C, H>(rt.alloc(), SHAPE, credits, held) else {
         return Ok(false);
     };
-    let Some(mut seats) = seats(threads, alloc, &service) else {
+    let Some(
+        Timed {
+            seats,
+            alone,
+            at_once,
+        },
+    ) = time_seats(rt, threads, &service, &pair, pairs)?
+    else {
         return Ok(false);
     };
-    let Some(first) = seats.pop() else {
+    let Some(closed) = time_close(rt, service, seats, Instant::now(rt)?, pairs)? else {
         return Ok(false);
     };
-    let Some((first, alone)) = time_alone(rt, threads, &service, first, &pair, pairs)? else {
-        return Ok(false);
-    };
-    seats.push(first)?;
-    let start = Instant::now(rt)?;
-    let Some(seats) = play_at_once(threads, alloc, &service, seats, &pair, pairs) else {
-        return Ok(false);
-    };
-    let at_once = start.elapsed(rt)?.as_nanos() / u128::from(pairs.max(1));
-    let start = Instant::now(rt)?;
-    if service.close(seats).is_err() {
-        return Ok(false);
-    }
-    let closed = start.elapsed(rt)?.as_nanos() / u128::from(pairs.max(1));
-    println!(rt; "service {size} bytes: {alone} ns a pair of one caller")?;
+    let Alone { least, mean } = alone;
+    println!(rt; "service {size} bytes: {least} ns a pair of one caller; {mean} in the mean")?;
     println!(rt;
         "service {size} bytes: {at_once} ns for a pair of each of {CALLERS} callers at once"
     )?;
