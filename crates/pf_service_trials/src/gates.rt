@@ -4,9 +4,12 @@
 ghost use Rattle.std.specs.Prelude.{◌≡◌, ◌≤◌};
 ghost use Rattle.pf_base.specs.declared.TheConstants.{MAX_NAMESPACES};
 
-use crate::services::{BLUE, RED, blank, gated_service_of, make, steps_of_blue, steps_of_red};
+use crate::services::{
+    BLUE, Callers, Closed, RED, blank, closed, make, namespaces, serve, service_of, steps_of_blue,
+    steps_of_red,
+};
 use pf_base::Step;
-use pf_service::{CloseFault, Gate, Seat, Service, Transcripts};
+use pf_service::{Gate, Seat, Service};
 use std::alloc::Global;
 use std::marker::Brand;
 use std::process::Abort;
@@ -117,16 +120,34 @@ fn make_told<R: Wait, C: Ledger, H: Ledger>(
     Some(seat)
 }
 
-fn told_once<C: Ledger, H: Ledger, R: Wait + Abort>(
-    rt: &R,
-    alloc: Global,
-    credits: Blank,
-    held: Blank,
-) -> Result<(), Fail>
-    requires names { (credits.name ≡ C.name) × (held.name ≡ H.name) }
-    requires cut { (credits.parts ≡ C.parts) × (held.parts ≡ H.parts) }
-    requires parts { (MAX_NAMESPACES ≤ credits.parts) × (MAX_NAMESPACES ≤ held.parts) }
-{
+// Two tenants in turn, of whom the gate is told.
+#[derive(Drop)]
+struct ToldOnce<'a> {
+    red: &'a Told,
+    blue: &'a Told,
+}
+
+impl<'a> Callers<Recorder<'a>> for ToldOnce<'_> {
+    fn work<C: Ledger, H: Ledger, R: Wait + Abort>(
+        &self,
+        rt: &R,
+        alloc: Global,
+        service: &Service<Global, Recorder<'a>, C, H>,
+    ) -> Result<Vec<Seat>, Fail> {
+        let (ours, theirs) = (service.seat(rt, RED)?, service.seat(rt, BLUE)?);
+        let mut seats = Vec::with_capacity(alloc, 2)?;
+        let ours = make_told(rt, service, ours, &steps_of_red(alloc)?, self.red);
+        seats.push(ours.ok_or("told otherwise")?)?;
+        assert!(rt; self.blue.is(0));
+        let theirs = make_told(rt, service, theirs, &steps_of_blue(alloc)?, self.blue);
+        seats.push(theirs.ok_or("told otherwise")?)?;
+        assert!(rt; self.red.is(4) && self.blue.is(4));
+        Ok(seats)
+    }
+}
+
+#[test]
+fn a_gate_is_told_of_each_event_once(rt: HostRuntime) -> Result<(), Fail> {
     let (red, blue) = (Told::new(), Told::new());
     let (inside, coming) = (AtomicU64::new(0), AtomicU64::new(1));
     let gate = Recorder {
@@ -135,22 +156,13 @@ fn told_once<C: Ledger, H: Ledger, R: Wait + Abort>(
         held: &inside,
         coming: &coming,
     };
-    let service = gated_service_of::<_, C, H>(alloc, 2, gate, credits, held).ok_or("refused")?;
-    let (ours, theirs) = (service.seat(rt, RED)?, service.seat(rt, BLUE)?);
-    make_told(rt, &service, ours, &steps_of_red(alloc)?, &red).ok_or("told otherwise")?;
-    assert!(rt; blue.is(0));
-    make_told(rt, &service, theirs, &steps_of_blue(alloc)?, &blue).ok_or("told otherwise")?;
-    assert!(rt; red.is(4) && blue.is(4));
+    let callers = ToldOnce {
+        red: &red,
+        blue: &blue,
+    };
+    let transcripts = serve(&rt, rt.alloc(), namespaces(2), gate, &callers)??;
+    assert_eq!(rt; transcripts.as_slice().len(), 2);
     Ok(())
-}
-
-fn told_once_by_name<R: Wait + Abort>(rt: &R, alloc: Global) -> Result<(), Fail> {
-    told_once::<Brand, Brand, R>(rt, alloc, blank(), blank())
-}
-
-#[test]
-fn a_gate_is_told_of_each_event_once(rt: HostRuntime) -> Result<(), Fail> {
-    told_once_by_name(&rt, rt.alloc())
 }
 
 // The second caller of a namespace: it calls once the gate is told of the first one's event.
@@ -169,15 +181,34 @@ fn make_behind<R: Wait, C: Ledger, H: Ledger>(
     make(rt, service, seat, steps)
 }
 
-type Closed = Option<Result<Transcripts, CloseFault>>;
-
 // Two callers of one namespace, on a thread each, the second while the gate is told of the first one's event.
 fn one_after_the_other<C: Ledger + Send + Sync, H: Ledger + Send + Sync, R: Threads + Wait + Sync>(
     rt: &R,
     alloc: Global,
+    service: &Service<Global, Recorder<'_>, C, H>,
+    held: &AtomicU64,
+    coming: &AtomicU64,
+) -> Result<Vec<Seat>, Fail> {
+    let (first, second) = (service.seat(rt, RED)?, service.seat(rt, RED)?);
+    let owned = steps_of_blue(alloc)?;
+    let steps = owned.as_slice();
+    let (first, second) = join(
+        rt,
+        move || make(rt, service, first, steps),
+        move || make_behind(rt, service, second, steps, held, coming),
+    );
+    let mut seats = Vec::with_capacity(alloc, 2)?;
+    seats.push(first.ok_or("refused")?)?;
+    seats.push(second.ok_or("refused")?)?;
+    Ok(seats)
+}
+
+fn two_callers_named<C: Ledger + Send + Sync, H: Ledger + Send + Sync, R: Threads + Wait + Sync>(
+    rt: &R,
+    alloc: Global,
+    told: &Told,
     credits: Blank,
     held: Blank,
-    told: &Told,
 ) -> Closed
     requires names { (credits.name ≡ C.name) × (held.name ≡ H.name) }
     requires cut { (credits.parts ≡ C.parts) × (held.parts ≡ H.parts) }
@@ -191,34 +222,19 @@ fn one_after_the_other<C: Ledger + Send + Sync, H: Ledger + Send + Sync, R: Thre
         held: first_in,
         coming: second_comes,
     };
-    let service = gated_service_of::<_, C, H>(alloc, 1, gate, credits, held)?;
-    let shared = &service;
-    let (first, second) = (shared.seat(rt, RED).ok()?, shared.seat(rt, RED).ok()?);
-    let owned = steps_of_blue(alloc).ok()?;
-    let steps = owned.as_slice();
-    let (first, second) = join(
-        rt,
-        move || make(rt, shared, first, steps),
-        move || make_behind(rt, shared, second, steps, first_in, second_comes),
-    );
-    let mut seats = Vec::with_capacity(alloc, 2).ok()?;
-    seats.push(first?).ok()?;
-    seats.push(second?).ok()?;
-    Some(service.close(seats))
+    let service = service_of::<_, C, H>(alloc, namespaces(1), gate, credits, held)?;
+    let seats = one_after_the_other(rt, alloc, &service, first_in, second_comes);
+    closed(service, seats)
 }
 
-fn one_after_the_other_by_name<R: Threads + Wait + Sync>(
-    rt: &R,
-    alloc: Global,
-    told: &Told,
-) -> Closed {
-    one_after_the_other::<Brand, Brand, R>(rt, alloc, blank(), blank(), told)
+fn two_callers<R: Threads + Wait + Sync>(rt: &R, alloc: Global, told: &Told) -> Closed {
+    two_callers_named::<Brand, Brand, R>(rt, alloc, told, blank(), blank())
 }
 
 #[test]
 fn a_gate_is_told_while_the_lock_is_held(rt: HostRuntime) -> Result<(), Fail> {
     let told = Told::new();
-    let transcripts = one_after_the_other_by_name(&rt, rt.alloc(), &told).ok_or("refused")??;
+    let transcripts = two_callers(&rt, rt.alloc(), &told)??;
     let transcript = transcripts.as_slice().first().ok_or("none")?;
     assert_eq!(rt; transcript.entries().len(), 8);
     assert!(rt; told.is(8));

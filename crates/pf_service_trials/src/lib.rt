@@ -8,6 +8,8 @@ mod faults;
 #[cfg(test)]
 mod gates;
 #[cfg(test)]
+mod guests;
+#[cfg(test)]
 mod overlap;
 #[cfg(test)]
 mod services;

@@ -4,9 +4,11 @@
 ghost use Rattle.std.specs.Prelude.{◌≡◌, ◌≤◌};
 ghost use Rattle.pf_base.specs.declared.TheConstants.{MAX_NAMESPACES};
 
-use crate::services::{BLUE, RED, blank, gated_service_of, make, spawn, write};
+use crate::services::{
+    BLUE, Closed, RED, blank, closed, make, namespaces, service_of, spawn, write,
+};
 use pf_base::{ByteString, Reply, Step};
-use pf_service::{CloseFault, Gate, Seat, Service, Transcripts};
+use pf_service::{Gate, Seat, Service};
 use std::alloc::{AllocError, Global};
 use std::marker::Brand;
 use std::sync::Wait;
@@ -117,62 +119,73 @@ fn make_beside<R: Wait, C: Ledger, H: Ledger>(
     seat
 }
 
-type Closed = Option<Result<Transcripts, CloseFault>>;
-
 // Both namespaces write on a thread each, and then another thread reads what the first wrote.
 fn beside<C: Ledger + Send + Sync, H: Ledger + Send + Sync, R: Threads + Wait + Sync>(
     rt: &R,
     alloc: Global,
-    credits: Blank,
-    held: Blank,
+    service: &Service<Global, Holder<'_>, C, H>,
+    signals: &Signals,
+) -> Result<Vec<Seat>, Fail> {
+    let (ours, theirs) = (service.seat(rt, RED)?, service.seat(rt, BLUE)?);
+    let reader = service.seat(rt, RED)?;
+    let owned = writing(alloc)?;
+    let steps = owned.as_slice();
+    let (ours, theirs) = join(
+        rt,
+        move || make(rt, service, ours, steps),
+        move || make_beside(rt, service, theirs, steps, signals),
+    );
+    let mut read = Vec::with_capacity(alloc, 1)?;
+    read.push(Step::Read {
+        pid: 1,
+        fd: 0,
+        n: 9,
+    })?;
+    let last = read.as_slice();
+    let (reader, ()) = join(rt, move || make(rt, service, reader, last), || ());
+    let mut seats = Vec::with_capacity(alloc, 3)?;
+    seats.push(ours.ok_or("refused")?)?;
+    seats.push(theirs.ok_or("refused")?)?;
+    seats.push(reader.ok_or("refused")?)?;
+    Ok(seats)
+}
+
+fn both_beside_named<C: Ledger + Send + Sync, H: Ledger + Send + Sync, R: Threads + Wait + Sync>(
+    rt: &R,
+    alloc: Global,
     at: Held,
     signals: &Signals,
+    credits: Blank,
+    held: Blank,
 ) -> Closed
     requires names { (credits.name ≡ C.name) × (held.name ≡ H.name) }
     requires cut { (credits.parts ≡ C.parts) × (held.parts ≡ H.parts) }
     requires parts { (MAX_NAMESPACES ≤ credits.parts) × (MAX_NAMESPACES ≤ held.parts) }
 {
-    let gate = Holder { held: at, signals };
-    let service = gated_service_of::<_, C, H>(alloc, 2, gate, credits, held)?;
-    let shared = &service;
-    let (ours, theirs) = (shared.seat(rt, RED).ok()?, shared.seat(rt, BLUE).ok()?);
-    let reader = shared.seat(rt, RED).ok()?;
-    let owned = writing(alloc).ok()?;
-    let steps = owned.as_slice();
-    let (ours, theirs) = join(
-        rt,
-        move || make(rt, shared, ours, steps),
-        move || make_beside(rt, shared, theirs, steps, signals),
-    );
-    let mut read = Vec::with_capacity(alloc, 1).ok()?;
-    read.push(Step::Read {
-        pid: 1,
-        fd: 0,
-        n: 9,
-    })
-    .ok()?;
-    let last = read.as_slice();
-    let (reader, ()) = join(rt, move || make(rt, shared, reader, last), || ());
-    let mut seats = Vec::with_capacity(alloc, 3).ok()?;
-    seats.push(ours?).ok()?;
-    seats.push(theirs?).ok()?;
-    seats.push(reader?).ok()?;
-    Some(service.close(seats))
+    let service = service_of::<_, C, H>(
+        alloc,
+        namespaces(2),
+        Holder { held: at, signals },
+        credits,
+        held,
+    )?;
+    let seats = beside(rt, alloc, &service, signals);
+    closed(service, seats)
 }
 
-fn beside_by_name<R: Threads + Wait + Sync>(
+fn both_beside<R: Threads + Wait + Sync>(
     rt: &R,
     alloc: Global,
     at: Held,
     signals: &Signals,
 ) -> Closed {
-    beside::<Brand, Brand, R>(rt, alloc, blank(), blank(), at, signals)
+    both_beside_named::<Brand, Brand, R>(rt, alloc, at, signals, blank(), blank())
 }
 
 // Whether the two went on beside each other, and what the first wrote was read.
-fn is_beside<R: Threads + Wait + Sync>(rt: &R, alloc: Global, at: Held) -> Result<bool, Fail> {
+fn is_beside<R: Threads + Wait + Sync>(rt: &R, alloc: Global, held: Held) -> Result<bool, Fail> {
     let signals = Signals::new();
-    let transcripts = beside_by_name(rt, alloc, at, &signals).ok_or("refused")??;
+    let transcripts = both_beside(rt, alloc, held, &signals)??;
     let each = transcripts.as_slice();
     let red = each.first().ok_or("none")?.entries();
     let last = red.last().ok_or("none")?;

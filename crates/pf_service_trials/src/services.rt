@@ -5,8 +5,9 @@ ghost use Rattle.pf_base.specs.declared.TheConstants.{MAX_NAMESPACES};
 
 use pf_base::{ByteString, Config, Groups, MAX_NAMESPACES, Reply, Step};
 use pf_frame::Frame;
-use pf_service::{Gate, NoGate, Seat, Service, Transcript, Transcripts};
+use pf_service::{CloseFault, Gate, NoGate, Seat, Service, Transcript, Transcripts};
 use std::alloc::{AllocError, Global};
+use std::marker::Brand;
 use std::process::Abort;
 use std::sync::Wait;
 use std::sync::ledger::{Blank, Ledger};
@@ -36,47 +37,189 @@ fn old_frames(alloc: Global, count: usize) -> Result<Vec<Frame>, AllocError> {
     Ok(frames)
 }
 
-// A service of so many namespaces, with 16 frames for each.
-pub(crate) fn service_of<C: Ledger, H: Ledger>(
+// What callers on one thread do at a service, which they are lent.
+pub(crate) trait Callers<G: Gate> {
+    // What they do, and the seats that the service is closed with.
+    fn work<C: Ledger, H: Ledger, R: Wait + Abort>(
+        &self,
+        rt: &R,
+        alloc: Global,
+        service: &Service<Global, G, C, H>,
+    ) -> Result<Vec<Seat>, Fail>;
+}
+
+// How a service was closed, or why its callers gave up before.
+pub(crate) type Closed = Result<Result<Transcripts, CloseFault>, Fail>;
+
+// How large a service is: how many namespaces it begins with, of 16 frames each, and how many frames nobody has reserved.
+#[derive(Clone, Copy)]
+pub(crate) struct Size {
+    pub(crate) namespaces: usize,
+    pub(crate) slack: usize,
+}
+
+// So many namespaces, and no frame besides.
+pub(crate) fn namespaces(namespaces: usize) -> Size
+    ensures { result ≡ record { namespaces = namespaces; slack = 0 } }
+{
+    Size {
+        namespaces,
+        slack: 0,
+    }
+}
+
+// Opens a service, which the callers are lent, and closes it with the seats that they leave.
+pub(crate) fn serve<G: Gate + Drop, V: Callers<G>, R: Wait + Abort>(
+    rt: &R,
     alloc: Global,
-    namespaces: usize,
+    size: Size,
+    gate: G,
+    callers: &V,
+) -> Closed
+    requires few { (size.namespaces < 65) × (size.slack < 65) }
+{
+    serve_named::<Brand, Brand, G, V, R>(rt, alloc, size, gate, callers, blank(), blank())
+}
+
+fn serve_named<C: Ledger, H: Ledger, G: Gate + Drop, V: Callers<G>, R: Wait + Abort>(
+    rt: &R,
+    alloc: Global,
+    size: Size,
+    gate: G,
+    callers: &V,
     credits: Blank,
     held: Blank,
-) -> Option<Plain<C, H>>
-    requires few { namespaces < 65 }
+) -> Closed
+    requires few { (size.namespaces < 65) × (size.slack < 65) }
     requires names { (credits.name ≡ C.name) × (held.name ≡ H.name) }
     requires cut { (credits.parts ≡ C.parts) × (held.parts ≡ H.parts) }
     requires parts { (MAX_NAMESPACES ≤ credits.parts) × (MAX_NAMESPACES ≤ held.parts) }
 {
-    gated_service_of(alloc, namespaces, NoGate, credits, held)
+    let service = service_of::<G, C, H>(alloc, size, gate, credits, held)?;
+    let seats = callers.work(rt, alloc, &service);
+    closed(service, seats)
 }
 
-// The same, with a gate.
-pub(crate) fn gated_service_of<G: Gate + Drop, C: Ledger, H: Ledger>(
+// Closes a service with the seats that its callers leave, and drops it where they gave up.
+//
+// Whoever has a service and may end with it open must show how all of it is dropped, at each such end. That takes longer to
+// check than what any test says, so this function alone does, and those who have a service hand it on.
+pub(crate) fn closed<G: Gate + Drop, C: Ledger, H: Ledger>(
+    service: Service<Global, G, C, H>,
+    seats: Result<Vec<Seat>, Fail>,
+) -> Closed {
+    match seats {
+        Ok(seats) => Ok(service.close(seats)),
+        Err(fail) => Err(fail),
+    }
+}
+
+// What callers do at two services, which they are lent.
+pub(crate) trait CallersOfTwo {
+    // What they do, and the seats that the first service is closed with.
+    fn work<C: Ledger, H: Ledger, D: Ledger, L: Ledger, R: Wait + Abort>(
+        &self,
+        rt: &R,
+        alloc: Global,
+        first: &Plain<C, H>,
+        second: &Plain<D, L>,
+    ) -> Result<Vec<Seat>, Fail>;
+}
+
+// Opens two services, which the callers are lent, and closes the first with the seats that they leave.
+pub(crate) fn serve_two<V: CallersOfTwo, R: Wait + Abort>(
+    rt: &R,
     alloc: Global,
-    namespaces: usize,
+    first: Size,
+    second: Size,
+    callers: &V,
+) -> Closed
+    requires first { (first.namespaces < 65) × (first.slack < 65) }
+    requires second { (second.namespaces < 65) × (second.slack < 65) }
+{
+    serve_two_named::<Brand, Brand, Brand, Brand, V, R>(
+        rt,
+        alloc,
+        first,
+        second,
+        callers,
+        blank(),
+        blank(),
+        blank(),
+        blank(),
+    )
+}
+
+fn serve_two_named<C: Ledger, H: Ledger, D: Ledger, L: Ledger, V: CallersOfTwo, R: Wait + Abort>(
+    rt: &R,
+    alloc: Global,
+    first: Size,
+    second: Size,
+    callers: &V,
+    credits: Blank,
+    held: Blank,
+    spare: Blank,
+    lent: Blank,
+) -> Closed
+    requires first { (first.namespaces < 65) × (first.slack < 65) }
+    requires second { (second.namespaces < 65) × (second.slack < 65) }
+    requires names { (credits.name ≡ C.name) × (held.name ≡ H.name) }
+    requires cut { (credits.parts ≡ C.parts) × (held.parts ≡ H.parts) }
+    requires parts { (MAX_NAMESPACES ≤ credits.parts) × (MAX_NAMESPACES ≤ held.parts) }
+    requires theirs { (spare.name ≡ D.name) × (lent.name ≡ L.name) }
+    requires their_cut { (spare.parts ≡ D.parts) × (lent.parts ≡ L.parts) }
+    requires their_parts { (MAX_NAMESPACES ≤ spare.parts) × (MAX_NAMESPACES ≤ lent.parts) }
+{
+    let service = service_of::<NoGate, C, H>(alloc, first, NoGate, credits, held)?;
+    let other = match service_of::<NoGate, D, L>(alloc, second, NoGate, spare, lent) {
+        Ok(other) => other,
+        Err(fail) => return closed(service, Err(fail)),
+    };
+    let seats = callers.work(rt, alloc, &service, &other);
+    drop(other.close(Vec::new(alloc)));
+    closed(service, seats)
+}
+
+// A service of this size.
+pub(crate) fn service_of<G: Gate + Drop, C: Ledger, H: Ledger>(
+    alloc: Global,
+    size: Size,
     gate: G,
     credits: Blank,
     held: Blank,
-) -> Option<Service<Global, G, C, H>>
-    requires few { namespaces < 65 }
+) -> Result<Service<Global, G, C, H>, Fail>
+    requires few { (size.namespaces < 65) × (size.slack < 65) }
     requires names { (credits.name ≡ C.name) × (held.name ≡ H.name) }
     requires cut { (credits.parts ≡ C.parts) × (held.parts ≡ H.parts) }
     requires parts { (MAX_NAMESPACES ≤ credits.parts) × (MAX_NAMESPACES ≤ held.parts) }
 {
-    let config = Config::new(
-        16,
+    let frames = old_frames(alloc, 16 * size.namespaces + size.slack)?;
+    let configs = configs_of(alloc, size.namespaces).ok_or("limits")?;
+    match Service::new(alloc, frames, configs, gate, credits, held) {
+        Ok(service) => Ok(service),
+        Err(fault) => Err(Fail::from(fault)),
+    }
+}
+
+// Limits with this reservation.
+pub(crate) fn config_of(reserve: u32) -> Option<Config> {
+    Config::new(
+        reserve,
         Config::DEFAULT_SOFT,
         Config::DEFAULT_HARD,
         Config::DEFAULT_MAX,
     )
-    .ok()?;
+    .ok()
+}
+
+// So many limits with 16 frames each.
+fn configs_of(alloc: Global, namespaces: usize) -> Option<Vec<(Config, Global)>> {
+    let config = config_of(16)?;
     let mut configs = Vec::with_capacity(alloc, namespaces).ok()?;
     for _ in 0..namespaces {
         configs.push((config, alloc)).ok()?;
     }
-    let frames = old_frames(alloc, 16 * namespaces).ok()?;
-    Service::new(alloc, frames, configs, gate, credits, held).ok()
+    Some(configs)
 }
 
 pub(crate) fn spawn(alloc: Global) -> Step {
@@ -162,7 +305,7 @@ pub(crate) fn repeat<R: Wait, C: Ledger, H: Ledger>(
     Some(seat)
 }
 
-fn replies_are<R: Abort>(rt: &R, transcript: &Transcript, replies: &[Reply]) {
+pub(crate) fn replies_are<R: Abort>(rt: &R, transcript: &Transcript, replies: &[Reply]) {
     let entries = transcript.entries();
     assert_eq!(rt; entries.len(), replies.len());
     for (entry, reply) in entries.iter().zip(replies) {

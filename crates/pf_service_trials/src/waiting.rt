@@ -3,9 +3,9 @@
 ghost use Rattle.std.specs.Prelude.{◌≡◌, ◌≤◌};
 ghost use Rattle.pf_base.specs.declared.TheConstants.{MAX_NAMESPACES};
 
-use crate::services::{RED, blank, gated_service_of, make, spawn, write_by};
+use crate::services::{Closed, RED, blank, closed, make, namespaces, service_of, spawn, write_by};
 use pf_base::{ByteString, Reply, Step};
-use pf_service::{CloseFault, Gate, Receipt, Seat, Service, ServiceFault, Transcripts};
+use pf_service::{Gate, Receipt, Seat, Service, ServiceFault};
 use std::alloc::{AllocError, Global};
 use std::marker::Brand;
 use std::sync::Wait;
@@ -162,52 +162,51 @@ fn writer<R: Wait, C: Ledger, H: Ledger>(
     Some(seat)
 }
 
-type Closed = Option<Result<Transcripts, CloseFault>>;
-
 // A process waits for five bytes, and another writes them on a thread of its own.
 fn across_a_pipe<C: Ledger + Send + Sync, H: Ledger + Send + Sync, R: Threads + Wait + Sync>(
     rt: &R,
     alloc: Global,
-    credits: Blank,
-    held: Blank,
+    service: &Service<Global, Counter<'_>, C, H>,
     count: &Count,
-) -> Closed
+) -> Result<Vec<Seat>, Fail> {
+    let first = make(rt, service, service.seat(rt, RED)?, &opening(alloc, 1)?);
+    let (ours, theirs) = (service.seat(rt, RED)?, service.seat(rt, RED)?);
+    let owned = writing(alloc, 2, 5)?;
+    let steps = owned.as_slice();
+    let (ours, theirs) = join(
+        rt,
+        move || reader(rt, alloc, service, ours, 1, 5),
+        move || writer(rt, service, theirs, steps, 4, count),
+    );
+    let mut seats = Vec::with_capacity(alloc, 3)?;
+    seats.push(first.ok_or("refused")?)?;
+    seats.push(ours.ok_or("told otherwise")?)?;
+    seats.push(theirs.ok_or("refused")?)?;
+    Ok(seats)
+}
+
+fn pipe_between_two_named<
+    C: Ledger + Send + Sync,
+    H: Ledger + Send + Sync,
+    R: Threads + Wait + Sync,
+>(rt: &R, alloc: Global, count: &Count, credits: Blank, held: Blank) -> Closed
     requires names { (credits.name ≡ C.name) × (held.name ≡ H.name) }
     requires cut { (credits.parts ≡ C.parts) × (held.parts ≡ H.parts) }
     requires parts { (MAX_NAMESPACES ≤ credits.parts) × (MAX_NAMESPACES ≤ held.parts) }
 {
-    let gate = Counter { count };
-    let service = gated_service_of::<_, C, H>(alloc, 1, gate, credits, held)?;
-    let shared = &service;
-    let first = make(
-        rt,
-        shared,
-        shared.seat(rt, RED).ok()?,
-        &opening(alloc, 1).ok()?,
-    )?;
-    let (ours, theirs) = (shared.seat(rt, RED).ok()?, shared.seat(rt, RED).ok()?);
-    let owned = writing(alloc, 2, 5).ok()?;
-    let steps = owned.as_slice();
-    let (ours, theirs) = join(
-        rt,
-        move || reader(rt, alloc, shared, ours, 1, 5),
-        move || writer(rt, shared, theirs, steps, 4, count),
-    );
-    let mut seats = Vec::with_capacity(alloc, 3).ok()?;
-    seats.push(first).ok()?;
-    seats.push(ours?).ok()?;
-    seats.push(theirs?).ok()?;
-    Some(service.close(seats))
+    let service = service_of::<_, C, H>(alloc, namespaces(1), Counter { count }, credits, held)?;
+    let seats = across_a_pipe(rt, alloc, &service, count);
+    closed(service, seats)
 }
 
-fn across_a_pipe_by_name<R: Threads + Wait + Sync>(rt: &R, alloc: Global, count: &Count) -> Closed {
-    across_a_pipe::<Brand, Brand, R>(rt, alloc, blank(), blank(), count)
+fn pipe_between_two<R: Threads + Wait + Sync>(rt: &R, alloc: Global, count: &Count) -> Closed {
+    pipe_between_two_named::<Brand, Brand, R>(rt, alloc, count, blank(), blank())
 }
 
 #[test]
 fn a_reader_waits_for_what_another_thread_writes(rt: HostRuntime) -> Result<(), Fail> {
     let count = Count::new();
-    across_a_pipe_by_name(&rt, rt.alloc(), &count).ok_or("told otherwise")??;
+    pipe_between_two(&rt, rt.alloc(), &count)??;
     Ok(())
 }
 
@@ -215,48 +214,49 @@ fn a_reader_waits_for_what_another_thread_writes(rt: HostRuntime) -> Result<(), 
 fn two_readers<C: Ledger + Send + Sync, H: Ledger + Send + Sync, R: Threads + Wait + Sync>(
     rt: &R,
     alloc: Global,
-    credits: Blank,
-    held: Blank,
+    service: &Service<Global, Counter<'_>, C, H>,
     count: &Count,
-) -> Closed
+) -> Result<Vec<Seat>, Fail> {
+    let first = make(rt, service, service.seat(rt, RED)?, &opening(alloc, 2)?);
+    let (ours, theirs) = (service.seat(rt, RED)?, service.seat(rt, RED)?);
+    let third = service.seat(rt, RED)?;
+    let owned = writing(alloc, 3, 2)?;
+    let steps = owned.as_slice();
+    let (ours, (theirs, third)) = join(
+        rt,
+        move || reader(rt, alloc, service, ours, 1, 1),
+        move || {
+            join(
+                rt,
+                move || reader(rt, alloc, service, theirs, 2, 1),
+                move || writer(rt, service, third, steps, 6, count),
+            )
+        },
+    );
+    let mut seats = Vec::with_capacity(alloc, 4)?;
+    seats.push(first.ok_or("refused")?)?;
+    seats.push(ours.ok_or("told otherwise")?)?;
+    seats.push(theirs.ok_or("told otherwise")?)?;
+    seats.push(third.ok_or("refused")?)?;
+    Ok(seats)
+}
+
+fn pipe_among_three_named<
+    C: Ledger + Send + Sync,
+    H: Ledger + Send + Sync,
+    R: Threads + Wait + Sync,
+>(rt: &R, alloc: Global, count: &Count, credits: Blank, held: Blank) -> Closed
     requires names { (credits.name ≡ C.name) × (held.name ≡ H.name) }
     requires cut { (credits.parts ≡ C.parts) × (held.parts ≡ H.parts) }
     requires parts { (MAX_NAMESPACES ≤ credits.parts) × (MAX_NAMESPACES ≤ held.parts) }
 {
-    let gate = Counter { count };
-    let service = gated_service_of::<_, C, H>(alloc, 1, gate, credits, held)?;
-    let shared = &service;
-    let first = make(
-        rt,
-        shared,
-        shared.seat(rt, RED).ok()?,
-        &opening(alloc, 2).ok()?,
-    )?;
-    let (ours, theirs) = (shared.seat(rt, RED).ok()?, shared.seat(rt, RED).ok()?);
-    let third = shared.seat(rt, RED).ok()?;
-    let owned = writing(alloc, 3, 2).ok()?;
-    let steps = owned.as_slice();
-    let (ours, (theirs, third)) = join(
-        rt,
-        move || reader(rt, alloc, shared, ours, 1, 1),
-        move || {
-            join(
-                rt,
-                move || reader(rt, alloc, shared, theirs, 2, 1),
-                move || writer(rt, shared, third, steps, 6, count),
-            )
-        },
-    );
-    let mut seats = Vec::with_capacity(alloc, 4).ok()?;
-    seats.push(first).ok()?;
-    seats.push(ours?).ok()?;
-    seats.push(theirs?).ok()?;
-    seats.push(third?).ok()?;
-    Some(service.close(seats))
+    let service = service_of::<_, C, H>(alloc, namespaces(1), Counter { count }, credits, held)?;
+    let seats = two_readers(rt, alloc, &service, count);
+    closed(service, seats)
 }
 
-fn two_readers_by_name<R: Threads + Wait + Sync>(rt: &R, alloc: Global, count: &Count) -> Closed {
-    two_readers::<Brand, Brand, R>(rt, alloc, blank(), blank(), count)
+fn pipe_among_three<R: Threads + Wait + Sync>(rt: &R, alloc: Global, count: &Count) -> Closed {
+    pipe_among_three_named::<Brand, Brand, R>(rt, alloc, count, blank(), blank())
 }
 
 // Of the events the two waiting reads, the write and the two bytes told may wake a waiter: so each reader is resumed at
@@ -264,7 +264,7 @@ fn two_readers_by_name<R: Threads + Wait + Sync>(rt: &R, alloc: Global, count: &
 #[test]
 fn two_readers_wait_for_a_byte_each(rt: HostRuntime) -> Result<(), Fail> {
     let count = Count::new();
-    let transcripts = two_readers_by_name(&rt, rt.alloc(), &count).ok_or("told otherwise")??;
+    let transcripts = pipe_among_three(&rt, rt.alloc(), &count)??;
     let transcript = transcripts.as_slice().first().ok_or("none")?;
     assert!(rt; transcript.entries().len() <= 4 + 2 + 1 + 10);
     Ok(())

@@ -1,0 +1,7 @@
+use Rattle.pf_service_trials.proofs.gates.two_callers.Given as goal
+
+abbrev pub ghosts-two_callers_named-C-Ledger : goal.ghosts-two_callers_named-C-Ledger
+ghosts-two_callers_named-C-Ledger g a = record { name = a.credits.name; parts = a.credits.parts }
+
+abbrev pub ghosts-two_callers_named-H-Ledger : goal.ghosts-two_callers_named-H-Ledger
+ghosts-two_callers_named-H-Ledger g a = record { name = a.held.name; parts = a.held.parts }

@@ -1,7 +1,0 @@
-use Rattle.pf_service_trials.proofs.tenants.both_told_again_by_name.Given as goal
-
-abbrev pub ghosts-both_told_again-C-Ledger : goal.ghosts-both_told_again-C-Ledger
-ghosts-both_told_again-C-Ledger g a = record { name = a.credits.name; parts = a.credits.parts }
-
-abbrev pub ghosts-both_told_again-H-Ledger : goal.ghosts-both_told_again-H-Ledger
-ghosts-both_told_again-H-Ledger g a = record { name = a.held.name; parts = a.held.parts }
