@@ -1,0 +1,10 @@
+pub mod Codes
+pub mod Coming
+pub mod Files
+pub mod Handle
+pub mod Kept
+pub mod Lent
+pub mod Opened
+pub mod Queries
+pub mod Rows
+pub mod Told

@@ -1,0 +1,136 @@
+//! Steps on pipes.
+ghost use Rattle.std.specs.Prelude.{◌≡◌, true, length};
+ghost use Rattle.pf_base.specs.declared.step.Step.TheVariants as steps;
+ghost use Rattle.pf_c.specs.Handle.{hub_of};
+ghost use Rattle.pf_c.specs.Told.{Told, Filled, Paired, fds_of, fits_in_place};
+
+use crate::handle::SagHub;
+use crate::told::{answer_of, code_of, copied, fill, told, told_wanted};
+use pf_base::{Answer, Reply, Step};
+use std::alloc::Global;
+
+// The descriptors of an answer, the one for reading first.
+fn fds_of(answer: &Option<Answer>) -> Option<(u32, u32)>
+    ensures { result ≡ fds_of answer.now }
+{
+    match answer {
+        Some(Answer::Done(Reply::Fds(reading, writing))) => Some((*reading, *writing)),
+        _ => None,
+    }
+}
+
+/// pipe2(2).
+#[unsafe(no_mangle)]
+pub extern "C" fn sag_pipe(
+    h: &mut SagHub,
+    ns: u32,
+    pid: u32,
+    nonblock: bool,
+    fds: &mut [u32; 2],
+) -> i64
+    ensures { Paired (hub_of h.old) (hub_of h.new) ns (steps.Pipe pid nonblock) result fds.old fds.new }
+{
+    let answer = answer_of(h, ns, &Step::Pipe { pid, nonblock });
+    if let Some((reading, writing)) = fds_of(&answer) {
+        *fds = [reading, writing];
+    }
+    code_of(&answer)
+}
+
+/// read(2).
+#[unsafe(no_mangle)]
+pub extern "C" fn sag_read(h: &mut SagHub, ns: u32, pid: u32, fd: u32, into: &mut [u8]) -> i64
+    ensures { Filled (hub_of h.old) (hub_of h.new) ns (steps.Read pid fd (length into.old)) true result
+        into.old into.new }
+{
+    let n = into.len() as u64;
+    let answer = answer_of(h, ns, &Step::Read { pid, fd, n });
+    fill(into, &answer);
+    code_of(&answer)
+}
+
+/// write(2).
+#[unsafe(no_mangle)]
+pub extern "C" fn sag_write(
+    alloc: Global,
+    h: &mut SagHub,
+    ns: u32,
+    pid: u32,
+    fd: u32,
+    bytes: &[u8],
+) -> i64
+    ensures { Told (hub_of h.old) (hub_of h.new) ns (steps.Write pid fd bytes.now) (fits_in_place bytes.now) result }
+{
+    let Some(payload) = copied(alloc, bytes) else {
+        return told_wanted(h, ns);
+    };
+    told(h, ns, &Step::Write { pid, fd, payload })
+}
+
+/// tee(2).
+#[unsafe(no_mangle)]
+pub extern "C" fn sag_tee(
+    h: &mut SagHub,
+    ns: u32,
+    pid: u32,
+    source: u32,
+    sink: u32,
+    n: u64,
+    nonblock: bool,
+) -> i64
+    ensures { Told (hub_of h.old) (hub_of h.new) ns (steps.Tee pid source sink n nonblock) true result }
+{
+    told(
+        h,
+        ns,
+        &Step::Tee {
+            pid,
+            source,
+            sink,
+            n,
+            nonblock,
+        },
+    )
+}
+
+/// splice(2), from one pipe to another.
+#[unsafe(no_mangle)]
+pub extern "C" fn sag_splice(
+    h: &mut SagHub,
+    ns: u32,
+    pid: u32,
+    source: u32,
+    sink: u32,
+    n: u64,
+    nonblock: bool,
+) -> i64
+    ensures { Told (hub_of h.old) (hub_of h.new) ns (steps.Splice pid source sink n nonblock) true result }
+{
+    told(
+        h,
+        ns,
+        &Step::Splice {
+            pid,
+            source,
+            sink,
+            n,
+            nonblock,
+        },
+    )
+}
+
+/// fcntl(2), F_SETPIPE_SZ.
+#[unsafe(no_mangle)]
+pub extern "C" fn sag_set_pipe_size(h: &mut SagHub, ns: u32, pid: u32, fd: u32, bytes: u64) -> i64
+    ensures { Told (hub_of h.old) (hub_of h.new) ns (steps.SetSize pid fd bytes) true result }
+{
+    told(h, ns, &Step::SetSize { pid, fd, bytes })
+}
+
+/// fcntl(2), F_GETPIPE_SZ.
+#[unsafe(no_mangle)]
+pub extern "C" fn sag_pipe_size(h: &mut SagHub, ns: u32, pid: u32, fd: u32) -> i64
+    ensures { Told (hub_of h.old) (hub_of h.new) ns (steps.GetSize pid fd) true result }
+{
+    told(h, ns, &Step::GetSize { pid, fd })
+}

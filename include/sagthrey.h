@@ -1,0 +1,178 @@
+/* Sagthrey for C and C++: many tenants in one process, each a namespace with processes, descriptors, pipes and files
+ * of its own, over one pool of pages.
+ *
+ * A call makes one step of one namespace: what its process `pid` would be told by the system call that the function
+ * follows. Its manual page stands beside each function; docs/SPECIFICATION.md has the profile. `ns` is the number of
+ * a namespace, and descriptors are of the process, from 0.
+ *
+ * Results. A call tells 0 or more as the system call does; a system call's error as -errno, with Linux's numbers
+ * (-EBADF is -9); or one of three codes, which are no error's:
+ *   SAG_PARKED       the call waits. No call blocks the thread: the process waits in it, and sag_resume tries it again
+ *   SAG_NOMEM        memory of the heap was wanted. Nothing has changed, and the call can be made again
+ *   SAG_NONAMESPACE  there is no such namespace. Nothing has changed. A shut handle has none
+ * Each call but sag_exit and sag_resume is refused with -ESRCH where no process of this pid lives, and then with
+ * -EBUSY where it waits in a call; those two with -ESRCH alone. The errors beside each function come after these.
+ *
+ * What the host owes. A sag_hub is SAG_SHUT or was opened by sag_open; its fields are neither read nor written; only
+ * one copy of it is used; and no two calls of one hub overlap, so threads take turns by a lock, or the hub stays on
+ * one thread. A buffer is as long as its count says, is no part of the hub, and is nobody else's during the call. A
+ * pointer is never NULL, not even where its count is 0. */
+#ifndef SAGTHREY_H
+#define SAGTHREY_H
+
+#include <stdbool.h>
+#include <stddef.h>
+#include <stdint.h>
+
+#ifdef __cplusplus
+extern "C" {
+#endif
+
+enum { SAG_PARKED = -1000, SAG_NOMEM = -1001, SAG_NONAMESPACE = -1002 };
+
+/* A handle: a hub, or none where it is shut. */
+typedef struct sag_hub {
+    void *at;
+    bool is_open;
+} sag_hub;
+#define SAG_SHUT { NULL, false }
+
+/* A namespace's limits. In pages of 4,096 bytes: `reserve`, the frames that are kept for it, at most 65,536; and
+ * pipe-user-pages-soft and pipe-user-pages-hard (pipe(7)), 0 is no limit. In bytes: pipe-max-size, a power of two from
+ * 65,536 to 268,435,456. */
+typedef struct sag_limits {
+    uint32_t reserve, soft, hard, max;
+} sag_limits;
+#define SAG_DEFAULT_SOFT 16384u
+#define SAG_DEFAULT_HARD 0u
+#define SAG_DEFAULT_MAX 1048576u
+
+/* What is known of a file (stat(2), inode(7)): the type, S_IFIFO or S_IFDIR, and the mode in one number, as st_mode has
+ * them; the owner; the group. */
+typedef struct sag_meta {
+    uint32_t mode, uid, gid;
+} sag_meta;
+
+/* How sag_open_path opens a FIFO: for reading, for writing, or both; and with O_NONBLOCK. Not the numbers of
+ * <fcntl.h>. */
+enum { SAG_READ = 1, SAG_WRITE = 2, SAG_NONBLOCK = 4 };
+
+/* Hubs */
+
+/* Opens a hub of `frames` pages, at most 65,536, with a namespace of each of `count` limits, at most 64: their
+ * numbers are their places, from 0. 0; or -EBUSY where *out is open, -EINVAL where there are more of either, a limit
+ * is out of its range, or the reservations are more than the frames, and else SAG_NOMEM. Where it isn't 0, *out is as
+ * it was. */
+int64_t sag_open(uint32_t frames, const sag_limits *limits, size_t count, sag_hub *out);
+
+/* Frees a hub and all that its namespaces hold, and shuts the handle. A shut one stays as it is. */
+void sag_free(sag_hub *h);
+
+/* Admits a namespace of these limits, and tells its number: the least that was never given. Else -EINVAL for a limit
+ * out of its range, -ENOSPC where 64 live or 1,024 were given a number, -ENOMEM where `reserve` is above the frames
+ * that nobody has reserved, SAG_NOMEM. */
+int64_t sag_admit(sag_hub *h, const sag_limits *limits);
+
+/* Retires a namespace that has no process: what it reserved is free for others, and its number isn't given again. 0; or
+ * -EBUSY where it has a process. */
+int64_t sag_retire(sag_hub *h, uint32_t ns);
+
+/* Whether a namespace of this number lives: it was opened with the hub or admitted, and isn't retired. */
+bool sag_lives(sag_hub *h, uint32_t ns);
+
+/* How many frames a namespace holds: never more than it has reserved. Or SAG_NONAMESPACE. */
+int64_t sag_held(sag_hub *h, uint32_t ns);
+
+/* How many frames nobody holds; 0 of a shut handle. */
+uint32_t sag_free_frames(sag_hub *h);
+
+/* Processes */
+
+/* A new process with these ids and no descriptor: its pid, the least free one from 1 to 256. -EINVAL for a umask
+ * above 0777 or more than 32 groups, -EAGAIN where there are 256. (fork(2), credentials(7)) */
+int64_t sag_spawn(sag_hub *h, uint32_t ns, uint32_t uid, uint32_t gid, const uint32_t *groups, size_t count,
+                  uint32_t umask);
+
+/* A new process with the same ids and descriptors: its pid. (fork(2)) */
+int64_t sag_fork(sag_hub *h, uint32_t ns, uint32_t pid);
+
+/* The process ends, also one that waits, and its descriptors are closed. 0. (exit(2)) */
+int64_t sag_exit(sag_hub *h, uint32_t ns, uint32_t pid);
+
+/* Tries the call again in which the process waits, and tells what that call tells: SAG_PARKED where it still waits.
+ * -EINVAL where the process waits in none. The bytes that a read hands out go into the buffer, as many as it has room
+ * for, and what is beyond is lost: give it the buffer of the read that waits, and any other where the call is no
+ * read. A result above `count` says that bytes were lost. This profile's own. */
+int64_t sag_resume(sag_hub *h, uint32_t ns, uint32_t pid, void *into, size_t count);
+
+/* Pipes */
+
+/* A new pipe: fds[0] is for reading, fds[1] for writing. 0, else both stay as they were. `nonblock` is pipe2's
+ * O_NONBLOCK. (pipe(2)) */
+int64_t sag_pipe(sag_hub *h, uint32_t ns, uint32_t pid, bool nonblock, uint32_t fds[2]);
+
+/* Reads at most `count` bytes, and tells how many; 0 at the end. (read(2), pipe(7)) */
+int64_t sag_read(sag_hub *h, uint32_t ns, uint32_t pid, uint32_t fd, void *into, size_t count);
+
+/* Writes bytes, and tells how many. At most 1,048,576 in a call. No signal is sent with -EPIPE. (write(2), pipe(7)) */
+int64_t sag_write(sag_hub *h, uint32_t ns, uint32_t pid, uint32_t fd, const void *bytes, size_t count);
+
+/* Copies at most n bytes of the pipe `source` to the end of the pipe `sink`, and tells how many. `nonblock` is
+ * SPLICE_F_NONBLOCK. (tee(2)) */
+int64_t sag_tee(sag_hub *h, uint32_t ns, uint32_t pid, uint32_t source, uint32_t sink, uint64_t n, bool nonblock);
+
+/* The same, and they leave `source`. (splice(2)) */
+int64_t sag_splice(sag_hub *h, uint32_t ns, uint32_t pid, uint32_t source, uint32_t sink, uint64_t n, bool nonblock);
+
+/* Gives a pipe another capacity, and tells it, in bytes. (fcntl(2), F_SETPIPE_SZ) */
+int64_t sag_set_pipe_size(sag_hub *h, uint32_t ns, uint32_t pid, uint32_t fd, uint64_t bytes);
+
+/* A pipe's capacity in bytes. (fcntl(2), F_GETPIPE_SZ) */
+int64_t sag_pipe_size(sag_hub *h, uint32_t ns, uint32_t pid, uint32_t fd);
+
+/* Descriptors */
+
+/* Closes a descriptor. 0. (close(2)) */
+int64_t sag_close(sag_hub *h, uint32_t ns, uint32_t pid, uint32_t fd);
+
+/* The least free descriptor, for the same open file description. A host whose programs call dup2(2) or fcntl(2) with
+ * F_DUPFD keeps a table of their numbers (examples/c/pipeline.c). (dup(2)) */
+int64_t sag_dup(sag_hub *h, uint32_t ns, uint32_t pid, uint32_t fd);
+
+/* Sets O_NONBLOCK of an open file description, or takes it away. 0. (fcntl(2), F_SETFL) */
+int64_t sag_set_nonblock(sag_hub *h, uint32_t ns, uint32_t pid, uint32_t fd, bool on);
+
+/* Files. A path is `length` bytes and no string: a byte 0 is no end. All start at the root; a mode counts its bits as
+ * chmod(2) does, at most 01777. */
+
+/* mkdir(2) */
+int64_t sag_mkdir(sag_hub *h, uint32_t ns, uint32_t pid, const void *path, size_t length, uint32_t mode);
+
+/* mkfifo(3) */
+int64_t sag_mkfifo(sag_hub *h, uint32_t ns, uint32_t pid, const void *path, size_t length, uint32_t mode);
+
+/* unlink(2) */
+int64_t sag_unlink(sag_hub *h, uint32_t ns, uint32_t pid, const void *path, size_t length);
+
+/* rmdir(2) */
+int64_t sag_rmdir(sag_hub *h, uint32_t ns, uint32_t pid, const void *path, size_t length);
+
+/* chmod(2) */
+int64_t sag_chmod(sag_hub *h, uint32_t ns, uint32_t pid, const void *path, size_t length, uint32_t mode);
+
+/* Opens a FIFO, and tells the descriptor. It may wait for the other side. (open(2), fifo(7)) */
+int64_t sag_open_path(sag_hub *h, uint32_t ns, uint32_t pid, const void *path, size_t length, uint32_t flags);
+
+/* What is known of a file goes to *out. 0, else *out is as it was. (stat(2)) */
+int64_t sag_stat(sag_hub *h, uint32_t ns, uint32_t pid, const void *path, size_t length, sag_meta *out);
+
+/* The names in a directory, by bytes, each with a slash behind it: how many bytes they are. The first `count` of them
+ * go into the buffer; a result above `count` says that there are more, and how large a buffer takes all. This
+ * profile's own, in place of readdir(3). */
+int64_t sag_list(sag_hub *h, uint32_t ns, uint32_t pid, const void *path, size_t length, void *into, size_t count);
+
+#ifdef __cplusplus
+}
+#endif
+
+#endif
