@@ -10,9 +10,9 @@ use Rattle.pf_base.specs.contracts.step.StepPartialEq.TheImpl.{ghosts}
 differ : false ≡ true → ⊥
 differ e = absurd (cc)
 
-same_spawn : (u g : ℕ) (gs : List ℕ) (m : ℕ) (b : Step) → ghosts.eq (Spawn u g gs m) b ≡ true → Spawn u g gs m ≡ b
-same_spawn u g gs m (Spawn u' g' gs' m') h = search rules
-same_spawn u g gs m b h = absurd (differ h)
+same_spawn : (u g m : ℕ) (gs : List ℕ) (b : Step) → ghosts.eq (Spawn u g m gs) b ≡ true → Spawn u g m gs ≡ b
+same_spawn u g m gs (Spawn u' g' m' gs') h = search rules
+same_spawn u g m gs b h = absurd (differ h)
 
 same_exit : (p : ℕ) (b : Step) → ghosts.eq (Exit p) b ≡ true → Exit p ≡ b
 same_exit p (Exit p') h = search rules
@@ -99,7 +99,7 @@ same_resume p (Resume p') h = search rules
 same_resume p b h = absurd (differ h)
 
 pub sound : (a b : Step) → ghosts.eq a b ≡ true → a ≡ b
-sound (Spawn u g gs m) b h = same_spawn u g gs m b h
+sound (Spawn u g m gs) b h = same_spawn u g m gs b h
 sound (Exit p) b h = same_exit p b h
 sound (Pipe p o) b h = same_pipe p o b h
 sound (Close p d) b h = same_close p d b h
@@ -123,7 +123,7 @@ sound (Names p x) b h = same_names p x b h
 sound (Resume p) b h = same_resume p b h
 
 pub reflexive : (a : Step) → ghosts.eq a a ≡ true
-reflexive (Spawn u g gs m) = search rules
+reflexive (Spawn u g m gs) = search rules
 reflexive (Exit p) = search rules
 reflexive (Pipe p o) = search rules
 reflexive (Close p d) = search rules

@@ -1,18 +1,23 @@
 ghost use Rattle.std.specs.Prelude.{◌≡◌, ◌≤◌, nat_eq, length, take, IfOk, IsOk};
 ghost use Rattle.std.specs.Cmp.Lexicographic.{pointwise, nat_list_eq_equiv};
 ghost use Rattle.std.specs.Cmp.{partial_equiv_from_equiv};
+ghost use Rattle.std.specs.Arc.{arc_value};
 ghost use Rattle.pf_base.specs.declared.TheConstants.{BYTES_IN_PLACE};
 
 use crate::BYTES_IN_PLACE;
 use std::alloc::{AllocError, Global};
 use std::fmt;
 use std::marker::Model;
+use std::sync::Arc;
 
 // So the value takes 16 bytes: a step and a reply, of which there are many, stay small.
 #[derive(Drop)]
 enum Kept {
     // So many of these.
     InPlace(u8, [u8; BYTES_IN_PLACE]),
+    // By all copies of them.
+    Shared(Arc<Vec<u8>>),
+    // By one alone, where no copy could be shared.
     OnHeap(Box<Vec<u8>>),
 }
 
@@ -46,11 +51,11 @@ impl ByteString {
     }
 
     /// These bytes, with no allocation.
-    pub fn from_box(bytes: Box<Vec<u8>>) -> Self
-        ensures { result ≡ bytes.value.items }
+    pub fn from_arc(bytes: Arc<Vec<u8>>) -> Self
+        ensures { result ≡ (arc_value bytes).items }
     {
         ByteString {
-            kept: Kept::OnHeap(bytes),
+            kept: Kept::Shared(bytes),
         }
     }
 
@@ -72,7 +77,7 @@ impl ByteString {
         if bytes.len() <= BYTES_IN_PLACE {
             return Ok(ByteString::copied_in_place(bytes.as_slice()));
         }
-        Ok(ByteString::from_box(Box::new(alloc, bytes)?))
+        Ok(ByteString::from_arc(Arc::new(alloc, bytes)?))
     }
 
     /// A copy of these bytes. Memory is wanted only for more than `BYTES_IN_PLACE` of them.
@@ -84,7 +89,7 @@ impl ByteString {
             return Ok(ByteString::copied_in_place(bytes));
         }
         let copied = Vec::from_slice(alloc, bytes)?;
-        Ok(ByteString::from_box(Box::new(alloc, copied)?))
+        Ok(ByteString::from_arc(Arc::new(alloc, copied)?))
     }
 
     /// The bytes.
@@ -93,15 +98,19 @@ impl ByteString {
     {
         match &self.kept {
             Kept::InPlace(len, bytes) => &bytes[..*len as usize],
+            Kept::Shared(bytes) => bytes.as_slice(),
             Kept::OnHeap(bytes) => bytes.as_slice(),
         }
     }
 
-    /// The same bytes again.
+    /// The same bytes again, most often in the same memory.
     pub fn copy(&self, alloc: Global) -> Result<ByteString, AllocError>
         ensures { IfOk result (λ bytes. bytes ≡ self.now) }
     {
-        ByteString::from_slice(alloc, self.as_slice())
+        match &self.kept {
+            Kept::Shared(bytes) => Ok(ByteString::from_arc(Arc::try_clone(bytes)?)),
+            _ => ByteString::from_slice(alloc, self.as_slice()),
+        }
     }
 }
 
@@ -160,24 +169,23 @@ impl ByteRoom {
         })
     }
 
-    /// A copy of these bytes. Where they are fewer than it was made for, memory of their own size is tried first, so that
-    /// what is kept takes no more than it needs.
-    pub fn fill(self, alloc: Global, bytes: &[u8]) -> ByteString
+    /// A copy of these bytes. Their own memory is shared where it can be, and else this memory is used.
+    pub fn fill(self, alloc: Global, bytes: &ByteString) -> ByteString
         requires { length bytes.now ≤ self }
         ensures { result ≡ bytes.now }
     {
-        let ByteRoom { most, memory } = self;
-        if bytes.len() < most {
-            if let Ok(exact) = ByteString::from_slice(alloc, bytes) {
-                return exact;
-            }
+        let ByteRoom { most: _, memory } = self;
+        if let Ok(copy) = bytes.copy(alloc) {
+            return copy;
         }
         let Some(mut memory) = memory else {
-            return ByteString::copied_in_place(bytes);
+            return ByteString::copied_in_place(bytes.as_slice());
         };
-        let Ok(()) = memory.extend_from_slice(bytes) else {
+        let Ok(()) = memory.extend_from_slice(bytes.as_slice()) else {
             unreachable!()
         };
-        ByteString::from_box(memory)
+        ByteString {
+            kept: Kept::OnHeap(memory),
+        }
     }
 }

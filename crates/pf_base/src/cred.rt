@@ -1,4 +1,4 @@
-ghost use Rattle.std.specs.Prelude.{◌≡◌, nat_eq, IfOk};
+ghost use Rattle.std.specs.Prelude.{◌≡◌, [], nat_eq, IfOk, IsOk};
 ghost use Rattle.std.specs.Cmp.Lexicographic.{pointwise, nat_list_eq_equiv};
 ghost use Rattle.std.specs.Cmp.{partial_equiv_from_equiv};
 
@@ -9,46 +9,60 @@ use std::marker::Model;
 /// Supplementary group ids. A contract sees the list of them.
 #[derive(Debug, Drop)]
 pub struct Groups {
-    ids: Vec<u32>,
+    // Few processes have any, and a box keeps a step small.
+    ids: Option<Box<Vec<u32>>>,
 }
 
 impl Model for Groups {
     ghost use Rattle.std.specs.Prelude.{List, ℕ};
+    ghost use Rattle.pf_base.specs.Kept.{kept_ids};
 
     ghost Value = { List ℕ };
 
-    ghost view = { λ g. g.ids.items };
+    ghost view = { λ g. kept_ids g.ids };
 }
 
 impl Groups {
-    /// These groups, with no allocation.
-    pub fn new(ids: Vec<u32>) -> Self
-        ensures { result ≡ ids.items }
+    /// No groups, with no allocation.
+    pub fn none() -> Self
+        ensures { result ≡ [] }
     {
-        Groups { ids }
+        Groups { ids: None }
+    }
+
+    /// These groups. Memory is wanted only where there are any.
+    pub fn new(alloc: Global, ids: Vec<u32>) -> Result<Self, AllocError>
+        ensures ids { IfOk result (λ groups. groups ≡ ids.items) }
+        ensures none { ids.items ≡ [] → IsOk result }
+    {
+        if ids.is_empty() {
+            return Ok(Groups::none());
+        }
+        Ok(Groups {
+            ids: Some(Box::new(alloc, ids)?),
+        })
     }
 
     /// The group ids.
     pub fn as_slice(&self) -> &[u32]
         ensures { result.now ≡ self.now }
     {
-        self.ids.as_slice()
+        match &self.ids {
+            None => &[],
+            Some(ids) => ids.as_slice(),
+        }
     }
 
-    /// The same groups again.
+    /// The same groups again. Memory is wanted only where there are any.
     pub fn copy(&self, alloc: Global) -> Result<Groups, AllocError>
-        ensures { IfOk result (λ groups. groups ≡ self.now) }
+        ensures ids { IfOk result (λ groups. groups ≡ self.now) }
+        ensures none { self.now ≡ [] → IsOk result }
     {
-        let ids = Vec::from_slice(alloc, self.as_slice())?;
-        Ok(Groups { ids })
-    }
-
-    /// Gives the group ids back, with no allocation.
-    pub fn into_vec(self) -> Vec<u32>
-        ensures { result.items ≡ self }
-    {
-        let Groups { ids } = self;
-        ids
+        let ids = self.as_slice();
+        if ids.is_empty() {
+            return Ok(Groups::none());
+        }
+        Groups::new(alloc, Vec::from_slice(alloc, ids)?)
     }
 }
 

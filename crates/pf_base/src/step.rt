@@ -14,8 +14,8 @@ pub enum Step {
     Spawn {
         uid: u32,
         gid: u32,
-        groups: Groups,
         umask: u32,
+        groups: Groups,
     },
     /// The process ends, and with it its descriptors.
     Exit {
@@ -159,13 +159,13 @@ impl Step {
             Step::Spawn {
                 uid,
                 gid,
-                groups,
                 umask,
+                groups,
             } => Ok(Step::Spawn {
                 uid: *uid,
                 gid: *gid,
-                groups: groups.copy(alloc)?,
                 umask: *umask,
+                groups: groups.copy(alloc)?,
             }),
             Step::Exit { pid } => Ok(Step::Exit { pid: *pid }),
             Step::Pipe { pid, nonblock } => Ok(Step::Pipe {

@@ -231,12 +231,12 @@ impl Shape {
 }
 
 /// What makes a process.
-fn spawn(alloc: Global) -> Step {
+fn spawn() -> Step {
     Step::Spawn {
         uid: 5,
         gid: 5,
-        groups: Groups::new(Vec::new(alloc)),
         umask: 0o022,
+        groups: Groups::none(),
     }
 }
 
@@ -249,8 +249,8 @@ fn pipe() -> Step {
 }
 
 /// Whether a process with two pipes, and another that has them too, are made.
-fn starts<H: Host>(alloc: Global, host: &mut H) -> bool {
-    host.step(&spawn(alloc)) == Answer::Done(Reply::Pid(1))
+fn starts<H: Host>(host: &mut H) -> bool {
+    host.step(&spawn()) == Answer::Done(Reply::Pid(1))
         && host.step(&pipe()) == Answer::Done(Reply::Fds(0, 1))
         && host.step(&pipe()) == Answer::Done(Reply::Fds(2, 3))
         && host.step(&Step::Fork { pid: 1 }) == Answer::Done(Reply::Pid(2))
@@ -363,7 +363,7 @@ fn play_size<H: Host>(alloc: Global, host: &mut H, size: usize) -> Result<bool, 
 
 /// Starts, plays the fixed load, and says whether each answer was right.
 fn play_loads<H: Host>(alloc: Global, host: &mut H) -> Result<bool, AllocError> {
-    if !starts(alloc, host) {
+    if !starts(host) {
         return Ok(false);
     }
     for size in SIZES {
@@ -608,7 +608,7 @@ fn time_both(
     pairs: u32,
 ) -> io::Result<bool> {
     Ok(
-        starts(rt.alloc(), plain)
+        starts(plain)
             && time_pairs(rt, "hub", hub, "over an array", plain, pairs)?
             && time_crossings(rt, hub, "hub", pairs)?
             && time_crossings(rt, plain, "over an array", pairs)?,
@@ -639,7 +639,7 @@ fn time_hub<R: Wait>(
     let Shape { namespaces, frames } = shape;
     println!(rt; "{namespaces} namespaces, {frames} frames")?;
     Ok(
-        starts(rt.alloc(), hub)
+        starts(hub)
             && time_with_plain(rt, shape, hub, pairs)?
             && worked::time(rt, threads, shape, hub, pairs)?,
     )

@@ -58,14 +58,9 @@ fn service<C: Ledger, H: Ledger>(
 }
 
 /// A seat at a namespace, whose first process has a pipe.
-fn seat<R: Wait, C: Ledger, H: Ledger>(
-    rt: &R,
-    alloc: Global,
-    service: &Shared<C, H>,
-    ns: u32,
-) -> Option<Seat> {
+fn seat<R: Wait, C: Ledger, H: Ledger>(rt: &R, service: &Shared<C, H>, ns: u32) -> Option<Seat> {
     let mut seat = service.seat(rt, ns).ok()?;
-    if service.call(rt, &mut seat, &spawn(alloc)).ok()?.reply != Reply::Pid(1) {
+    if service.call(rt, &mut seat, &spawn()).ok()?.reply != Reply::Pid(1) {
         return None;
     }
     if service.call(rt, &mut seat, &pipe()).ok()?.reply != Reply::Fds(0, 1) {
@@ -105,7 +100,7 @@ fn seats<R: Wait, C: Ledger, H: Ledger>(
 ) -> Option<Vec<Seat>> {
     let mut seats = Vec::with_capacity(alloc, CALLERS as usize).ok()?;
     for ns in 0..CALLERS {
-        seats.push(seat(rt, alloc, service, ns)?).ok()?;
+        seats.push(seat(rt, service, ns)?).ok()?;
     }
     Some(seats)
 }

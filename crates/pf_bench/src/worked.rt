@@ -88,10 +88,7 @@ fn time_beside<H: Host>(
     hub: &mut Hub<Global>,
     pairs: u32,
 ) -> io::Result<bool> {
-    Ok(
-        starts(rt.alloc(), worked)
-            && time_pairs(rt, "worker", worked, "through the hub", hub, pairs)?,
-    )
+    Ok(starts(worked) && time_pairs(rt, "worker", worked, "through the hub", hub, pairs)?)
 }
 
 /// The same, with a worker of this shape.

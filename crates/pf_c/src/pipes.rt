@@ -2,7 +2,7 @@
 ghost use Rattle.std.specs.Prelude.{◌≡◌, true, length};
 ghost use Rattle.pf_base.specs.declared.step.Step.TheVariants as steps;
 ghost use Rattle.pf_c.specs.Handle.{hub_of};
-ghost use Rattle.pf_c.specs.Told.{Told, Filled, Paired, fds_of, fits_in_place};
+ghost use Rattle.pf_c.specs.Told.{Told, Filled, Paired, fds_of, fds_or, fits_in_place};
 
 use crate::handle::SagHub;
 use crate::told::{answer_of, code_of, copied, fill, told, told_wanted};
@@ -19,6 +19,16 @@ fn fds_of(answer: &Option<Answer>) -> Option<(u32, u32)>
     }
 }
 
+// The descriptors of an answer are put into the host's pair, where it has any.
+#[inline(always)]
+fn pair(fds: &mut [u32; 2], answer: &Option<Answer>)
+    ensures { fds.new ≡ fds_or (fds_of answer.now) fds.old }
+{
+    if let Some((reading, writing)) = fds_of(answer) {
+        *fds = [reading, writing];
+    }
+}
+
 /// pipe2(2).
 #[unsafe(no_mangle)]
 pub extern "C" fn sag_pipe(
@@ -31,9 +41,7 @@ pub extern "C" fn sag_pipe(
     ensures { Paired (hub_of h.old) (hub_of h.new) ns (steps.Pipe pid nonblock) result fds.old fds.new }
 {
     let answer = answer_of(h, ns, &Step::Pipe { pid, nonblock });
-    if let Some((reading, writing)) = fds_of(&answer) {
-        *fds = [reading, writing];
-    }
+    pair(fds, &answer);
     code_of(&answer)
 }
 

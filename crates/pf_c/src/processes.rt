@@ -20,20 +20,22 @@ pub extern "C" fn sag_spawn(
     groups: &[u32],
     umask: u32,
 ) -> i64
-    ensures { Told (hub_of h.old) (hub_of h.new) ns (steps.Spawn uid gid groups.now umask) true result }
+    ensures { Told (hub_of h.old) (hub_of h.new) ns (steps.Spawn uid gid umask groups.now) true result }
 {
-    let Ok(groups) = Vec::from_slice(alloc, groups) else {
+    let Ok(ids) = Vec::from_slice(alloc, groups) else {
         return told_wanted(h, ns);
     };
-    let groups = Groups::new(groups);
+    let Ok(groups) = Groups::new(alloc, ids) else {
+        return told_wanted(h, ns);
+    };
     told(
         h,
         ns,
         &Step::Spawn {
             uid,
             gid,
-            groups,
             umask,
+            groups,
         },
     )
 }

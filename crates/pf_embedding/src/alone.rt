@@ -23,8 +23,8 @@ pub(crate) fn hello(alloc: Global) -> Result<Result<Vec<Answer>, RunFault>, Trou
     let spawn = Step::Spawn {
         uid: 5,
         gid: 5,
-        groups: Groups::new(Vec::new(alloc)),
         umask: 0o022,
+        groups: Groups::none(),
     };
     let (pipe, read) = (
         Step::Pipe {

@@ -13,8 +13,8 @@ pub(crate) fn job(alloc: Global) -> Result<Result<Vec<EventAnswer>, EventFault>,
     let spawn = Step::Spawn {
         uid: 5,
         gid: 5,
-        groups: Groups::new(Vec::new(alloc)),
         umask: 0o022,
+        groups: Groups::none(),
     };
     let exit = Step::Exit { pid: 1 };
     let events = vec![in alloc;

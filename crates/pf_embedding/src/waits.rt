@@ -10,14 +10,14 @@ use std::alloc::Global;
 pub(crate) fn waits(alloc: Global) -> Result<[Answer; 3], Trouble> {
     let limits = vec![in alloc; (reserve(16)?, alloc)]?;
     let mut hub = Hub::new(alloc, pages(alloc, 16)?, limits)?;
-    let (red, groups) = (0, Groups::new(Vec::new(alloc)));
+    let red = 0;
     hub.step(
         red,
         &Step::Spawn {
             uid: 5,
             gid: 5,
-            groups,
             umask: 0o022,
+            groups: Groups::none(),
         },
     );
     hub.step(

@@ -14,6 +14,7 @@ use Rattle.pf_base.specs.declared.step.Answer.TheVariants.{Done, NoMemory}
 use Rattle.pf_base.specs.declared.step.Step.{Step}
 use Rattle.pf_base.specs.Limits.{Limits}
 use Rattle.pf_depot.specs.Admission.{IsAdmitFault}
+use Rattle.pf_machine.specs.Queue.{Segment}
 use Rattle.pf_machine.specs.Houses.{Guest, Turn, Stepping, Admitting, Retiring, Happens, MayWant, newcomer}
 use Rattle.pf_machine.specs.Houses.{step_turn, admit_turn}
 use Rattle.pf_machine.specs.Houses.{retire_turn, admit_fault, retire_fault}
@@ -91,7 +92,7 @@ module _ (old new : Tenants) (n : ℕ) (step : Step) (a : Answer) (lives : Lives
 
   turned : (b : Answer) → a ≡ b → Happens (house_of old) (Stepping n step) (told.Answer b) (house_of new)
   turned (Done r) done =
-      let out : ◌≡◌ {A = Outcome} (record { state = u.state; reply = r }) (step_of t.limits t.state step) =
+      let out : ◌≡◌ {A = Outcome Segment ℕ} (record { state = u.state; reply = r }) (step_of t.limits t.state step) =
       subst (λ (x : Answer). Answers t.limits x t.state step u.state) done answers in
       let same : guest_of u ≡ record { limits = t.limits; state = (step_of t.limits t.state step).state }
       = λ i. record { limits = limits i; state = (out i).state } in

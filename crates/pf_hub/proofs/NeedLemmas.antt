@@ -7,7 +7,7 @@ use Rattle.std.proofs.Math.Seq.{take-length}
 use Rattle.std.proofs.lemmas.Bool.{cases_lt}
 use Rattle.std.proofs.lemmas.List.{take-append-le, length-take}
 use Rattle.pf_base.specs.Limits.{Limits}
-use Rattle.pf_machine.specs.Queue.{Queue}
+use Rattle.pf_machine.specs.Queue.{Segment}
 use Rattle.pf_machine.specs.State.{State}
 use Rattle.pf_machine.specs.Machine.{may_want_memory}
 use Rattle.pf_machine.specs.Runs.{run_of}
@@ -60,7 +60,7 @@ kept-front (e ∷ es) [] more n h = absurd (omega arith)
 kept-front (e ∷ es) (a ∷ answers) more n h =
     ap (λ (r : List Step). if nat_eq e.0 n then keep_step a e.1 r else r) (kept-front es answers more n (omega arith))
 
-module _ (c : Limits) (begun : State Queue) (es : List (ℕ × Step)) (answers : List Answer) (n : ℕ)
+module _ (c : Limits) (begun : State Segment ℕ) (es : List (ℕ × Step)) (answers : List Answer) (n : ℕ)
     (many : length answers ≡ length es) where
   -- nor do later events
   met_before : (fs : List (ℕ × Step)) (more : List Answer) (i : ℕ) → i ≤ length es

@@ -17,7 +17,7 @@ use Rattle.pf_frame.specs.Counted.{positives}
 use Rattle.pf_frame.specs.Pages.{page_of}
 use Rattle.pf_frame.specs.Sound.{page_shown}
 use Rattle.pf_ring.specs.declared.ring.Window.{Window}
-use Rattle.pf_ring.specs.Ring.{Ring, no_ring, segment_of}
+use Rattle.pf_ring.specs.Ring.{no_ring, segment_of}
 use Rattle.pf_ring.specs.Table.{named_by}
 use Rattle.pf_ring.specs.Windows.{named, reach}
 use Rattle.pf_depot.specs.declared.depot.Depot.{Depot}
@@ -63,8 +63,8 @@ all_held (Some t ∷ ts) =
 -- Windows
 
 -- the windows of all pipes on a frame are those of all rings
-windows_named : (place : ℕ) (pipes : List (Option (Pipe Ring))) →
-    sum_by (named_by place) (map ring_or pipes) ≡ sum_of (λ p. named place p.queue.windows) pipes
+windows_named : (place : ℕ) (pipes : List (Option (Pipe Window))) →
+    sum_by (named_by place) (map ring_or pipes) ≡ sum_of (λ p. named place p.queue.segments) pipes
 windows_named place [] = refl
 windows_named place (None ∷ ps) =
     omega (arith, sum_by-cons (named_by place) no_ring (map ring_or ps), windows_named place ps)
@@ -107,12 +107,12 @@ module _ (l : Loans) where
         subst (λ o. ShowQueue l.places.items (at s.state.pipes number) o)
         (sym (at-map (pipe_meaning (loans_live l)) s.state.pipes number)) (by (at s.state.pipes number) refl)
       where
-        by : (o : Option (Pipe Ring)) → at s.state.pipes number ≡ o →
+        by : (o : Option (Pipe Window)) → at s.state.pipes number ≡ o →
             ShowQueue l.places.items o (option_map (pipe_meaning (loans_live l)) o)
         by None is = tt
         by (Some p) is =
             let stands = stands_at (loans_live l) s.state number p owns.joined is in
-            show_each p.queue.windows (λ q some. omega (arith, stands.counted q, some)) stands.within
+            show_each p.queue.segments (λ q some. omega (arith, stands.counted q, some)) stands.within
 
     counted : (place : ℕ) → slice_index l.counts.items place ≡ windows_on place s
     counted place = sym (owns.joined.counts place) ∙ windows_named place s.state.pipes

@@ -9,7 +9,7 @@ use Rattle.pf_machine.specs.Machine.{step_of, may_want_memory}
 use Rattle.pf_machine.specs.Runs.{run_of}
 use Rattle.pf_machine.specs.Events.{kept, replies}
 use Rattle.pf_machine.specs.State.{State, Outcome, opening}
-use Rattle.pf_machine.specs.Queue.{Queue}
+use Rattle.pf_machine.specs.Queue.{Segment}
 use Rattle.pf_base.specs.declared.step.Step.{Step}
 use Rattle.pf_base.specs.declared.step.Step.TheVariants.{Spawn}
 use Rattle.pf_base.specs.declared.step.Answer.TheVariants.{Done, NoMemory}
@@ -20,13 +20,13 @@ abbrev limits : Limits
 limits = record { reserve = 0; soft = 0; hard = 0; max = 65536 }
 
 abbrev spawn : Step
-spawn = Spawn 5 5 [] 18
+spawn = Spawn 5 5 18 []
 
-abbrev told : Outcome
+abbrev told : Outcome Segment ℕ
 told = step_of limits opening spawn
 
 -- a hub of one namespace in this state
-abbrev hub : State Queue → Tenants
+abbrev hub : State Segment ℕ → Tenants
 hub s = record { tenants = Some (record { limits = limits; state = s; held = 0 }) ∷ []; free = 0 }
 
 abbrev events : List (ℕ × Step)

@@ -2,13 +2,13 @@
 
 use Rattle.std.specs.Prelude.{◌≡◌, ℕ, ◌+◌, ◌-◌, ◌≤◌, [], length, Some}
 use Rattle.pf_machine.specs.Numbered.{at, sum_of}
-use Rattle.pf_machine.specs.Queue.{Queue, bytes_of}
+use Rattle.pf_machine.specs.Queue.{Segment, bytes_of}
 use Rattle.pf_machine.specs.Counts.{total}
 use Rattle.pf_machine.specs.State.{State, Pipe}
 use Rattle.pf_hub.specs.Tenants.{Tenant, Tenants, tenant_at, frames_in, reserved_in, slack_in}
 
 -- how many slots of all pipes are in use: one for each segment
-abbrev pub occupied : State Queue → ℕ
+abbrev pub occupied : State Segment ℕ → ℕ
 occupied s = sum_of (λ p. length p.queue.segments) s.pipes
 
 -- the frames that a namespace holds, its slots in use, the pages that its pipes are charged with, and its reservation
@@ -17,7 +17,7 @@ pub record IsRising (t : Tenant) : Type 0 where
   pub frames : t.held ≤ occupied t.state
   pub slots : occupied t.state ≤ total t.state
   pub pages : total t.state ≤ t.limits.reserve
-  pub none : t.held ≡ 0 → (n : ℕ) (p : Pipe Queue) → at t.state.pipes n ≡ Some p → bytes_of p.queue ≡ []
+  pub none : t.held ≡ 0 → (n : ℕ) (p : Pipe Segment) → at t.state.pipes n ≡ Some p → bytes_of p.queue ≡ []
 
 -- how many more frames a namespace may take
 abbrev pub unspent : Tenant → ℕ

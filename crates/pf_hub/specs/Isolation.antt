@@ -3,7 +3,7 @@
 use Rattle.std.specs.Prelude.{◌≡◌, ℕ, ◌≤◌, true, not, List, length, take, slice_get, Some, Option, None, ⊤}
 use Rattle.std.specs.List.{position_from}
 use Rattle.pf_base.specs.Limits.{Limits}
-use Rattle.pf_machine.specs.Queue.{Queue}
+use Rattle.pf_machine.specs.Queue.{Segment}
 use Rattle.pf_machine.specs.State.{State, opening}
 use Rattle.pf_machine.specs.Machine.{may_want_memory}
 use Rattle.pf_machine.specs.Runs.{run_of, lone}
@@ -21,11 +21,11 @@ abbrev pub first_missing : Tenants → List (ℕ × Step) → Option ℕ
 first_missing h events = position_from (λ e. not (is_living h e.0)) 0 events
 
 -- the state that n's event at this place meets, where n began in this one: n's kept steps before it led there
-abbrev pub met_at : Limits → State Queue → List (ℕ × Step) → List Answer → ℕ → ℕ → State Queue
+abbrev pub met_at : Limits → State Segment ℕ → List (ℕ × Step) → List Answer → ℕ → ℕ → State Segment ℕ
 met_at c begun events answers n place = (run_of c begun (kept (take place events) answers n)).state
 
 -- no want without need: each step of n that memory was wanted for may want it, in the state that it met
-abbrev pub NoWantWithoutNeed : Limits → State Queue → List (ℕ × Step) → List Answer → ℕ → Type 0
+abbrev pub NoWantWithoutNeed : Limits → State Segment ℕ → List (ℕ × Step) → List Answer → ℕ → Type 0
 NoWantWithoutNeed c begun events answers n = (place : ℕ) (step : Step) →
     slice_get events place ≡ Some (n, step) → slice_get answers place ≡ Some answered.NoMemory →
     may_want_memory c (met_at c begun events answers n place) step ≡ true

@@ -6,12 +6,11 @@ use Rattle.std.specs.Prelude.{◌≡◌, ℕ, ◌+◌, ◌<◌, ◌≤◌, ⊤, 
 use Rattle.std.specs.Prelude.{Option, Some, None, IsSome, is_some, slice_index}
 use Rattle.pf_base.specs.declared.TheConstants.{PAGE_SIZE}
 use Rattle.pf_machine.specs.Numbered.{at, sum_of}
-use Rattle.pf_machine.specs.Queue.{Queue, Segment}
+use Rattle.pf_machine.specs.Queue.{Segment}
 use Rattle.pf_machine.specs.State.{Pipe}
 use Rattle.pf_frame.specs.declared.frame.Frame.{Frame}
 use Rattle.pf_frame.specs.Pages.{page_of}
 use Rattle.pf_ring.specs.declared.ring.Window.{Window}
-use Rattle.pf_ring.specs.Ring.{Ring}
 use Rattle.pf_ring.specs.Windows.{named}
 use Rattle.pf_depot.specs.declared.depot.Depot.{Depot}
 use Rattle.pf_depot.specs.declared.loans.Loans.{Loans}
@@ -33,7 +32,7 @@ owned (Some t ∷ ts) = lying t.loans.places.items ++ owned ts
 
 -- how many windows of a namespace, of all its pipes, are on the frame at a place
 abbrev pub windows_on : ℕ → Namespace → ℕ
-windows_on place s = sum_of (λ p. named place p.queue.windows) s.state.pipes
+windows_on place s = sum_of (λ p. named place p.queue.segments) s.state.pipes
 
 -- a window holds a segment: a frame lies at the place that it names, and the segment's bytes are those that stand in it
 -- from the window's beginning on, as many as the window is long
@@ -51,9 +50,9 @@ ShowEach places [] (s ∷ ss) = ⊥
 ShowEach places (w ∷ ws) [] = ⊥
 
 -- a pipe's windows hold the segments of its queue; or the pipe isn't there
-abbrev pub ShowQueue : List (Option Frame) → Option (Pipe Ring) → Option (Pipe Queue) → Type 0
+abbrev pub ShowQueue : List (Option Frame) → Option (Pipe Window) → Option (Pipe Segment) → Type 0
 ShowQueue places None None = ⊤
-ShowQueue places (Some p) (Some q) = ShowEach places p.queue.windows q.queue.segments
+ShowQueue places (Some p) (Some q) = ShowEach places p.queue.segments q.queue.segments
 ShowQueue places None (Some q) = ⊥
 ShowQueue places (Some p) None = ⊥
 

@@ -5,7 +5,7 @@ use Rattle.std.specs.Option.{option_map}
 use Rattle.pf_base.specs.Limits.{Limits}
 use Rattle.pf_machine.specs.Houses.{Guest, House}
 use Rattle.pf_machine.specs.Numbered.{at, sum_of}
-use Rattle.pf_machine.specs.Queue.{Queue}
+use Rattle.pf_machine.specs.Queue.{Segment}
 use Rattle.pf_machine.specs.State.{State, opening}
 use Rattle.pf_frame.specs.Live.{Live}
 use Rattle.pf_tables.specs.Meaning.{Namespace, meaning}
@@ -13,7 +13,7 @@ use Rattle.pf_tables.specs.Meaning.{Namespace, meaning}
 -- a namespace: its limits, the lone machine's state that it is in, and how many frames it holds
 pub record Tenant : Type 0 where
   pub limits : Limits
-  pub state : State Queue
+  pub state : State Segment ℕ
   pub held : ℕ
 
 -- a place for each number of a namespace that was ever given, with nothing in it where that namespace is retired; and
@@ -49,7 +49,7 @@ tenant_at h n = tenant_or (at h.tenants n)
 abbrev pub limits_at : Tenants → ℕ → Limits
 limits_at h n = (tenant_at h n).limits
 
-abbrev pub state_at : Tenants → ℕ → State Queue
+abbrev pub state_at : Tenants → ℕ → State Segment ℕ
 state_at h n = (tenant_at h n).state
 
 abbrev pub held_at : Tenants → ℕ → ℕ

@@ -6,12 +6,12 @@ use Rattle.std.specs.Prelude.{Result, is_some, replicate}
 use Rattle.std.specs.Option.{option_map}
 use Rattle.pf_machine.specs.Refusals.{◌>>=◌, ◌>>◌, refuse_if, or_refuse}
 use Rattle.pf_base.specs.Limits.{Limits}
-use Rattle.pf_machine.specs.Queue.{Queue}
+use Rattle.pf_machine.specs.Queue.{Segment}
 use Rattle.pf_machine.specs.Numbered.{at, put_at, change_at, first_free, one_if, weight, sum_of}
 use Rattle.pf_machine.proofs.NumberedLaws.{at-put_same, at_within, length-keep}
 use Rattle.pf_machine.proofs.SweepLaws.{sweep-sweep}
 use Rattle.pf_machine.specs.Calls.{Transfer, Reading, Writing, Bringing, Call, Opening, Moving, written_of, made_by}
-use Rattle.pf_machine.specs.State.{State, Process, Description, End, Outcome, vacant, opening, settle, living, ready, end_at, reading_end, writing_end, change_pipe, with_descriptor, waiting, told}
+use Rattle.pf_machine.specs.State.{itself, State, Process, Description, End, Outcome, vacant, opening, settle, living, ready, end_at, reading_end, writing_end, change_pipe, with_descriptor, waiting, told}
 use Rattle.pf_machine.specs.Counts.{named_in, names, readers, writers}
 use Rattle.pf_base.specs.Capacities.{told_as}
 use Rattle.pf_machine.specs.Descriptors.{dup, close, set_nonblock, named, with_nonblocking}
@@ -39,17 +39,17 @@ use Rattle.pf_laws.proofs.EndLaws.{IsApart, counted_apart}
 use Rattle.pf_laws.proofs.ApartLaws.{Sound, sound-tame, sound-clear, sound-copy, sound-close, sound-dup, sound-wait, sound-park, sound-opened, sound-two, sound-one}
 
 -- where so many descriptions were drawn
-abbrev SoundState : State Queue → Type 0
+abbrev SoundState : State Segment ℕ → Type 0
 SoundState s = Sound s.processes (length s.descriptions)
 
-abbrev OutSound : Outcome → Type 0
+abbrev OutSound : Outcome Segment ℕ → Type 0
 OutSound o = SoundState o.state
 
 -- a change of who stands at a place
-change-put : (f : Process → Process) (ps : List (Option Process)) (k : ℕ) (p : Process) → at ps k ≡ Some p → change_at f ps k ≡ put_at ps k (f p)
+change-put : (f : Process ℕ → Process ℕ) (ps : List (Option (Process ℕ))) (k : ℕ) (p : Process ℕ) → at ps k ≡ Some p → change_at f ps k ≡ put_at ps k (f p)
 change-put f ps k p e = ap (λ o. set ps k (option_map f o)) e
 
-pub put-put : (f : Process → Process) (ps : List (Option Process)) (k : ℕ) (p q : Process) → at ps k ≡ Some p → change_at f (put_at ps k q) k ≡ put_at ps k (f q)
+pub put-put : (f : Process ℕ → Process ℕ) (ps : List (Option (Process ℕ))) (k : ℕ) (p q : Process ℕ) → at ps k ≡ Some p → change_at f (put_at ps k q) k ≡ put_at ps k (f q)
 put-put f ps k p q e = change-put f (put_at ps k q) k q (at-put_same ps k (Some q) (at_within ps k p e)) ∙ set-set ps k (Some q) (Some (f q))
 
 -- places with nothing in them name nothing, and nobody waits there
@@ -57,32 +57,32 @@ sum_of-vacant : {X : Type 0} (h : X → ℕ) (m : ℕ) → sum_of h (replicate m
 sum_of-vacant h zero = refl
 sum_of-vacant h (suc m) = omega (arith, sum_of-vacant h m)
 
-none_named : (n : ℕ) → named_in n (vacant {X = ℕ} MAX_DESCRIPTORS) ≡ 0
+none_named : (n : ℕ) → named_in itself n (vacant {X = ℕ} MAX_DESCRIPTORS) ≡ 0
 unfolding vacant
 none_named n = sum_of-vacant (λ m. one_if (nat_eq m n)) MAX_DESCRIPTORS
 
-none_opening : (n : ℕ) → opening_it (vacant {X = Process} MAX_PROCESSES) n ≡ 0
+none_opening : (n : ℕ) → opening_it (vacant {X = Process ℕ} MAX_PROCESSES) n ≡ 0
 unfolding vacant
-none_opening n = sum_of-vacant (λ (p : Process). opens n p.parked) MAX_PROCESSES
+none_opening n = sum_of-vacant (λ (p : Process ℕ). opens n p.parked) MAX_PROCESSES
 
-none_held : (n : ℕ) → held (vacant {X = Process} MAX_PROCESSES) n ≡ 0
+none_held : (n : ℕ) → held (vacant {X = Process ℕ} MAX_PROCESSES) n ≡ 0
 unfolding vacant
-none_held n = sum_of-vacant (λ (p : Process). named_in n p.descriptors) MAX_PROCESSES
+none_held n = sum_of-vacant (λ (p : Process ℕ). named_in itself n p.descriptors) MAX_PROCESSES
 
-module _ (s : State Queue) (is : SoundState s) where
+module _ (s : State Segment ℕ) (is : SoundState s) where
   -- as many processes and descriptions as before
-  pub record Level (ps : List (Option Process)) (ds : List (Option Description)) : Type 0 where
+  pub record Level (ps : List (Option (Process ℕ))) (ds : List (Option (Description ℕ))) : Type 0 where
     pub people : ps ≡ s.processes
     pub drawn : length ds ≡ length s.descriptions
 
-  level-sound : (ps : List (Option Process)) (ds : List (Option Description)) → Level ps ds → Sound ps (length ds)
+  level-sound : (ps : List (Option (Process ℕ))) (ds : List (Option (Description ℕ))) → Level ps ds → Sound ps (length ds)
   level-sound ps ds l = subst (λ n. Sound ps n) (sym l.drawn) (subst (λ qs. Sound qs (length s.descriptions)) (sym l.people) is)
 
   -- who makes a step stands, and waits in this call or in none
-  pub record Stands (k : ℕ) (p : Process) : Type 0 where
+  pub record Stands (k : ℕ) (p : Process ℕ) : Type 0 where
     pub at_place : at s.processes k ≡ Some p
 
-  pub record Free (k : ℕ) (p : Process) : Type 0 where
+  pub record Free (k : ℕ) (p : Process ℕ) : Type 0 where
     pub at_place : at s.processes k ≡ Some p
     pub free : p.parked ≡ None
 
@@ -90,18 +90,18 @@ module _ (s : State Queue) (is : SoundState s) where
   living-stands zero = tt
   living-stands (suc i) = by_process (at s.processes i) refl
     where
-      by_process : (o : Option Process) → at s.processes i ≡ o → Holds (Stands (suc i - 1)) (or_refuse ESRCH o)
+      by_process : (o : Option (Process ℕ)) → at s.processes i ≡ o → Holds (Stands (suc i - 1)) (or_refuse ESRCH o)
       by_process None e = tt
       by_process (Some p) e = let same : suc i - 1 ≡ i = omega arith in record { at_place = ap (λ k. at s.processes k) same ∙ e }
 
   ready-free : (q : ℕ) → Holds (Free (q - 1)) (ready s q)
   ready-free q = goes (Stands (q - 1)) (Free (q - 1)) (living s q) (λ p. refuse_if (is_some p.parked) EBUSY >> Ok p) (living-stands q) (λ p h. by_call p h.at_place p.parked refl)
     where
-      by_call : (p : Process) → at s.processes (q - 1) ≡ Some p → (o : Option Call) → p.parked ≡ o → Holds (Free (q - 1)) (refuse_if (is_some o) EBUSY >> Ok p)
+      by_call : (p : Process ℕ) → at s.processes (q - 1) ≡ Some p → (o : Option (Call ℕ)) → p.parked ≡ o → Holds (Free (q - 1)) (refuse_if (is_some o) EBUSY >> Ok p)
       by_call p e None f = record { at_place = e; free = f }
       by_call p e (Some call) f = tt
 
-  by_ready : (q : ℕ) (f : Process → Result Outcome Errno) → ((p : Process) → Free (q - 1) p → Holds OutSound (f p)) → Holds OutSound (ready s q >>= f)
+  by_ready : (q : ℕ) (f : Process ℕ → Result (Outcome Segment ℕ) Errno) → ((p : Process ℕ) → Free (q - 1) p → Holds OutSound (f p)) → Holds OutSound (ready s q >>= f)
   by_ready q f h = goes (Free (q - 1)) OutSound (ready s q) f (ready-free q) h
 
   -- Calls that don't wait
@@ -109,7 +109,7 @@ module _ (s : State Queue) (is : SoundState s) where
   spawn-sound : (cred : Cred) → Holds OutSound (spawn s cred)
   spawn-sound cred = search (passes, born-sound) depth 16
     where
-      q : Process
+      q : Process ℕ
       q = record { cred = cred; descriptors = vacant MAX_DESCRIPTORS; parked = None }
 
       born-sound : Holds OutSound (born s q)
@@ -117,32 +117,32 @@ module _ (s : State Queue) (is : SoundState s) where
           let made = sound-tame s.processes (length s.descriptions) is (first_free s.processes + 1 - 1) (Some q) (λ n. omega arith) (λ n none. none_named n) in
           search (passes, made) depth 16
 
-  fork-sound : (q : ℕ) (p : Process) → Free (q - 1) p → Holds OutSound (fork s p)
+  fork-sound : (q : ℕ) (p : Process ℕ) → Free (q - 1) p → Holds OutSound (fork s p)
   fork-sound q p f = let made = sound-copy s.processes (length s.descriptions) is (q - 1) (first_free s.processes + 1 - 1) p f.at_place f.free in search (passes, made) depth 16
 
-  close-sound : (q : ℕ) (p : Process) (fd : ℕ) → Free (q - 1) p → Holds OutSound (close s q p fd)
+  close-sound : (q : ℕ) (p : Process ℕ) (fd : ℕ) → Free (q - 1) p → Holds OutSound (close s q p fd)
   close-sound q p fd f = let made = sound-close s.processes (length s.descriptions) is (q - 1) fd p f.at_place in search (carries, made) depth 16
 
-  dup-sound : (q : ℕ) (p : Process) (fd : ℕ) → Free (q - 1) p → Holds OutSound (dup s q p fd)
+  dup-sound : (q : ℕ) (p : Process ℕ) (fd : ℕ) → Free (q - 1) p → Holds OutSound (dup s q p fd)
   dup-sound q p fd f = found OutSound EBADF (at p.descriptors fd) _ (λ n e.
       let made = sound-dup s.processes (length s.descriptions) is (q - 1) fd (first_free p.descriptors) n p f.at_place e in
       passes OutSound (refuse_if (nat_le MAX_DESCRIPTORS (first_free p.descriptors)) EMFILE) _ made)
 
   -- both descriptions of a pipe are new
-  pipe-sound : (c : Limits) (q : ℕ) (p : Process) (nonblock : Bool) → Free (q - 1) p → Holds OutSound (pipe c s q p nonblock)
+  pipe-sound : (c : Limits) (q : ℕ) (p : Process ℕ) (nonblock : Bool) → Free (q - 1) p → Holds OutSound (pipe (length s.descriptions) (length s.descriptions + 1) (length s.pipes) c s q p nonblock)
   pipe-sound c q p nonblock f = let made = two in search (passes, carries, made) depth 16
     where
-      ends : List (Option Description)
+      ends : List (Option (Description ℕ))
       ends = Some (reading (length s.pipes) nonblock) ∷ Some (writing (length s.pipes) nonblock) ∷ []
 
       count : length s.descriptions + 2 ≡ length (s.descriptions ++ ends)
       count = omega (arith, length-append s.descriptions ends)
 
-      two : Sound (put_at s.processes (q - 1) (with_two (length s.descriptions) p)) (length (s.descriptions ++ ends))
-      two = subst (λ n. Sound (put_at s.processes (q - 1) (with_two (length s.descriptions) p)) n) count (sound-two s.processes (length s.descriptions) is (q - 1) (first_descriptor p) (second_descriptor p) p f.at_place f.free)
+      two : Sound (put_at s.processes (q - 1) (with_two (length s.descriptions) (length s.descriptions + 1) p)) (length (s.descriptions ++ ends))
+      two = subst (λ n. Sound (put_at s.processes (q - 1) (with_two (length s.descriptions) (length s.descriptions + 1) p)) n) count (sound-two s.processes (length s.descriptions) is (q - 1) (first_descriptor p) (second_descriptor p) p f.at_place f.free)
 
   -- the flag is no name
-  set_nonblock-sound : (p : Process) (fd : ℕ) (on : Bool) → Holds OutSound (set_nonblock s p fd on)
+  set_nonblock-sound : (p : Process ℕ) (fd : ℕ) (on : Bool) → Holds OutSound (set_nonblock itself s p fd on)
   set_nonblock-sound p fd on = carries OutSound (named p fd) _ (λ n.
       level-sound s.processes (change_at (with_nonblocking on) s.descriptions n) (record { people = refl; drawn = length-set s.descriptions n (option_map (with_nonblocking on) (at s.descriptions n)) }))
 
@@ -152,17 +152,17 @@ module _ (s : State Queue) (is : SoundState s) where
   LevelTried t = Level t.state.processes t.state.descriptions
 
   -- a transfer that waits is no open
-  abbrev LevelAttempt : Attempt → Type 0
+  abbrev LevelAttempt : Attempt Segment ℕ → Type 0
   LevelAttempt (Finished t reply) = Level t.processes t.descriptions
   LevelAttempt (Waits t call) = Level t.processes t.descriptions × (made_by (Some call) ≡ None)
 
   same : Level s.processes s.descriptions
   same = record { people = refl; drawn = refl }
 
-  tried-level : (p : Process) (call : Transfer) → Holds LevelTried (tried s p call)
-  tried-level p (Reading fd n) = carries LevelTried (reading_end s p fd) (λ e. Ok (try_read s e n)) (λ e. same)
+  tried-level : (p : Process ℕ) (call : Transfer) → Holds LevelTried (tried s p call)
+  tried-level p (Reading fd n) = carries LevelTried (reading_end itself s p fd) (λ e. Ok (try_read s e n)) (λ e. same)
   tried-level p (Writing fd x written) =
-      carries LevelTried (writing_end s p fd) (λ e. refuse_if (nat_lt MAX_WRITE (length x)) EINVAL >> Ok (try_write s e x written))
+      carries LevelTried (writing_end itself s p fd) (λ e. refuse_if (nat_lt MAX_WRITE (length x)) EINVAL >> Ok (try_write s e x written))
       (λ e. passes LevelTried (refuse_if (nat_lt MAX_WRITE (length x)) EINVAL) (Ok (try_write s e x written)) same)
   tried-level p (Bringing c source sink n) = carries LevelTried (two_ends s p source sink) (λ e. Ok (try_cross c s e n)) (λ e. same)
 
@@ -188,21 +188,21 @@ module _ (s : State Queue) (is : SoundState s) where
   told-level (Bringing c source sink n) t NoReader h = tt
   told-level (Bringing c source sink n) t WouldBlock h = (h, refl)
 
-  attempt-level : (q : ℕ) (p : Process) (call : Transfer) → Holds LevelAttempt (attempt s q p (Moving call))
+  attempt-level : (q : ℕ) (p : Process ℕ) (call : Transfer) → Holds LevelAttempt (attempt s q p (Moving call))
   attempt-level q p call = goes LevelTried LevelAttempt (tried s p call) (λ t. transfer_told call t t.progress) (tried-level p call) (λ t h. told-level call t t.progress h)
 
   -- a process waits in another call, or in none, and the others are as they were
-  waits-sound : (k : ℕ) (o : Option Call) (p : Process) → at s.processes k ≡ Some p → ((n : ℕ) → opens n o ≤ opens n p.parked)
-      → (ps : List (Option Process)) (ds : List (Option Description)) → Level ps ds → Sound (change_at (waiting o) ps k) (length ds)
+  waits-sound : (k : ℕ) (o : Option (Call ℕ)) (p : Process ℕ) → at s.processes k ≡ Some p → ((n : ℕ) → opens n o ≤ opens n p.parked)
+      → (ps : List (Option (Process ℕ))) (ds : List (Option (Description ℕ))) → Level ps ds → Sound (change_at (waiting o) ps k) (length ds)
   waits-sound k o p e less ps ds l =
       let here : at ps k ≡ Some p = ap (λ qs. at qs k) l.people ∙ e in
       let put : change_at (waiting o) ps k ≡ put_at s.processes k (waiting o p) = change-put (waiting o) ps k p here ∙ ap (λ qs. put_at qs k (waiting o p)) l.people in
       subst (λ qs. Sound qs (length ds)) (sym put) (subst (λ n. Sound (put_at s.processes k (waiting o p)) n) (sym l.drawn) (sound-wait s.processes (length s.descriptions) is k o p e less))
 
-  no_open : (o call : Option Call) → made_by o ≡ None → (n : ℕ) → opens n o ≤ opens n call
+  no_open : (o call : Option (Call ℕ)) → made_by o ≡ None → (n : ℕ) → opens n o ≤ opens n call
   no_open o call e n = let none : opens n o ≡ 0 = ap (λ (m : Option ℕ). weight (λ k. one_if (nat_eq k n)) m) e in omega (arith, none)
 
-  first-sound : (q : ℕ) (p : Process) → at s.processes (q - 1) ≡ Some p → (b : Bool) (a : Attempt) → LevelAttempt a → Holds OutSound (first q b a)
+  first-sound : (q : ℕ) (p : Process ℕ) → at s.processes (q - 1) ≡ Some p → (b : Bool) (a : Attempt Segment ℕ) → LevelAttempt a → Holds OutSound (first q b a)
   first-sound q p e b (Finished t reply) h = level-sound t.processes t.descriptions h
   first-sound q p e false (Waits t call) h = waits-sound (q - 1) (Some call) p e (no_open (Some call) p.parked h.1) t.processes t.descriptions h.0
   first-sound q p e true (Waits t call) h = by_none (nat_eq (written_of call) 0)
@@ -211,21 +211,21 @@ module _ (s : State Queue) (is : SoundState s) where
       by_none true = tt
       by_none false = level-sound t.processes t.descriptions h.0
 
-  transfer-sound : (q : ℕ) (p : Process) → Free (q - 1) p → (flag : Bool) (call : Transfer) → Holds OutSound (transfer s q p flag call)
+  transfer-sound : (q : ℕ) (p : Process ℕ) → Free (q - 1) p → (flag : Bool) (call : Transfer) → Holds OutSound (transfer s q p flag call)
   transfer-sound q p f flag call =
       goes LevelAttempt OutSound (attempt s q p (Moving call)) (first q (flag || nonblocking s p call)) (attempt-level q p call)
       (λ a h. first-sound q p f.at_place (flag || nonblocking s p call) a h)
 
   -- Resume
 
-  again-sound : (q : ℕ) (p : Process) → at s.processes (q - 1) ≡ Some p → (r : Result Attempt Errno) → Holds LevelAttempt r → OutSound (again s q r)
+  again-sound : (q : ℕ) (p : Process ℕ) → at s.processes (q - 1) ≡ Some p → (r : Result (Attempt Segment ℕ) Errno) → Holds LevelAttempt r → OutSound (again s q r)
   again-sound q p e (Ok (Finished t reply)) h = waits-sound (q - 1) None p e (no_open None p.parked refl) t.processes t.descriptions h
   again-sound q p e (Ok (Waits t call)) h = waits-sound (q - 1) (Some call) p e (no_open (Some call) p.parked h.1) t.processes t.descriptions h.0
   again-sound q p e (Err x) h = waits-sound (q - 1) None p e (no_open None p.parked refl) s.processes s.descriptions same
 
   -- the name goes to a descriptor, or the open waits on
-  opening-sound : (q : ℕ) (p : Process) (n kept : ℕ) → at s.processes (q - 1) ≡ Some p → p.parked ≡ Some (Opening n kept) → OutSound (again s q (attempt s q p (Opening n kept)))
-  opening-sound q p n kept e w = by_end (or_refuse EBADF (end_at s n))
+  opening-sound : (q : ℕ) (p : Process ℕ) (n kept : ℕ) → at s.processes (q - 1) ≡ Some p → p.parked ≡ Some (Opening n kept) → OutSound (again s q (attempt s q p (Opening n kept)))
+  opening-sound q p n kept e w = by_end (or_refuse EBADF (end_at itself s n))
     where
       new : ℕ
       new = first_free p.descriptors
@@ -237,26 +237,26 @@ module _ (s : State Queue) (is : SoundState s) where
       by_came true = moved
       by_came false = waits-sound (q - 1) (Some (Opening n kept)) p e (λ m. let both : opens m p.parked ≡ opens m (Some (Opening n kept)) = ap (opens m) w in omega (arith, both)) s.processes s.descriptions same
 
-      by_end : (r : Result (End Queue) Errno) → OutSound (again s q (r >>= (λ e. Ok (open_told s q p n kept e))))
+      by_end : (r : Result (End Segment ℕ) Errno) → OutSound (again s q (r >>= (λ e. Ok (open_told s q p n kept e))))
       by_end (Err x) = waits-sound (q - 1) None p e (no_open None p.parked refl) s.processes s.descriptions same
       by_end (Ok x) = by_came (nat_lt kept (other_opens x))
 
-  resume-sound : (q : ℕ) (p : Process) → Stands (q - 1) p → Holds OutSound (resume s q p)
+  resume-sound : (q : ℕ) (p : Process ℕ) → Stands (q - 1) p → Holds OutSound (resume s q p)
   resume-sound q p h = found OutSound EINVAL p.parked (λ call. Ok (again s q (attempt s q p call))) by_call
     where
-      by_call : (call : Call) → p.parked ≡ Some call → OutSound (again s q (attempt s q p call))
+      by_call : (call : Call ℕ) → p.parked ≡ Some call → OutSound (again s q (attempt s q p call))
       by_call (Opening n kept) w = opening-sound q p n kept h.at_place w
       by_call (Moving call) w = again-sound q p h.at_place (attempt s q p (Moving call)) (attempt-level q p call)
 
   -- Open
 
-  open_pipe-sound : (t : State Queue) → Level t.processes t.descriptions → (q : ℕ) (p : Process) → Free (q - 1) p → (a : Access) (n : ℕ) → Holds OutSound (first q false (open_pipe t q p a n))
-  open_pipe-sound t l q p f a n = by_other (is_waiting a (readers t n) (writers t n))
+  open_pipe-sound : (t : State Segment ℕ) → Level t.processes t.descriptions → (q : ℕ) (p : Process ℕ) → Free (q - 1) p → (a : Access) (n : ℕ) → Holds OutSound (first q false (open_pipe itself (length s.descriptions) n t q p a n))
+  open_pipe-sound t l q p f a n = by_other (is_waiting a (readers itself t n) (writers itself t n))
     where
-      d : Description
+      d : Description ℕ
       d = record { pipe = n; reads = a.reads; writes = a.writes; nonblocking = a.nonblock }
 
-      made : State Queue
+      made : State Segment ℕ
       made = change_pipe (counted a) (record t { descriptions = t.descriptions ++ Some d ∷ [] }) n
 
       drawn : length s.descriptions + 1 ≡ length made.descriptions
@@ -265,49 +265,49 @@ module _ (s : State Queue) (is : SoundState s) where
       here : at t.processes (q - 1) ≡ Some p
       here = ap (λ qs. at qs (q - 1)) l.people ∙ f.at_place
 
-      as_drawn : (x : Process) (ps : List (Option Process)) → ps ≡ put_at s.processes (q - 1) x → Sound (put_at s.processes (q - 1) x) (length s.descriptions + 1) → Sound ps (length made.descriptions)
+      as_drawn : (x : Process ℕ) (ps : List (Option (Process ℕ))) → ps ≡ put_at s.processes (q - 1) x → Sound (put_at s.processes (q - 1) x) (length s.descriptions + 1) → Sound ps (length made.descriptions)
       as_drawn x ps e h = subst (λ qs. Sound qs (length made.descriptions)) (sym e) (subst (λ m. Sound (put_at s.processes (q - 1) x) m) drawn h)
 
-      waits : (kept : ℕ) → Sound (change_at (waiting (Some (Opening (length t.descriptions) kept))) t.processes (q - 1)) (length made.descriptions)
+      waits : (kept : ℕ) → Sound (change_at (waiting (Some (Opening (length s.descriptions) kept))) t.processes (q - 1)) (length made.descriptions)
       waits kept =
           let w = waiting (Some (Opening (length s.descriptions) kept)) p in
-          as_drawn w _ (change-put (waiting (Some (Opening (length t.descriptions) kept))) t.processes (q - 1) p here ∙ ap (λ qs. put_at qs (q - 1) (waiting (Some (Opening (length t.descriptions) kept)) p)) l.people ∙ ap (λ m. put_at s.processes (q - 1) (waiting (Some (Opening m kept)) p)) l.drawn)
+          as_drawn w _ (change-put (waiting (Some (Opening (length s.descriptions) kept))) t.processes (q - 1) p here ∙ ap (λ qs. put_at qs (q - 1) (waiting (Some (Opening (length s.descriptions) kept)) p)) l.people)
           (sound-park s.processes (length s.descriptions) is (q - 1) kept p f.at_place)
 
-      has : Sound (put_at t.processes (q - 1) (with_descriptor (first_free p.descriptors) (length t.descriptions) p)) (length made.descriptions)
+      has : Sound (put_at t.processes (q - 1) (with_descriptor (first_free p.descriptors) (length s.descriptions) p)) (length made.descriptions)
       has =
           let x = with_descriptor (first_free p.descriptors) (length s.descriptions) p in
-          as_drawn x _ (ap (λ qs. put_at qs (q - 1) (with_descriptor (first_free p.descriptors) (length t.descriptions) p)) l.people ∙ ap (λ m. put_at s.processes (q - 1) (with_descriptor (first_free p.descriptors) m p)) l.drawn)
+          as_drawn x _ (ap (λ qs. put_at qs (q - 1) (with_descriptor (first_free p.descriptors) (length s.descriptions) p)) l.people)
           (sound-one s.processes (length s.descriptions) is (q - 1) (first_free p.descriptors) p f.at_place f.free)
 
-      by_other : (b : Bool) → Holds OutSound (first q false (if b then Waits made (Opening (length t.descriptions) (kept_by a (at t.pipes n))) else given made q p (length t.descriptions)))
+      by_other : (b : Bool) → Holds OutSound (first q false (if b then Waits made (Opening (length s.descriptions) (kept_by a (at t.pipes n))) else given made q p (length s.descriptions)))
       by_other true = waits (kept_by a (at t.pipes n))
       by_other false = has
 
-  abbrev FoundLevel : Found → Type 0
+  abbrev FoundLevel : Found Segment ℕ → Type 0
   FoundLevel f = Level f.state.processes f.state.descriptions
 
-  pipe_of-level : (c : Limits) (p : Process) (file : ℕ) (o : Option ℕ) → Holds FoundLevel (pipe_of c s p file o)
+  pipe_of-level : (c : Limits) (p : Process ℕ) (file : ℕ) (o : Option ℕ) → Holds FoundLevel (pipe_of c s p file o)
   pipe_of-level c p file (Some n) = same
   pipe_of-level c p file None =
       passes FoundLevel (refuse_if (is_spent s.pipes 1) ENFILE) _ (carries FoundLevel (told_as ENOMEM (capacity_for c s p.cred)) _ (λ slots. same))
 
-  open-sound : (c : Limits) (q : ℕ) (p : Process) → Free (q - 1) p → (path : List ℕ) (a : Access) → Holds OutSound (open_path c s q p path a)
-  open-sound c q p f path a = carries OutSound (openable s.files p.cred path a) (λ file. open_fifo c s q p a file.number) (λ file. opened file.number)
+  open-sound : (c : Limits) (q : ℕ) (p : Process ℕ) → Free (q - 1) p → (path : List ℕ) (a : Access) → Holds OutSound (open_path itself (length s.descriptions) itself c s q p path a)
+  open-sound c q p f path a = carries OutSound (openable s.files p.cred path a) (λ file. open_fifo itself (length s.descriptions) itself c s q p a file.number) (λ file. opened file.number)
     where
-      opened : (file : ℕ) → Holds OutSound (open_fifo c s q p a file)
+      opened : (file : ℕ) → Holds OutSound (open_fifo itself (length s.descriptions) itself c s q p a file)
       opened file =
           passes OutSound (refuse_if (nat_le MAX_DESCRIPTORS (first_free p.descriptors)) EMFILE) _
-          (passes OutSound (refuse_if (a.writes && not a.reads && a.nonblock && nat_eq (fifo_readers s (fifo_pipe s file)) 0) ENXIO) _
+          (passes OutSound (refuse_if (a.writes && not a.reads && a.nonblock && nat_eq (fifo_readers itself s (fifo_pipe s file)) 0) ENXIO) _
           (passes OutSound (refuse_if (is_spent s.descriptions 1) ENFILE) _
-          (goes FoundLevel OutSound (pipe_of c s p file (fifo_pipe s file)) (λ found. first q false (open_pipe found.state q p a found.pipe))
+          (goes FoundLevel OutSound (pipe_of c s p file (fifo_pipe s file)) (λ found. first q false (open_pipe itself (length s.descriptions) found.pipe found.state q p a found.pipe))
           (pipe_of-level c p file (fifo_pipe s file))
           (λ found l. open_pipe-sound found.state l q p f a found.pipe))))
 
   -- Steps
 
   kept : (c : Limits) (step : Step) → Holds OutSound (call c s step)
-  kept c (steps.Spawn uid gid groups umask) = spawn-sound (record { uid = uid; gid = gid; groups = groups; umask = umask })
+  kept c (steps.Spawn uid gid umask groups) = spawn-sound (record { uid = uid; gid = gid; groups = groups; umask = umask })
   kept c (steps.Exit pid) = carries OutSound (living s pid) (λ p. exit s pid) (λ p. sound-clear s.processes (length s.descriptions) is (pid - 1))
   kept c (steps.Resume pid) = goes (Stands (pid - 1)) OutSound (living s pid) (λ p. resume s pid p) (living-stands pid) (λ p h. resume-sound pid p h)
   kept c (steps.Fork pid) = by_ready pid _ (λ p f. fork-sound pid p f)
@@ -333,24 +333,24 @@ module _ (s : State Queue) (is : SoundState s) where
   act-sound : (c : Limits) (step : Step) → OutSound (act c s step)
   act-sound c step = settled (call c s step) (kept c step)
     where
-      settled : (r : Result Outcome Errno) → Holds OutSound r → OutSound (settle s r)
+      settled : (r : Result (Outcome Segment ℕ) Errno) → Holds OutSound r → OutSound (settle s r)
       settled (Ok o) h = h
       settled (Err e) h = is
 
 -- Runs
 
 -- a state that was swept
-pub record Standing (s : State Queue) : Type 0 where
+pub record Standing (s : State Segment ℕ) : Type 0 where
   pub sound : SoundState s
-  pub swept : s.descriptions ≡ (sweep s).descriptions
+  pub swept : s.descriptions ≡ (sweep itself s).descriptions
 
-swept-standing : (s : State Queue) → SoundState s → Standing (sweep s)
+swept-standing : (s : State Segment ℕ) → SoundState s → Standing (sweep itself s)
 swept-standing s is = record {
-  sound = subst (λ n. Sound s.processes n) (sym (length-keep (λ n. nat_lt 0 (names s.processes n)) s.descriptions)) is;
-  swept = ap (λ (t : State Queue). t.descriptions) (sym (sweep-sweep s s.processes s.processes (λ k. omega arith)));
+  sound = subst (λ n. Sound s.processes n) (sym (length-keep (λ n. nat_lt 0 (names itself s.processes n)) s.descriptions)) is;
+  swept = ap (λ (t : State Segment ℕ). t.descriptions) (sym (sweep-sweep itself s s.processes s.processes (λ k. omega arith)));
 }
 
-run-standing : (c : Limits) (s : State Queue) (xs : List Step) → Standing s → Standing (run_of c s xs).state
+run-standing : (c : Limits) (s : State Segment ℕ) (xs : List Step) → Standing s → Standing (run_of c s xs).state
 run-standing c s [] h = h
 run-standing c s (x ∷ xs) h = run-standing c (step_of c s x).state xs (swept-standing (act c s x).state (act-sound s h.sound c x))
 

@@ -5,7 +5,7 @@ use Rattle.std.proofs.lemmas.Bool.{eq-eqb}
 use Rattle.std.specs.Prelude.{Result}
 use Rattle.pf_machine.specs.Refusals.{◌>>=◌, or_refuse}
 use Rattle.pf_base.specs.Limits.{Limits}
-use Rattle.pf_machine.specs.Queue.{Queue, taken}
+use Rattle.pf_machine.specs.Queue.{Segment, taken}
 use Rattle.pf_machine.specs.Progress.{moved}
 use Rattle.pf_base.specs.declared.errno.Errno.{Errno}
 use Rattle.pf_base.specs.declared.errno.Errno.TheVariants.{EBADF, EINVAL, EPIPE}
@@ -16,7 +16,7 @@ use Rattle.pf_base.specs.declared.step.Reply.TheVariants as replies
 use Rattle.pf_base.specs.declared.step.Step.{Step}
 use Rattle.pf_base.specs.declared.step.Step.TheVariants as steps
 use Rattle.pf_machine.specs.Calls.{Reading, Writing, Bringing, Call, Opening, Moving}
-use Rattle.pf_machine.specs.State.{State, Process, End, settle, living, ready, end_at, reading_end}
+use Rattle.pf_machine.specs.State.{itself, State, Process, End, settle, living, ready, end_at, reading_end}
 use Rattle.pf_machine.specs.Transfers.{Tried, tried, try_read}
 use Rattle.pf_machine.specs.Attempts.{Attempt, Finished, Waits, given, other_opens, open_told, write_told, cross_told, read_told, transfer_told, attempt, first, again, nonblocking, transfer, resume}
 use Rattle.pf_machine.specs.Files.{list}
@@ -28,7 +28,7 @@ use Rattle.pf_machine.proofs.ReplyLaws.{Few, quiet, few}
 use Rattle.pf_laws.specs.Streams.{tried_call, if_at, taken_out, says_out, Took}
 use Rattle.pf_laws.proofs.TakenLaws.{IsSilent, Telling, telling-first, telling-again, taken_told}
 
-module _ (s : State Queue) where
+module _ (s : State Segment ℕ) where
   -- these bytes went out of one pipe
   abbrev Gone : Result Tried Errno → List ℕ → Type 0
   Gone r y = (n : ℕ) × (taken_out n r ≡ y)
@@ -41,8 +41,8 @@ module _ (s : State Queue) where
     pub from : t.from ≡ Some pipe
     pub none : moved t.progress ≡ 0 → t.bytes ≡ []
 
-  tried-reads : (w : Process) (fd n : ℕ) → Holds Reads (tried s w (Reading fd n))
-  tried-reads w fd n = carries Reads (reading_end s w fd) (λ e. Ok (try_read s e n))
+  tried-reads : (w : Process ℕ) (fd n : ℕ) → Holds Reads (tried s w (Reading fd n))
+  tried-reads w fd n = carries Reads (reading_end itself s w fd) (λ e. Ok (try_read s e n))
       (λ e. record { pipe = e.description.pipe; from = refl; none = λ z. ap (λ m. taken e.pipe.queue m) z })
 
   gone-all : (t : Tried) → Reads t → (y : List ℕ) → t.bytes ≡ y → Gone (Ok t) y
@@ -57,7 +57,7 @@ module _ (s : State Queue) where
       ⊎_elim (λ parked. absurd (cc)) (λ error. let refused : reply ≡ replies.Err error.0 = error.1 in absurd
       (cc)) silent
 
-  module _ (tell : Result Attempt Errno → Reply) (how : Telling 0 s tell) (fd n : ℕ) (y : List ℕ) where
+  module _ (tell : Result (Attempt Segment ℕ) Errno → Reply) (how : Telling 0 s tell) (fd n : ℕ) (y : List ℕ) where
     read-gone : (t : Tried) (r : Progress) → t.progress ≡ r → Reads t
         → tell (read_told (Moving (Reading fd n)) t r) ≡ replies.Bytes y → Gone (Ok t) y
     read-gone t (Moved k) e h told =
@@ -82,7 +82,7 @@ module _ (s : State Queue) where
   -- The Resume of a call
 
   -- nothing is told of bytes
-  abbrev Mute : Result Attempt Errno → Type 0
+  abbrev Mute : Result (Attempt Segment ℕ) Errno → Type 0
   Mute (Ok (Finished t reply)) = (y : List ℕ) → reply ≡ replies.Bytes y → ⊥
   Mute (Ok (Waits t call)) = Unit {0}
   Mute (Err e) = Unit {0}
@@ -105,17 +105,18 @@ module _ (s : State Queue) where
   write-mute fd x d t EndOfFile = tt
   write-mute fd x d t WouldBlock = tt
 
-  cross-mute : (call : Call) (t : Tried) (r : Progress) → Mute (cross_told call t r)
+  cross-mute : (call : Call ℕ) (t : Tried) (r : Progress) → Mute (cross_told call t r)
   cross-mute call t (Moved n) = number n
   cross-mute call t EndOfFile = number 0
   cross-mute call t NoReader = tt
   cross-mute call t WouldBlock = tt
 
-  then-mute : (r : Result Tried Errno) (f : Tried → Result Attempt Errno) → ((t : Tried) → Mute (f t)) → Mute (r >>= f)
+  then-mute : (r : Result Tried Errno) (f : Tried → Result (Attempt Segment ℕ) Errno) → ((t : Tried) → Mute (f t))
+      → Mute (r >>= f)
   then-mute (Ok t) f h = h t
   then-mute (Err e) f h = tt
 
-  open-mute : (pid : ℕ) (w : Process) (n kept : ℕ) (r : Result (End Queue) Errno)
+  open-mute : (pid : ℕ) (w : Process ℕ) (n kept : ℕ) (r : Result (End Segment ℕ) Errno)
       → Mute (r >>= (λ e. Ok (open_told s pid w n kept e)))
   open-mute pid w n kept (Err e) = tt
   open-mute pid w n kept (Ok e) = by_test (nat_lt kept (other_opens e))
@@ -124,18 +125,19 @@ module _ (s : State Queue) where
       by_test true = number _
       by_test false = tt
 
-  mute-again : (pid : ℕ) (y : List ℕ) (r : Result Attempt Errno) → Mute r → (again s pid r).reply ≡ replies.Bytes y → ⊥
+  mute-again : (pid : ℕ) (y : List ℕ) (r : Result (Attempt Segment ℕ) Errno) → Mute r
+      → (again s pid r).reply ≡ replies.Bytes y → ⊥
   mute-again pid y (Ok (Finished t reply)) h e = h y e
   mute-again pid y (Ok (Waits t call)) h e = absurd (cc)
   mute-again pid y (Err x) h e = absurd (cc)
 
-  again-gone : (pid : ℕ) (w : Process) (y : List ℕ) (o : Option Call)
+  again-gone : (pid : ℕ) (w : Process ℕ) (y : List ℕ) (o : Option (Call ℕ))
       → (settle s (or_refuse EINVAL o >>= (λ call. Ok (again s pid (attempt s pid w call))))).reply ≡ replies.Bytes y
       → Gone (or_refuse EINVAL o >>= tried_call s w) y
   again-gone pid w y None e = absurd (cc)
   again-gone pid w y (Some (Opening n kept)) e =
       absurd (mute-again pid y (attempt s pid w (Opening n kept))
-      (open-mute pid w n kept (or_refuse EBADF (end_at s n))) e)
+      (open-mute pid w n kept (or_refuse EBADF (end_at itself s n))) e)
   again-gone pid w y (Some (Moving (Reading fd n))) e =
       tried-gone (λ r. (again s pid r).reply) (telling-again 0 s pid) fd n y (tried s w (Reading fd n))
       (tried-reads w fd n) e
@@ -149,7 +151,7 @@ module _ (s : State Queue) where
       (λ t. cross_told (Moving (Bringing c source sink n)) t t.progress)
       (λ t. cross-mute (Moving (Bringing c source sink n)) t t.progress)) e)
 
-  resume-gone : (pid : ℕ) (y : List ℕ) (r : Result Process Errno)
+  resume-gone : (pid : ℕ) (y : List ℕ) (r : Result (Process ℕ) Errno)
       → (settle s (r >>= (λ w. resume s pid w))).reply ≡ replies.Bytes y
       → Gone (r >>= (λ w. or_refuse EINVAL w.parked >>= tried_call s w)) y
   resume-gone pid y (Ok w) e = again-gone pid w y w.parked e
@@ -157,7 +159,7 @@ module _ (s : State Queue) where
 
   -- Steps
 
-  ready-gone : (pid fd n : ℕ) (y : List ℕ) (r : Result Process Errno)
+  ready-gone : (pid fd n : ℕ) (y : List ℕ) (r : Result (Process ℕ) Errno)
       → (settle s (r >>= (λ w. transfer s pid w false (Reading fd n)))).reply ≡ replies.Bytes y
       → Gone (r >>= (λ w. tried s w (Reading fd n))) y
   ready-gone pid fd n y (Ok w) e =
@@ -166,7 +168,7 @@ module _ (s : State Queue) where
       (tried s w (Reading fd n)) (tried-reads w fd n) e
   ready-gone pid fd n y (Err x) e = absurd (cc)
 
-  list-mute : (y path : List ℕ) (r : Result Process Errno)
+  list-mute : (y path : List ℕ) (r : Result (Process ℕ) Errno)
       → (settle s (r >>= (λ w. list s w path))).reply ≡ replies.Bytes y → ⊥
   list-mute y path (Err x) e = absurd (cc)
   list-mute y path (Ok w) e = by_names (calls.list s.files w.cred path) e

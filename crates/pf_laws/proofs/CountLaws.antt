@@ -6,7 +6,7 @@ use Rattle.std.proofs.lemmas.List.Elements.{All-cons, All-nil}
 use Rattle.std.specs.Prelude.{Result, is_some, map, filter, All, ⊤}
 use Rattle.pf_machine.specs.Refusals.{◌>>=◌, ◌>>◌, refuse_if, or_refuse}
 use Rattle.pf_base.specs.Limits.{Limits}
-use Rattle.pf_machine.specs.Queue.{Queue, free_of, taken}
+use Rattle.pf_machine.specs.Queue.{Segment, Queue, free_of, taken}
 use Rattle.pf_machine.proofs.QueueLaws.{joined-copied}
 use Rattle.pf_machine.specs.Progress.{Crossed, moved, is_empty, write_now, cross_now}
 use Rattle.pf_machine.specs.Numbered.{at}
@@ -21,8 +21,8 @@ use Rattle.pf_base.specs.declared.step.Reply.{Reply}
 use Rattle.pf_base.specs.declared.step.Reply.TheVariants as replies
 use Rattle.pf_base.specs.declared.step.Step.{Step}
 use Rattle.pf_base.specs.declared.step.Step.TheVariants as steps
-use Rattle.pf_machine.specs.Calls.{Transfer, Reading, Writing, Bringing, Call, Opening, Moving, written_of}
-use Rattle.pf_machine.specs.State.{State, Process, End, Outcome, opening, settle, living, ready, writing_end, change_process, waiting, told as outcome}
+use Rattle.pf_machine.specs.Calls.{Transfer, Reading, Writing, Bringing, Call, Opening, Moving, went_in}
+use Rattle.pf_machine.specs.State.{itself, State, Process, End, Outcome, opening, settle, living, ready, writing_end, change_process, waiting, told as outcome}
 use Rattle.pf_machine.specs.Counts.{readers, writers}
 use Rattle.pf_machine.specs.Transfers.{Tried, tried, try_write, two_ends, try_cross}
 use Rattle.pf_machine.specs.Attempts.{Attempt, Finished, Waits, write_told, cross_told, transfer_told, attempt, first, again, nonblocking, transfer, resume}
@@ -53,7 +53,7 @@ Giving (Bringing c source sink n) = ⊤
 
 -- What a try gives
 
-pub record Gives (s : State Queue) (t : Tried) : Type 0 where
+pub record Gives (s : State Segment ℕ) (t : Tried) : Type 0 where
   pub into : is_some t.into ≡ true
   pub count : length t.bytes ≡ moved t.progress
   pub processes : t.state.processes ≡ s.processes
@@ -68,36 +68,36 @@ cross_now-count c source sink writers readers n =
     branch P (is_empty source || nat_eq (free_of sink) 0) _ _ (λ _. refl)
     (λ _. sym (ap (λ (y : List ℕ). length y) (joined-copied (free_of sink) n source.segments))))))
 
-tried-gives : (s : State Queue) (p : Process) (call : Transfer) → Giving call → Holds (Gives s) (tried s p call)
+tried-gives : (s : State Segment ℕ) (p : Process ℕ) (call : Transfer) → Giving call → Holds (Gives s) (tried s p call)
 tried-gives s p (Reading fd n) g = absurd g
 tried-gives s p (Writing fd x d) g =
-    carries (Gives s) (writing_end s p fd) (λ e. refuse_if (nat_lt MAX_WRITE (length x)) EINVAL >> Ok
+    carries (Gives s) (writing_end itself s p fd) (λ e. refuse_if (nat_lt MAX_WRITE (length x)) EINVAL >> Ok
     (try_write s e x d)) (λ e.
     passes (Gives s) (refuse_if (nat_lt MAX_WRITE (length x)) EINVAL) (Ok (try_write s e x d))
     (record { into = refl; count = count e; processes = refl }))
   where
-    count : (e : End Queue) → let t = try_write s e x d in length t.bytes ≡ moved t.progress
+    count : (e : End Segment ℕ) → let t = try_write s e x d in length t.bytes ≡ moved t.progress
     count e =
         let whole = nat_le (length x) PIPE_BUF in
-        let r = write_now e.pipe.queue (readers s e.description.pipe) whole (drop d x) in
-        let w = writes e.pipe.queue whole (drop d x) (readers s e.description.pipe) in
+        let r = write_now e.pipe.queue (readers itself s e.description.pipe) whole (drop d x) in
+        let w = writes e.pipe.queue whole (drop d x) (readers itself s e.description.pipe) in
         omega (arith, w.number, length-take (moved r.progress) (drop d x))
 tried-gives s p (Bringing c source sink n) g =
     carries (Gives s) (two_ends s p source sink) (λ e. Ok (try_cross c s e n)) (λ e. record {
       into = refl;
-      count = cross_now-count c e.source.pipe.queue e.sink.pipe.queue (writers s e.source.description.pipe)
-          (readers s e.sink.description.pipe) n;
+      count = cross_now-count c e.source.pipe.queue e.sink.pipe.queue (writers itself s e.source.description.pipe)
+          (readers itself s e.sink.description.pipe) n;
       processes = refl;
     })
 
 -- What is told of it
 
-module _ (s : State Queue) where
+module _ (s : State Segment ℕ) where
   -- where so many bytes went in all: it is finished and told so, it waits with so much done, or it is refused with none
-  abbrev Counted : ℕ → Result Attempt Errno → Type 0
+  abbrev Counted : ℕ → Result (Attempt Segment ℕ) Errno → Type 0
   Counted m (Ok (Finished t reply)) = Counts m reply × (t.processes ≡ s.processes)
   Counted m (Ok (Waits t (Opening n kept))) = ⊥
-  Counted m (Ok (Waits t (Moving next))) = Giving next × ((written_of (Moving next) ≡ m) × (t.processes ≡ s.processes))
+  Counted m (Ok (Waits t (Moving next))) = Giving next × ((went_in next ≡ m) × (t.processes ≡ s.processes))
   Counted m (Err e) = m ≡ 0
 
   write-counted : (fd : ℕ) (x : List ℕ) (d : ℕ) (t : Tried) (r : Progress) → t.progress ≡ r → Gives s t
@@ -132,40 +132,40 @@ module _ (s : State Queue) where
       (tt, (omega (arith, h.count, ap (λ (y : Progress). moved y) e), h.processes))
 
   told-counted : (call : Transfer) → Giving call → (t : Tried) → Gives s t
-      → Counted (written_of (Moving call) + length t.bytes) (transfer_told call t t.progress)
+      → Counted (went_in call + length t.bytes) (transfer_told call t t.progress)
   told-counted (Reading fd n) g t h = absurd g
   told-counted (Writing fd x d) g t h = write-counted fd x d t t.progress refl h
   told-counted (Bringing c source sink n) g t h = cross-counted c source sink n t t.progress refl h
 
   -- a call that is refused has given nothing before
   attempt-counted : (call : Transfer) → Giving call → (r : Result Tried Errno) → Holds (Gives s) r
-      → IsOk r ⊎ (written_of (Moving call) ≡ 0)
-      → Counted (written_of (Moving call) + length (put_any r)) (r >>= (λ t. transfer_told call t t.progress))
+      → IsOk r ⊎ (went_in call ≡ 0)
+      → Counted (went_in call + length (put_any r)) (r >>= (λ t. transfer_told call t t.progress))
   attempt-counted call g (Ok t) h may =
-      subst (λ (x : List ℕ). Counted (written_of (Moving call) + length x) (transfer_told call t t.progress))
+      subst (λ (x : List ℕ). Counted (went_in call + length x) (transfer_told call t t.progress))
       (sym (ap (λ b. if b then t.bytes else []) h.into)) (told-counted call g t h)
   attempt-counted call g (Err e) h may = ⊎_elim (λ ok. absurd ok) (λ none. omega (arith, none)) may
 
 -- What a step is told
 
 -- a process waits in a call that has given so many bytes
-pub record Parks (o : Outcome) (i m : ℕ) : Type 0 where
+pub record Parks (o : Outcome Segment ℕ) (i m : ℕ) : Type 0 where
   pub next : Transfer
   pub giving : Giving next
-  pub count : written_of (Moving next) ≡ m
+  pub count : went_in next ≡ m
   pub waits : InCall o.state i next
   pub parked : o.reply ≡ replies.Parked
 
 -- a call is over, and told that it gave so many
-pub record Tells (E : State Queue → Type 0) (o : Outcome) (m : ℕ) : Type 0 where
+pub record Tells (E : State Segment ℕ → Type 0) (o : Outcome Segment ℕ) (m : ℕ) : Type 0 where
   pub counts : Counts m o.reply
   pub over : E o.state
 
-module _ (s : State Queue) (i : ℕ) (w : Process) (here : at s.processes i ≡ Some w) where
-  still : (t : State Queue) → t.processes ≡ s.processes → at t.processes i ≡ Some w
+module _ (s : State Segment ℕ) (i : ℕ) (w : Process ℕ) (here : at s.processes i ≡ Some w) where
+  still : (t : State Segment ℕ) → t.processes ≡ s.processes → at t.processes i ≡ Some w
   still t e = ap (λ ps. at ps i) e ∙ here
 
-  parks : (t : State Queue) (next : Transfer) (m : ℕ) → Giving next → written_of (Moving next) ≡ m
+  parks : (t : State Segment ℕ) (next : Transfer) (m : ℕ) → Giving next → went_in next ≡ m
       → t.processes ≡ s.processes
       → Parks (outcome (change_process (waiting (Some (Moving next))) t (suc i)) replies.Parked) i m
   parks t next m g count e = record {
@@ -181,64 +181,64 @@ module _ (s : State Queue) (i : ℕ) (w : Process) (here : at s.processes i ≡ 
     parked = refl;
   }
 
-  ended : (t : State Queue) → t.processes ≡ s.processes → is_parked (change_process (waiting None) t (suc i))
+  ended : (t : State Segment ℕ) → t.processes ≡ s.processes → is_parked (change_process (waiting None) t (suc i))
       (suc i) ≡ false
   ended t e = ap in_call (at-change (waiting None) t.processes i w (still t e))
 
-  over : (t : State Queue) → t.processes ≡ s.processes → Over s t i
+  over : (t : State Segment ℕ) → t.processes ≡ s.processes → Over s t i
   over t e z = sym (ap in_call (still t e ∙ sym here)) ∙ z
 
-  again-tells : (m : ℕ) (r : Result Attempt Errno) → Counted s m r → Parks (again s (suc i) r) i m ⊎ Tells
+  again-tells : (m : ℕ) (r : Result (Attempt Segment ℕ) Errno) → Counted s m r → Parks (again s (suc i) r) i m ⊎ Tells
       (λ t. is_parked t (suc i) ≡ false) (again s (suc i) r) m
   again-tells m (Ok (Finished t reply)) h = inr (record { counts = h.0; over = ended t h.1 })
   again-tells m (Ok (Waits t (Opening n kept))) h = absurd h
   again-tells m (Ok (Waits t (Moving next))) h = inl (parks t next m h.0 h.1.0 h.1.1)
   again-tells m (Err e) h = inr (record { counts = h; over = ended s refl })
 
-  first-tells : (b : Bool) (m : ℕ) (r : Result Attempt Errno) → Counted s m r
+  first-tells : (b : Bool) (m : ℕ) (r : Result (Attempt Segment ℕ) Errno) → Counted s m r
       → Parks (settle s (r >>= first (suc i) b)) i m ⊎ Tells (λ t. Over s t i) (settle s (r >>= first (suc i) b)) m
   first-tells b m (Ok (Finished t reply)) h = inr (record { counts = h.0; over = over t h.1 })
   first-tells b m (Ok (Waits t (Opening n kept))) h = absurd h
   first-tells false m (Ok (Waits t (Moving next))) h = inl (parks t next m h.0 h.1.0 h.1.1)
-  first-tells true m (Ok (Waits t (Moving next))) h = inr (by_test (nat_eq (written_of (Moving next)) 0) refl)
+  first-tells true m (Ok (Waits t (Moving next))) h = inr (by_test (nat_eq (went_in next) 0) refl)
     where
-      by_test : (z : Bool) → nat_eq (written_of (Moving next)) 0 ≡ z → Tells (λ u. Over s u i)
-          (settle s (if z then Err EAGAIN else Ok (outcome t (replies.Num (written_of (Moving next)))))) m
-      by_test true f = record { counts = omega (arith, h.1.0, eqb-true (written_of (Moving next)) 0 f); over = λ z. z }
+      by_test : (z : Bool) → nat_eq (went_in next) 0 ≡ z → Tells (λ u. Over s u i)
+          (settle s (if z then Err EAGAIN else Ok (outcome t (replies.Num (went_in next))))) m
+      by_test true f = record { counts = omega (arith, h.1.0, eqb-true (went_in next) 0 f); over = λ z. z }
       by_test false f = record { counts = sym h.1.0; over = over t h.1.1 }
   first-tells b m (Err e) h = inr (record { counts = h; over = λ z. z })
 
 -- the Resume of a process that waits
-module _ (s : State Queue) (i : ℕ) (call : Transfer) (g : Giving call) (w : InCall s i call)
+module _ (s : State Segment ℕ) (i : ℕ) (call : Transfer) (g : Giving call) (w : InCall s i call)
     (may : IsOk (tried s w.who call)) where
   -- what comes of it
-  abbrev Came : Result Outcome Errno → Result Tried Errno → Type 0
+  abbrev Came : Result (Outcome Segment ℕ) Errno → Result Tried Errno → Type 0
   Came r q =
-      let m = written_of (Moving call) + length (put_any q) in
+      let m = went_in call + length (put_any q) in
       Parks (settle s r) i m ⊎ Tells (λ t. is_parked t (suc i) ≡ false) (settle s r) m
 
-  resume-parked : (o : Option Call) → Some (Moving call) ≡ o
+  resume-parked : (o : Option (Call ℕ)) → Some (Moving call) ≡ o
       → Came (or_refuse EINVAL o >>= (λ call. Ok (again s (suc i) (attempt s (suc i) w.who call))))
       (or_refuse EINVAL o >>= tried_call s w.who)
   resume-parked o e =
-      subst (λ (o : Option Call). Came
+      subst (λ (o : Option (Call ℕ)). Came
       (or_refuse EINVAL o >>= (λ call. Ok (again s (suc i) (attempt s (suc i) w.who call))))
       (or_refuse EINVAL o >>= tried_call s w.who)) e
-      (again-tells s i w.who w.stands (written_of (Moving call) + length (put_any (tried s w.who call)))
+      (again-tells s i w.who w.stands (went_in call + length (put_any (tried s w.who call)))
       (attempt s (suc i) w.who (Moving call))
       (attempt-counted s call g (tried s w.who call) (tried-gives s w.who call g) (inl may)))
 
   resume-came : Came (living s (suc i) >>= (λ p. resume s (suc i) p))
       (living s (suc i) >>= (λ p. or_refuse EINVAL p.parked >>= tried_call s p))
   resume-came =
-      subst (λ (o : Option Process). Came (or_refuse ESRCH o >>= (λ p. resume s (suc i) p))
+      subst (λ (o : Option (Process ℕ)). Came (or_refuse ESRCH o >>= (λ p. resume s (suc i) p))
       (or_refuse ESRCH o >>= (λ p. or_refuse EINVAL p.parked >>= tried_call s p))) (sym w.stands)
       (resume-parked w.who.parked (sym w.waits))
 
 -- a step of its own
-module _ (s : State Queue) (i : ℕ) (flag : Bool) (call : Transfer) (g : Giving call)
-    (none : written_of (Moving call) ≡ 0) where
-  abbrev Begun : Result Outcome Errno → Result Tried Errno → Type 0
+module _ (s : State Segment ℕ) (i : ℕ) (flag : Bool) (call : Transfer) (g : Giving call)
+    (none : went_in call ≡ 0) where
+  abbrev Begun : Result (Outcome Segment ℕ) Errno → Result Tried Errno → Type 0
   Begun r q =
       let m = length (put_any q) in
       (Parks (settle s r) i m × (is_parked s (suc i) ≡ false)) ⊎ Tells (λ t. Over s t i) (settle s r) m
@@ -246,13 +246,13 @@ module _ (s : State Queue) (i : ℕ) (flag : Bool) (call : Transfer) (g : Giving
   refused : (e : Errno) → Begun (Err e) (Err e)
   refused e = inr (record { counts = refl; over = λ z. z })
 
-  begun-ready : (w : Process) (b : Bool) → at s.processes i ≡ Some w → is_some w.parked ≡ b
+  begun-ready : (w : Process ℕ) (b : Bool) → at s.processes i ≡ Some w → is_some w.parked ≡ b
       → Begun ((refuse_if b EBUSY >> Ok w) >>= (λ p. transfer s (suc i) p flag call))
       ((refuse_if b EBUSY >> Ok w) >>= (λ p. tried s p call))
   begun-ready w true here e = refused EBUSY
   begun-ready w false here e =
       let q = tried s w call in
-      let count : written_of (Moving call) + length (put_any q) ≡ length (put_any q) = omega (arith, none) in
+      let count : went_in call + length (put_any q) ≡ length (put_any q) = omega (arith, none) in
       ⊎_elim (λ parks. inl (parks, ap in_call here ∙ e)) (λ tells. inr tells)
       (first-tells s i w here (flag || nonblocking s w call) (length (put_any q)) (attempt s (suc i) w (Moving call))
       (subst (λ m. Counted s m (attempt s (suc i) w (Moving call))) count
@@ -261,7 +261,7 @@ module _ (s : State Queue) (i : ℕ) (flag : Bool) (call : Transfer) (g : Giving
   begun : Begun (ready s (suc i) >>= (λ p. transfer s (suc i) p flag call)) (ready s (suc i) >>= (λ p. tried s p call))
   begun = by_process (at s.processes i) refl
     where
-      by_process : (o : Option Process) → at s.processes i ≡ o
+      by_process : (o : Option (Process ℕ)) → at s.processes i ≡ o
           → Begun ((or_refuse ESRCH o >>= (λ p. refuse_if (is_some p.parked) EBUSY >> Ok p)) >>=
           (λ p. transfer s (suc i) p flag call))
           ((or_refuse ESRCH o >>= (λ p. refuse_if (is_some p.parked) EBUSY >> Ok p)) >>= (λ p. tried s p call))
@@ -281,13 +281,13 @@ told-other k j y ts apart =
     ap (λ b. map (λ t. t.reply) (if b then record { call = j; reply = y } ∷ filter
     (λ t. nat_eq t.call k) ts else filter (λ t. nat_eq t.call k) ts)) apart
 
-told-apart : (s : State Queue) (began : ℕ → ℕ) (k i : ℕ) (y : Step) → nat_eq i k ≡ false
+told-apart : (s : State Segment ℕ) (began : ℕ → ℕ) (k i : ℕ) (y : Step) → nat_eq i k ≡ false
     → ((q : ℕ) → is_parked s q ≡ true → nat_eq (began q) k ≡ false) → nat_eq (told_at s began i y) k ≡ false
 told-apart s began k i (steps.Resume q) apart h = began-next s began k i q apart (h q)
 told-apart s began k i y apart h = apart
 
 -- a call in which nobody waits any more is told nothing
-ended-untold : (c : Limits) (xs : List Step) (s : State Queue) (began : ℕ → ℕ) (k i : ℕ) → k < i
+ended-untold : (c : Limits) (xs : List Step) (s : State Segment ℕ) (began : ℕ → ℕ) (k i : ℕ) → k < i
     → ((q : ℕ) → is_parked s q ≡ true → nat_eq (began q) k ≡ false) → told_to k (tells c s began i xs) ≡ []
 ended-untold c [] s began k i l h = refl
 ended-untold c (y ∷ ys) s began k i l h =
@@ -334,25 +334,25 @@ mine j (steps.Resume q) =
     ] refl
 mine j y = inr tt
 
-other-gives : (s : State Queue) (began : ℕ → ℕ) (k i j : ℕ) (y : Step) (gs : List Gift) → nat_eq i k ≡ false
+other-gives : (s : State Segment ℕ) (began : ℕ → ℕ) (k i j : ℕ) (y : Step) (gs : List Gift) → nat_eq i k ≡ false
     → Alone s began k j → IsNoResumeOf (suc j) y → given_by k (gift_of (call_at began i y) (transfer_of s y)
     ++ gs) ≡ given_by k gs
 other-gives s began k i j (steps.Resume q) gs apart alone h = resume-none s began k q gs (alone q h)
 other-gives s began k i j y gs apart alone h = by-other k i (transfer_of s y) gs apart
 
-other-told : (s : State Queue) (began : ℕ → ℕ) (k i j : ℕ) (y : Step) → nat_eq i k ≡ false → Alone s began k j
+other-told : (s : State Segment ℕ) (began : ℕ → ℕ) (k i j : ℕ) (y : Step) → nat_eq i k ≡ false → Alone s began k j
     → IsNoResumeOf (suc j) y → nat_eq (told_at s began i y) k ≡ false
 other-told s began k i j (steps.Resume q) apart alone h = began-next s began k i q apart (alone q h)
 other-told s began k i j y apart alone h = apart
 
-can-go : (s : State Queue) → Settled s → (j : ℕ) (call : Transfer) (w : InCall s j call) → IsOk (tried s w.who call)
-can-go s is j call w = subst (λ (o : Option Call). CanTry s w.who o) w.waits (is.can_try.each j w.who w.stands)
+can-go : (s : State Segment ℕ) → Settled s → (j : ℕ) (call : Transfer) (w : InCall s j call) → IsOk (tried s w.who call)
+can-go s is j call w = subst (λ (o : Option (Call ℕ)). CanTry s w.who o) w.waits (is.can_try.each j w.who w.stands)
 
 -- one step, where so much is known of the later ones
-module _ (c : Limits) (ys : List Step) (s : State Queue) (is : Settled s) (began : ℕ → ℕ) (k i j : ℕ) (l : k < i)
+module _ (c : Limits) (ys : List Step) (s : State Segment ℕ) (is : Settled s) (began : ℕ → ℕ) (k i j : ℕ) (l : k < i)
     (call : Transfer) (g : Giving call) (w : InCall s j call) (here : began (suc j) ≡ k)
     (alone : Alone s began k j) where
-  abbrev after : Step → State Queue
+  abbrev after : Step → State Segment ℕ
   after y = (step_of c s y).state
 
   abbrev next : ℕ → ℕ
@@ -366,11 +366,11 @@ module _ (c : Limits) (ys : List Step) (s : State Queue) (is : Settled s) (began
 
   -- what comes later counts, as long as the process waits on
   abbrev Later : Step → Type 0
-  Later y = (more : Transfer) → Giving more → InCall (after y) j more → Count (written_of (Moving more)) (pieces y)
+  Later y = (more : Transfer) → Giving more → InCall (after y) j more → Count (went_in more) (pieces y)
       (answers y)
 
   abbrev Now : Step → Type 0
-  Now y = Count (written_of (Moving call)) (given_by k (gifts c s began i (y ∷ ys)))
+  Now y = Count (went_in call) (given_by k (gifts c s began i (y ∷ ys)))
       (told_to k (tells c s began i (y ∷ ys)))
 
   apart : nat_eq i k ≡ false
@@ -394,19 +394,19 @@ module _ (c : Limits) (ys : List Step) (s : State Queue) (is : Settled s) (began
       (subst (λ m. Count m (pieces y) (answers y)) p.count
       (later p.next p.giving (in_call-same (after y) p.waits refl))))
       (λ e. after-told d x (pieces y) o.reply (answers y) (no-pieces y e.over) (no-answers y e.over) e.counts)
-      (resume-came s j call g w (subst (λ (o : Option Call). CanTry s w.who o) w.waits
+      (resume-came s j call g w (subst (λ (o : Option (Call ℕ)). CanTry s w.who o) w.waits
       (is.can_try.each j w.who w.stands))))
     where
       y : Step
       y = steps.Resume (suc j)
 
       d : ℕ
-      d = written_of (Moving call)
+      d = went_in call
 
       x : List ℕ
       x = put_any (transfer_of s y)
 
-      o : Outcome
+      o : Outcome Segment ℕ
       o = act c s y
 
       given-here : given_by k (gifts c s began i (y ∷ ys)) ≡ member x ++ pieces y
@@ -422,15 +422,15 @@ module _ (c : Limits) (ys : List Step) (s : State Queue) (is : Settled s) (began
   -- any other step
   other-now : (y : Step) → IsNoResumeOf (suc j) y → Later y → Now y
   other-now y h later =
-      same-count (written_of (Moving call)) (given_by k (gifts c s began i (y ∷ ys))) (pieces y)
+      same-count (went_in call) (given_by k (gifts c s began i (y ∷ ys))) (pieces y)
       (told_to k (tells c s began i (y ∷ ys))) (answers y)
       (other-gives s began k i j y (gifts c (after y) next (suc i) ys) apart alone h)
       (told-other k (told_at s began i y) (step_of c s y).reply (tells c (after y) next (suc i) ys)
       (other-told s began k i j y apart alone h))
       (⊎_elim
       (λ stays. later call g (in_call-same (after y) w stays.is))
-      (λ gone. subst (λ (zs : List Reply). All (Counts (written_of (Moving call) + size (pieces y))) zs)
-      (sym (no-answers y gone)) (All-nil (Counts (written_of (Moving call) + size (pieces y)))))
+      (λ gone. subst (λ (zs : List Reply). All (Counts (went_in call + size (pieces y))) zs)
+      (sym (no-answers y gone)) (All-nil (Counts (went_in call + size (pieces y)))))
       (others-leave w c y h))
 
   now : (y : Step) → Later y → Now y
@@ -442,10 +442,10 @@ module _ (c : Limits) (ys : List Step) (s : State Queue) (is : Settled s) (began
           own later
       by_kind (inr h) = other-now y h later
 
-later-count : (c : Limits) (xs : List Step) (s : State Queue) (began : ℕ → ℕ) (k i j : ℕ) (call : Transfer) → k < i
+later-count : (c : Limits) (xs : List Step) (s : State Segment ℕ) (began : ℕ → ℕ) (k i j : ℕ) (call : Transfer) → k < i
     → Settled s → Giving call → InCall s j call → began (suc j) ≡ k → Alone s began k j
-    → Count (written_of (Moving call)) (given_by k (gifts c s began i xs)) (told_to k (tells c s began i xs))
-later-count c [] s began k i j call l is g w here alone = All-nil (Counts (written_of (Moving call) + size []))
+    → Count (went_in call) (given_by k (gifts c s began i xs)) (told_to k (tells c s began i xs))
+later-count c [] s began k i j call l is g w here alone = All-nil (Counts (went_in call + size []))
 later-count c (y ∷ ys) s began k i j call l is g w here alone =
     now c ys s is began k i j l call g w here alone y
     (λ more h v. later-count c ys (step_of c s y).state (beginning s began i) k (suc i) j more (omega (arith, l))
@@ -456,17 +456,17 @@ later-count c (y ∷ ys) s began k i j call l is g w here alone =
 -- Where a call begins
 
 -- a call that begins at place i, of a process that isn't there or of one in a place
-module _ (c : Limits) (s : State Queue) (began : ℕ → ℕ) (i : ℕ) (ys : List Step)
+module _ (c : Limits) (s : State Segment ℕ) (began : ℕ → ℕ) (i : ℕ) (ys : List Step)
     (before : (q : ℕ) → is_parked s q ≡ true → nat_eq (began q) i ≡ false) (flag : Bool) (call : Transfer)
-    (g : Giving call) (none : written_of (Moving call) ≡ 0) where
-  abbrev came : ℕ → Outcome
+    (g : Giving call) (none : went_in call ≡ 0) where
+  abbrev came : ℕ → Outcome Segment ℕ
   came pid = settle s (ready s pid >>= (λ p. transfer s pid p flag call))
 
   abbrev trial : ℕ → Result Tried Errno
   trial pid = ready s pid >>= (λ p. tried s p call)
 
-  abbrev left : ℕ → State Queue
-  left pid = sweep (came pid).state
+  abbrev left : ℕ → State Segment ℕ
+  left pid = sweep itself (came pid).state
 
   abbrev since : ℕ → ℕ
   since = beginning s began i
@@ -535,7 +535,7 @@ module _ (c : Limits) (s : State Queue) (began : ℕ → ℕ) (i : ℕ) (ys : Li
       by_pid (suc j) is = ⊎_elim
           (λ p.
           let q = p.0 in
-          let same : written_of (Moving q.next) ≡ 0 + length (put_any (trial (suc j))) = omega (arith, q.count) in
+          let same : went_in q.next ≡ 0 + length (put_any (trial (suc j))) = omega (arith, q.count) in
           after-parked 0 (put_any (trial (suc j))) (pieces-since (suc j)) (came (suc j)).reply
           (answers-since (suc j)) q.parked
           (subst (λ m. Count m (pieces-since (suc j)) (answers-since (suc j))) same
@@ -548,7 +548,7 @@ module _ (c : Limits) (s : State Queue) (began : ℕ → ℕ) (i : ℕ) (ys : Li
 -- Every place of a run
 
 module _ (c : Limits) where
-  place-count : (x : Step) → gives x ≡ true → (s : State Queue) (began : ℕ → ℕ) (i : ℕ) (ys : List Step) → Settled s
+  place-count : (x : Step) → gives x ≡ true → (s : State Segment ℕ) (began : ℕ → ℕ) (i : ℕ) (ys : List Step) → Settled s
       → ((q : ℕ) → is_parked s q ≡ true → nat_eq (began q) i ≡ false)
       → Count 0 (given_by i (gifts c s began i (x ∷ ys))) (told_to i (tells c s began i (x ∷ ys)))
   place-count (steps.Write pid fd x) g s began i ys is before =
@@ -561,7 +561,8 @@ module _ (c : Limits) where
       (step-settled s is c (steps.Splice pid source sink n nonblock))
   place-count x g s began i ys is before = absurd (cc)
 
-  run-count : (x : Step) → gives x ≡ true → (xs : List Step) (s : State Queue) (began : ℕ → ℕ) (i m k : ℕ) → k ≡ i + m
+  run-count : (x : Step) → gives x ≡ true → (xs : List Step) (s : State Segment ℕ) (began : ℕ → ℕ) (i m k : ℕ)
+      → k ≡ i + m
       → at (map Some xs) m ≡ Some x → Settled s → ((q : ℕ) → is_parked s q ≡ true → began q < i)
       → Count 0 (given_by k (gifts c s began i xs)) (told_to k (tells c s began i xs))
   run-count x g [] s began i m k e there is earlier = absurd (cc)

@@ -4,15 +4,15 @@ use Rattle.std.proofs.Common.{◌≡◌, ℕ, zero, suc, ◌+◌, ◌<◌, ◌�
 use Rattle.std.proofs.lemmas.Bool.Decides.{nat_tests}
 use Rattle.pf_machine.specs.Numbered.{at, weight, sum_of, keep_from, keep, one_if}
 use Rattle.pf_machine.proofs.NumberedLaws.{at-keep, length-keep, same_at}
-use Rattle.pf_machine.specs.Queue.{Queue}
+use Rattle.pf_machine.specs.Queue.{Segment}
 use Rattle.pf_machine.specs.Calls.{Call, Opening, Moving}
-use Rattle.pf_machine.specs.State.{State, Process, Description}
+use Rattle.pf_machine.specs.State.{itself, State, Process, Description}
 use Rattle.pf_machine.specs.Counts.{names, readers, writers}
 use Rattle.pf_machine.specs.Sweep.{sweep}
 use Rattle.pf_laws.specs.Standing.{opens, held, opening_it, of_open, reads_it, writes_it, apart_count}
 
 -- what a parked open made, nothing else names
-pub record IsApart (ps : List (Option Process)) : Type 0 where
+pub record IsApart (ps : List (Option (Process ℕ))) : Type 0 where
   pub alone : (n : ℕ) → (opening_it ps n ≡ 0) ⊎ ((opening_it ps n ≡ 1) × (held ps n ≡ 0))
 
 -- Sums of what tests keep
@@ -75,7 +75,7 @@ positive_one true = refl
 positive_one false = refl
 
 -- the weight of one parked call's description
-one_call : (h : Description → ℕ) (ds : List (Option Description)) (o : Option Call) → sum_of h (keep (λ n. nat_lt 0 (opens n o)) ds) ≡ of_open h ds o
+one_call : (h : Description ℕ → ℕ) (ds : List (Option (Description ℕ))) (o : Option (Call ℕ)) → sum_of h (keep (λ n. nat_lt 0 (opens n o)) ds) ≡ of_open h ds o
 one_call h ds None = sum_of-nothing h 0 ds
 one_call h ds (Some (Opening m kept)) = ap (sum_of h) (keep-same (λ n. nat_lt 0 (one_if (nat_eq m n))) (λ n. nat_eq m n) ds (λ n. positive_one (nat_eq m n))) ∙ sum_of-one h m ds
 one_call h ds (Some (Moving transfer)) = sum_of-nothing h 0 ds
@@ -86,7 +86,7 @@ either t zero (suc b) e l = let s : t ≡ 1 = omega (arith, e, l) in let r : b �
 either t (suc a) zero e l = let s : t ≡ 1 = omega (arith, e, l) in let r : a ≡ 0 = omega (arith, e, l) in ap (λ m. one_if (nat_lt 0 m)) s ∙ ap (λ m. one_if (nat_lt 0 (suc m)) + one_if (nat_lt 0 0)) (sym r)
 either t (suc a) (suc b) e l = absurd (omega (arith, e, l))
 
-all_calls : (h : Description → ℕ) (ds : List (Option Description)) (ps : List (Option Process)) → ((n : ℕ) → opening_it ps n ≤ 1) → sum_of h (keep (λ n. nat_lt 0 (opening_it ps n)) ds) ≡ sum_of (λ p. of_open h ds p.parked) ps
+all_calls : (h : Description ℕ → ℕ) (ds : List (Option (Description ℕ))) (ps : List (Option (Process ℕ))) → ((n : ℕ) → opening_it ps n ≤ 1) → sum_of h (keep (λ n. nat_lt 0 (opening_it ps n)) ds) ≡ sum_of (λ p. of_open h ds p.parked) ps
 all_calls h ds [] l = sum_of-nothing h 0 ds
 all_calls h ds (None ∷ ps) l =
     ap (sum_of h) (keep-same (λ n. nat_lt 0 (opening_it (None ∷ ps) n)) (λ n. nat_lt 0 (opening_it ps n)) ds (λ n. let e : opening_it (None ∷ ps) n ≡ opening_it ps n = omega arith in ap (λ m. nat_lt 0 m) e))
@@ -96,7 +96,7 @@ all_calls h ds (Some p ∷ ps) l =
     ∙ omega (arith, one_call h ds p.parked, all_calls h ds ps (λ n. omega (arith, l n)))
 
 -- names are descriptors and parked opens
-names-are : (ps : List (Option Process)) (n : ℕ) → names ps n ≡ held ps n + opening_it ps n
+names-are : (ps : List (Option (Process ℕ))) (n : ℕ) → names itself ps n ≡ held ps n + opening_it ps n
 names-are [] n = refl
 names-are (None ∷ ps) n = omega (arith, names-are ps n)
 names-are (Some p ∷ ps) n = omega (arith, names-are ps n)
@@ -106,14 +106,14 @@ or_alone t a b e (inl none) = let s : t ≡ a = omega (arith, e, none) in ap (λ
 or_alone t a b e (inr one) = either t a b e (omega (arith, e, one.0, one.1))
 
 -- the law: over a swept state, what the descriptions count is what live descriptions and parked opens count
-pub counted_apart : (h : Description → ℕ) (s : State Queue) → s.descriptions ≡ (sweep s).descriptions → IsApart s.processes → sum_of h s.descriptions ≡ apart_count h s
+pub counted_apart : (h : Description ℕ → ℕ) (s : State Segment ℕ) → s.descriptions ≡ (sweep itself s).descriptions → IsApart s.processes → sum_of h s.descriptions ≡ apart_count h s
 counted_apart h s swept apart =
-    let total = sum_of-split h (λ n. nat_lt 0 (names s.processes n)) (λ n. nat_lt 0 (held s.processes n)) (λ n. nat_lt 0 (opening_it s.processes n)) 0 s.descriptions (λ n. or_alone (names s.processes n) (held s.processes n) (opening_it s.processes n) (names-are s.processes n) (apart.alone n)) in
+    let total = sum_of-split h (λ n. nat_lt 0 (names itself s.processes n)) (λ n. nat_lt 0 (held s.processes n)) (λ n. nat_lt 0 (opening_it s.processes n)) 0 s.descriptions (λ n. or_alone (names itself s.processes n) (held s.processes n) (opening_it s.processes n) (names-are s.processes n) (apart.alone n)) in
     let most : (n : ℕ) → opening_it s.processes n ≤ 1 = λ n. ⊎_elim (λ e. omega (arith, e)) (λ e. omega (arith, e.0)) (apart.alone n) in
     ap (sum_of h) swept ∙ total ∙ ap (λ m. sum_of h (keep (λ n. nat_lt 0 (held s.processes n)) s.descriptions) + m) (all_calls h s.descriptions s.processes most)
 
-pub readers-apart : (s : State Queue) (p : ℕ) → s.descriptions ≡ (sweep s).descriptions → IsApart s.processes → readers s p ≡ apart_count (reads_it p) s
+pub readers-apart : (s : State Segment ℕ) (p : ℕ) → s.descriptions ≡ (sweep itself s).descriptions → IsApart s.processes → readers itself s p ≡ apart_count (reads_it p) s
 readers-apart s p swept apart = counted_apart (reads_it p) s swept apart
 
-pub writers-apart : (s : State Queue) (p : ℕ) → s.descriptions ≡ (sweep s).descriptions → IsApart s.processes → writers s p ≡ apart_count (writes_it p) s
+pub writers-apart : (s : State Segment ℕ) (p : ℕ) → s.descriptions ≡ (sweep itself s).descriptions → IsApart s.processes → writers itself s p ≡ apart_count (writes_it p) s
 writers-apart s p swept apart = counted_apart (writes_it p) s swept apart

@@ -5,11 +5,11 @@ use Rattle.std.proofs.lemmas.Bool.{eqb-true, eq-eqb}
 use Rattle.std.specs.Prelude.{Result}
 use Rattle.std.specs.Option.{option_map, option_and_then}
 use Rattle.pf_base.specs.Limits.{Limits}
-use Rattle.pf_machine.specs.Queue.{Queue}
+use Rattle.pf_machine.specs.Queue.{Segment, Queue}
 use Rattle.pf_machine.specs.Numbered.{at, change_at, keep}
 use Rattle.pf_machine.proofs.NumberedLaws.{at-keep}
 use Rattle.pf_machine.specs.Calls.{Reading, Writing, Bringing}
-use Rattle.pf_machine.specs.State.{State, Pipe, Outcome, opening, holding, settle}
+use Rattle.pf_machine.specs.State.{itself, State, Pipe, Outcome, opening, holding, settle}
 use Rattle.pf_machine.specs.Counts.{ends}
 use Rattle.pf_machine.specs.Pipes.{new_pipe}
 use Rattle.pf_machine.specs.Opens.{access_of, first_where, is_of_file, counted}
@@ -27,11 +27,11 @@ use Rattle.pf_laws.proofs.KeepLaws.{Kept, transfer-keeps, resume-keeps, open-kee
 -- Pipes by the numbers of their FIFOs
 
 abbrev pub Pipes : Type 0
-Pipes = List (Option (Pipe Queue))
+Pipes = List (Option (Pipe Segment))
 
 -- the FIFO of the pipe at a number, if there is one
 abbrev pub file_at : Pipes → ℕ → Option ℕ
-file_at ps n = option_and_then (λ (p : Pipe Queue). p.file) (at ps n)
+file_at ps n = option_and_then (λ (p : Pipe Segment). p.file) (at ps n)
 
 -- two pipes of one FIFO are one
 pub record Apart (ps : Pipes) : Type 0 where
@@ -41,7 +41,7 @@ pub record Apart (ps : Pipes) : Type 0 where
 fewer : (ps qs : Pipes) → ((k file : ℕ) → file_at qs k ≡ Some file → file_at ps k ≡ Some file) → Apart ps → Apart qs
 fewer ps qs h a = record { one = λ m n file e f. a.one m n file (h m file e) (h n file f) }
 
-pub changed : (f : Pipe Queue → Pipe Queue) → ((x : Pipe Queue) → (f x).file ≡ x.file) → (ps : Pipes) (n k : ℕ) → file_at (change_at f ps n) k ≡ file_at ps k
+pub changed : (f : Pipe Segment → Pipe Segment) → ((x : Pipe Segment) → (f x).file ≡ x.file) → (ps : Pipes) (n k : ℕ) → file_at (change_at f ps n) k ≡ file_at ps k
 changed f h [] n k = refl
 changed f h (None ∷ ps) zero zero = refl
 changed f h (Some x ∷ ps) zero zero = h x
@@ -49,7 +49,7 @@ changed f h (y ∷ ps) zero (suc k) = refl
 changed f h (y ∷ ps) (suc n) zero = refl
 changed f h (y ∷ ps) (suc n) (suc k) = changed f h ps n k
 
-apart-changed : (f : Pipe Queue → Pipe Queue) → ((x : Pipe Queue) → (f x).file ≡ x.file) → (ps : Pipes) (n : ℕ) → Apart ps → Apart (change_at f ps n)
+apart-changed : (f : Pipe Segment → Pipe Segment) → ((x : Pipe Segment) → (f x).file ≡ x.file) → (ps : Pipes) (n : ℕ) → Apart ps → Apart (change_at f ps n)
 apart-changed f h ps n a = fewer ps (change_at f ps n) (λ k file e. sym (changed f h ps n k) ∙ e) a
 
 apart-holding : (ps : Pipes) (n : ℕ) (q : Queue) → Apart ps → Apart (change_at (holding q) ps n)
@@ -57,9 +57,9 @@ apart-holding ps n q a = apart-changed (holding q) (λ x. refl) ps n a
 
 -- what is kept was there
 pub kept_file : (test : ℕ → Bool) (ps : Pipes) (k file : ℕ) → file_at (keep test ps) k ≡ Some file → file_at ps k ≡ Some file
-kept_file test ps k file e = by_test (test k) (ap (λ (o : Option (Pipe Queue)). option_and_then (λ p. p.file) o) (sym (at-keep test ps k)) ∙ e)
+kept_file test ps k file e = by_test (test k) (ap (λ (o : Option (Pipe Segment)). option_and_then (λ p. p.file) o) (sym (at-keep test ps k)) ∙ e)
   where
-    by_test : (b : Bool) → option_and_then (λ (p : Pipe Queue). p.file) (if b then at ps k else None) ≡ Some file → file_at ps k ≡ Some file
+    by_test : (b : Bool) → option_and_then (λ (p : Pipe Segment). p.file) (if b then at ps k else None) ≡ Some file → file_at ps k ≡ Some file
     by_test true e = e
     by_test false e = absurd (cc)
 
@@ -67,18 +67,18 @@ apart-keep : (test : ℕ → Bool) (ps : Pipes) → Apart ps → Apart (keep tes
 apart-keep test ps a = fewer ps (keep test ps) (kept_file test ps) a
 
 -- one more pipe: what stands then stood before, or is the new one
-pub pushed : (ps : Pipes) (x : Pipe Queue) (k file : ℕ) → file_at (ps ++ Some x ∷ []) k ≡ Some file → (file_at ps k ≡ Some file) ⊎ ((k ≡ length ps) × (x.file ≡ Some file))
+pub pushed : (ps : Pipes) (x : Pipe Segment) (k file : ℕ) → file_at (ps ++ Some x ∷ []) k ≡ Some file → (file_at ps k ≡ Some file) ⊎ ((k ≡ length ps) × (x.file ≡ Some file))
 pushed [] x zero file e = inr (refl, e)
 pushed [] x (suc k) file e = absurd (cc)
 pushed (y ∷ ps) x zero file e = inl e
 pushed (y ∷ ps) x (suc k) file e = ⊎_elim (λ h. inl h) (λ h. inr (omega (arith, h.0), h.1)) (pushed ps x k file e)
 
-apart-push : (ps : Pipes) (x : Pipe Queue) → x.file ≡ None → Apart ps → Apart (ps ++ Some x ∷ [])
+apart-push : (ps : Pipes) (x : Pipe Segment) → x.file ≡ None → Apart ps → Apart (ps ++ Some x ∷ [])
 apart-push ps x none a = fewer ps (ps ++ Some x ∷ []) (λ k file e. ⊎_elim (λ h. h) (λ h. absurd (let both : None ≡ Some file = sym none ∙ h.1 in cc)) (pushed ps x k file e)) a
 
 -- the least number of a pipe of a FIFO
 abbrev pub found_in : ℕ → Pipes → Option ℕ
-found_in file ps = first_where (λ (p : Pipe Queue). is_of_file file p.file) ps
+found_in file ps = first_where (λ (p : Pipe Segment). is_of_file file p.file) ps
 
 unmapped : (o : Option ℕ) → option_map (λ n. suc n) o ≡ None → o ≡ None
 unmapped None e = refl
@@ -99,7 +99,7 @@ unfound file (Some x ∷ ps) e k f = by_test (is_of_file file x.file) refl (λ n
 apart-fifo : (ps : Pipes) (q : Queue) (owner file : ℕ) → found_in file ps ≡ None → Apart ps → Apart (ps ++ Some (new_pipe q owner (Some file)) ∷ [])
 apart-fifo ps q owner file none a = record { one = λ m n g e f. by_both m n g (pushed ps x m g e) (pushed ps x n g f) }
   where
-    x : Pipe Queue
+    x : Pipe Segment
     x = new_pipe q owner (Some file)
 
     new : (g k : ℕ) → Some file ≡ Some g → file_at ps k ≡ Some g → ⊥
@@ -112,7 +112,7 @@ apart-fifo ps q owner file none a = record { one = λ m n g e f. by_both m n g (
     by_both m n g (inr e) (inr f) = e.0 ∙ sym f.0
 
 -- what is found behind the first place
-found_behind : (file : ℕ) (y : Option (Pipe Queue)) (ps : Pipes) → ((n : ℕ) → found_in file ps ≡ Some n → file_at ps n ≡ Some file) → (o : Option ℕ) → found_in file ps ≡ o → (m : ℕ) → option_map (λ n. suc n) o ≡ Some m → file_at (y ∷ ps) m ≡ Some file
+found_behind : (file : ℕ) (y : Option (Pipe Segment)) (ps : Pipes) → ((n : ℕ) → found_in file ps ≡ Some n → file_at ps n ≡ Some file) → (o : Option ℕ) → found_in file ps ≡ o → (m : ℕ) → option_map (λ n. suc n) o ≡ Some m → file_at (y ∷ ps) m ≡ Some file
 found_behind file y ps rest None is m e = absurd (cc)
 found_behind file y ps rest (Some n) is m e = let next : suc n ≡ m = cc in subst (λ k. file_at (y ∷ ps) k ≡ Some file) next (rest n is)
 
@@ -139,7 +139,7 @@ finds ps a n file e = by_found (found_in file ps) refl
 
 -- Steps
 
-abbrev IsApart : State Queue → Type 0
+abbrev IsApart : State Segment ℕ → Type 0
 IsApart s = Apart s.pipes
 
 others : Kept IsApart
@@ -151,15 +151,15 @@ others = record {
   fifo = λ s q owner f there e h. apart-fifo s.pipes q owner f.number e h;
 }
 
-module _ (s : State Queue) (m : Apart s.pipes) where
-  abbrev Keeps : Outcome → Type 0
+module _ (s : State Segment ℕ) (m : Apart s.pipes) where
+  abbrev Keeps : Outcome Segment ℕ → Type 0
   Keeps o = Apart o.state.pipes
 
   apart-new : (q : Queue) (owner : ℕ) → Apart (s.pipes ++ Some (new_pipe q owner None) ∷ [])
   apart-new q owner = apart-push s.pipes (new_pipe q owner None) refl m
 
   kept : (c : Limits) (step : Step) → Holds Keeps (call c s step)
-  kept c (steps.Spawn uid gid groups umask) = search (passes, m) depth 16
+  kept c (steps.Spawn uid gid umask groups) = search (passes, m) depth 16
   kept c (steps.Exit pid) = search (carries, m) depth 16
   kept c (steps.Resume pid) = carries Keeps _ _ (λ p. resume-keeps IsApart others s m pid p)
   kept c (steps.Fork pid) = search (carries, passes, m) depth 16
@@ -183,13 +183,13 @@ module _ (s : State Queue) (m : Apart s.pipes) where
   kept c (steps.SetNonblock pid fd on) = search (carries, m) depth 16
 
   step-apart : (c : Limits) (step : Step) → Apart (step_of c s step).state.pipes
-  step-apart c step = apart-keep (λ n. nat_lt 0 (ends (sweep (act c s step).state).descriptions n)) (act c s step).state.pipes (settled (call c s step) (kept c step))
+  step-apart c step = apart-keep (λ n. nat_lt 0 (ends itself (sweep itself (act c s step).state).descriptions n)) (act c s step).state.pipes (settled (call c s step) (kept c step))
     where
-      settled : (r : Result Outcome Errno) → Holds Keeps r → Apart (settle s r).state.pipes
+      settled : (r : Result (Outcome Segment ℕ) Errno) → Holds Keeps r → Apart (settle s r).state.pipes
       settled (Ok o) h = h
       settled (Err e) h = m
 
-run-apart : (c : Limits) (s : State Queue) (xs : List Step) → Apart s.pipes → Apart (run_of c s xs).state.pipes
+run-apart : (c : Limits) (s : State Segment ℕ) (xs : List Step) → Apart s.pipes → Apart (run_of c s xs).state.pipes
 run-apart c s [] m = m
 run-apart c s (x ∷ xs) m = run-apart c (step_of c s x).state xs (step-apart s m c x)
 
@@ -202,5 +202,5 @@ one_fifo_each c xs = record {
     apart : Apart (reached c xs).pipes
     apart = run-apart c opening xs (record { one = λ m n file e f. absurd (cc) })
 
-    file_of : (n : ℕ) (p : Pipe Queue) (file : ℕ) → at (reached c xs).pipes n ≡ Some p → p.file ≡ Some file → file_at (reached c xs).pipes n ≡ Some file
-    file_of n p file e g = ap (λ (o : Option (Pipe Queue)). option_and_then (λ p. p.file) o) e ∙ g
+    file_of : (n : ℕ) (p : Pipe Segment) (file : ℕ) → at (reached c xs).pipes n ≡ Some p → p.file ≡ Some file → file_at (reached c xs).pipes n ≡ Some file
+    file_of n p file e g = ap (λ (o : Option (Pipe Segment)). option_and_then (λ p. p.file) o) e ∙ g

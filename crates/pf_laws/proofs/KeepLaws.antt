@@ -10,11 +10,11 @@ use Rattle.pf_base.specs.Permissions.{allows}
 use Rattle.pf_base.specs.declared.cred.Cred.{Cred}
 use Rattle.pf_base.specs.declared.meta.File.{File}
 use Rattle.pf_base.specs.declared.permissions.Want.TheVariants.{Read, Write}
-use Rattle.pf_machine.specs.Queue.{Queue, empty}
+use Rattle.pf_machine.specs.Queue.{Segment, Queue, empty}
 use Rattle.pf_machine.specs.Progress.{read_now, cross_now}
 use Rattle.pf_machine.specs.Numbered.{at, first_free}
 use Rattle.pf_machine.specs.Calls.{Transfer, Reading, Writing, Bringing, Call, Opening, Moving, written_of}
-use Rattle.pf_machine.specs.State.{State, Process, Description, End, Outcome, end_at, reading_end, writing_end, change_pipe, with_queue, told}
+use Rattle.pf_machine.specs.State.{itself, State, Process, Description, End, Outcome, end_at, reading_end, writing_end, change_pipe, with_queue, told}
 use Rattle.pf_machine.specs.Counts.{readers, writers}
 use Rattle.pf_base.specs.Capacities.{told_as}
 use Rattle.pf_machine.specs.Pipes.{new_pipe, capacity_for, is_spent}
@@ -50,43 +50,43 @@ openable-there files c path a =
     (passes (There files) (refuse_if (a.reads && not (allows c t.file.meta Read) || a.writes && not (allows c t.file.meta Write)) EACCES) _ h)))
 
 -- changes to single parts of a state that keep a property
-pub record Kept (P : State Queue → Type 0) : Type 0 where
-  pub people : (s : State Queue) (ps : List (Option Process)) → P s → P (record s { processes = ps })
-  pub drawn : (s : State Queue) (ds : List (Option Description)) → P s → P (record s { descriptions = ds })
-  pub held : (s : State Queue) (n : ℕ) (q : Queue) → P s → P (with_queue s n q)
-  pub opens : (s : State Queue) (a : Access) (n : ℕ) → P s → P (change_pipe (counted a) s n)
-  pub fifo : (s : State Queue) (q : Queue) (owner : ℕ) (f : File) → There s.files f → fifo_pipe s f.number ≡ None → P s → P (record s { pipes = s.pipes ++ Some (new_pipe q owner (Some f.number)) ∷ [] })
+pub record Kept (P : State Segment ℕ → Type 0) : Type 0 where
+  pub people : (s : State Segment ℕ) (ps : List (Option (Process ℕ))) → P s → P (record s { processes = ps })
+  pub drawn : (s : State Segment ℕ) (ds : List (Option (Description ℕ))) → P s → P (record s { descriptions = ds })
+  pub held : (s : State Segment ℕ) (n : ℕ) (q : Queue) → P s → P (with_queue s n q)
+  pub opens : (s : State Segment ℕ) (a : Access) (n : ℕ) → P s → P (change_pipe (counted a) s n)
+  pub fifo : (s : State Segment ℕ) (q : Queue) (owner : ℕ) (f : File) → There s.files f → fifo_pipe s f.number ≡ None → P s → P (record s { pipes = s.pipes ++ Some (new_pipe q owner (Some f.number)) ∷ [] })
 
-module _ (P : State Queue → Type 0) (k : Kept P) (s : State Queue) (m : P s) where
-  abbrev Keeps : Outcome → Type 0
+module _ (P : State Segment ℕ → Type 0) (k : Kept P) (s : State Segment ℕ) (m : P s) where
+  abbrev Keeps : Outcome Segment ℕ → Type 0
   Keeps o = P o.state
 
   abbrev Same : Tried → Type 0
   Same t = P t.state
 
   -- what an attempt at a call comes to
-  abbrev Stays : Attempt → Type 0
+  abbrev Stays : Attempt Segment ℕ → Type 0
   Stays (Finished t reply) = P t
   Stays (Waits t call) = P t
 
   -- Transfers
 
-  tried-keeps : (p : Process) (call : Transfer) → Holds Same (tried s p call)
+  tried-keeps : (p : Process ℕ) (call : Transfer) → Holds Same (tried s p call)
   tried-keeps p (Reading fd n) =
-      carries Same (reading_end s p fd) (λ e. Ok (try_read s e n))
-      (λ e. k.held s e.description.pipe (read_now e.pipe.queue (writers s e.description.pipe) n).queue m)
+      carries Same (reading_end itself s p fd) (λ e. Ok (try_read s e n))
+      (λ e. k.held s e.description.pipe (read_now e.pipe.queue (writers itself s e.description.pipe) n).queue m)
   tried-keeps p (Writing fd x written) =
-      carries Same (writing_end s p fd) (λ e. refuse_if (nat_lt MAX_WRITE (length x)) EINVAL >> Ok (try_write s e x written))
+      carries Same (writing_end itself s p fd) (λ e. refuse_if (nat_lt MAX_WRITE (length x)) EINVAL >> Ok (try_write s e x written))
       (λ e. passes Same (refuse_if (nat_lt MAX_WRITE (length x)) EINVAL) (Ok (try_write s e x written)) (written-keeps e))
     where
-      written-keeps : (e : End Queue) → Same (try_write s e x written)
+      written-keeps : (e : End Segment ℕ) → Same (try_write s e x written)
       written-keeps e = k.held s e.description.pipe _ m
   tried-keeps p (Bringing c source sink n) =
       carries Same (two_ends s p source sink) (λ e. Ok (try_cross c s e n)) crossed-keeps
     where
       crossed-keeps : (e : Ends) → Same (try_cross c s e n)
       crossed-keeps e =
-          let r = cross_now c e.source.pipe.queue e.sink.pipe.queue (writers s e.source.description.pipe) (readers s e.sink.description.pipe) n in
+          let r = cross_now c e.source.pipe.queue e.sink.pipe.queue (writers itself s e.source.description.pipe) (readers itself s e.sink.description.pipe) n in
           k.held (with_queue s e.sink.description.pipe r.sink) e.source.description.pipe r.source (k.held s e.sink.description.pipe r.sink m)
 
   told-keeps : (call : Transfer) (t : Tried) (p : Progress) → Same t → Holds Stays (transfer_told call t p)
@@ -113,21 +113,21 @@ module _ (P : State Queue → Type 0) (k : Kept P) (s : State Queue) (m : P s) w
 
   -- Attempts
 
-  given-keeps : (t : State Queue) (pid : ℕ) (p : Process) (n : ℕ) → P t → Stays (given t pid p n)
+  given-keeps : (t : State Segment ℕ) (pid : ℕ) (p : Process ℕ) (n : ℕ) → P t → Stays (given t pid p n)
   given-keeps t pid p n h = k.people t _ h
 
-  open_told-keeps : (pid : ℕ) (p : Process) (n kept : ℕ) (e : End Queue) → Stays (open_told s pid p n kept e)
+  open_told-keeps : (pid : ℕ) (p : Process ℕ) (n kept : ℕ) (e : End Segment ℕ) → Stays (open_told s pid p n kept e)
   open_told-keeps pid p n kept e = by_came (nat_lt kept (other_opens e))
     where
       by_came : (b : Bool) → Stays (if b then given s pid p n else Waits s (Opening n kept))
       by_came true = given-keeps s pid p n m
       by_came false = m
 
-  attempt-keeps : (pid : ℕ) (p : Process) (call : Call) → Holds Stays (attempt s pid p call)
-  attempt-keeps pid p (Opening n kept) = carries Stays (or_refuse EBADF (end_at s n)) (λ e. Ok (open_told s pid p n kept e)) (λ e. open_told-keeps pid p n kept e)
+  attempt-keeps : (pid : ℕ) (p : Process ℕ) (call : Call ℕ) → Holds Stays (attempt s pid p call)
+  attempt-keeps pid p (Opening n kept) = carries Stays (or_refuse EBADF (end_at itself s n)) (λ e. Ok (open_told s pid p n kept e)) (λ e. open_told-keeps pid p n kept e)
   attempt-keeps pid p (Moving call) = goes Same Stays (tried s p call) (λ t. transfer_told call t t.progress) (tried-keeps p call) (λ t h. told-keeps call t t.progress h)
 
-  first-keeps : (pid : ℕ) (nonblock : Bool) (a : Attempt) → Stays a → Holds Keeps (first pid nonblock a)
+  first-keeps : (pid : ℕ) (nonblock : Bool) (a : Attempt Segment ℕ) → Stays a → Holds Keeps (first pid nonblock a)
   first-keeps pid nonblock (Finished t reply) h = h
   first-keeps pid false (Waits t call) h = k.people t _ h
   first-keeps pid true (Waits t call) h = by_none (nat_eq (written_of call) 0)
@@ -136,53 +136,53 @@ module _ (P : State Queue → Type 0) (k : Kept P) (s : State Queue) (m : P s) w
       by_none true = tt
       by_none false = h
 
-  pub transfer-keeps : (pid : ℕ) (p : Process) (flag : Bool) (call : Transfer) → Holds Keeps (transfer s pid p flag call)
+  pub transfer-keeps : (pid : ℕ) (p : Process ℕ) (flag : Bool) (call : Transfer) → Holds Keeps (transfer s pid p flag call)
   transfer-keeps pid p flag call =
       goes Stays Keeps (attempt s pid p (Moving call)) (first pid (flag || nonblocking s p call)) (attempt-keeps pid p (Moving call)) (λ a h. first-keeps pid (flag || nonblocking s p call) a h)
 
-  pub resume-keeps : (pid : ℕ) (p : Process) → Holds Keeps (resume s pid p)
+  pub resume-keeps : (pid : ℕ) (p : Process ℕ) → Holds Keeps (resume s pid p)
   resume-keeps pid p = carries Keeps (or_refuse EINVAL p.parked) (λ call. Ok (again s pid (attempt s pid p call))) (λ call. again-keeps (attempt s pid p call) (attempt-keeps pid p call))
     where
-      again-keeps : (r : Result Attempt Errno) → Holds Stays r → Keeps (again s pid r)
+      again-keeps : (r : Result (Attempt Segment ℕ) Errno) → Holds Stays r → Keeps (again s pid r)
       again-keeps (Ok (Finished t reply)) h = k.people t _ h
       again-keeps (Ok (Waits t call)) h = k.people t _ h
       again-keeps (Err e) h = k.people s _ m
 
   -- Opens
 
-  open_pipe-keeps : (t : State Queue) (pid : ℕ) (p : Process) (a : Access) (n : ℕ) → P t → Stays (open_pipe t pid p a n)
-  open_pipe-keeps t pid p a n h = by_other (is_waiting a (readers t n) (writers t n))
+  open_pipe-keeps : (name of : ℕ) (t : State Segment ℕ) (pid : ℕ) (p : Process ℕ) (a : Access) (n : ℕ) → P t → Stays (open_pipe itself name of t pid p a n)
+  open_pipe-keeps name of t pid p a n h = by_other (is_waiting a (readers itself t n) (writers itself t n))
     where
-      d : Description
-      d = record { pipe = n; reads = a.reads; writes = a.writes; nonblocking = a.nonblock }
+      d : Description ℕ
+      d = record { pipe = of; reads = a.reads; writes = a.writes; nonblocking = a.nonblock }
 
-      made : State Queue
+      made : State Segment ℕ
       made = change_pipe (counted a) (record t { descriptions = t.descriptions ++ Some d ∷ [] }) n
 
       made-keeps : P made
       made-keeps = k.opens (record t { descriptions = t.descriptions ++ Some d ∷ [] }) a n (k.drawn t _ h)
 
-      by_other : (b : Bool) → Stays (if b then Waits made (Opening (length t.descriptions) (kept_by a (at t.pipes n))) else given made pid p (length t.descriptions))
+      by_other : (b : Bool) → Stays (if b then Waits made (Opening name (kept_by a (at t.pipes n))) else given made pid p name)
       by_other true = made-keeps
-      by_other false = given-keeps made pid p (length t.descriptions) made-keeps
+      by_other false = given-keeps made pid p name made-keeps
 
-  abbrev FoundIn : Found → Type 0
+  abbrev FoundIn : Found Segment ℕ → Type 0
   FoundIn f = P f.state
 
-  pipe_of-keeps : (c : Limits) (p : Process) (f : File) (o : Option ℕ) → There s.files f → fifo_pipe s f.number ≡ o → Holds FoundIn (pipe_of c s p f.number o)
+  pipe_of-keeps : (c : Limits) (p : Process ℕ) (f : File) (o : Option ℕ) → There s.files f → fifo_pipe s f.number ≡ o → Holds FoundIn (pipe_of c s p f.number o)
   pipe_of-keeps c p f (Some n) there e = m
   pipe_of-keeps c p f None there e =
       passes FoundIn (refuse_if (is_spent s.pipes 1) ENFILE) _
       (carries FoundIn (told_as ENOMEM (capacity_for c s p.cred)) _ (λ slots. k.fifo s (empty slots) p.cred.uid f there e m))
 
-  pub open-keeps : (c : Limits) (pid : ℕ) (p : Process) (path : List ℕ) (a : Access) → Holds Keeps (open_path c s pid p path a)
-  open-keeps c pid p path a = goes (There s.files) Keeps (openable s.files p.cred path a) (λ f. open_fifo c s pid p a f.number) (openable-there s.files p.cred path a) opened
+  pub open-keeps : (c : Limits) (pid : ℕ) (p : Process ℕ) (path : List ℕ) (a : Access) → Holds Keeps (open_path itself (length s.descriptions) itself c s pid p path a)
+  open-keeps c pid p path a = goes (There s.files) Keeps (openable s.files p.cred path a) (λ f. open_fifo itself (length s.descriptions) itself c s pid p a f.number) (openable-there s.files p.cred path a) opened
     where
-      opened : (f : File) → There s.files f → Holds Keeps (open_fifo c s pid p a f.number)
+      opened : (f : File) → There s.files f → Holds Keeps (open_fifo itself (length s.descriptions) itself c s pid p a f.number)
       opened f there =
           passes Keeps (refuse_if (nat_le MAX_DESCRIPTORS (first_free p.descriptors)) EMFILE) _
-          (passes Keeps (refuse_if (a.writes && not a.reads && a.nonblock && nat_eq (fifo_readers s (fifo_pipe s f.number)) 0) ENXIO) _
+          (passes Keeps (refuse_if (a.writes && not a.reads && a.nonblock && nat_eq (fifo_readers itself s (fifo_pipe s f.number)) 0) ENXIO) _
           (passes Keeps (refuse_if (is_spent s.descriptions 1) ENFILE) _
-          (goes FoundIn Keeps (pipe_of c s p f.number (fifo_pipe s f.number)) (λ found. first pid false (open_pipe found.state pid p a found.pipe))
+          (goes FoundIn Keeps (pipe_of c s p f.number (fifo_pipe s f.number)) (λ found. first pid false (open_pipe itself (length s.descriptions) found.pipe found.state pid p a found.pipe))
           (pipe_of-keeps c p f (fifo_pipe s f.number) there refl)
-          (λ found h. first-keeps pid false (open_pipe found.state pid p a found.pipe) (open_pipe-keeps found.state pid p a found.pipe h)))))
+          (λ found h. first-keeps pid false (open_pipe itself (length s.descriptions) found.pipe found.state pid p a found.pipe) (open_pipe-keeps (length s.descriptions) found.pipe found.state pid p a found.pipe h)))))

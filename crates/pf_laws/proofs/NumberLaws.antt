@@ -10,10 +10,10 @@ use Rattle.pf_machine.specs.FileCalls as calls
 use Rattle.pf_machine.specs.FileCalls.{made_by}
 use Rattle.pf_machine.specs.Files.{make, unlink, rmdir, chmod, with_files, with_new}
 use Rattle.pf_base.specs.Permissions.{mode_of}
-use Rattle.pf_machine.specs.Queue.{Queue}
+use Rattle.pf_machine.specs.Queue.{Segment, Queue}
 use Rattle.pf_machine.specs.Numbered.{change_at, keep}
 use Rattle.pf_machine.specs.Calls.{Reading, Writing, Bringing}
-use Rattle.pf_machine.specs.State.{State, Process, Outcome, opening, holding, settle, done}
+use Rattle.pf_machine.specs.State.{itself, State, Process, Outcome, opening, holding, settle, done}
 use Rattle.pf_machine.specs.Counts.{ends}
 use Rattle.pf_machine.specs.Pipes.{new_pipe}
 use Rattle.pf_machine.specs.Opens.{Access, access_of, fifo_pipe, counted}
@@ -124,7 +124,7 @@ module _ (files : Files) (made : ℕ) (ps : Pipes) (is : Numbers files made ps) 
 
 -- Steps
 
-abbrev IsNumbered : State Queue → Type 0
+abbrev IsNumbered : State Segment ℕ → Type 0
 IsNumbered s = Numbers s.files s.files_made s.pipes
 
 others : Kept IsNumbered
@@ -136,8 +136,8 @@ others = record {
   fifo = λ s q owner f there e h. numbers-fifo s.files s.files_made s.pipes h q owner f there;
 }
 
-module _ (s : State Queue) (m : IsNumbered s) where
-  abbrev Keeps : Outcome → Type 0
+module _ (s : State Segment ℕ) (m : IsNumbered s) where
+  abbrev Keeps : Outcome Segment ℕ → Type 0
   Keeps o = IsNumbered o.state
 
   abbrev Named : Files → Type 0
@@ -147,23 +147,23 @@ module _ (s : State Queue) (m : IsNumbered s) where
   inserted : (p : Path) (c : Cred) (kind : Kind) (mode : ℕ) → Numbers (insert p (made_by c kind mode s.files_made) s.files) (s.files_made + 1) s.pipes
   inserted p c kind mode = numbers-insert s.files s.files_made s.pipes m p (made_by c kind mode s.files_made) refl
 
-  made-keeps : (kind : Kind) (p : Process) (path : List ℕ) (bits : ℕ) → Holds Keeps (make kind s p path bits)
+  made-keeps : (kind : Kind) (p : Process ℕ) (path : List ℕ) (bits : ℕ) → Holds Keeps (make kind s p path bits)
   made-keeps kind p path bits = carries Keeps (mode_of bits) _ (λ mode.
       goes (λ files. Numbers files (s.files_made + 1) s.pipes) Keeps (calls.make kind s.files s.files_made p.cred path mode) (λ files. Ok (done (with_new s files) 0)) (search (carries, passes, inserted) depth 24) (λ files h. h))
 
   removed : (p : Path) → Named (remove p s.files)
   removed p = numbers-remove s.files s.files_made s.pipes m p
 
-  unlinked-keeps : (p : Process) (path : List ℕ) → Holds Keeps (unlink s p path)
+  unlinked-keeps : (p : Process ℕ) (path : List ℕ) → Holds Keeps (unlink s p path)
   unlinked-keeps p path = goes Named Keeps (calls.unlink s.files p.cred path) (λ files. Ok (done (with_files s files) 0)) (search (carries, passes, removed) depth 24) (λ files h. h)
 
-  removed-keeps : (p : Process) (path : List ℕ) → Holds Keeps (rmdir s p path)
+  removed-keeps : (p : Process ℕ) (path : List ℕ) → Holds Keeps (rmdir s p path)
   removed-keeps p path = goes Named Keeps (calls.rmdir s.files p.cred path) (λ files. Ok (done (with_files s files) 0)) (search (carries, passes, removed) depth 24) (λ files h. h)
 
   remoded : (p : Path) (mode : ℕ) → Named (set_mode p mode s.files)
   remoded p mode = numbers-set_mode s.files s.files_made s.pipes m p mode
 
-  remoded-keeps : (p : Process) (path : List ℕ) (bits : ℕ) → Holds Keeps (chmod s p path bits)
+  remoded-keeps : (p : Process ℕ) (path : List ℕ) (bits : ℕ) → Holds Keeps (chmod s p path bits)
   remoded-keeps p path bits = carries Keeps (mode_of bits) _ (λ mode.
       goes Named Keeps (calls.chmod s.files p.cred path mode) (λ files. Ok (done (with_files s files) 0)) (search (carries, passes, remoded) depth 24) (λ files h. h))
 
@@ -174,7 +174,7 @@ module _ (s : State Queue) (m : IsNumbered s) where
   opened_pipe q owner = numbers-new s.files s.files_made s.pipes m q owner
 
   kept : (c : Limits) (step : Step) → Holds Keeps (call c s step)
-  kept c (steps.Spawn uid gid groups umask) = search (passes, m) depth 16
+  kept c (steps.Spawn uid gid umask groups) = search (passes, m) depth 16
   kept c (steps.Exit pid) = search (carries, m) depth 16
   kept c (steps.Resume pid) = carries Keeps _ _ (λ p. resume-keeps IsNumbered others s m pid p)
   kept c (steps.Fork pid) = search (carries, passes, m) depth 16
@@ -200,13 +200,13 @@ module _ (s : State Queue) (m : IsNumbered s) where
   step-numbered : (c : Limits) (step : Step) → IsNumbered (step_of c s step).state
   step-numbered c step =
       let o = (act c s step).state in
-      numbers-keep o.files o.files_made o.pipes (settled (call c s step) (kept c step)) (λ n. nat_lt 0 (ends (sweep o).descriptions n))
+      numbers-keep o.files o.files_made o.pipes (settled (call c s step) (kept c step)) (λ n. nat_lt 0 (ends itself (sweep itself o).descriptions n))
     where
-      settled : (r : Result Outcome Errno) → Holds Keeps r → IsNumbered (settle s r).state
+      settled : (r : Result (Outcome Segment ℕ) Errno) → Holds Keeps r → IsNumbered (settle s r).state
       settled (Ok o) h = h
       settled (Err e) h = m
 
-run-numbered : (c : Limits) (s : State Queue) (xs : List Step) → IsNumbered s → IsNumbered (run_of c s xs).state
+run-numbered : (c : Limits) (s : State Segment ℕ) (xs : List Step) → IsNumbered s → IsNumbered (run_of c s xs).state
 run-numbered c s [] m = m
 run-numbered c s (x ∷ xs) m = run-numbered c (step_of c s x).state xs (step-numbered s m c x)
 

@@ -6,11 +6,11 @@ use Rattle.std.specs.Prelude.{Result, is_some, ⊤}
 use Rattle.std.specs.Option.{option_map}
 use Rattle.pf_machine.specs.Refusals.{◌>>=◌, ◌>>◌, refuse_if, or_refuse}
 use Rattle.pf_base.specs.Limits.{Limits}
-use Rattle.pf_machine.specs.Queue.{Queue}
+use Rattle.pf_machine.specs.Queue.{Segment}
 use Rattle.pf_machine.specs.Numbered.{at, first_free}
 use Rattle.pf_machine.proofs.NumberedLaws.{at-put_same, at-put_other, at_within, at-first_free}
 use Rattle.pf_machine.specs.Calls.{Transfer, Reading, Writing, Bringing, Call, Opening, Moving, written_of}
-use Rattle.pf_machine.specs.State.{State, Process, Outcome, settle, living, ready, without_process, end_at, change_process, change_pipe, waiting, told}
+use Rattle.pf_machine.specs.State.{itself, State, Process, Outcome, settle, living, ready, without_process, end_at, change_process, change_pipe, waiting, told}
 use Rattle.pf_machine.specs.Processes.{born, spawn, fork, exit}
 use Rattle.pf_machine.specs.Descriptors.{dup, close, set_nonblock}
 use Rattle.pf_machine.specs.Pipes.{pipe, set_size, get_size}
@@ -34,57 +34,57 @@ use Rattle.pf_base.specs.declared.step.Step.{Step}
 use Rattle.pf_base.specs.declared.step.Step.TheVariants as steps
 use Rattle.pf_machine.proofs.HoldsLaws.{Holds, carries, goes, passes}
 
-module _ (s : State Queue) (i : ℕ) where
+module _ (s : State Segment ℕ) (i : ℕ) where
   -- the process in place i is as it was
-  pub record Same (ps : List (Option Process)) : Type 0 where
+  pub record Same (ps : List (Option (Process ℕ))) : Type 0 where
     pub is : at ps i ≡ at s.processes i
 
-  abbrev pub Stays : Outcome → Type 0
+  abbrev pub Stays : Outcome Segment ℕ → Type 0
   Stays o = Same o.state.processes
 
-  abbrev pub AttemptStays : Attempt → Type 0
+  abbrev pub AttemptStays : Attempt Segment ℕ → Type 0
   AttemptStays (Finished t r) = Same t.processes
   AttemptStays (Waits t call) = Same t.processes
 
   pub same-all : Same s.processes
   same-all = record { is = refl }
 
-  pub same-put : (k : ℕ) (x : Option Process) → i ≢ k → Same (set s.processes k x)
+  pub same-put : (k : ℕ) (x : Option (Process ℕ)) → i ≢ k → Same (set s.processes k x)
   same-put k x apart = record { is = at-put_other s.processes k i x apart }
 
-  pub settle-stays : (r : Result Outcome Errno) → Holds Stays r → Same (settle s r).state.processes
+  pub settle-stays : (r : Result (Outcome Segment ℕ) Errno) → Holds Stays r → Same (settle s r).state.processes
   settle-stays (Ok o) h = h
   settle-stays (Err e) h = record { is = refl }
 
-  same-as : (ps : List (Option Process)) → ps ≡ s.processes → Same ps
+  same-as : (ps : List (Option (Process ℕ))) → ps ≡ s.processes → Same ps
   same-as ps e = record { is = ap (λ qs. at qs i) e }
 
   module _ (q : ℕ) (apart : i ≢ q - 1) where
-    change-stays : (f : Process → Process) (t : State Queue) → Same t.processes → Same (change_process f t q).processes
+    change-stays : (f : Process ℕ → Process ℕ) (t : State Segment ℕ) → Same t.processes → Same (change_process f t q).processes
     change-stays f t h = record { is = at-put_other t.processes (q - 1) i (option_map f (at t.processes (q - 1))) apart ∙ h.is }
 
-    tried-stays : (p : Process) (call : Transfer) → Holds (λ (t : Tried). t.state.processes ≡ s.processes) (tried s p call)
+    tried-stays : (p : Process ℕ) (call : Transfer) → Holds (λ (t : Tried). t.state.processes ≡ s.processes) (tried s p call)
     tried-stays p (Reading fd n) = search (carries)
     tried-stays p (Writing fd x written) = search (passes, carries) depth 16
     tried-stays p (Bringing c source sink n) = carries (λ (t : Tried). t.state.processes ≡ s.processes) (two_ends s p source sink) (λ e. Ok (try_cross c s e n)) (λ e. refl)
 
-    read_told-stays : (call : Call) (t : Tried) (r : Progress) → Same t.state.processes → Holds AttemptStays (read_told call t r)
+    read_told-stays : (call : Call ℕ) (t : Tried) (r : Progress) → Same t.state.processes → Holds AttemptStays (read_told call t r)
     read_told-stays call t (Moved n) h = h
     read_told-stays call t EndOfFile h = h
     read_told-stays call t NoReader h = h
     read_told-stays call t WouldBlock h = h
 
-    cross_told-stays : (call : Call) (t : Tried) (r : Progress) → Same t.state.processes → Holds AttemptStays (cross_told call t r)
+    cross_told-stays : (call : Call ℕ) (t : Tried) (r : Progress) → Same t.state.processes → Holds AttemptStays (cross_told call t r)
     cross_told-stays call t (Moved n) h = h
     cross_told-stays call t EndOfFile h = h
     cross_told-stays call t NoReader h = tt
     cross_told-stays call t WouldBlock h = h
 
-    if_stays : (b : Bool) (x y : Attempt) → AttemptStays x → AttemptStays y → AttemptStays (if b then x else y)
+    if_stays : (b : Bool) (x y : Attempt Segment ℕ) → AttemptStays x → AttemptStays y → AttemptStays (if b then x else y)
     if_stays true x y h k = h
     if_stays false x y h k = k
 
-    if_holds : (b : Bool) (x y : Result Attempt Errno) → Holds AttemptStays x → Holds AttemptStays y → Holds AttemptStays (if b then x else y)
+    if_holds : (b : Bool) (x y : Result (Attempt Segment ℕ) Errno) → Holds AttemptStays x → Holds AttemptStays y → Holds AttemptStays (if b then x else y)
     if_holds true x y h k = h
     if_holds false x y h k = k
 
@@ -94,7 +94,7 @@ module _ (s : State Queue) (i : ℕ) where
     write_told-stays fd x written t EndOfFile h = h
     write_told-stays fd x written t WouldBlock h = h
 
-    given-stays : (t : State Queue) (p : Process) (n : ℕ) → Same t.processes → AttemptStays (given t q p n)
+    given-stays : (t : State Segment ℕ) (p : Process ℕ) (n : ℕ) → Same t.processes → AttemptStays (given t q p n)
     given-stays t p n h = record { is = at-put_other t.processes (q - 1) i _ apart ∙ h.is }
 
     transfer_told-stays : (call : Transfer) (t : Tried) → t.state.processes ≡ s.processes → Holds AttemptStays (transfer_told call t t.progress)
@@ -102,11 +102,11 @@ module _ (s : State Queue) (i : ℕ) where
     transfer_told-stays (Writing fd x written) t e = write_told-stays fd x written t t.progress (same-as t.state.processes e)
     transfer_told-stays (Bringing c source sink n) t e = cross_told-stays (Moving (Bringing c source sink n)) t t.progress (same-as t.state.processes e)
 
-    attempt-stays : (p : Process) (call : Call) → Holds AttemptStays (attempt s q p call)
-    attempt-stays p (Opening n kept) = carries AttemptStays (or_refuse EBADF (end_at s n)) (λ e. Ok (open_told s q p n kept e)) (λ e. if_stays (nat_lt kept (other_opens e)) (given s q p n) (Waits s (Opening n kept)) (given-stays s p n (record { is = refl })) (record { is = refl }))
+    attempt-stays : (p : Process ℕ) (call : Call ℕ) → Holds AttemptStays (attempt s q p call)
+    attempt-stays p (Opening n kept) = carries AttemptStays (or_refuse EBADF (end_at itself s n)) (λ e. Ok (open_told s q p n kept e)) (λ e. if_stays (nat_lt kept (other_opens e)) (given s q p n) (Waits s (Opening n kept)) (given-stays s p n (record { is = refl })) (record { is = refl }))
     attempt-stays p (Moving call) = goes (λ (t : Tried). t.state.processes ≡ s.processes) AttemptStays (tried s p call) (λ t. transfer_told call t t.progress) (tried-stays p call) (λ t e. transfer_told-stays call t e)
 
-    first-stays : (b : Bool) (a : Attempt) → AttemptStays a → Holds Stays (first q b a)
+    first-stays : (b : Bool) (a : Attempt Segment ℕ) → AttemptStays a → Holds Stays (first q b a)
     first-stays b (Finished t r) h = h
     first-stays false (Waits t call) h = change-stays (waiting (Some call)) t h
     first-stays true (Waits t call) h = by_test (nat_eq (written_of call) 0)
@@ -115,123 +115,123 @@ module _ (s : State Queue) (i : ℕ) where
         by_test true = tt
         by_test false = h
 
-    again-stays : (r : Result Attempt Errno) → Holds AttemptStays r → Stays (again s q r)
+    again-stays : (r : Result (Attempt Segment ℕ) Errno) → Holds AttemptStays r → Stays (again s q r)
     again-stays (Ok (Finished t reply)) h = change-stays (waiting None) t h
     again-stays (Ok (Waits t call)) h = change-stays (waiting (Some call)) t h
     again-stays (Err e) h = change-stays (waiting None) s (record { is = refl })
 
-    pub transfer-stays : (p : Process) (flag : Bool) (call : Transfer) → Holds Stays (transfer s q p flag call)
+    pub transfer-stays : (p : Process ℕ) (flag : Bool) (call : Transfer) → Holds Stays (transfer s q p flag call)
     transfer-stays p flag call = goes AttemptStays Stays (attempt s q p (Moving call)) (λ a. first q (flag || nonblocking s p call) a) (attempt-stays p (Moving call)) (λ a h. first-stays (flag || nonblocking s p call) a h)
 
-    pub resume-stays : (p : Process) → Holds Stays (resume s q p)
+    pub resume-stays : (p : Process ℕ) → Holds Stays (resume s q p)
     resume-stays p = carries Stays (or_refuse EINVAL p.parked) (λ call. Ok (again s q (attempt s q p call))) (λ call. again-stays (attempt s q p call) (attempt-stays p call))
 
-    pub close-stays : (p : Process) (fd : ℕ) → Holds Stays (close s q p fd)
+    pub close-stays : (p : Process ℕ) (fd : ℕ) → Holds Stays (close s q p fd)
     close-stays p fd = search (carries, same-put, apart) depth 16
 
-    pub dup-stays : (p : Process) (fd : ℕ) → Holds Stays (dup s q p fd)
+    pub dup-stays : (p : Process ℕ) (fd : ℕ) → Holds Stays (dup s q p fd)
     dup-stays p fd = search (passes, carries, same-put, apart) depth 16
 
-    pub pipe-stays : (c : Limits) (p : Process) (nonblock : Bool) → Holds Stays (pipe c s q p nonblock)
+    pub pipe-stays : (c : Limits) (p : Process ℕ) (nonblock : Bool) → Holds Stays (pipe (length s.descriptions) (length s.descriptions + 1) (length s.pipes) c s q p nonblock)
     pipe-stays c p nonblock = search (passes, carries, same-put, apart) depth 16
 
-    open_pipe-stays : (t : State Queue) (p : Process) (a : Access) (n : ℕ) → Same t.processes → AttemptStays (open_pipe t q p a n)
-    open_pipe-stays t p a n h = if_stays (is_waiting a (readers t n) (writers t n)) (Waits made (Opening (length t.descriptions) (kept_by a (at t.pipes n)))) (given made q p (length t.descriptions)) h (given-stays made p (length t.descriptions) h)
+    open_pipe-stays : (name of : ℕ) (t : State Segment ℕ) (p : Process ℕ) (a : Access) (n : ℕ) → Same t.processes → AttemptStays (open_pipe itself name of t q p a n)
+    open_pipe-stays name of t p a n h = if_stays (is_waiting a (readers itself t n) (writers itself t n)) (Waits made (Opening name (kept_by a (at t.pipes n)))) (given made q p name) h (given-stays made p name h)
       where
-        made : State Queue
-        made = change_pipe (counted a) (record t { descriptions = t.descriptions ++ Some (record { pipe = n; reads = a.reads; writes = a.writes; nonblocking = a.nonblock }) ∷ [] }) n
+        made : State Segment ℕ
+        made = change_pipe (counted a) (record t { descriptions = t.descriptions ++ Some (record { pipe = of; reads = a.reads; writes = a.writes; nonblocking = a.nonblock }) ∷ [] }) n
 
-    pipe_of-stays : (c : Limits) (p : Process) (file : ℕ) (o : Option ℕ) → Holds (λ (f : Found). Same f.state.processes) (pipe_of c s p file o)
+    pipe_of-stays : (c : Limits) (p : Process ℕ) (file : ℕ) (o : Option ℕ) → Holds (λ (f : Found Segment ℕ). Same f.state.processes) (pipe_of c s p file o)
     pipe_of-stays c p file (Some n) = record { is = refl }
     pipe_of-stays c p file None = search (passes, carries, same-all)
 
-    open_fifo-stays : (c : Limits) (p : Process) (a : Access) (file : ℕ) → Holds Stays (open_fifo c s q p a file)
+    open_fifo-stays : (c : Limits) (p : Process ℕ) (a : Access) (file : ℕ) → Holds Stays (open_fifo itself (length s.descriptions) itself c s q p a file)
     open_fifo-stays c p a file = search (passes, ended)
       where
-        ended : Holds Stays (pipe_of c s p file (fifo_pipe s file) >>= (λ found. first q false (open_pipe found.state q p a found.pipe)))
+        ended : Holds Stays (pipe_of c s p file (fifo_pipe s file) >>= (λ found. first q false (open_pipe itself (length s.descriptions) found.pipe found.state q p a found.pipe)))
         ended =
-            goes (λ (f : Found). Same f.state.processes) Stays (pipe_of c s p file (fifo_pipe s file)) (λ found. first q false (open_pipe found.state q p a found.pipe)) (pipe_of-stays c p file (fifo_pipe s file))
-            (λ found h. first-stays false (open_pipe found.state q p a found.pipe) (open_pipe-stays found.state p a found.pipe h))
+            goes (λ (f : Found Segment ℕ). Same f.state.processes) Stays (pipe_of c s p file (fifo_pipe s file)) (λ found. first q false (open_pipe itself (length s.descriptions) found.pipe found.state q p a found.pipe)) (pipe_of-stays c p file (fifo_pipe s file))
+            (λ found h. first-stays false (open_pipe itself (length s.descriptions) found.pipe found.state q p a found.pipe) (open_pipe-stays (length s.descriptions) found.pipe found.state p a found.pipe h))
 
-    pub open_path-stays : (c : Limits) (p : Process) (path : List ℕ) (a : Access) → Holds Stays (open_path c s q p path a)
+    pub open_path-stays : (c : Limits) (p : Process ℕ) (path : List ℕ) (a : Access) → Holds Stays (open_path itself (length s.descriptions) itself c s q p path a)
     open_path-stays c p path a = search (carries, open_fifo-stays) depth 16
 
     pub exit-stays : Holds Stays (exit s q)
     exit-stays = same-put (q - 1) None apart
 
   -- calls that leave the processes
-  pub set_nonblock-stays : (p : Process) (fd : ℕ) (on : Bool) → Holds Stays (set_nonblock s p fd on)
+  pub set_nonblock-stays : (p : Process ℕ) (fd : ℕ) (on : Bool) → Holds Stays (set_nonblock itself s p fd on)
   set_nonblock-stays p fd on = search (carries, same-all) depth 16
 
-  pub set_size-stays : (c : Limits) (p : Process) (fd bytes : ℕ) → Holds Stays (set_size c s p fd bytes)
+  pub set_size-stays : (c : Limits) (p : Process ℕ) (fd bytes : ℕ) → Holds Stays (set_size itself c s p fd bytes)
   set_size-stays c p fd bytes = search (passes, carries, same-all) depth 16
 
-  pub get_size-stays : (p : Process) (fd : ℕ) → Holds Stays (get_size s p fd)
+  pub get_size-stays : (p : Process ℕ) (fd : ℕ) → Holds Stays (get_size itself s p fd)
   get_size-stays p fd = search (carries, same-all) depth 16
 
-  pub make-stays : (kind : Kind) (p : Process) (path : List ℕ) (bits : ℕ) → Holds Stays (make kind s p path bits)
+  pub make-stays : (kind : Kind) (p : Process ℕ) (path : List ℕ) (bits : ℕ) → Holds Stays (make kind s p path bits)
   make-stays kind p path bits = search (carries, same-all) depth 16
 
-  pub unlink-stays : (p : Process) (path : List ℕ) → Holds Stays (unlink s p path)
+  pub unlink-stays : (p : Process ℕ) (path : List ℕ) → Holds Stays (unlink s p path)
   unlink-stays p path = search (carries, same-all) depth 16
 
-  pub rmdir-stays : (p : Process) (path : List ℕ) → Holds Stays (rmdir s p path)
+  pub rmdir-stays : (p : Process ℕ) (path : List ℕ) → Holds Stays (rmdir s p path)
   rmdir-stays p path = search (carries, same-all) depth 16
 
-  pub chmod-stays : (p : Process) (path : List ℕ) (bits : ℕ) → Holds Stays (chmod s p path bits)
+  pub chmod-stays : (p : Process ℕ) (path : List ℕ) (bits : ℕ) → Holds Stays (chmod s p path bits)
   chmod-stays p path bits = search (carries, same-all) depth 16
 
-  pub stat-stays : (p : Process) (path : List ℕ) → Holds Stays (stat s p path)
+  pub stat-stays : (p : Process ℕ) (path : List ℕ) → Holds Stays (stat s p path)
   stat-stays p path = search (carries, same-all) depth 16
 
-  pub list-stays : (p : Process) (path : List ℕ) → Holds Stays (list s p path)
+  pub list-stays : (p : Process ℕ) (path : List ℕ) → Holds Stays (list s p path)
   list-stays p path = search (carries, same-all) depth 16
 
   -- a new process comes where none was
-  module _ (w : Process) (here : at s.processes i ≡ Some w) where
+  module _ (w : Process ℕ) (here : at s.processes i ≡ Some w) where
     spare : i ≢ first_free s.processes + 1 - 1
     spare e =
         let same : first_free s.processes + 1 - 1 ≡ first_free s.processes = omega arith in
         let both : at s.processes i ≡ None = ap (λ k. at s.processes k) (e ∙ same) ∙ at-first_free s.processes in
         cc
 
-    born-stays : (p : Process) → Holds Stays (born s p)
+    born-stays : (p : Process ℕ) → Holds Stays (born s p)
     born-stays p = search (passes, same-put, spare) depth 16
 
     pub spawn-stays : (cred : Cred) → Holds Stays (spawn s cred)
     spawn-stays cred = search (passes, born-stays)
 
-    pub fork-stays : (p : Process) → Holds Stays (fork s p)
+    pub fork-stays : (p : Process ℕ) → Holds Stays (fork s p)
     fork-stays p = born-stays p
 
 -- Steps
 
 -- the process in place i waits in a transfer
-pub record InCall (s : State Queue) (i : ℕ) (call : Transfer) : Type 0 where
-  pub who : Process
+pub record InCall (s : State Segment ℕ) (i : ℕ) (call : Transfer) : Type 0 where
+  pub who : Process ℕ
   pub stands : at s.processes i ≡ Some who
   pub waits : who.parked ≡ Some (Moving call)
 
-pub in_call-parked : {s : State Queue} {i : ℕ} {call : Transfer} → InCall s i call → is_parked s (suc i) ≡ true
-in_call-parked w = ap in_call w.stands ∙ ap (λ (o : Option Call). is_some o) w.waits
+pub in_call-parked : {s : State Segment ℕ} {i : ℕ} {call : Transfer} → InCall s i call → is_parked s (suc i) ≡ true
+in_call-parked w = ap in_call w.stands ∙ ap (λ (o : Option (Call ℕ)). is_some o) w.waits
 
-pub in_call-same : {s : State Queue} {i : ℕ} {call : Transfer} (t : State Queue) → InCall s i call
+pub in_call-same : {s : State Segment ℕ} {i : ℕ} {call : Transfer} (t : State Segment ℕ) → InCall s i call
     → at t.processes i ≡ at s.processes i → InCall t i call
 in_call-same t w e = record { who = w.who; stands = e ∙ w.stands; waits = w.waits }
 
 -- who calls while it waits is refused, others change it not
-ready-stays : (s : State Queue) (i : ℕ) (w : Process) (q : ℕ) (f : Process → Result Outcome Errno)
-    → at s.processes i ≡ Some w → is_some w.parked ≡ true → ((p : Process) → i ≢ q - 1 → Holds (Stays s i) (f p))
+ready-stays : (s : State Segment ℕ) (i : ℕ) (w : Process ℕ) (q : ℕ) (f : Process ℕ → Result (Outcome Segment ℕ) Errno)
+    → at s.processes i ≡ Some w → is_some w.parked ≡ true → ((p : Process ℕ) → i ≢ q - 1 → Holds (Stays s i) (f p))
     → Holds (Stays s i) (ready s q >>= f)
 ready-stays s i w zero f here busy h = tt
 ready-stays s i w (suc j) f here busy h = by_process (at s.processes j) refl
   where
-    by_test : (p : Process) (b : Bool) → (b ≡ false → i ≢ suc j - 1) → Holds (Stays s i)
+    by_test : (p : Process ℕ) (b : Bool) → (b ≡ false → i ≢ suc j - 1) → Holds (Stays s i)
         ((refuse_if b EBUSY >> Ok p) >>= f)
     by_test p true k = tt
     by_test p false k = h p (k refl)
 
-    by_process : (o : Option Process) → at s.processes j ≡ o → Holds (Stays s i)
+    by_process : (o : Option (Process ℕ)) → at s.processes j ≡ o → Holds (Stays s i)
         ((or_refuse ESRCH o >>= (λ p. refuse_if (is_some p.parked) EBUSY >> Ok p)) >>= f)
     by_process None e = tt
     by_process (Some p) e = by_test p (is_some p.parked) apart
@@ -241,18 +241,18 @@ ready-stays s i w (suc j) f here busy h = by_process (at s.processes j) refl
             let one : i ≡ j = omega (arith, same) in
             let who : p ≡ w = let here' : at s.processes j ≡ Some w =
             ap (λ k. at s.processes k) (sym one) ∙ here in cc in
-            let both : is_some p.parked ≡ true = ap (λ (r : Process). is_some r.parked) who ∙ busy in
+            let both : is_some p.parked ≡ true = ap (λ (r : Process ℕ). is_some r.parked) who ∙ busy in
             cc
 
-living-stays : (s : State Queue) (i q : ℕ) (f : Process → Result Outcome Errno) → nat_eq q (suc i) ≡ false
-    → ((p : Process) → i ≢ q - 1 → Holds (Stays s i) (f p)) → Holds (Stays s i) (living s q >>= f)
+living-stays : (s : State Segment ℕ) (i q : ℕ) (f : Process ℕ → Result (Outcome Segment ℕ) Errno) → nat_eq q (suc i) ≡ false
+    → ((p : Process ℕ) → i ≢ q - 1 → Holds (Stays s i) (f p)) → Holds (Stays s i) (living s q >>= f)
 living-stays s i zero f other h = tt
 living-stays s i (suc j) f other h =
     carries (Stays s i) (or_refuse ESRCH (at s.processes j)) f
     (λ p. h p (λ same. eqb-false (suc j) (suc i) other (omega (arith, same))))
 
 -- it is as it was, or it waits no more
-abbrev pub Left : State Queue → ℕ → Outcome → Type 0
+abbrev pub Left : State Segment ℕ → ℕ → Outcome Segment ℕ → Type 0
 Left s i o = Same s i o.state.processes ⊎ (is_parked o.state (suc i) ≡ false)
 
 -- a step that is not the Resume of a process
@@ -260,14 +260,14 @@ abbrev pub IsNoResumeOf : ℕ → Step → Type 0
 IsNoResumeOf pid (steps.Resume q) = nat_eq q pid ≡ false
 IsNoResumeOf pid _ = ⊤
 
-module _ {s : State Queue} {i : ℕ} {waited : Transfer} (w : InCall s i waited) where
+module _ {s : State Segment ℕ} {i : ℕ} {waited : Transfer} (w : InCall s i waited) where
   stays-on : (c : Limits) (y : Step) → Holds (Stays s i) (call c s y) → Left s i (act c s y)
   stays-on c y h = inl (settle-stays s i (call c s y) h)
 
   busy : is_some w.who.parked ≡ true
-  busy = ap (λ (o : Option Call). is_some o) w.waits
+  busy = ap (λ (o : Option (Call ℕ)). is_some o) w.waits
 
-  by_ready : (q : ℕ) (f : Process → Result Outcome Errno) → ((p : Process) → i ≢ q - 1 → Holds (Stays s i) (f p))
+  by_ready : (q : ℕ) (f : Process ℕ → Result (Outcome Segment ℕ) Errno) → ((p : Process ℕ) → i ≢ q - 1 → Holds (Stays s i) (f p))
       → Holds (Stays s i) (ready s q >>= f)
   by_ready q f h = ready-stays s i w.who q f w.stands busy h
 
@@ -282,12 +282,12 @@ module _ {s : State Queue} {i : ℕ} {waited : Transfer} (w : InCall s i waited)
           ∙ at-put_same s.processes i None (at_within s.processes i w.who w.stands)
 
       gone : Left s i (act c s (steps.Exit (suc i)))
-      gone = subst (λ (o : Option Process). Left s i (settle s (or_refuse ESRCH o >>= (λ p. exit s (suc i)))))
+      gone = subst (λ (o : Option (Process ℕ)). Left s i (settle s (or_refuse ESRCH o >>= (λ p. exit s (suc i)))))
           (sym w.stands) (inr (ap in_call cleared))
 
   pub others-leave : (c : Limits) (y : Step) → IsNoResumeOf (suc i) y → Left s i (act c s y)
-  others-leave c (steps.Spawn uid gid groups umask) h =
-      stays-on c (steps.Spawn uid gid groups umask)
+  others-leave c (steps.Spawn uid gid umask groups) h =
+      stays-on c (steps.Spawn uid gid umask groups)
       (spawn-stays s i w.who w.stands (record { uid = uid; gid = gid; groups = groups; umask = umask }))
   others-leave c (steps.Exit q) h = exit-leaves c q
   others-leave c (steps.Resume q) h =

@@ -10,7 +10,7 @@ use Rattle.std.specs.Prelude.{map, filter, replicate}
 use Rattle.std.specs.Option.{option_map}
 use Rattle.pf_machine.specs.Refusals.{◌>>=◌, ◌>>◌, refuse_if, or_refuse}
 use Rattle.pf_base.specs.Limits.{Limits}
-use Rattle.pf_machine.specs.Queue.{Queue, room_of}
+use Rattle.pf_machine.specs.Queue.{Segment, Queue, room_of}
 use Rattle.pf_machine.specs.Progress.{Passed, moved, portion, write_now}
 use Rattle.pf_machine.specs.Numbered.{at, change_at}
 use Rattle.pf_machine.proofs.NumberedLaws.{at-put_same, at_within}
@@ -20,7 +20,7 @@ use Rattle.pf_base.specs.declared.errno.Errno.TheVariants.{ESRCH, EBUSY, EINVAL,
 use Rattle.pf_base.specs.declared.progress.Progress.{Progress}
 use Rattle.pf_base.specs.declared.progress.Progress.TheVariants.{Moved, WouldBlock, EndOfFile, NoReader}
 use Rattle.pf_machine.specs.Calls.{Writing, Call, Moving}
-use Rattle.pf_machine.specs.State.{State, Process, End, Outcome, settle, vacant, opening, living, ready, writing_end, change_process, waiting, told}
+use Rattle.pf_machine.specs.State.{itself, State, Process, End, Outcome, settle, vacant, opening, living, ready, writing_end, change_process, waiting, told}
 use Rattle.pf_machine.specs.Counts.{readers}
 use Rattle.pf_machine.specs.Transfers.{Tried, tried, try_write}
 use Rattle.pf_machine.specs.Attempts.{Finished, Waits, write_told, transfer_told, attempt, first, again, nonblocking, transfer, resume}
@@ -46,7 +46,7 @@ member [] = []
 member (b ∷ x) = (b ∷ x) ∷ []
 
 -- what a Resume of a process puts in
-abbrev own : State Queue → ℕ → Step → List (List ℕ)
+abbrev own : State Segment ℕ → ℕ → Step → List (List ℕ)
 own s pid (steps.Resume q) = if nat_eq q pid then member (put_any (transfer_of s (steps.Resume q))) else []
 own s pid _ = []
 
@@ -77,29 +77,29 @@ by-other k j (Ok t) gs apart = by_pipe t.into
     by_pipe (Some n) = by_bytes n t.bytes
 
 -- who waits in no call gives nothing by Resume
-pub resume-none : (s : State Queue) (began : ℕ → ℕ) (k q : ℕ) (gs : List Gift)
+pub resume-none : (s : State Segment ℕ) (began : ℕ → ℕ) (k q : ℕ) (gs : List Gift)
     → (is_parked s q ≡ true → nat_eq (began q) k ≡ false)
     → given_by k (gift_of (began q) (transfer_of s (steps.Resume q)) ++ gs) ≡ given_by k gs
 resume-none s began k zero gs h = refl
 resume-none s began k (suc j) gs h = by_process (at s.processes j) refl
   where
-    by_call : (p : Process) (o : Option Call) → (is_some o ≡ true → nat_eq (began (suc j)) k ≡ false) → given_by k (gift_of (began (suc j)) (or_refuse EINVAL o >>= tried_call s p) ++ gs) ≡ given_by k gs
+    by_call : (p : Process ℕ) (o : Option (Call ℕ)) → (is_some o ≡ true → nat_eq (began (suc j)) k ≡ false) → given_by k (gift_of (began (suc j)) (or_refuse EINVAL o >>= tried_call s p) ++ gs) ≡ given_by k gs
     by_call p None h = refl
     by_call p (Some call) h = by-other k (began (suc j)) (tried_call s p call) gs (h refl)
 
-    by_process : (o : Option Process) → at s.processes j ≡ o → given_by k (gift_of (began (suc j)) (or_refuse ESRCH o >>= (λ p. or_refuse EINVAL p.parked >>= tried_call s p)) ++ gs) ≡ given_by k gs
+    by_process : (o : Option (Process ℕ)) → at s.processes j ≡ o → given_by k (gift_of (began (suc j)) (or_refuse ESRCH o >>= (λ p. or_refuse EINVAL p.parked >>= tried_call s p)) ++ gs) ≡ given_by k gs
     by_process None e = refl
     by_process (Some p) e = by_call p p.parked (λ t. h (ap in_call e ∙ t))
 
 -- a step of another call gives nothing to this one
-pub step-none : (s : State Queue) (began : ℕ → ℕ) (k i : ℕ) (y : Step) (gs : List Gift) → nat_eq i k ≡ false
+pub step-none : (s : State Segment ℕ) (began : ℕ → ℕ) (k i : ℕ) (y : Step) (gs : List Gift) → nat_eq i k ≡ false
     → ((q : ℕ) → is_parked s q ≡ true → nat_eq (began q) k ≡ false)
     → given_by k (gift_of (call_at began i y) (transfer_of s y) ++ gs) ≡ given_by k gs
 step-none s began k i (steps.Resume q) gs apart h = resume-none s began k q gs (h q)
 step-none s began k i y gs apart h = by-other k i (transfer_of s y) gs apart
 
 -- nor does one of another process to the call of a process that waits
-own-step : (s : State Queue) (began : ℕ → ℕ) (k i j : ℕ) (y : Step) (gs : List Gift) → nat_eq i k ≡ false → began (suc j) ≡ k → ((q : ℕ) → nat_eq q (suc j) ≡ false → is_parked s q ≡ true → nat_eq (began q) k ≡ false)
+own-step : (s : State Segment ℕ) (began : ℕ → ℕ) (k i j : ℕ) (y : Step) (gs : List Gift) → nat_eq i k ≡ false → began (suc j) ≡ k → ((q : ℕ) → nat_eq q (suc j) ≡ false → is_parked s q ≡ true → nat_eq (began q) k ≡ false)
     → given_by k (gift_of (call_at began i y) (transfer_of s y) ++ gs) ≡ own s (suc j) y ++ given_by k gs
 own-step s began k i j (steps.Resume q) gs apart here h = elim (nat_eq q (suc j)) as (λ b. nat_eq q (suc j) ≡ b → given_by k (gift_of (began q) (transfer_of s (steps.Resume q)) ++ gs) ≡ (if b then member (put_any (transfer_of s (steps.Resume q))) else []) ++ given_by k gs) [
   | true ↦ λ e.
@@ -112,17 +112,17 @@ own-step s began k i j y gs apart here h = by-other k i (transfer_of s y) gs apa
 -- Waiting
 
 -- the process in place i waits in a write of which so much is done
-abbrev pub Waiting : State Queue → ℕ → ℕ → List ℕ → ℕ → Type 0
+abbrev pub Waiting : State Segment ℕ → ℕ → ℕ → List ℕ → ℕ → Type 0
 Waiting s i fd x d = InCall s i (Writing fd x d)
 
 -- where a step leaves a write that waits: so many of its bytes more went in, and it waits on or has ended
-pub record Goes (t : State Queue) (i fd : ℕ) (x : List ℕ) (d : ℕ) (ps : List (List ℕ)) : Type 0 where
+pub record Goes (t : State Segment ℕ) (i fd : ℕ) (x : List ℕ) (d : ℕ) (ps : List (List ℕ)) : Type 0 where
   pub more : ℕ
   pub put : ps ≡ member (take more (drop d x))
   pub next : Waiting t i fd x (d + more) ⊎ (is_parked t (suc i) ≡ false)
   pub whole : length x ≤ PIPE_BUF → d ≡ 0 → (more ≡ 0) ⊎ ((more ≡ length x) × (is_parked t (suc i) ≡ false))
 
-goes-nowhere : {s : State Queue} {i fd : ℕ} {x : List ℕ} {d : ℕ} (t : State Queue) → Waiting s i fd x d → Same s i t.processes → Goes t i fd x d []
+goes-nowhere : {s : State Segment ℕ} {i fd : ℕ} {x : List ℕ} {d : ℕ} (t : State Segment ℕ) → Waiting s i fd x d → Same s i t.processes → Goes t i fd x d []
 goes-nowhere {s} {i} {fd} {x} {d} t w h =
     let same : d ≡ d + 0 = omega arith in
     record {
@@ -135,7 +135,7 @@ goes-nowhere {s} {i} {fd} {x} {d} t w h =
 
 -- What a try of it does
 
-pub record Writes (s : State Queue) (x : List ℕ) (d : ℕ) (t : Tried) : Type 0 where
+pub record Writes (s : State Segment ℕ) (x : List ℕ) (d : ℕ) (t : Tried) : Type 0 where
   pub bytes : t.bytes ≡ take (moved t.progress) (drop d x)
   pub into : is_some t.into ≡ true
   pub processes : t.state.processes ≡ s.processes
@@ -149,29 +149,29 @@ write_now-whole q readers x =
     branch P (nat_eq (portion true (length x) (room_of q)) 0) _ _ (λ _. inl refl)
     (λ _. branch (λ n. (n ≡ 0) ⊎ (n ≡ length x)) (nat_le (length x) (room_of q)) (length x) 0 (λ _. inr refl) (λ _. inl refl))))
 
-tried-writes : (s : State Queue) (p : Process) (fd : ℕ) (x : List ℕ) (d : ℕ) → Holds (Writes s x d) (tried s p (Writing fd x d))
-tried-writes s p fd x d = carries (Writes s x d) (writing_end s p fd) (λ e. refuse_if (nat_lt MAX_WRITE (length x)) EINVAL >> Ok (try_write s e x d)) (λ e.
+tried-writes : (s : State Segment ℕ) (p : Process ℕ) (fd : ℕ) (x : List ℕ) (d : ℕ) → Holds (Writes s x d) (tried s p (Writing fd x d))
+tried-writes s p fd x d = carries (Writes s x d) (writing_end itself s p fd) (λ e. refuse_if (nat_lt MAX_WRITE (length x)) EINVAL >> Ok (try_write s e x d)) (λ e.
     passes (Writes s x d) (refuse_if (nat_lt MAX_WRITE (length x)) EINVAL) (Ok (try_write s e x d)) (record { bytes = refl; into = refl; processes = refl; whole = whole e }))
   where
-    whole : (e : End Queue) → length x ≤ PIPE_BUF → (moved (try_write s e x d).progress ≡ 0) ⊎ (moved (try_write s e x d).progress ≡ length (drop d x))
+    whole : (e : End Segment ℕ) → length x ≤ PIPE_BUF → (moved (try_write s e x d).progress ≡ 0) ⊎ (moved (try_write s e x d).progress ≡ length (drop d x))
     whole e short =
-        subst (λ b. let r = write_now e.pipe.queue (readers s e.description.pipe) b (drop d x) in (moved r.progress ≡ 0) ⊎ (moved r.progress ≡ length (drop d x))) (sym (le-leb (length x) PIPE_BUF short)) (write_now-whole e.pipe.queue (readers s e.description.pipe) (drop d x))
+        subst (λ b. let r = write_now e.pipe.queue (readers itself s e.description.pipe) b (drop d x) in (moved r.progress ≡ 0) ⊎ (moved r.progress ≡ length (drop d x))) (sym (le-leb (length x) PIPE_BUF short)) (write_now-whole e.pipe.queue (readers itself s e.description.pipe) (drop d x))
 
-pub at-change : (f : Process → Process) (ps : List (Option Process)) (i : ℕ) (w : Process) → at ps i ≡ Some w
+pub at-change : (f : Process ℕ → Process ℕ) (ps : List (Option (Process ℕ))) (i : ℕ) (w : Process ℕ) → at ps i ≡ Some w
     → at (change_at f ps (suc i - 1)) i ≡ Some (f w)
 at-change f ps i w e =
     let same : suc i - 1 ≡ i = omega arith in
     ap (λ k. at (change_at f ps k) i) same ∙ at-put_same ps i (option_map f (at ps i)) (at_within ps i w e) ∙ ap (option_map f) e
 
-put_any-writes : {s : State Queue} {x : List ℕ} {d : ℕ} (t : Tried) → Writes s x d t → put_any (Ok t) ≡ take (moved t.progress) (drop d x)
+put_any-writes : {s : State Segment ℕ} {x : List ℕ} {d : ℕ} (t : Tried) → Writes s x d t → put_any (Ok t) ≡ take (moved t.progress) (drop d x)
 put_any-writes t h = ap (λ b. if b then t.bytes else []) h.into ∙ h.bytes
 
 -- its own Resume
-module _ (s : State Queue) (i fd : ℕ) (x : List ℕ) (d : ℕ) (w : Waiting s i fd x d) where
-  ended : (t : State Queue) → at t.processes i ≡ Some w.who → is_parked (change_process (waiting None) t (suc i)) (suc i) ≡ false
+module _ (s : State Segment ℕ) (i fd : ℕ) (x : List ℕ) (d : ℕ) (w : Waiting s i fd x d) where
+  ended : (t : State Segment ℕ) → at t.processes i ≡ Some w.who → is_parked (change_process (waiting None) t (suc i)) (suc i) ≡ false
   ended t e = ap in_call (at-change (waiting None) t.processes i w.who e)
 
-  goes_on : (t : State Queue) (n : ℕ) → at t.processes i ≡ Some w.who → Waiting (change_process (waiting (Some (Moving (Writing fd x n)))) t (suc i)) i fd x n
+  goes_on : (t : State Segment ℕ) (n : ℕ) → at t.processes i ≡ Some w.who → Waiting (change_process (waiting (Some (Moving (Writing fd x n)))) t (suc i)) i fd x n
   goes_on t n e = record { who = waiting (Some (Moving (Writing fd x n))) w.who; stands = at-change (waiting (Some (Moving (Writing fd x n)))) t.processes i w.who e; waits = refl }
 
   goes-still : (t : Tried) → moved t.progress ≡ 0 → Writes s x d t → Goes (change_process (waiting (Some (Moving (Writing fd x d)))) t.state (suc i)) i fd x d (member (put_any (Ok t)))
@@ -185,7 +185,7 @@ module _ (s : State Queue) (i fd : ℕ) (x : List ℕ) (d : ℕ) (w : Waiting s 
       }
 
   -- it ends with nothing more put in
-  goes-ended : (t : Tried) (u : State Queue) → moved t.progress ≡ 0 → Writes s x d t → at u.processes i ≡ Some w.who → Goes (change_process (waiting None) u (suc i)) i fd x d (member (put_any (Ok t)))
+  goes-ended : (t : Tried) (u : State Segment ℕ) → moved t.progress ≡ 0 → Writes s x d t → at u.processes i ≡ Some w.who → Goes (change_process (waiting None) u (suc i)) i fd x d (member (put_any (Ok t)))
   goes-ended t u none h here = record {
     more = 0;
     put = ap member (put_any-writes t h ∙ ap (λ m. take m (drop d x)) none);
@@ -230,18 +230,18 @@ module _ (s : State Queue) (i fd : ℕ) (x : List ℕ) (d : ℕ) (w : Waiting s 
   goes-tried (Ok t) h = goes-told t t.progress refl h
   goes-tried (Err e) h = record { more = 0; put = refl; next = inr (ended s w.stands); whole = λ short start. inl refl }
 
-  goes-parked : (o : Option Call) → Some (Moving (Writing fd x d)) ≡ o → Goes (settle s (or_refuse EINVAL o >>= (λ call. Ok (again s (suc i) (attempt s (suc i) w.who call))))).state i fd x d (member (put_any (or_refuse EINVAL o >>= tried_call s w.who)))
+  goes-parked : (o : Option (Call ℕ)) → Some (Moving (Writing fd x d)) ≡ o → Goes (settle s (or_refuse EINVAL o >>= (λ call. Ok (again s (suc i) (attempt s (suc i) w.who call))))).state i fd x d (member (put_any (or_refuse EINVAL o >>= tried_call s w.who)))
   goes-parked o e =
-      subst (λ (o : Option Call). Goes (settle s (or_refuse EINVAL o >>= (λ call. Ok (again s (suc i) (attempt s (suc i) w.who call))))).state i fd x d (member (put_any (or_refuse EINVAL o >>= tried_call s w.who)))) e
+      subst (λ (o : Option (Call ℕ)). Goes (settle s (or_refuse EINVAL o >>= (λ call. Ok (again s (suc i) (attempt s (suc i) w.who call))))).state i fd x d (member (put_any (or_refuse EINVAL o >>= tried_call s w.who)))) e
       (goes-tried (tried s w.who (Writing fd x d)) (tried-writes s w.who fd x d))
 
   goes-resume : Goes (settle s (living s (suc i) >>= (λ p. resume s (suc i) p))).state i fd x d (member (put_any (living s (suc i) >>= (λ p. or_refuse EINVAL p.parked >>= tried_call s p))))
   goes-resume =
-      subst (λ (o : Option Process). Goes (settle s (or_refuse ESRCH o >>= (λ p. resume s (suc i) p))).state i fd x d (member (put_any (or_refuse ESRCH o >>= (λ p. or_refuse EINVAL p.parked >>= tried_call s p))))) (sym w.stands)
+      subst (λ (o : Option (Process ℕ)). Goes (settle s (or_refuse ESRCH o >>= (λ p. resume s (suc i) p))).state i fd x d (member (put_any (or_refuse ESRCH o >>= (λ p. or_refuse EINVAL p.parked >>= tried_call s p))))) (sym w.stands)
       (goes-parked w.who.parked (sym w.waits))
 
   -- any step
-  goes-left : (o : Outcome) → Left s i o → Goes o.state i fd x d []
+  goes-left : (o : Outcome Segment ℕ) → Left s i o → Goes o.state i fd x d []
   goes-left o left =
       ⊎_elim (λ stays. goes-nowhere o.state w stays)
       (λ gone. record { more = 0; put = refl; next = inr gone; whole = λ short none. inl refl }) left
@@ -267,7 +267,7 @@ apart-below i k l = elim (nat_eq i k) as (λ b. nat_eq i k ≡ b → nat_eq i k 
   | false ↦ λ e. e
 ] refl
 
-pub began-next : (s : State Queue) (began : ℕ → ℕ) (k i q : ℕ) → nat_eq i k ≡ false
+pub began-next : (s : State Segment ℕ) (began : ℕ → ℕ) (k i q : ℕ) → nat_eq i k ≡ false
     → (is_parked s q ≡ true → nat_eq (began q) k ≡ false) → nat_eq (beginning s began i q) k ≡ false
 began-next s began k i q apart h = by_test (is_parked s q) h
   where
@@ -275,7 +275,7 @@ began-next s began k i q apart h = by_test (is_parked s q) h
     by_test true h = h refl
     by_test false h = apart
 
-pub began-kept : (s : State Queue) (began : ℕ → ℕ) (i q : ℕ) → is_parked s q ≡ true → beginning s began i q ≡ began q
+pub began-kept : (s : State Segment ℕ) (began : ℕ → ℕ) (i q : ℕ) → is_parked s q ≡ true → beginning s began i q ≡ began q
 began-kept s began i q t = ap (λ b. if b then began q else i) t
 
 -- Lists of steps
@@ -285,7 +285,7 @@ joined-member [] xs = refl
 joined-member (b ∷ x) xs = refl
 
 -- a call in which nobody waits any more gives nothing
-pub ended-none : (c : Limits) (xs : List Step) (s : State Queue) (began : ℕ → ℕ) (k i : ℕ) → k < i
+pub ended-none : (c : Limits) (xs : List Step) (s : State Segment ℕ) (began : ℕ → ℕ) (k i : ℕ) → k < i
     → ((q : ℕ) → is_parked s q ≡ true → nat_eq (began q) k ≡ false) → given_by k (gifts c s began i xs) ≡ []
 ended-none c [] s began k i l h = refl
 ended-none c (y ∷ ys) s began k i l h =
@@ -305,17 +305,17 @@ nothing-front : (x : List ℕ) (ps : List (List ℕ)) → ps ≡ [] → IsInOrde
 nothing-front x ps e = (0, ap joined e)
 
 -- no parked call but that of this process began at k
-abbrev pub Alone : State Queue → (ℕ → ℕ) → ℕ → ℕ → Type 0
+abbrev pub Alone : State Segment ℕ → (ℕ → ℕ) → ℕ → ℕ → Type 0
 Alone s began k j = (q : ℕ) → nat_eq q (suc j) ≡ false → is_parked s q ≡ true → nat_eq (began q) k ≡ false
 
-pub all-ended : (s t : State Queue) (began : ℕ → ℕ) (k i j : ℕ) → nat_eq i k ≡ false → Alone s began k j
+pub all-ended : (s t : State Segment ℕ) (began : ℕ → ℕ) (k i j : ℕ) → nat_eq i k ≡ false → Alone s began k j
     → is_parked t (suc j) ≡ false → (q : ℕ) → is_parked t q ≡ true → nat_eq (beginning s began i q) k ≡ false
 all-ended s t began k i j apart alone e q here = elim (nat_eq q (suc j)) as (λ b. nat_eq q (suc j) ≡ b → nat_eq (beginning s began i q) k ≡ false) [
   | true ↦ λ same. absurd (let both : is_parked t (suc j) ≡ true = ap (is_parked t) (sym (eqb-true q (suc j) same)) ∙ here in cc)
   | false ↦ λ other. began-next s began k i q apart (alone q other)
 ] refl
 
-later-front : (c : Limits) (xs : List Step) (s : State Queue) (began : ℕ → ℕ) (k i j fd : ℕ) (x : List ℕ) (d : ℕ) → k < i → Waiting s j fd x d → began (suc j) ≡ k → Alone s began k j → IsInOrder (drop d x) (given_by k (gifts c s began i xs))
+later-front : (c : Limits) (xs : List Step) (s : State Segment ℕ) (began : ℕ → ℕ) (k i j fd : ℕ) (x : List ℕ) (d : ℕ) → k < i → Waiting s j fd x d → began (suc j) ≡ k → Alone s began k j → IsInOrder (drop d x) (given_by k (gifts c s began i xs))
 later-front c [] s began k i j fd x d l w here alone = nothing-front (drop d x) [] refl
 later-front c (y ∷ ys) s began k i j fd x d l w here alone =
     subst (λ ps. IsInOrder (drop d x) ps) (sym (own-step s began k i j y rest apart here alone))
@@ -327,7 +327,7 @@ later-front c (y ∷ ys) s began k i j fd x d l w here alone =
     (λ e. nothing-front (drop (d + g.more) x) (given_by k rest) (ended-none c ys t (beginning s began i) k (suc i) (omega (arith, l)) (all-ended s t began k i j apart alone e)))
     g.next))
   where
-    t : State Queue
+    t : State Segment ℕ
     t = (step_of c s y).state
 
     rest : List Gift
@@ -354,7 +354,7 @@ none-before x n ps rest e nought h =
     let both : rest ≡ ps ++ rest = sym (ap (λ (qs : List (List ℕ)). qs ++ rest) (e ∙ ap (λ k. member (take k x)) nought)) in
     subst (λ (qs : List (List ℕ)). IsWhole x qs) both h
 
-later-whole : (c : Limits) (xs : List Step) (s : State Queue) (began : ℕ → ℕ) (k i j fd : ℕ) (x : List ℕ) → length x ≤ PIPE_BUF → k < i → Waiting s j fd x 0 → began (suc j) ≡ k → Alone s began k j → IsWhole x (given_by k (gifts c s began i xs))
+later-whole : (c : Limits) (xs : List Step) (s : State Segment ℕ) (began : ℕ → ℕ) (k i j fd : ℕ) (x : List ℕ) → length x ≤ PIPE_BUF → k < i → Waiting s j fd x 0 → began (suc j) ≡ k → Alone s began k j → IsWhole x (given_by k (gifts c s began i xs))
 later-whole c [] s began k i j fd x short l w here alone = inl refl
 later-whole c (y ∷ ys) s began k i j fd x short l w here alone =
     subst (λ ps. IsWhole x ps) (sym (own-step s began k i j y rest apart here alone))
@@ -369,7 +369,7 @@ later-whole c (y ∷ ys) s began k i j fd x short l w here alone =
     (λ all. whole-after x g.more (own s (suc j) y) (given_by k rest) g.put all.0 (over all.1))
     (g.whole short refl))
   where
-    t : State Queue
+    t : State Segment ℕ
     t = (step_of c s y).state
 
     rest : List Gift
@@ -387,21 +387,21 @@ later-whole c (y ∷ ys) s began k i j fd x short l w here alone =
 -- Where the Write itself leads
 
 -- whoever waits after it waited before
-abbrev pub Over : State Queue → State Queue → ℕ → Type 0
+abbrev pub Over : State Segment ℕ → State Segment ℕ → ℕ → Type 0
 Over s t i = is_parked t (suc i) ≡ true → is_parked s (suc i) ≡ true
 
 -- it waits in its call, which is a new one, or it has ended
-pub record Begins (s : State Queue) (o : Outcome) (i fd : ℕ) (x : List ℕ) (ps : List (List ℕ)) : Type 0 where
+pub record Begins (s : State Segment ℕ) (o : Outcome Segment ℕ) (i fd : ℕ) (x : List ℕ) (ps : List (List ℕ)) : Type 0 where
   pub more : ℕ
   pub put : ps ≡ member (take more x)
   pub next : (Waiting o.state i fd x more × (is_parked s (suc i) ≡ false)) ⊎ Over s o.state i
   pub whole : length x ≤ PIPE_BUF → (more ≡ 0) ⊎ ((more ≡ length x) × Over s o.state i)
 
-module _ (s : State Queue) (i fd : ℕ) (x : List ℕ) where
+module _ (s : State Segment ℕ) (i fd : ℕ) (x : List ℕ) where
   refused-begins : (e : Errno) → Begins s (settle s (Err e)) i fd x []
   refused-begins e = record { more = 0; put = refl; next = inr (λ t. t); whole = λ short. inl refl }
 
-  module _ (w : Process) (here : at s.processes i ≡ Some w) (free : is_some w.parked ≡ false) where
+  module _ (w : Process ℕ) (here : at s.processes i ≡ Some w) (free : is_some w.parked ≡ false) where
     still : (t : Tried) → Writes s x 0 t → at t.state.processes i ≡ Some w
     still t h = ap (λ ps. at ps i) h.processes ∙ here
 
@@ -453,34 +453,34 @@ module _ (s : State Queue) (i fd : ℕ) (x : List ℕ) where
     begins-tried b (Ok t) h = begins-told b t t.progress refl h
     begins-tried b (Err e) h = refused-begins e
 
-  begins-ready : (w : Process) (b : Bool) → at s.processes i ≡ Some w → is_some w.parked ≡ b → Begins s (settle s ((refuse_if b EBUSY >> Ok w) >>= (λ p. transfer s (suc i) p false (Writing fd x 0)))) i fd x (member (put_any ((refuse_if b EBUSY >> Ok w) >>= (λ p. tried s p (Writing fd x 0)))))
+  begins-ready : (w : Process ℕ) (b : Bool) → at s.processes i ≡ Some w → is_some w.parked ≡ b → Begins s (settle s ((refuse_if b EBUSY >> Ok w) >>= (λ p. transfer s (suc i) p false (Writing fd x 0)))) i fd x (member (put_any ((refuse_if b EBUSY >> Ok w) >>= (λ p. tried s p (Writing fd x 0)))))
   begins-ready w true here e = refused-begins EBUSY
   begins-ready w false here e = begins-tried w here e (false || nonblocking s w (Writing fd x 0)) (tried s w (Writing fd x 0)) (tried-writes s w fd x 0)
 
   begins : Begins s (settle s (ready s (suc i) >>= (λ p. transfer s (suc i) p false (Writing fd x 0)))) i fd x (member (put_any (ready s (suc i) >>= (λ p. tried s p (Writing fd x 0)))))
   begins = by_process (at s.processes i) refl
     where
-      by_process : (o : Option Process) → at s.processes i ≡ o → Begins s (settle s ((or_refuse ESRCH o >>= (λ p. refuse_if (is_some p.parked) EBUSY >> Ok p)) >>= (λ p. transfer s (suc i) p false (Writing fd x 0)))) i fd x (member (put_any ((or_refuse ESRCH o >>= (λ p. refuse_if (is_some p.parked) EBUSY >> Ok p)) >>= (λ p. tried s p (Writing fd x 0)))))
+      by_process : (o : Option (Process ℕ)) → at s.processes i ≡ o → Begins s (settle s ((or_refuse ESRCH o >>= (λ p. refuse_if (is_some p.parked) EBUSY >> Ok p)) >>= (λ p. transfer s (suc i) p false (Writing fd x 0)))) i fd x (member (put_any ((or_refuse ESRCH o >>= (λ p. refuse_if (is_some p.parked) EBUSY >> Ok p)) >>= (λ p. tried s p (Writing fd x 0)))))
       by_process None e = refused-begins ESRCH
       by_process (Some w) e = begins-ready w (is_some w.parked) e refl
 
 -- The law
 
 -- a Write leaves who else waits
-unmoved : (c : Limits) (s : State Queue) (j fd : ℕ) (x : List ℕ) (q : ℕ) → nat_eq q (suc j) ≡ false → is_parked (step_of c s (steps.Write (suc j) fd x)).state q ≡ true → is_parked s q ≡ true
+unmoved : (c : Limits) (s : State Segment ℕ) (j fd : ℕ) (x : List ℕ) (q : ℕ) → nat_eq q (suc j) ≡ false → is_parked (step_of c s (steps.Write (suc j) fd x)).state q ≡ true → is_parked s q ≡ true
 unmoved c s j fd x zero other t = t
 unmoved c s j fd x (suc m) other t =
     let apart : m ≢ suc j - 1 = λ same. eqb-false (suc m) (suc j) other (omega (arith, same)) in
     let stays : Same s m (act c s (steps.Write (suc j) fd x)).state.processes = settle-stays s m (call c s (steps.Write (suc j) fd x)) (carries (Stays s m) (ready s (suc j)) (λ p. transfer s (suc j) p false (Writing fd x 0)) (λ p. transfer-stays s m (suc j) apart p false (Writing fd x 0))) in
     sym (ap in_call stays.is) ∙ t
 
-module _ (c : Limits) (fd : ℕ) (x : List ℕ) (s : State Queue) (began : ℕ → ℕ) (i : ℕ) (ys : List Step) (before : (q : ℕ) → is_parked s q ≡ true → nat_eq (began q) i ≡ false) where
+module _ (c : Limits) (fd : ℕ) (x : List ℕ) (s : State Segment ℕ) (began : ℕ → ℕ) (i : ℕ) (ys : List Step) (before : (q : ℕ) → is_parked s q ≡ true → nat_eq (began q) i ≡ false) where
   -- who waited before waits in another call
   began-before : (q : ℕ) → is_parked s q ≡ true → nat_eq (beginning s began i q) i ≡ false
   began-before q t = ap (λ m. nat_eq m i) (began-kept s began i q t) ∙ before q t
 
   module _ (j : ℕ) where
-    abbrev after : State Queue
+    abbrev after : State Segment ℕ
     after = (step_of c s (steps.Write (suc j) fd x)).state
 
     abbrev later : List Gift
@@ -548,7 +548,7 @@ module _ (c : Limits) (fd : ℕ) (x : List ℕ) (s : State Queue) (began : ℕ �
 
 -- Every place of a run
 
-pub began-earlier : (s : State Queue) (began : ℕ → ℕ) (i : ℕ) → ((q : ℕ) → is_parked s q ≡ true → began q < i)
+pub began-earlier : (s : State Segment ℕ) (began : ℕ → ℕ) (i : ℕ) → ((q : ℕ) → is_parked s q ≡ true → began q < i)
     → (q : ℕ) → beginning s began i q < suc i
 began-earlier s began i h q = by_test (is_parked s q) (h q)
   where
@@ -557,8 +557,8 @@ began-earlier s began i h q = by_test (is_parked s q) (h q)
     by_test false h = omega arith
 
 module _ (c : Limits) (pid fd : ℕ) (x : List ℕ) (P : List (List ℕ) → Type 0)
-    (here : (s : State Queue) (began : ℕ → ℕ) (i : ℕ) (ys : List Step) → ((q : ℕ) → is_parked s q ≡ true → nat_eq (began q) i ≡ false) → P (given_by i (gifts c s began i (steps.Write pid fd x ∷ ys)))) where
-  run-at : (xs : List Step) (s : State Queue) (began : ℕ → ℕ) (i m k : ℕ) → k ≡ i + m → at (map Some xs) m ≡ Some (steps.Write pid fd x) → ((q : ℕ) → is_parked s q ≡ true → began q < i) → P (given_by k (gifts c s began i xs))
+    (here : (s : State Segment ℕ) (began : ℕ → ℕ) (i : ℕ) (ys : List Step) → ((q : ℕ) → is_parked s q ≡ true → nat_eq (began q) i ≡ false) → P (given_by i (gifts c s began i (steps.Write pid fd x ∷ ys)))) where
+  run-at : (xs : List Step) (s : State Segment ℕ) (began : ℕ → ℕ) (i m k : ℕ) → k ≡ i + m → at (map Some xs) m ≡ Some (steps.Write pid fd x) → ((q : ℕ) → is_parked s q ≡ true → began q < i) → P (given_by k (gifts c s began i xs))
   run-at [] s began i m k e there earlier = absurd (cc)
   run-at (y ∷ ys) s began i zero k e there earlier =
       let place : i ≡ k = omega (arith, e) in

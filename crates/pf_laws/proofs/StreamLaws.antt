@@ -1,11 +1,11 @@
 -- What went through a pipe in a run: what was taken, followed by what the pipe holds, is what was given.
 
-use Rattle.std.proofs.Common.{◌≡◌, ℕ, suc, ◌<◌, ◌≤◌, Bool, true, false, not, ◌&&◌, ◌*◌, List, [], ◌∷◌, ◌++◌, length, map, nat_eq, Option, Some, None, Ok, Err, refl, sym, ap, ◌∙◌, subst, ◌⊎◌, inl, inr, ⊎_elim, arith, nat_lt, if◌then◌else◌, append-nil, append_assoc}
+use Rattle.std.proofs.Common.{◌≡◌, ℕ, suc, ◌+◌, ◌<◌, ◌≤◌, Bool, true, false, not, ◌&&◌, ◌*◌, List, [], ◌∷◌, ◌++◌, length, map, nat_eq, Option, Some, None, Ok, Err, refl, sym, ap, ◌∙◌, subst, ◌⊎◌, inl, inr, ⊎_elim, arith, nat_lt, if◌then◌else◌, append-nil, append_assoc}
 use Rattle.std.proofs.lemmas.Bool.{cases_lt}
 use Rattle.std.specs.Prelude.{Result, filter}
 use Rattle.pf_machine.specs.Refusals.{◌>>=◌, ◌>>◌, refuse_if, or_refuse}
 use Rattle.pf_base.specs.Limits.{Limits}
-use Rattle.pf_machine.specs.Queue.{Queue, bytes_of, empty, with_capacity}
+use Rattle.pf_machine.specs.Queue.{Segment, bytes_of, empty, with_capacity}
 use Rattle.pf_base.specs.Capacities.{pages_for}
 use Rattle.pf_machine.specs.Numbered.{at, change_at, keep}
 use Rattle.pf_machine.proofs.NumberedLaws.{at-keep, length-keep, at_past}
@@ -17,7 +17,7 @@ use Rattle.pf_base.specs.declared.errno.Errno.TheVariants.{EINVAL, EPERM}
 use Rattle.pf_base.specs.declared.meta.Kind.{Kind}
 use Rattle.pf_base.specs.declared.progress.Crossing.TheVariants as crossings
 use Rattle.pf_machine.specs.Calls.{Transfer, Reading, Writing, Bringing, Opening}
-use Rattle.pf_machine.specs.State.{State, Process, Description, Pipe, End, Outcome, change_pipe, with_queue, told, done, opening, settle, living, ready, end_of, holding}
+use Rattle.pf_machine.specs.State.{itself, State, Process, Description, Pipe, End, Outcome, change_pipe, with_queue, told, done, opening, settle, living, ready, end_of, holding}
 use Rattle.pf_machine.specs.Processes.{spawn, fork, exit}
 use Rattle.pf_machine.specs.Descriptors.{dup, close, set_nonblock}
 use Rattle.pf_machine.specs.Pipes.{new_pipe, pipe, may_resize, set_size, get_size}
@@ -39,142 +39,142 @@ use Rattle.pf_laws.proofs.TriedLaws.{Flows, flows-none, transfer-flows, resume-f
 
 -- Steps that move nothing
 
-pub record Quiet (s : State Queue) (o : Outcome) : Type 0 where
+pub record Quiet (s : State Segment ℕ) (o : Outcome Segment ℕ) : Type 0 where
   pub same : (p : ℕ) → bytes_at o.state.pipes p ≡ bytes_at s.pipes p
   pub keeps : Keeps s.pipes o.state.pipes
 
-quiet-same : (s : State Queue) (o : Outcome) → o.state.pipes ≡ s.pipes → Quiet s o
+quiet-same : (s : State Segment ℕ) (o : Outcome Segment ℕ) → o.state.pipes ≡ s.pipes → Quiet s o
 quiet-same s o e = record { same = λ p. ap (λ ps. bytes_at ps p) e; keeps = subst (λ ps. Keeps s.pipes ps) (sym e) (keeps-same s.pipes) }
 
-quiet-flows : (s : State Queue) (e : Errno) (r : Result Outcome Errno) → Holds (Quiet s) r → Flows s (Err e) (settle s r)
+quiet-flows : (s : State Segment ℕ) (e : Errno) (r : Result (Outcome Segment ℕ) Errno) → Holds (Quiet s) r → Flows s (Err e) (settle s r)
 quiet-flows s e (Ok o) q = flows-none s e o q.same q.keeps
 quiet-flows s e (Err x) q = flows-none s e _ (λ p. refl) (keeps-same s.pipes)
 
-spawn-quiet : (s : State Queue) (cred : Cred) → Holds (Quiet s) (spawn s cred)
+spawn-quiet : (s : State Segment ℕ) (cred : Cred) → Holds (Quiet s) (spawn s cred)
 spawn-quiet s cred = search (passes, quiet-same) depth 16
 
-fork-quiet : (s : State Queue) (p : Process) → Holds (Quiet s) (fork s p)
+fork-quiet : (s : State Segment ℕ) (p : Process ℕ) → Holds (Quiet s) (fork s p)
 fork-quiet s p = search (passes, quiet-same) depth 16
 
-exit-quiet : (s : State Queue) (pid : ℕ) → Holds (Quiet s) (exit s pid)
+exit-quiet : (s : State Segment ℕ) (pid : ℕ) → Holds (Quiet s) (exit s pid)
 exit-quiet s pid = search (quiet-same) depth 16
 
-close-quiet : (s : State Queue) (pid : ℕ) (p : Process) (fd : ℕ) → Holds (Quiet s) (close s pid p fd)
+close-quiet : (s : State Segment ℕ) (pid : ℕ) (p : Process ℕ) (fd : ℕ) → Holds (Quiet s) (close s pid p fd)
 close-quiet s pid p fd = search (carries, quiet-same) depth 16
 
-set_nonblock-quiet : (s : State Queue) (p : Process) (fd : ℕ) (on : Bool) → Holds (Quiet s) (set_nonblock s p fd on)
+set_nonblock-quiet : (s : State Segment ℕ) (p : Process ℕ) (fd : ℕ) (on : Bool) → Holds (Quiet s) (set_nonblock itself s p fd on)
 set_nonblock-quiet s p fd on = search (carries, quiet-same) depth 16
 
-get_size-quiet : (s : State Queue) (p : Process) (fd : ℕ) → Holds (Quiet s) (get_size s p fd)
+get_size-quiet : (s : State Segment ℕ) (p : Process ℕ) (fd : ℕ) → Holds (Quiet s) (get_size itself s p fd)
 get_size-quiet s p fd = search (carries, quiet-same) depth 16
 
-dup-quiet : (s : State Queue) (pid : ℕ) (p : Process) (fd : ℕ) → Holds (Quiet s) (dup s pid p fd)
+dup-quiet : (s : State Segment ℕ) (pid : ℕ) (p : Process ℕ) (fd : ℕ) → Holds (Quiet s) (dup s pid p fd)
 dup-quiet s pid p fd = search (passes, carries, quiet-same) depth 16
 
-make-quiet : (kind : Kind) (s : State Queue) (p : Process) (path : List ℕ) (bits : ℕ) → Holds (Quiet s) (make kind s p path bits)
+make-quiet : (kind : Kind) (s : State Segment ℕ) (p : Process ℕ) (path : List ℕ) (bits : ℕ) → Holds (Quiet s) (make kind s p path bits)
 make-quiet kind s p path bits = search (carries, quiet-same) depth 16
 
-unlink-quiet : (s : State Queue) (p : Process) (path : List ℕ) → Holds (Quiet s) (unlink s p path)
+unlink-quiet : (s : State Segment ℕ) (p : Process ℕ) (path : List ℕ) → Holds (Quiet s) (unlink s p path)
 unlink-quiet s p path = search (carries, quiet-same) depth 16
 
-rmdir-quiet : (s : State Queue) (p : Process) (path : List ℕ) → Holds (Quiet s) (rmdir s p path)
+rmdir-quiet : (s : State Segment ℕ) (p : Process ℕ) (path : List ℕ) → Holds (Quiet s) (rmdir s p path)
 rmdir-quiet s p path = search (carries, quiet-same) depth 16
 
-chmod-quiet : (s : State Queue) (p : Process) (path : List ℕ) (bits : ℕ) → Holds (Quiet s) (chmod s p path bits)
+chmod-quiet : (s : State Segment ℕ) (p : Process ℕ) (path : List ℕ) (bits : ℕ) → Holds (Quiet s) (chmod s p path bits)
 chmod-quiet s p path bits = search (carries, quiet-same) depth 16
 
-stat-quiet : (s : State Queue) (p : Process) (path : List ℕ) → Holds (Quiet s) (stat s p path)
+stat-quiet : (s : State Segment ℕ) (p : Process ℕ) (path : List ℕ) → Holds (Quiet s) (stat s p path)
 stat-quiet s p path = search (carries, quiet-same) depth 16
 
-list-quiet : (s : State Queue) (p : Process) (path : List ℕ) → Holds (Quiet s) (list s p path)
+list-quiet : (s : State Segment ℕ) (p : Process ℕ) (path : List ℕ) → Holds (Quiet s) (list s p path)
 list-quiet s p path = search (carries, quiet-same) depth 16
 
 -- pipes with the same bytes, of which none came back
-pub record SamePipes (ps qs : List (Option (Pipe Queue))) : Type 0 where
+pub record SamePipes (ps qs : List (Option (Pipe Segment))) : Type 0 where
   pub same : (p : ℕ) → bytes_at qs p ≡ bytes_at ps p
   pub keeps : Keeps ps qs
 
-quiet-pipes : (s t : State Queue) (r : Reply) → SamePipes s.pipes t.pipes → Quiet s (told t r)
+quiet-pipes : (s t : State Segment ℕ) (r : Reply) → SamePipes s.pipes t.pipes → Quiet s (told t r)
 quiet-pipes s t r h = record { same = h.same; keeps = h.keeps }
 
 -- a new pipe is empty
-same-pushed : (ps : List (Option (Pipe Queue))) (slots owner : ℕ) (file : Option ℕ) → SamePipes ps (ps ++ Some (new_pipe (empty slots) owner file) ∷ [])
+same-pushed : (ps : List (Option (Pipe Segment))) (slots owner : ℕ) (file : Option ℕ) → SamePipes ps (ps ++ Some (new_pipe (empty slots) owner file) ∷ [])
 same-pushed ps slots owner file = record { same = bytes_at-push ps (new_pipe (empty slots) owner file) refl; keeps = keeps-push ps (Some (new_pipe (empty slots) owner file)) }
 
-pipe-quiet : (c : Limits) (s : State Queue) (pid : ℕ) (p : Process) (nonblock : Bool) → Holds (Quiet s) (pipe c s pid p nonblock)
+pipe-quiet : (c : Limits) (s : State Segment ℕ) (pid : ℕ) (p : Process ℕ) (nonblock : Bool) → Holds (Quiet s) (pipe (length s.descriptions) (length s.descriptions + 1) (length s.pipes) c s pid p nonblock)
 pipe-quiet c s pid p nonblock = search (passes, carries, quiet-pipes, same-pushed) depth 16
 
 -- another capacity leaves the bytes
-set_size-quiet : (c : Limits) (s : State Queue) (p : Process) (fd bytes : ℕ) → Holds (Quiet s) (set_size c s p fd bytes)
-set_size-quiet c s p fd bytes = goes (Stands s) (Quiet s) (end_of s p fd) resize (end_of-stands s p fd) (λ e stands. let made = resized e stands in search (passes, made))
+set_size-quiet : (c : Limits) (s : State Segment ℕ) (p : Process ℕ) (fd bytes : ℕ) → Holds (Quiet s) (set_size itself c s p fd bytes)
+set_size-quiet c s p fd bytes = goes (Stands s) (Quiet s) (end_of itself s p fd) resize (end_of-stands s p fd) (λ e stands. let made = resized e stands in search (passes, made))
   where
-    resize : End Queue → Result Outcome Errno
+    resize : End Segment ℕ → Result (Outcome Segment ℕ) Errno
     resize e = do
       refuse_if (nat_lt MAX_SIZE bytes) EINVAL
       refuse_if (not (is_privileged p.cred) && nat_lt c.max (PAGE_SIZE * pages_for bytes)) EPERM
       may_resize c s p.cred e.pipe (pages_for bytes)
       Ok (done (with_queue s e.description.pipe (with_capacity (pages_for bytes) e.pipe.queue)) (PAGE_SIZE * pages_for bytes))
 
-    resized : (e : End Queue) → Stands s e → Quiet s (done (with_queue s e.description.pipe (with_capacity (pages_for bytes) e.pipe.queue)) (PAGE_SIZE * pages_for bytes))
+    resized : (e : End Segment ℕ) → Stands s e → Quiet s (done (with_queue s e.description.pipe (with_capacity (pages_for bytes) e.pipe.queue)) (PAGE_SIZE * pages_for bytes))
     resized e stands = record {
-      same = bytes_at-kept (holding (with_capacity (pages_for bytes) e.pipe.queue)) s.pipes e.description.pipe (λ x h. let both : e.pipe ≡ x = cc in ap (λ (y : Pipe Queue). bytes_of y.queue) both);
+      same = bytes_at-kept (holding (with_capacity (pages_for bytes) e.pipe.queue)) s.pipes e.description.pipe (λ x h. let both : e.pipe ≡ x = cc in ap (λ (y : Pipe Segment). bytes_of y.queue) both);
       keeps = keeps-change (holding (with_capacity (pages_for bytes) e.pipe.queue)) s.pipes e.description.pipe;
     }
 
-abbrev Leaves : List (Option (Pipe Queue)) → Attempt → Type 0
+abbrev Leaves : List (Option (Pipe Segment)) → Attempt Segment ℕ → Type 0
 Leaves ps (Finished s r) = SamePipes ps s.pipes
 Leaves ps (Waits s call) = SamePipes ps s.pipes
 
-first-quiet : (s : State Queue) (pid : ℕ) (a : Attempt) → Leaves s.pipes a → Holds (Quiet s) (first pid false a)
+first-quiet : (s : State Segment ℕ) (pid : ℕ) (a : Attempt Segment ℕ) → Leaves s.pipes a → Holds (Quiet s) (first pid false a)
 first-quiet s pid (Finished u r) h = record { same = h.same; keeps = h.keeps }
 first-quiet s pid (Waits u call) h = record { same = h.same; keeps = h.keeps }
 
 -- the open counters are no bytes
-open_pipe-leaves : (ps : List (Option (Pipe Queue))) (s : State Queue) (pid : ℕ) (p : Process) (a : Access) (n : ℕ) → SamePipes ps s.pipes → Leaves ps (open_pipe s pid p a n)
-open_pipe-leaves ps s pid p a n h = by_test (is_waiting a (readers s n) (writers s n))
+open_pipe-leaves : (name of : ℕ) (ps : List (Option (Pipe Segment))) (s : State Segment ℕ) (pid : ℕ) (p : Process ℕ) (a : Access) (n : ℕ) → SamePipes ps s.pipes → Leaves ps (open_pipe itself name of s pid p a n)
+open_pipe-leaves name of ps s pid p a n h = by_test (is_waiting a (readers itself s n) (writers itself s n))
   where
-    d : Description
-    d = record { pipe = n; reads = a.reads; writes = a.writes; nonblocking = a.nonblock }
+    d : Description ℕ
+    d = record { pipe = of; reads = a.reads; writes = a.writes; nonblocking = a.nonblock }
 
-    made : State Queue
+    made : State Segment ℕ
     made = change_pipe (counted a) (record s { descriptions = s.descriptions ++ Some d ∷ [] }) n
 
     same : SamePipes ps (change_at (counted a) s.pipes n)
     same = record { same = λ q. bytes_at-kept (counted a) s.pipes n (λ x e. refl) q ∙ h.same q; keeps = keeps-trans h.keeps (keeps-change (counted a) s.pipes n) }
 
-    by_test : (b : Bool) → Leaves ps (if b then Waits made (Opening (length s.descriptions) (kept_by a (at s.pipes n))) else given made pid p (length s.descriptions))
+    by_test : (b : Bool) → Leaves ps (if b then Waits made (Opening name (kept_by a (at s.pipes n))) else given made pid p name)
     by_test true = same
     by_test false = same
 
-pipe_of-same : (c : Limits) (s : State Queue) (p : Process) (file : ℕ) (o : Option ℕ) → Holds (λ (f : Found). SamePipes s.pipes f.state.pipes) (pipe_of c s p file o)
+pipe_of-same : (c : Limits) (s : State Segment ℕ) (p : Process ℕ) (file : ℕ) (o : Option ℕ) → Holds (λ (f : Found Segment ℕ). SamePipes s.pipes f.state.pipes) (pipe_of c s p file o)
 pipe_of-same c s p file (Some n) = record { same = λ q. refl; keeps = keeps-same s.pipes }
 pipe_of-same c s p file None = search (passes, carries, same-pushed)
 
 -- an open makes an empty pipe or none, and counts
-open_fifo-quiet : (c : Limits) (s : State Queue) (pid : ℕ) (p : Process) (a : Access) (file : ℕ) → Holds (Quiet s) (open_fifo c s pid p a file)
+open_fifo-quiet : (c : Limits) (s : State Segment ℕ) (pid : ℕ) (p : Process ℕ) (a : Access) (file : ℕ) → Holds (Quiet s) (open_fifo itself (length s.descriptions) itself c s pid p a file)
 open_fifo-quiet c s pid p a file = search (passes, ended)
   where
-    ended : Holds (Quiet s) (pipe_of c s p file (fifo_pipe s file) >>= (λ found. first pid false (open_pipe found.state pid p a found.pipe)))
+    ended : Holds (Quiet s) (pipe_of c s p file (fifo_pipe s file) >>= (λ found. first pid false (open_pipe itself (length s.descriptions) found.pipe found.state pid p a found.pipe)))
     ended =
-        goes (λ (f : Found). SamePipes s.pipes f.state.pipes) (Quiet s) (pipe_of c s p file (fifo_pipe s file)) (λ found. first pid false (open_pipe found.state pid p a found.pipe)) (pipe_of-same c s p file (fifo_pipe s file))
-        (λ found h. first-quiet s pid (open_pipe found.state pid p a found.pipe) (open_pipe-leaves s.pipes found.state pid p a found.pipe h))
+        goes (λ (f : Found Segment ℕ). SamePipes s.pipes f.state.pipes) (Quiet s) (pipe_of c s p file (fifo_pipe s file)) (λ found. first pid false (open_pipe itself (length s.descriptions) found.pipe found.state pid p a found.pipe)) (pipe_of-same c s p file (fifo_pipe s file))
+        (λ found h. first-quiet s pid (open_pipe itself (length s.descriptions) found.pipe found.state pid p a found.pipe) (open_pipe-leaves (length s.descriptions) found.pipe s.pipes found.state pid p a found.pipe h))
 
-open_path-quiet : (c : Limits) (s : State Queue) (pid : ℕ) (p : Process) (path : List ℕ) (a : Access) → Holds (Quiet s) (open_path c s pid p path a)
+open_path-quiet : (c : Limits) (s : State Segment ℕ) (pid : ℕ) (p : Process ℕ) (path : List ℕ) (a : Access) → Holds (Quiet s) (open_path itself (length s.descriptions) itself c s pid p path a)
 open_path-quiet c s pid p path a = search (carries, open_fifo-quiet) depth 16
 
 -- One step
 
 -- a transfer, and a parked call tried again
-flows-transfer : (s : State Queue) (pid : ℕ) (flag : Bool) (call : Transfer) (r : Result Process Errno) → Flows s (r >>= (λ p. tried s p call)) (settle s (r >>= (λ p. transfer s pid p flag call)))
+flows-transfer : (s : State Segment ℕ) (pid : ℕ) (flag : Bool) (call : Transfer) (r : Result (Process ℕ) Errno) → Flows s (r >>= (λ p. tried s p call)) (settle s (r >>= (λ p. transfer s pid p flag call)))
 flows-transfer s pid flag call (Ok p) = transfer-flows s pid p flag call
 flows-transfer s pid flag call (Err e) = flows-none s e _ (λ q. refl) (keeps-same s.pipes)
 
-flows-resume : (s : State Queue) (pid : ℕ) (r : Result Process Errno) → Flows s (r >>= (λ p. or_refuse EINVAL p.parked >>= tried_call s p)) (settle s (r >>= (λ p. resume s pid p)))
+flows-resume : (s : State Segment ℕ) (pid : ℕ) (r : Result (Process ℕ) Errno) → Flows s (r >>= (λ p. or_refuse EINVAL p.parked >>= tried_call s p)) (settle s (r >>= (λ p. resume s pid p)))
 flows-resume s pid (Ok p) = resume-flows s pid p
 flows-resume s pid (Err e) = flows-none s e _ (λ q. refl) (keeps-same s.pipes)
 
-flows-act : (c : Limits) (s : State Queue) (x : Step) → Flows s (transfer_of s x) (act c s x)
-flows-act c s (steps.Spawn uid gid groups umask) = quiet-flows s EINVAL (call c s (steps.Spawn uid gid groups umask)) (spawn-quiet s (record { uid = uid; gid = gid; groups = groups; umask = umask }))
+flows-act : (c : Limits) (s : State Segment ℕ) (x : Step) → Flows s (transfer_of s x) (act c s x)
+flows-act c s (steps.Spawn uid gid umask groups) = quiet-flows s EINVAL (call c s (steps.Spawn uid gid umask groups)) (spawn-quiet s (record { uid = uid; gid = gid; groups = groups; umask = umask }))
 flows-act c s (steps.Exit pid) = quiet-flows s EINVAL (call c s (steps.Exit pid)) (search (carries, exit-quiet))
 flows-act c s (steps.Fork pid) = quiet-flows s EINVAL (call c s (steps.Fork pid)) (search (carries, fork-quiet))
 flows-act c s (steps.Mkdir pid path mode) = quiet-flows s EINVAL (call c s (steps.Mkdir pid path mode)) (search (carries, make-quiet))
@@ -206,35 +206,35 @@ kept_was test xs k x e = by_test (test k) (sym (at-keep test xs k) ∙ e)
     by_test false h = absurd (cc)
 
 -- a pipe that stands, or that is still to be drawn
-abbrev Later : List (Option (Pipe Queue)) → ℕ → Type 0
-Later ps p = ((x : Pipe Queue) × (at ps p ≡ Some x)) ⊎ (length ps ≤ p)
+abbrev Later : List (Option (Pipe Segment)) → ℕ → Type 0
+Later ps p = ((x : Pipe Segment) × (at ps p ≡ Some x)) ⊎ (length ps ≤ p)
 
-swept-bytes : (s : State Queue) (p : ℕ) → Later (sweep s).pipes p → bytes_at (sweep s).pipes p ≡ bytes_at s.pipes p
+swept-bytes : (s : State Segment ℕ) (p : ℕ) → Later (sweep itself s).pipes p → bytes_at (sweep itself s).pipes p ≡ bytes_at s.pipes p
 swept-bytes s p later = ⊎_elim
-    (λ h. ap bytes_in (h.1 ∙ sym (kept_was (λ n. nat_lt 0 (ends (sweep s).descriptions n)) s.pipes p h.0 h.1)))
+    (λ h. ap bytes_in (h.1 ∙ sym (kept_was (λ n. nat_lt 0 (ends itself (sweep itself s).descriptions n)) s.pipes p h.0 h.1)))
     (λ l.
-    let same : length (sweep s).pipes ≡ length s.pipes = length-keep (λ n. nat_lt 0 (ends (sweep s).descriptions n)) s.pipes in
-    ap bytes_in (at_past (sweep s).pipes p l ∙ sym (at_past s.pipes p (omega (arith, l, same)))))
+    let same : length (sweep itself s).pipes ≡ length s.pipes = length-keep (λ n. nat_lt 0 (ends itself (sweep itself s).descriptions n)) s.pipes in
+    ap bytes_in (at_past (sweep itself s).pipes p l ∙ sym (at_past s.pipes p (omega (arith, l, same)))))
     later
 
 -- who stands later stood before, or was to be drawn
-keeps-later : (old new : List (Option (Pipe Queue))) (p : ℕ) → Keeps old new → Later new p → Later old p
+keeps-later : (old new : List (Option (Pipe Segment))) (p : ℕ) → Keeps old new → Later new p → Later old p
 keeps-later old new p k later = ⊎_elim
     (λ h. ⊎_elim (λ within. inl (by_place (at old p) refl within h.0 h.1)) (λ past. inr past) (cases_lt p (length old)))
     (λ l. inr (omega (arith, l, k.longer)))
     later
   where
-    by_place : (o : Option (Pipe Queue)) → at old p ≡ o → p < length old → (x : Pipe Queue) → at new p ≡ Some x → (y : Pipe Queue) × (at old p ≡ Some y)
+    by_place : (o : Option (Pipe Segment)) → at old p ≡ o → p < length old → (x : Pipe Segment) → at new p ≡ Some x → (y : Pipe Segment) × (at old p ≡ Some y)
     by_place None e l x h = absurd (let gone : at new p ≡ None = k.gone p l e in cc)
     by_place (Some y) e l x h = (y, e)
 
-swept-later : (s : State Queue) (p : ℕ) → Later (sweep s).pipes p → Later s.pipes p
+swept-later : (s : State Segment ℕ) (p : ℕ) → Later (sweep itself s).pipes p → Later s.pipes p
 swept-later s p later = ⊎_elim
-    (λ h. inl (h.0, kept_was (λ n. nat_lt 0 (ends (sweep s).descriptions n)) s.pipes p h.0 h.1))
-    (λ l. inr (omega (arith, l, length-keep (λ n. nat_lt 0 (ends (sweep s).descriptions n)) s.pipes)))
+    (λ h. inl (h.0, kept_was (λ n. nat_lt 0 (ends itself (sweep itself s).descriptions n)) s.pipes p h.0 h.1))
+    (λ l. inr (omega (arith, l, length-keep (λ n. nat_lt 0 (ends itself (sweep itself s).descriptions n)) s.pipes)))
     later
 
-later_back : (c : Limits) (s : State Queue) (xs : List Step) (p : ℕ) → Later (run_of c s xs).state.pipes p → Later s.pipes p
+later_back : (c : Limits) (s : State Segment ℕ) (xs : List Step) (p : ℕ) → Later (run_of c s xs).state.pipes p → Later s.pipes p
 later_back c s [] p later = later
 later_back c s (x ∷ xs) p later =
     keeps-later s.pipes (act c s x).state.pipes p (flows-act c s x).keeps (swept-later (act c s x).state p (later_back c (step_of c s x).state xs p later))
@@ -267,13 +267,13 @@ to-gift_of n k (Ok t) gs = by_pipe t.into
     by_pipe (Some q) = to-gift n k q t.bytes gs
 
 -- the sweep leaves the bytes of what stands, and brings nothing back
-flows-step : (c : Limits) (s : State Queue) (x : Step) (p : ℕ) → Later (step_of c s x).state.pipes p → taken_out p (transfer_of s x) ++ bytes_at (step_of c s x).state.pipes p ≡ bytes_at s.pipes p ++ put_in p (transfer_of s x)
+flows-step : (c : Limits) (s : State Segment ℕ) (x : Step) (p : ℕ) → Later (step_of c s x).state.pipes p → taken_out p (transfer_of s x) ++ bytes_at (step_of c s x).state.pipes p ≡ bytes_at s.pipes p ++ put_in p (transfer_of s x)
 flows-step c s x p later = ap (λ y. taken_out p (transfer_of s x) ++ y) (swept-bytes (act c s x).state p later) ∙ (flows-act c s x).each p
 
 -- A run
 
 -- what a run took, followed by what a pipe holds then, is what it held before and what the run gave
-flows-run : (c : Limits) (s : State Queue) (began : ℕ → ℕ) (i : ℕ) (xs : List Step) (p : ℕ) → Later (run_of c s xs).state.pipes p → took_from c s xs p ++ bytes_at (run_of c s xs).state.pipes p ≡ bytes_at s.pipes p ++ bytes_to p (gifts c s began i xs)
+flows-run : (c : Limits) (s : State Segment ℕ) (began : ℕ → ℕ) (i : ℕ) (xs : List Step) (p : ℕ) → Later (run_of c s xs).state.pipes p → took_from c s xs p ++ bytes_at (run_of c s xs).state.pipes p ≡ bytes_at s.pipes p ++ bytes_to p (gifts c s began i xs)
 flows-run c s began i [] p later = sym (append-nil (bytes_at s.pipes p))
 flows-run c s began i (x ∷ xs) p later =
     let mid = (step_of c s x).state in
@@ -286,7 +286,7 @@ flows-run c s began i (x ∷ xs) p later =
     ∙ ap (λ y. bytes_at s.pipes p ++ y) (sym (to-gift_of p (call_at began i x) (transfer_of s x) rest))
 
 -- the law on streams
-pub stream : (c : Limits) (xs : List Step) (n : ℕ) (p : Pipe Queue) → at (run_of c opening xs).state.pipes n ≡ Some p → IsStream c xs n p
+pub stream : (c : Limits) (xs : List Step) (n : ℕ) (p : Pipe Segment) → at (run_of c opening xs).state.pipes n ≡ Some p → IsStream c xs n p
 stream c xs n p e =
     ap (λ o. took c xs n ++ bytes_in o) (sym e)
     ∙ flows-run c opening (λ pid. 0) 0 xs n (inl (p, e))

@@ -5,7 +5,7 @@ use Rattle.std.specs.Prelude.{Result, is_some}
 use Rattle.std.specs.Option.{option_and_then}
 use Rattle.pf_machine.specs.Refusals.{◌>>=◌, ◌>>◌, refuse_if, or_refuse}
 use Rattle.pf_base.specs.Limits.{Limits}
-use Rattle.pf_machine.specs.Queue.{Queue, taken}
+use Rattle.pf_machine.specs.Queue.{Segment, taken}
 use Rattle.pf_machine.specs.Progress.{moved, read_now, cross_now}
 use Rattle.pf_base.specs.declared.errno.Errno.{Errno}
 use Rattle.pf_base.specs.declared.errno.Errno.TheVariants.{ESRCH, EBUSY, EBADF, EAGAIN, EINVAL, EPIPE}
@@ -18,7 +18,7 @@ use Rattle.pf_base.specs.declared.step.Step.{Step}
 use Rattle.pf_base.specs.declared.step.Step.TheVariants as steps
 use Rattle.pf_machine.specs.Numbered.{at}
 use Rattle.pf_machine.specs.Calls.{Transfer, Reading, Writing, Bringing, Call, Opening, Moving, written_of}
-use Rattle.pf_machine.specs.State.{State, Process, End, settle, living, ready, end_at, writing_end, with_queue}
+use Rattle.pf_machine.specs.State.{itself, State, Process, End, settle, living, ready, end_at, writing_end, with_queue}
 use Rattle.pf_machine.specs.Counts.{readers, writers}
 use Rattle.pf_base.specs.declared.TheConstants.{MAX_WRITE}
 use Rattle.pf_machine.specs.Transfers.{Ends, tried, try_read, try_write, two_ends, try_cross}
@@ -26,7 +26,7 @@ use Rattle.pf_machine.specs.Attempts.{Attempt, Finished, Waits, read_told, cross
 use Rattle.pf_machine.specs.Machine.{call_of, step_of}
 use Rattle.pf_laws.specs.Streams.{transfer_of, tried_call, taken_out, end_named, out_of, says_taken, says_again, says_out}
 
-module _ (p : ℕ) (s : State Queue) where
+module _ (p : ℕ) (s : State Segment ℕ) where
   -- Replies that say nothing of bytes
 
   abbrev pub IsSilent : Reply → Type 0
@@ -50,18 +50,18 @@ module _ (p : ℕ) (s : State Queue) where
       error e (Bringing Splice source sink n) = refl
 
   -- how an attempt is told
-  pub record Telling (tell : Result Attempt Errno → Reply) : Type 0 where
-    pub finished : (t : State Queue) (y : Reply) → tell (Ok (Finished t y)) ≡ y
-    pub waits : (t : State Queue) (call : Call) → written_of call ≡ 0 → IsSilent (tell (Ok (Waits t call)))
+  pub record Telling (tell : Result (Attempt Segment ℕ) Errno → Reply) : Type 0 where
+    pub finished : (t : State Segment ℕ) (y : Reply) → tell (Ok (Finished t y)) ≡ y
+    pub waits : (t : State Segment ℕ) (call : Call ℕ) → written_of call ≡ 0 → IsSilent (tell (Ok (Waits t call)))
     pub refused : (e : Errno) → tell (Err e) ≡ replies.Err e
 
   pub telling-first : (pid : ℕ) (b : Bool) → Telling (λ r. (settle s (r >>= first pid b)).reply)
   telling-first pid b = record { finished = λ t y. refl; waits = waits b; refused = λ e. refl }
     where
-      none : (t : State Queue) (n : ℕ) → n ≡ 0 → IsSilent (settle s (unwaiting t n)).reply
+      none : (t : State Segment ℕ) (n : ℕ) → n ≡ 0 → IsSilent (settle s (unwaiting t n)).reply
       none t n e = subst (λ m. IsSilent (settle s (unwaiting t m)).reply) (sym e) (inr (EAGAIN, refl))
 
-      waits : (b : Bool) (t : State Queue) (call : Call) → written_of call ≡ 0
+      waits : (b : Bool) (t : State Segment ℕ) (call : Call ℕ) → written_of call ≡ 0
           → IsSilent (settle s (first pid b (Waits t call))).reply
       waits true t call e = none t (written_of call) e
       waits false t call e = inl refl
@@ -71,22 +71,23 @@ module _ (p : ℕ) (s : State Queue) where
 
   -- One transfer
 
-  module _ (i : ℕ) (w : Process) (here : at s.processes i ≡ Some w) (tell : Result Attempt Errno → Reply)
+  module _ (i : ℕ) (w : Process ℕ) (here : at s.processes i ≡ Some w) (tell : Result (Attempt Segment ℕ) Errno → Reply)
       (how : Telling tell) where
     says-error : (call : Transfer) (e : Errno) → says_taken p s (suc i) call (tell (Err e)) ≡ []
     says-error call e = silent-says (suc i) call (tell (Err e)) (inr (e, how.refused e))
 
-    says-waits : (call : Transfer) (t : State Queue) (next : Call) → written_of next ≡ 0 → says_taken p s (suc i) call
+    says-waits : (call : Transfer) (t : State Segment ℕ) (next : Call ℕ) → written_of next ≡ 0
+        → says_taken p s (suc i) call
         (tell (Ok (Waits t next))) ≡ []
     says-waits call t next e = silent-says (suc i) call (tell (Ok (Waits t next))) (how.waits t next e)
 
-    says-finished : (call : Transfer) (t : State Queue) (y : Reply) → says_taken p s (suc i) call
+    says-finished : (call : Transfer) (t : State Segment ℕ) (y : Reply) → says_taken p s (suc i) call
         (tell (Ok (Finished t y))) ≡ says_taken p s (suc i) call y
     says-finished call t y = ap (says_taken p s (suc i) call) (how.finished t y)
 
     -- a descriptor's end
-    named : (fd : ℕ) → end_named s (suc i) fd ≡ option_and_then (end_at s) (at w.descriptors fd)
-    named fd = ap (λ (o : Option Process). option_and_then (λ (p : Process). option_and_then (end_at s)
+    named : (fd : ℕ) → end_named s (suc i) fd ≡ option_and_then (end_at itself s) (at w.descriptors fd)
+    named fd = ap (λ (o : Option (Process ℕ)). option_and_then (λ (p : Process ℕ). option_and_then (end_at itself s)
         (at p.descriptors fd)) o) here
 
     nothing : (b : Bool) (x : List ℕ) → x ≡ [] → (if b then x else []) ≡ []
@@ -95,12 +96,12 @@ module _ (p : ℕ) (s : State Queue) where
 
     read-says : (fd n : ℕ) → taken_out p (tried s w (Reading fd n)) ≡ says_taken p s (suc i) (Reading fd n)
         (tell (attempt s (suc i) w (Moving (Reading fd n))))
-    read-says fd n = by_end (option_and_then (end_at s) (at w.descriptors fd)) (named fd)
+    read-says fd n = by_end (option_and_then (end_at itself s) (at w.descriptors fd)) (named fd)
       where
         call : Transfer
         call = Reading fd n
 
-        by_progress : (e : End Queue) → end_named s (suc i) fd ≡ Some e → (u : State Queue) (r : Progress)
+        by_progress : (e : End Segment ℕ) → end_named s (suc i) fd ≡ Some e → (u : State Segment ℕ) (r : Progress)
             → (if nat_eq e.description.pipe p then taken e.pipe.queue (moved r) else [])
             ≡ says_taken p s (suc i) call
             (tell (read_told (Moving call)
@@ -113,25 +114,25 @@ module _ (p : ℕ) (s : State Queue) where
             }) r))
         by_progress e is u (Moved k) =
             sym (says-finished call u (replies.Bytes (taken e.pipe.queue k))
-            ∙ ap (λ (o : Option (End Queue)). out_of p o (λ q. taken e.pipe.queue k)) is)
+            ∙ ap (λ (o : Option (End Segment ℕ)). out_of p o (λ q. taken e.pipe.queue k)) is)
         by_progress e is u EndOfFile =
-            sym (says-finished call u (replies.Bytes []) ∙ ap (λ (o : Option (End Queue)). out_of p o (λ q. [])) is)
+            sym (says-finished call u (replies.Bytes []) ∙ ap (λ (o : Option (End Segment ℕ)). out_of p o (λ q. [])) is)
         by_progress e is u NoReader =
-            sym (says-finished call u (replies.Bytes []) ∙ ap (λ (o : Option (End Queue)). out_of p o (λ q. [])) is)
+            sym (says-finished call u (replies.Bytes []) ∙ ap (λ (o : Option (End Segment ℕ)). out_of p o (λ q. [])) is)
         by_progress e is u WouldBlock = nothing (nat_eq e.description.pipe p) [] refl
             ∙ sym (says-waits call u (Moving call) refl)
 
-        by_test : (e : End Queue) → end_named s (suc i) fd ≡ Some e → (b : Bool)
+        by_test : (e : End Segment ℕ) → end_named s (suc i) fd ≡ Some e → (b : Bool)
             → taken_out p ((refuse_if b EBADF >> Ok e) >>= (λ e. Ok (try_read s e n)))
             ≡ says_taken p s (suc i) call
             (tell (((refuse_if b EBADF >> Ok e) >>= (λ e. Ok (try_read s e n))) >>=
             (λ t. transfer_told call t t.progress)))
         by_test e is true = sym (says-error call EBADF)
         by_test e is false =
-            let r = read_now e.pipe.queue (writers s e.description.pipe) n in
+            let r = read_now e.pipe.queue (writers itself s e.description.pipe) n in
             by_progress e is (with_queue s e.description.pipe r.queue) r.progress
 
-        by_end : (o : Option (End Queue)) → end_named s (suc i) fd ≡ o
+        by_end : (o : Option (End Segment ℕ)) → end_named s (suc i) fd ≡ o
             → taken_out p ((or_refuse EBADF o >>= (λ e. refuse_if (not e.description.reads) EBADF >> Ok e)) >>=
             (λ e. Ok (try_read s e n)))
             ≡ says_taken p s (suc i) call
@@ -150,12 +151,13 @@ module _ (p : ℕ) (s : State Queue) where
 
     splice-says : (source sink n : ℕ) → taken_out p (tried s w (Bringing Splice source sink n)) ≡ says_taken p s
         (suc i) (Bringing Splice source sink n) (tell (attempt s (suc i) w (Moving (Bringing Splice source sink n))))
-    splice-says source sink n = by_source (option_and_then (end_at s) (at w.descriptors source)) (named source)
+    splice-says source sink n = by_source (option_and_then (end_at itself s) (at w.descriptors source)) (named source)
       where
         call : Transfer
         call = Bringing Splice source sink n
 
-        by_progress : (e : End Queue) → end_named s (suc i) source ≡ Some e → (u : State Queue) (o : ℕ) (r : Progress)
+        by_progress : (e : End Segment ℕ) → end_named s (suc i) source ≡ Some e
+            → (u : State Segment ℕ) (o : ℕ) (r : Progress)
             → (if nat_eq e.description.pipe p then taken e.pipe.queue (moved r) else [])
             ≡ says_taken p s (suc i) call
             (tell (cross_told (Moving call)
@@ -167,43 +169,45 @@ module _ (p : ℕ) (s : State Queue) where
               into = Some o;
             }) r))
         by_progress e is u o (Moved k) =
-            sym (says-finished call u (replies.Num k) ∙ ap (λ (o : Option (End Queue)). out_of p o (λ q. taken q k)) is)
+            sym (says-finished call u (replies.Num k)
+            ∙ ap (λ (o : Option (End Segment ℕ)). out_of p o (λ q. taken q k)) is)
         by_progress e is u o EndOfFile =
-            sym (says-finished call u (replies.Num 0) ∙ ap (λ (o : Option (End Queue)). out_of p o (λ q. taken q 0)) is)
+            sym (says-finished call u (replies.Num 0)
+            ∙ ap (λ (o : Option (End Segment ℕ)). out_of p o (λ q. taken q 0)) is)
         by_progress e is u o NoReader = nothing (nat_eq e.description.pipe p) [] refl ∙ sym (says-error call EPIPE)
         by_progress e is u o WouldBlock = nothing (nat_eq e.description.pipe p) [] refl
             ∙ sym (says-waits call u (Moving call) refl)
 
-        by_pipes : (e o : End Queue) → end_named s (suc i) source ≡ Some e → (b : Bool) → SpliceSays source sink n
+        by_pipes : (e o : End Segment ℕ) → end_named s (suc i) source ≡ Some e → (b : Bool) → SpliceSays source sink n
             (refuse_if b EINVAL >> Ok (record { source = e; sink = o }))
         by_pipes e o is true = sym (says-error call EINVAL)
         by_pipes e o is false =
-            let r = cross_now Splice e.pipe.queue o.pipe.queue (writers s e.description.pipe)
-            (readers s o.description.pipe) n in
+            let r = cross_now Splice e.pipe.queue o.pipe.queue (writers itself s e.description.pipe)
+            (readers itself s o.description.pipe) n in
             by_progress e is
             (with_queue
             (with_queue s o.description.pipe r.sink) e.description.pipe r.source) o.description.pipe r.progress
 
-        by_sink : (e : End Queue) → end_named s (suc i) source ≡ Some e → (r : Result (End Queue) Errno)
+        by_sink : (e : End Segment ℕ) → end_named s (suc i) source ≡ Some e → (r : Result (End Segment ℕ) Errno)
             → SpliceSays source sink n
             (r >>= (λ o. refuse_if (nat_eq e.description.pipe o.description.pipe) EINVAL >> Ok
             (record { source = e; sink = o })))
         by_sink e is (Ok o) = by_pipes e o is (nat_eq e.description.pipe o.description.pipe)
         by_sink e is (Err x) = sym (says-error call x)
 
-        by_test : (e : End Queue) → end_named s (suc i) source ≡ Some e → (b : Bool)
+        by_test : (e : End Segment ℕ) → end_named s (suc i) source ≡ Some e → (b : Bool)
             → SpliceSays source sink n
             ((refuse_if b EBADF >> Ok e) >>=
-            (λ i. writing_end s w sink >>=
+            (λ i. writing_end itself s w sink >>=
             (λ o. refuse_if (nat_eq i.description.pipe o.description.pipe) EINVAL >> Ok
             (record { source = i; sink = o }))))
         by_test e is true = sym (says-error call EBADF)
-        by_test e is false = by_sink e is (writing_end s w sink)
+        by_test e is false = by_sink e is (writing_end itself s w sink)
 
-        by_source : (o : Option (End Queue)) → end_named s (suc i) source ≡ o
+        by_source : (o : Option (End Segment ℕ)) → end_named s (suc i) source ≡ o
             → SpliceSays source sink n
             ((or_refuse EBADF o >>= (λ e. refuse_if (not e.description.reads) EBADF >> Ok e)) >>=
-            (λ i. writing_end s w sink >>=
+            (λ i. writing_end itself s w sink >>=
             (λ o. refuse_if (nat_eq i.description.pipe o.description.pipe) EINVAL >> Ok
             (record { source = i; sink = o }))))
         by_source None is = sym (says-error call EBADF)
@@ -213,13 +217,13 @@ module _ (p : ℕ) (s : State Queue) where
     transfer-says : (call : Transfer) → taken_out p (tried s w call) ≡ says_taken p s (suc i) call
         (tell (attempt s (suc i) w (Moving call)))
     transfer-says (Reading fd n) = read-says fd n
-    transfer-says (Writing fd x written) = by_end (writing_end s w fd)
+    transfer-says (Writing fd x written) = by_end (writing_end itself s w fd)
       where
-        by_test : (e : End Queue) (b : Bool) → taken_out p (refuse_if b EINVAL >> Ok (try_write s e x written)) ≡ []
+        by_test : (e : End Segment ℕ) (b : Bool) → taken_out p (refuse_if b EINVAL >> Ok (try_write s e x written)) ≡ []
         by_test e true = refl
         by_test e false = refl
 
-        by_end : (r : Result (End Queue) Errno)
+        by_end : (r : Result (End Segment ℕ) Errno)
             → taken_out p
             (r >>= (λ e. refuse_if (nat_lt MAX_WRITE (length x)) EINVAL >> Ok (try_write s e x written))) ≡ []
         by_end (Ok e) = by_test e (nat_lt MAX_WRITE (length x))
@@ -239,7 +243,7 @@ module _ (p : ℕ) (s : State Queue) where
   ready-says zero flag call = sym (silent-says 0 call (replies.Err ESRCH) (inr (ESRCH, refl)))
   ready-says (suc i) flag call = by_process (at s.processes i) refl
     where
-      by_call : (w : Process) → at s.processes i ≡ Some w → (b : Bool)
+      by_call : (w : Process ℕ) → at s.processes i ≡ Some w → (b : Bool)
           → taken_out p ((refuse_if b EBUSY >> Ok w) >>= (λ w. tried s w call)) ≡ says_taken p s (suc i) call
           (settle s ((refuse_if b EBUSY >> Ok w) >>= (λ w. transfer s (suc i) w flag call))).reply
       by_call w here true = sym (silent-says (suc i) call (replies.Err EBUSY) (inr (EBUSY, refl)))
@@ -247,7 +251,7 @@ module _ (p : ℕ) (s : State Queue) where
           transfer-says i w here (λ r. (settle s (r >>= first (suc i) (flag || nonblocking s w call))).reply)
           (telling-first (suc i) (flag || nonblocking s w call)) call
 
-      by_process : (o : Option Process) → at s.processes i ≡ o
+      by_process : (o : Option (Process ℕ)) → at s.processes i ≡ o
           → taken_out p ((or_refuse ESRCH o >>= (λ w. refuse_if (is_some w.parked) EBUSY >> Ok w)) >>=
           (λ w. tried s w call))
           ≡ says_taken p s (suc i) call
@@ -261,7 +265,7 @@ module _ (p : ℕ) (s : State Queue) where
   resume-says zero = refl
   resume-says (suc i) = by_process (at s.processes i) refl
     where
-      by_call : (w : Process) → at s.processes i ≡ Some w → (o : Option Call)
+      by_call : (w : Process ℕ) → at s.processes i ≡ Some w → (o : Option (Call ℕ))
           → taken_out p (or_refuse EINVAL o >>= tried_call s w) ≡ says_again p s (suc i) o
           (settle s (or_refuse EINVAL o >>= (λ call. Ok (again s (suc i) (attempt s (suc i) w call))))).reply
       by_call w here None = refl
@@ -269,9 +273,9 @@ module _ (p : ℕ) (s : State Queue) where
       by_call w here (Some (Moving call)) =
           transfer-says i w here (λ r. (again s (suc i) r).reply) (telling-again (suc i)) call
 
-      by_process : (o : Option Process) → at s.processes i ≡ o
+      by_process : (o : Option (Process ℕ)) → at s.processes i ≡ o
           → taken_out p (or_refuse ESRCH o >>= (λ w. or_refuse EINVAL w.parked >>= tried_call s w))
-          ≡ says_again p s (suc i) (option_and_then (λ (w : Process). w.parked) o)
+          ≡ says_again p s (suc i) (option_and_then (λ (w : Process ℕ). w.parked) o)
           (settle s (or_refuse ESRCH o >>= (λ w. resume s (suc i) w))).reply
       by_process None here = refl
       by_process (Some w) here = by_call w here w.parked

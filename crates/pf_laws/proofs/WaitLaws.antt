@@ -7,11 +7,11 @@ use Rattle.std.proofs.lemmas.List.{get_or_append_left}
 use Rattle.std.specs.Prelude.{Result, ⊤}
 use Rattle.std.specs.Option.{option_map, option_and_then}
 use Rattle.pf_machine.specs.Refusals.{◌>>=◌, ◌>>◌, refuse_if, or_refuse}
-use Rattle.pf_machine.specs.Queue.{Queue}
+use Rattle.pf_machine.specs.Queue.{Segment}
 use Rattle.pf_machine.specs.Numbered.{at, change_at, weight, one_if}
 use Rattle.pf_machine.proofs.NumberedLaws.{at_within, at-keep, weight-le-sum_of}
 use Rattle.pf_machine.specs.Calls.{Transfer, Reading, Writing, Bringing, Call, Opening, Moving, made_by}
-use Rattle.pf_machine.specs.State.{State, Process, Description, Pipe, End, end_at, end_of, reading_end, writing_end}
+use Rattle.pf_machine.specs.State.{itself, State, Process, Description, Pipe, End, end_at, end_of, reading_end, writing_end}
 use Rattle.pf_machine.specs.Counts.{named_in, names_of, names, ends}
 use Rattle.pf_machine.specs.Sweep.{live_descriptions, sweep}
 use Rattle.pf_machine.specs.Descriptors.{with_nonblocking}
@@ -59,7 +59,7 @@ follows-unless R b d e r q same h =
 -- Ends
 
 -- an end of the same pipe and for the same sides
-pub record Like (e f : End Queue) : Type 0 where
+pub record Like (e f : End Segment ℕ) : Type 0 where
   pub pipe : e.description.pipe ≡ f.description.pipe
   pub reads : e.description.reads ≡ f.description.reads
   pub writes : e.description.writes ≡ f.description.writes
@@ -72,62 +72,64 @@ pub record BothLike (e f : Ends) : Type 0 where
 abbrev Any : {A B : Type 0} → A → B → Type 0
 Any x y = ⊤
 
-module _ (s t : State Queue) where
+module _ (s t : State Segment ℕ) where
   -- what stands in s at a number, and its pipe, stand in t
   pub record StandsStill (n : ℕ) : Type 0 where
-    pub described : (d : Description) → at s.descriptions n ≡ Some d
+    pub described : (d : Description ℕ) → at s.descriptions n ≡ Some d
         → (b : Bool) × (at t.descriptions n ≡ Some (with_nonblocking b d))
-    pub piped : (d : Description) → at s.descriptions n ≡ Some d → (x : Pipe Queue) → at s.pipes d.pipe ≡ Some x
-        → (y : Pipe Queue) × (at t.pipes d.pipe ≡ Some y)
+    pub piped : (d : Description ℕ) → at s.descriptions n ≡ Some d → (x : Pipe Segment) → at s.pipes d.pipe ≡ Some x
+        → (y : Pipe Segment) × (at t.pipes d.pipe ≡ Some y)
 
-  pub end_at-follows : (n : ℕ) → StandsStill n → Follows Like (or_refuse EBADF (end_at s n))
-      (or_refuse EBADF (end_at t n))
+  pub end_at-follows : (n : ℕ) → StandsStill n → Follows Like (or_refuse EBADF (end_at itself s n))
+      (or_refuse EBADF (end_at itself t n))
   end_at-follows n h = by_description (at s.descriptions n) refl
     where
-      end : Description → Pipe Queue → End Queue
+      end : Description ℕ → Pipe Segment → End Segment ℕ
       end d x = record { description = d; pipe = x }
 
-      by_pipe : (d : Description) (b : Bool) (o : Option (Pipe Queue))
-          → ((x : Pipe Queue) → o ≡ Some x → (y : Pipe Queue) × (at t.pipes d.pipe ≡ Some y))
-          → Follows Like (or_refuse EBADF (option_map (λ (x : Pipe Queue). record { description = d; pipe = x }) o))
-          (or_refuse EBADF (option_map (λ (x : Pipe Queue). record {
+      by_pipe : (d : Description ℕ) (b : Bool) (o : Option (Pipe Segment))
+          → ((x : Pipe Segment) → o ≡ Some x → (y : Pipe Segment) × (at t.pipes d.pipe ≡ Some y))
+          → Follows Like (or_refuse EBADF (option_map (λ (x : Pipe Segment). record { description = d; pipe = x }) o))
+          (or_refuse EBADF (option_map (λ (x : Pipe Segment). record {
             description = with_nonblocking b d;
             pipe = x;
           }) (at t.pipes d.pipe)))
       by_pipe d b None k = tt
       by_pipe d b (Some x) k =
-          subst (λ (o : Option (Pipe Queue)). Follows Like (Ok (record { description = d; pipe = x }))
-          (or_refuse EBADF (option_map (λ (x : Pipe Queue). record {
+          subst (λ (o : Option (Pipe Segment)). Follows Like (Ok (record { description = d; pipe = x }))
+          (or_refuse EBADF (option_map (λ (x : Pipe Segment). record {
             description = with_nonblocking b d;
             pipe = x;
           }) o))) (sym (k x refl).1)
           (record { pipe = refl; reads = refl; writes = refl })
 
-      by_description : (o : Option Description) → at s.descriptions n ≡ o
+      by_description : (o : Option (Description ℕ)) → at s.descriptions n ≡ o
           → Follows Like (or_refuse EBADF (option_and_then
-          (λ d. option_map (λ (x : Pipe Queue). record { description = d; pipe = x }) (at s.pipes d.pipe)) o))
-          (or_refuse EBADF (end_at t n))
+          (λ d. option_map (λ (x : Pipe Segment). record { description = d; pipe = x }) (at s.pipes d.pipe)) o))
+          (or_refuse EBADF (end_at itself t n))
       by_description None e = tt
       by_description (Some d) e =
           let here = h.described d e in
-          subst (λ (o : Option Description). Follows Like (or_refuse EBADF
-          (option_map (λ (x : Pipe Queue). record { description = d; pipe = x }) (at s.pipes d.pipe)))
+          subst (λ (o : Option (Description ℕ)). Follows Like (or_refuse EBADF
+          (option_map (λ (x : Pipe Segment). record { description = d; pipe = x }) (at s.pipes d.pipe)))
           (or_refuse EBADF (option_and_then (λ d. option_map
-          (λ (x : Pipe Queue). record { description = d; pipe = x }) (at t.pipes d.pipe)) o)))
+          (λ (x : Pipe Segment). record { description = d; pipe = x }) (at t.pipes d.pipe)) o)))
           (sym here.1) (by_pipe d here.0 (at s.pipes d.pipe) (h.piped d e))
 
   -- all that a process names
-  abbrev pub AllStill : Process → Type 0
-  AllStill p = (n : ℕ) → 0 < named_in n (names_of p) → StandsStill n
+  abbrev pub AllStill : Process ℕ → Type 0
+  AllStill p = (n : ℕ) → 0 < named_in itself n (names_of p) → StandsStill n
 
   named-one : (n : ℕ) → one_if (nat_eq n n) ≡ 1
   named-one n = ap one_if (eq-eqb n n refl)
 
-  pub end_of-follows : (p : Process) → AllStill p → (fd : ℕ) → Follows Like (end_of s p fd) (end_of t p fd)
+  pub end_of-follows : (p : Process ℕ) → AllStill p → (fd : ℕ)
+      → Follows Like (end_of itself s p fd) (end_of itself t p fd)
   end_of-follows p h fd = by_number (at p.descriptors fd) refl
     where
       by_number : (o : Option ℕ) → at p.descriptors fd ≡ o → Follows Like
-          (or_refuse EBADF (option_and_then (end_at s) o)) (or_refuse EBADF (option_and_then (end_at t) o))
+          (or_refuse EBADF (option_and_then (end_at itself s) o))
+          (or_refuse EBADF (option_and_then (end_at itself t) o))
       by_number None e = tt
       by_number (Some n) e =
           let less = weight-le-sum_of (λ m. one_if (nat_eq m n)) p.descriptors fd in
@@ -136,30 +138,32 @@ module _ (s t : State Queue) where
           end_at-follows n (h n (omega (arith, less, one)))
 
   -- of two processes that have the same ends
-  module _ (p q : Process) (ends : (fd : ℕ) → Follows Like (end_of s p fd) (end_of t q fd)) where
-    reading_end-follows : (fd : ℕ) → Follows Like (reading_end s p fd) (reading_end t q fd)
+  module _ (p q : Process ℕ) (ends : (fd : ℕ) → Follows Like (end_of itself s p fd) (end_of itself t q fd)) where
+    reading_end-follows : (fd : ℕ) → Follows Like (reading_end itself s p fd) (reading_end itself t q fd)
     reading_end-follows fd =
-        follows-then Like Like (end_of s p fd) (end_of t q fd) (λ e. refuse_if
+        follows-then Like Like (end_of itself s p fd) (end_of itself t q fd) (λ e. refuse_if
         (not e.description.reads) EBADF >> Ok e) (λ e. refuse_if (not e.description.reads) EBADF >> Ok e) (ends fd)
         (λ e f k. follows-unless Like (not e.description.reads) (not f.description.reads) EBADF (Ok e) (Ok f)
         (ap not k.reads) k)
 
-    writing_end-follows : (fd : ℕ) → Follows Like (writing_end s p fd) (writing_end t q fd)
+    writing_end-follows : (fd : ℕ) → Follows Like (writing_end itself s p fd) (writing_end itself t q fd)
     writing_end-follows fd =
-        follows-then Like Like (end_of s p fd) (end_of t q fd) (λ e. refuse_if
+        follows-then Like Like (end_of itself s p fd) (end_of itself t q fd) (λ e. refuse_if
         (not e.description.writes) EBADF >> Ok e) (λ e. refuse_if (not e.description.writes) EBADF >> Ok e) (ends fd)
         (λ e f k. follows-unless Like (not e.description.writes) (not f.description.writes) EBADF (Ok e) (Ok f)
         (ap not k.writes) k)
 
     two_ends-follows : (source sink : ℕ) → Follows BothLike (two_ends s p source sink) (two_ends t q source sink)
     two_ends-follows source sink =
-        follows-then Like BothLike (reading_end s p source) (reading_end t q source)
-        (λ i. writing_end s p sink >>= (λ o. refuse_if (nat_eq i.description.pipe o.description.pipe) EINVAL >> Ok
+        follows-then Like BothLike (reading_end itself s p source) (reading_end itself t q source)
+        (λ i. writing_end itself s p sink
+        >>= (λ o. refuse_if (nat_eq i.description.pipe o.description.pipe) EINVAL >> Ok
         (record { source = i; sink = o })))
-        (λ i. writing_end t q sink >>= (λ o. refuse_if (nat_eq i.description.pipe o.description.pipe) EINVAL >> Ok
+        (λ i. writing_end itself t q sink
+        >>= (λ o. refuse_if (nat_eq i.description.pipe o.description.pipe) EINVAL >> Ok
         (record { source = i; sink = o })))
         (reading_end-follows source) (λ i j k.
-        follows-then Like BothLike (writing_end s p sink) (writing_end t q sink)
+        follows-then Like BothLike (writing_end itself s p sink) (writing_end itself t q sink)
         (λ o. refuse_if (nat_eq i.description.pipe o.description.pipe) EINVAL >> Ok (record { source = i; sink = o }))
         (λ o. refuse_if (nat_eq j.description.pipe o.description.pipe) EINVAL >> Ok (record { source = j; sink = o }))
         (writing_end-follows sink) (λ o u l.
@@ -171,10 +175,10 @@ module _ (s t : State Queue) where
 
     pub tried-follows : (call : Transfer) → Follows Any (tried s p call) (tried t q call)
     tried-follows (Reading fd n) =
-        follows-then Like Any (reading_end s p fd) (reading_end t q fd) (λ e. Ok (try_read s e n))
+        follows-then Like Any (reading_end itself s p fd) (reading_end itself t q fd) (λ e. Ok (try_read s e n))
         (λ e. Ok (try_read t e n)) (reading_end-follows fd) (λ e f k. tt)
     tried-follows (Writing fd x written) =
-        follows-then Like Any (writing_end s p fd) (writing_end t q fd)
+        follows-then Like Any (writing_end itself s p fd) (writing_end itself t q fd)
         (λ e. refuse_if (nat_lt MAX_WRITE (length x)) EINVAL >> Ok (try_write s e x written))
         (λ e. refuse_if (nat_lt MAX_WRITE (length x)) EINVAL >> Ok (try_write t e x written)) (writing_end-follows fd)
         (λ e f k. follows-unless Any (nat_lt MAX_WRITE (length x)) (nat_lt MAX_WRITE (length x)) EINVAL
@@ -186,63 +190,64 @@ module _ (s t : State Queue) where
 -- Calls
 
 -- a call in which a process waits may be tried: nothing of it is refused but what comes of trying
-abbrev pub CanTry : State Queue → Process → Option Call → Type 0
+abbrev pub CanTry : State Segment ℕ → Process ℕ → Option (Call ℕ) → Type 0
 CanTry s p None = ⊤
-CanTry s p (Some (Opening n kept)) = IsOk (or_refuse EBADF (end_at s n))
+CanTry s p (Some (Opening n kept)) = IsOk (or_refuse EBADF (end_at itself s n))
 CanTry s p (Some (Moving call)) = IsOk (tried s p call)
 
 -- where the ends that a process has in s are like those that another has in t, it may try what the first may
-pub try-follows : (s t : State Queue) (p q : Process) (o : Option Call)
-    → ((fd : ℕ) → Follows Like (end_of s p fd) (end_of t q fd)) → ((n : ℕ) → made_by o ≡ Some n → StandsStill s t n)
+pub try-follows : (s t : State Segment ℕ) (p q : Process ℕ) (o : Option (Call ℕ))
+    → ((fd : ℕ) → Follows Like (end_of itself s p fd) (end_of itself t q fd))
+    → ((n : ℕ) → made_by o ≡ Some n → StandsStill s t n)
     → CanTry s p o → CanTry t q o
 try-follows s t p q None ends still h = tt
 try-follows s t p q (Some (Opening n kept)) ends still h =
-    ok-follows Like (or_refuse EBADF (end_at s n)) (or_refuse EBADF (end_at t n))
+    ok-follows Like (or_refuse EBADF (end_at itself s n)) (or_refuse EBADF (end_at itself t n))
     (end_at-follows s t n (still n refl)) h
 try-follows s t p q (Some (Moving call)) ends still h =
     ok-follows Any (tried s p call) (tried t q call) (tried-follows s t p q ends call) h
 
 -- a write may be tried also where more of its bytes went in
-pub rewritten : (s : State Queue) (p : Process) (fd : ℕ) (x : List ℕ) (written more : ℕ)
+pub rewritten : (s : State Segment ℕ) (p : Process ℕ) (fd : ℕ) (x : List ℕ) (written more : ℕ)
     → IsOk (tried s p (Writing fd x written)) → IsOk (tried s p (Writing fd x more))
-rewritten s p fd x written more = by_end (writing_end s p fd)
+rewritten s p fd x written more = by_end (writing_end itself s p fd)
   where
-    by_test : (e : End Queue) (b : Bool) → IsOk (refuse_if b EINVAL >> Ok (try_write s e x written))
+    by_test : (e : End Segment ℕ) (b : Bool) → IsOk (refuse_if b EINVAL >> Ok (try_write s e x written))
         → IsOk (refuse_if b EINVAL >> Ok (try_write s e x more))
     by_test e true h = h
     by_test e false h = tt
 
-    by_end : (r : Result (End Queue) Errno)
+    by_end : (r : Result (End Segment ℕ) Errno)
         → IsOk (r >>= (λ e. refuse_if (nat_lt MAX_WRITE (length x)) EINVAL >> Ok (try_write s e x written)))
         → IsOk (r >>= (λ e. refuse_if (nat_lt MAX_WRITE (length x)) EINVAL >> Ok (try_write s e x more)))
     by_end (Ok e) h = by_test e (nat_lt MAX_WRITE (length x)) h
     by_end (Err e) h = h
 
 -- whoever waits may try
-pub record AllCanTry (s : State Queue) : Type 0 where
-  pub each : (k : ℕ) (p : Process) → at s.processes k ≡ Some p → CanTry s p p.parked
+pub record AllCanTry (s : State Segment ℕ) : Type 0 where
+  pub each : (k : ℕ) (p : Process ℕ) → at s.processes k ≡ Some p → CanTry s p p.parked
 
 -- What stood stands
 
 abbrev pub Pipes : Type 0
-Pipes = List (Option (Pipe Queue))
+Pipes = List (Option (Pipe Segment))
 
 -- each description, which may have another O_NONBLOCK, and each pipe
-pub record Lasting (ds : List (Option Description)) (ps : Pipes) (es : List (Option Description))
+pub record Lasting (ds : List (Option (Description ℕ))) (ps : Pipes) (es : List (Option (Description ℕ)))
     (qs : Pipes) : Type 0 where
-  pub described : (n : ℕ) (d : Description) → at ds n ≡ Some d → (b : Bool) × (at es n ≡ Some (with_nonblocking b d))
-  pub piped : (n : ℕ) (x : Pipe Queue) → at ps n ≡ Some x → (y : Pipe Queue) × (at qs n ≡ Some y)
+  pub described : (n : ℕ) (d : Description ℕ) → at ds n ≡ Some d → (b : Bool) × (at es n ≡ Some (with_nonblocking b d))
+  pub piped : (n : ℕ) (x : Pipe Segment) → at ps n ≡ Some x → (y : Pipe Segment) × (at qs n ≡ Some y)
 
-pub lasting-same : (ds : List (Option Description)) (ps : Pipes) → Lasting ds ps ds ps
+pub lasting-same : (ds : List (Option (Description ℕ))) (ps : Pipes) → Lasting ds ps ds ps
 lasting-same ds ps = record { described = λ n d e. (d.nonblocking, e); piped = λ n x e. (x, e) }
 
-pub lasting-changed : (ds es : List (Option Description)) (ps qs : Pipes) (f : Pipe Queue → Pipe Queue) (n : ℕ)
+pub lasting-changed : (ds es : List (Option (Description ℕ))) (ps qs : Pipes) (f : Pipe Segment → Pipe Segment) (n : ℕ)
     → Lasting ds ps es qs → Lasting ds ps es (change_at f qs n)
 lasting-changed ds es ps qs f n l =
     record { described = l.described; piped = λ m x e. let y = l.piped m x e in changed qs n m y.0 y.1 }
   where
-    changed : (qs : Pipes) (n m : ℕ) (y : Pipe Queue) → at qs m ≡ Some y
-        → (z : Pipe Queue) × (at (change_at f qs n) m ≡ Some z)
+    changed : (qs : Pipes) (n m : ℕ) (y : Pipe Segment) → at qs m ≡ Some y
+        → (z : Pipe Segment) × (at (change_at f qs n) m ≡ Some z)
     changed [] n m y e = absurd (cc)
     changed (q ∷ qs) zero zero y e = (f y, ap (option_map f) e)
     changed (q ∷ qs) zero (suc m) y e = (y, e)
@@ -253,7 +258,7 @@ lasting-changed ds es ps qs f n l =
 appended : {X : Type 0} (xs ys : List (Option X)) (n : ℕ) (x : X) → at xs n ≡ Some x → at (xs ++ ys) n ≡ Some x
 appended xs ys n x e = get_or_append_left xs ys None n (at_within xs n x e) ∙ e
 
-pub lasting-drawn : (ds es more : List (Option Description)) (ps qs : Pipes) → Lasting ds ps es qs
+pub lasting-drawn : (ds es more : List (Option (Description ℕ))) (ps qs : Pipes) → Lasting ds ps es qs
     → Lasting ds ps (es ++ more) qs
 lasting-drawn ds es more ps qs l =
     record {
@@ -262,16 +267,16 @@ lasting-drawn ds es more ps qs l =
       piped = l.piped;
     }
 
-pub lasting-piped : (ds es : List (Option Description)) (ps qs more : Pipes) → Lasting ds ps es qs
+pub lasting-piped : (ds es : List (Option (Description ℕ))) (ps qs more : Pipes) → Lasting ds ps es qs
     → Lasting ds ps es (qs ++ more)
 lasting-piped ds es ps qs more l =
     record { described = l.described; piped = λ n x e. let h = l.piped n x e in (h.0, appended qs more n h.0 h.1) }
 
-pub lasting-flagged : (ds : List (Option Description)) (ps : Pipes) (on : Bool) (n : ℕ)
+pub lasting-flagged : (ds : List (Option (Description ℕ))) (ps : Pipes) (on : Bool) (n : ℕ)
     → Lasting ds ps (change_at (with_nonblocking on) ds n) ps
 lasting-flagged ds ps on n = record { described = λ m d e. flagged ds n m d e; piped = λ m x e. (x, e) }
   where
-    flagged : (ds : List (Option Description)) (n m : ℕ) (d : Description) → at ds m ≡ Some d
+    flagged : (ds : List (Option (Description ℕ))) (n m : ℕ) (d : Description ℕ) → at ds m ≡ Some d
         → (b : Bool) × (at (change_at (with_nonblocking on) ds n) m ≡ Some (with_nonblocking b d))
     flagged [] n m d e = absurd (cc)
     flagged (x ∷ ds) zero zero d e = (on, ap (option_map (with_nonblocking on)) e)
@@ -291,48 +296,49 @@ at-set-either (z ∷ xs) (suc k) zero y x e = inl e
 at-set-either (z ∷ xs) (suc k) (suc j) y x e = at-set-either xs k j y x e
 
 -- it takes nothing that a process names
-sweep-still : (s : State Queue) (k : ℕ) (p : Process) → at s.processes k ≡ Some p → AllStill s (sweep s) p
+sweep-still : (s : State Segment ℕ) (k : ℕ) (p : Process ℕ) → at s.processes k ≡ Some p → AllStill s (sweep itself s) p
 sweep-still s k p here n named = record {
   described = λ d e. (d.nonblocking, kept d e);
   piped = λ d e x f. (
     x,
-    at-keep (λ m. nat_lt 0 (ends ds m)) s.pipes d.pipe
+    at-keep (λ m. nat_lt 0 (ends itself ds m)) s.pipes d.pipe
         ∙ ap (λ b. if b then at s.pipes d.pipe else None) (used d e) ∙ f,
   );
 }
   where
-    ds : List (Option Description)
-    ds = live_descriptions s.processes s.descriptions
+    ds : List (Option (Description ℕ))
+    ds = live_descriptions itself s.processes s.descriptions
 
-    is_named : nat_lt 0 (names s.processes n) ≡ true
+    is_named : nat_lt 0 (names itself s.processes n) ≡ true
     is_named =
-        let less = weight-le-sum_of (λ (q : Process). named_in n (names_of q)) s.processes k in
-        let one : weight (λ (q : Process). named_in n (names_of q)) (at s.processes k) ≡ named_in n (names_of p) =
-        ap (weight (λ (q : Process). named_in n (names_of q))) here in
-        let more : 0 < names s.processes n = omega (arith, less, one, named) in
+        let less = weight-le-sum_of (λ (q : Process ℕ). named_in itself n (names_of q)) s.processes k in
+        let one : weight (λ (q : Process ℕ). named_in itself n (names_of q)) (at s.processes k)
+        ≡ named_in itself n (names_of p) =
+        ap (weight (λ (q : Process ℕ). named_in itself n (names_of q))) here in
+        let more : 0 < names itself s.processes n = omega (arith, less, one, named) in
         grind (arith, nat_tests)
 
-    kept : (d : Description) → at s.descriptions n ≡ Some d → at ds n ≡ Some d
-    kept d e = at-keep (λ m. nat_lt 0 (names s.processes m)) s.descriptions n
+    kept : (d : Description ℕ) → at s.descriptions n ≡ Some d → at ds n ≡ Some d
+    kept d e = at-keep (λ m. nat_lt 0 (names itself s.processes m)) s.descriptions n
         ∙ ap (λ b. if b then at s.descriptions n else None) is_named ∙ e
 
-    used : (d : Description) → at s.descriptions n ≡ Some d → nat_lt 0 (ends ds d.pipe) ≡ true
+    used : (d : Description ℕ) → at s.descriptions n ≡ Some d → nat_lt 0 (ends itself ds d.pipe) ≡ true
     used d e =
-        let less = weight-le-sum_of (λ (x : Description). one_if (nat_eq x.pipe d.pipe)) ds n in
-        let one : weight (λ (x : Description). one_if (nat_eq x.pipe d.pipe)) (at ds n) ≡ one_if
-        (nat_eq d.pipe d.pipe) = ap (weight (λ (x : Description). one_if (nat_eq x.pipe d.pipe))) (kept d e) in
-        let more : 0 < ends ds d.pipe = omega (arith, less, one, ap one_if (eq-eqb d.pipe d.pipe refl)) in
+        let less = weight-le-sum_of (λ (x : Description ℕ). one_if (nat_eq x.pipe d.pipe)) ds n in
+        let one : weight (λ (x : Description ℕ). one_if (nat_eq x.pipe d.pipe)) (at ds n) ≡ one_if
+        (nat_eq d.pipe d.pipe) = ap (weight (λ (x : Description ℕ). one_if (nat_eq x.pipe d.pipe))) (kept d e) in
+        let more : 0 < ends itself ds d.pipe = omega (arith, less, one, ap one_if (eq-eqb d.pipe d.pipe refl)) in
         grind (arith, nat_tests)
 
 -- what a parked open has made is named
-made-named : (p : Process) (n : ℕ) → made_by p.parked ≡ Some n → 0 < named_in n (names_of p)
+made-named : (p : Process ℕ) (n : ℕ) → made_by p.parked ≡ Some n → 0 < named_in itself n (names_of p)
 made-named p n e =
     let one : weight (λ m. one_if (nat_eq m n)) (made_by p.parked) ≡ one_if (nat_eq n n) =
     ap (weight (λ m. one_if (nat_eq m n))) e in
     omega (arith, one, ap one_if (eq-eqb n n refl))
 
-still-try : (s t : State Queue) (p : Process) → AllStill s t p → CanTry s p p.parked → CanTry t p p.parked
+still-try : (s t : State Segment ℕ) (p : Process ℕ) → AllStill s t p → CanTry s p p.parked → CanTry t p p.parked
 still-try s t p h is = try-follows s t p p p.parked (end_of-follows s t p h) (λ n e. h n (made-named p n e)) is
 
-pub sweep-all : (s : State Queue) → AllCanTry s → AllCanTry (sweep s)
-sweep-all s is = record { each = λ k p e. still-try s (sweep s) p (sweep-still s k p e) (is.each k p e) }
+pub sweep-all : (s : State Segment ℕ) → AllCanTry s → AllCanTry (sweep itself s)
+sweep-all s is = record { each = λ k p e. still-try s (sweep itself s) p (sweep-still s k p e) (is.each k p e) }

@@ -5,11 +5,11 @@ use Rattle.std.specs.Prelude.{Result, ⊤, is_some}
 use Rattle.std.specs.Option.{option_map, option_and_then}
 use Rattle.pf_machine.specs.Refusals.{◌>>=◌, ◌>>◌, refuse_if, or_refuse}
 use Rattle.pf_base.specs.Limits.{Limits}
-use Rattle.pf_machine.specs.Queue.{Queue, empty}
+use Rattle.pf_machine.specs.Queue.{Segment, Queue, empty}
 use Rattle.pf_machine.specs.Numbered.{at, put_at, change_at, first_free}
 use Rattle.pf_machine.proofs.NumberedLaws.{at-put_same, at-push_new, at_within}
 use Rattle.pf_machine.specs.Calls.{Transfer, Reading, Writing, Bringing, Call, Opening, Moving, written_of}
-use Rattle.pf_machine.specs.State.{State, Process, Description, Pipe, End, Outcome, holding, living, ready, end_at, end_of, reading_end, writing_end, change_pipe, change_process, waiting, told, done, vacant, with_process, with_queue, with_descriptor}
+use Rattle.pf_machine.specs.State.{itself, State, Process, Description, Pipe, End, Outcome, holding, living, ready, end_at, end_of, reading_end, writing_end, change_pipe, change_process, waiting, told, done, vacant, with_process, with_queue, with_descriptor}
 use Rattle.pf_machine.specs.Counts.{readers, writers}
 use Rattle.pf_base.specs.Capacities.{told_as}
 use Rattle.pf_machine.specs.Descriptors.{dup, close, set_nonblock, named}
@@ -40,60 +40,61 @@ abbrev pub IsNoError : Reply → Type 0
 IsNoError (replies.Err e) = ⊥
 IsNoError _ = ⊤
 
-module _ (s : State Queue) (is : AllCanTry s) where
+module _ (s : State Segment ℕ) (is : AllCanTry s) where
   -- what stood in s stands
-  abbrev pub Lasts : State Queue → Type 0
+  abbrev pub Lasts : State Segment ℕ → Type 0
   Lasts t = Lasting s.descriptions s.pipes t.descriptions t.pipes
 
-  still : (t : State Queue) → Lasts t → (n : ℕ) → StandsStill s t n
+  still : (t : State Segment ℕ) → Lasts t → (n : ℕ) → StandsStill s t n
   still t l n = record { described = λ d e. l.described n d e; piped = λ d e x f. l.piped d.pipe x f }
 
   -- a process that has the same descriptors may try what p may
-  tries : (t : State Queue) (p q : Process) → Lasts t → q.descriptors ≡ p.descriptors → (o : Option Call)
+  tries : (t : State Segment ℕ) (p q : Process ℕ) → Lasts t → q.descriptors ≡ p.descriptors → (o : Option (Call ℕ))
       → CanTry s p o → CanTry t q o
   tries t p q l same o h =
-      try-follows s t p q o (λ fd. subst (λ (fds : List (Option ℕ)). Follows Like (end_of s p fd)
-      (or_refuse EBADF (option_and_then (end_at t) (at fds fd)))) (sym same)
+      try-follows s t p q o (λ fd. subst (λ (fds : List (Option ℕ)). Follows Like (end_of itself s p fd)
+      (or_refuse EBADF (option_and_then (end_at itself t) (at fds fd)))) (sym same)
       (end_of-follows s t p (λ n named. still t l n) fd)) (λ n e. still t l n) h
 
   -- who waits in t waited before, or may try
-  all-either : (t : State Queue) → Lasts t → ((k : ℕ) (p : Process) → at t.processes k ≡ Some p
+  all-either : (t : State Segment ℕ) → Lasts t → ((k : ℕ) (p : Process ℕ) → at t.processes k ≡ Some p
       → (at s.processes k ≡ Some p) ⊎ CanTry t p p.parked) → AllCanTry t
   all-either t l h = record {
     each = λ k p e. ⊎_elim (λ before. tries t p p l refl p.parked (is.each k p before))
         (λ now. now) (h k p e);
   }
 
-  all-same : (t : State Queue) → Lasts t → t.processes ≡ s.processes → AllCanTry t
+  all-same : (t : State Segment ℕ) → Lasts t → t.processes ≡ s.processes → AllCanTry t
   all-same t l same = all-either t l (λ k p e. inl (ap (λ qs. at qs k) (sym same) ∙ e))
 
   -- another process, or none, in one place
-  all-set : (t : State Queue) → Lasts t → (k : ℕ) (y : Option Process) → t.processes ≡ set s.processes k y
-      → ((q : Process) → y ≡ Some q → CanTry t q q.parked) → AllCanTry t
+  all-set : (t : State Segment ℕ) → Lasts t → (k : ℕ) (y : Option (Process ℕ)) → t.processes ≡ set s.processes k y
+      → ((q : Process ℕ) → y ≡ Some q → CanTry t q q.parked) → AllCanTry t
   all-set t l k y same h = all-either t l (λ j p e. ⊎_elim (λ before. inl before) (λ new. inr (h p new))
       (at-set-either s.processes k j y p (ap (λ qs. at qs j) (sym same) ∙ e)))
 
-  free-can : (t : State Queue) (q : Process) → q.parked ≡ None → CanTry t q q.parked
-  free-can t q free = subst (λ (o : Option Call). CanTry t q o) (sym free) tt
+  free-can : (t : State Segment ℕ) (q : Process ℕ) → q.parked ≡ None → CanTry t q q.parked
+  free-can t q free = subst (λ (o : Option (Call ℕ)). CanTry t q o) (sym free) tt
 
   -- an outcome in which whoever waits may try, and that is no error
-  pub record Good (o : Outcome) : Type 0 where
+  pub record Good (o : Outcome Segment ℕ) : Type 0 where
     pub can_try : AllCanTry o.state
     pub told : IsNoError o.reply
 
-  good-same : (t : State Queue) (r : Reply) → Lasts t → t.processes ≡ s.processes → IsNoError r
+  good-same : (t : State Segment ℕ) (r : Reply) → Lasts t → t.processes ≡ s.processes → IsNoError r
       → Good (record { state = t; reply = r })
   good-same t r l same fine = record { can_try = all-same t l same; told = fine }
 
-  good-put : (t : State Queue) (r : Reply) (k : ℕ) (q : Process) → Lasts t → t.processes ≡ set s.processes k (Some q)
+  good-put : (t : State Segment ℕ) (r : Reply) (k : ℕ) (q : Process ℕ) → Lasts t
+      → t.processes ≡ set s.processes k (Some q)
       → q.parked ≡ None → IsNoError r → Good (record { state = t; reply = r })
   good-put t r k q l same free fine = record {
     can_try = all-set t l k (Some q) same (λ x e. let both : q ≡ x = cc in
-        subst (λ (y : Process). CanTry t y y.parked) both (free-can t q free));
+        subst (λ (y : Process ℕ). CanTry t y y.parked) both (free-can t q free));
     told = fine;
   }
 
-  good-clear : (t : State Queue) (r : Reply) (k : ℕ) → Lasts t → t.processes ≡ set s.processes k None → IsNoError r
+  good-clear : (t : State Segment ℕ) (r : Reply) (k : ℕ) → Lasts t → t.processes ≡ set s.processes k None → IsNoError r
       → Good (record { state = t; reply = r })
   good-clear t r k l same fine = record { can_try = all-set t l k None same (λ x e. absurd (cc)); told = fine }
 
@@ -104,20 +105,20 @@ module _ (s : State Queue) (is : AllCanTry s) where
   no_error = tt
 
   -- the process of a pid is another one, that waits in no call
-  put : (pid : ℕ) (q : Process) (r : Reply) → q.parked ≡ None → IsNoError r
+  put : (pid : ℕ) (q : Process ℕ) (r : Reply) → q.parked ≡ None → IsNoError r
       → Good (record { state = with_process s pid q; reply = r })
   put pid q r free fine = good-put (with_process s pid q) r (pid - 1) q lasts-s refl free fine
 
-  born : (q : Process) → q.parked ≡ None → Good (told (with_process s (first_free s.processes + 1) q)
+  born : (q : Process ℕ) → q.parked ≡ None → Good (told (with_process s (first_free s.processes + 1) q)
       (replies.Pid (first_free s.processes + 1)))
   born q free = put (first_free s.processes + 1) q (replies.Pid (first_free s.processes + 1)) free tt
 
   -- Who makes a step
 
-  pub record Stands (k : ℕ) (p : Process) : Type 0 where
+  pub record Stands (k : ℕ) (p : Process ℕ) : Type 0 where
     pub at_place : at s.processes k ≡ Some p
 
-  pub record Free (k : ℕ) (p : Process) : Type 0 where
+  pub record Free (k : ℕ) (p : Process ℕ) : Type 0 where
     pub at_place : at s.processes k ≡ Some p
     pub free : p.parked ≡ None
 
@@ -125,7 +126,7 @@ module _ (s : State Queue) (is : AllCanTry s) where
   living-stands zero = tt
   living-stands (suc i) = by_process (at s.processes i) refl
     where
-      by_process : (o : Option Process) → at s.processes i ≡ o → Holds (Stands (suc i - 1)) (or_refuse ESRCH o)
+      by_process : (o : Option (Process ℕ)) → at s.processes i ≡ o → Holds (Stands (suc i - 1)) (or_refuse ESRCH o)
       by_process None e = tt
       by_process (Some p) e = let same : suc i - 1 ≡ i = omega arith in
           record { at_place = ap (λ k. at s.processes k) same ∙ e }
@@ -134,12 +135,13 @@ module _ (s : State Queue) (is : AllCanTry s) where
   ready-free q = goes (Stands (q - 1)) (Free (q - 1)) (living s q) (λ p. refuse_if (is_some p.parked) EBUSY >> Ok p)
       (living-stands q) (λ p h. by_call p h.at_place p.parked refl)
     where
-      by_call : (p : Process) → at s.processes (q - 1) ≡ Some p → (o : Option Call) → p.parked ≡ o
+      by_call : (p : Process ℕ) → at s.processes (q - 1) ≡ Some p → (o : Option (Call ℕ)) → p.parked ≡ o
           → Holds (Free (q - 1)) (refuse_if (is_some o) EBUSY >> Ok p)
       by_call p e None f = record { at_place = e; free = f }
       by_call p e (Some call) f = tt
 
-  by_ready : (q : ℕ) (f : Process → Result Outcome Errno) → ((p : Process) → Free (q - 1) p → Holds Good (f p))
+  by_ready : (q : ℕ) (f : Process ℕ → Result (Outcome Segment ℕ) Errno)
+      → ((p : Process ℕ) → Free (q - 1) p → Holds Good (f p))
       → Holds Good (ready s q >>= f)
   by_ready q f h = goes (Free (q - 1)) Good (ready s q) f (ready-free q) h
 
@@ -149,35 +151,39 @@ module _ (s : State Queue) (is : AllCanTry s) where
   spawn-good cred = let made = born (record { cred = cred; descriptors = vacant MAX_DESCRIPTORS; parked = None }) refl in
       search (passes, made) depth 16
 
-  fork-good : (p : Process) → p.parked ≡ None → Holds Good (fork s p)
+  fork-good : (p : Process ℕ) → p.parked ≡ None → Holds Good (fork s p)
   fork-good p free = let made = born p free in search (passes, made) depth 16
 
-  close-good : (q : ℕ) (p : Process) (fd : ℕ) → p.parked ≡ None → Holds Good (close s q p fd)
+  close-good : (q : ℕ) (p : Process ℕ) (fd : ℕ) → p.parked ≡ None → Holds Good (close s q p fd)
   close-good q p fd free = search (carries, put, free) depth 16
 
-  dup-good : (q : ℕ) (p : Process) (fd : ℕ) → p.parked ≡ None → Holds Good (dup s q p fd)
+  dup-good : (q : ℕ) (p : Process ℕ) (fd : ℕ) → p.parked ≡ None → Holds Good (dup s q p fd)
   dup-good q p fd free = search (carries, passes, put, free) depth 16
 
   -- two more descriptions, of one more pipe
-  pipe-good : (c : Limits) (q : ℕ) (p : Process) (nonblock : Bool) → p.parked ≡ None
-      → Holds Good (pipe c s q p nonblock)
+  pipe-good : (c : Limits) (q : ℕ) (p : Process ℕ) (nonblock : Bool) → p.parked ≡ None
+      → Holds Good (pipe (length s.descriptions) (length s.descriptions + 1) (length s.pipes) c s q p nonblock)
   pipe-good c q p nonblock free = search (passes, carries, made) depth 16
     where
-      made : (slots : ℕ) → Good (told (opened s q nonblock (empty slots) p)
+      piped : ℕ → State Segment ℕ
+      piped slots =
+          opened (length s.descriptions) (length s.descriptions + 1) (length s.pipes) s q nonblock (empty slots) p
+
+      made : (slots : ℕ) → Good (told (piped slots)
           (replies.Fds (first_descriptor p) (second_descriptor p)))
       made slots =
-          good-put (opened s q nonblock (empty slots) p) (replies.Fds (first_descriptor p) (second_descriptor p))
-          (q - 1) (with_two (length s.descriptions) p)
+          good-put (piped slots) (replies.Fds (first_descriptor p) (second_descriptor p))
+          (q - 1) (with_two (length s.descriptions) (length s.descriptions + 1) p)
           (lasting-piped s.descriptions _ s.pipes s.pipes (Some (new_pipe (empty slots) p.cred.uid None) ∷ [])
           (lasting-drawn s.descriptions s.descriptions (Some (reading (length s.pipes) nonblock) ∷ Some
           (writing (length s.pipes) nonblock) ∷ []) s.pipes s.pipes lasts-s))
           refl free tt
 
-  set_nonblock-good : (p : Process) (fd : ℕ) (on : Bool) → Holds Good (set_nonblock s p fd on)
+  set_nonblock-good : (p : Process ℕ) (fd : ℕ) (on : Bool) → Holds Good (set_nonblock itself s p fd on)
   set_nonblock-good p fd on = carries Good (named p fd) _ (λ n. good-same _ (replies.Num 0)
       (lasting-flagged s.descriptions s.pipes on n) refl tt)
 
-  set_size-good : (c : Limits) (p : Process) (fd bytes : ℕ) → Holds Good (set_size c s p fd bytes)
+  set_size-good : (c : Limits) (p : Process ℕ) (fd bytes : ℕ) → Holds Good (set_size itself c s p fd bytes)
   set_size-good c p fd bytes = search (passes, carries, made) depth 16
     where
       made : (n k : ℕ) (x : Queue) → Good (done (with_queue s n x) k)
@@ -187,14 +193,14 @@ module _ (s : State Queue) (is : AllCanTry s) where
   -- Transfers
 
   -- as many processes as before, and what stood stands
-  pub record Level (t : State Queue) : Type 0 where
+  pub record Level (t : State Segment ℕ) : Type 0 where
     pub lasts : Lasts t
     pub people : t.processes ≡ s.processes
 
   level-s : Level s
   level-s = record { lasts = lasts-s; people = refl }
 
-  level-held : (t : State Queue) (n : ℕ) (x : Queue) → Level t → Level (with_queue t n x)
+  level-held : (t : State Segment ℕ) (n : ℕ) (x : Queue) → Level t → Level (with_queue t n x)
   level-held t n x l = record {
     lasts = lasting-changed s.descriptions t.descriptions s.pipes t.pipes
         (holding x) n l.lasts;
@@ -204,12 +210,12 @@ module _ (s : State Queue) (is : AllCanTry s) where
   abbrev LevelTried : Tried → Type 0
   LevelTried t = Level t.state
 
-  tried-level : (p : Process) (call : Transfer) → Holds LevelTried (tried s p call)
+  tried-level : (p : Process ℕ) (call : Transfer) → Holds LevelTried (tried s p call)
   tried-level p (Reading fd n) =
-      carries LevelTried (reading_end s p fd) (λ e. Ok (try_read s e n))
+      carries LevelTried (reading_end itself s p fd) (λ e. Ok (try_read s e n))
       (λ e. level-held s e.description.pipe _ level-s)
   tried-level p (Writing fd x written) =
-      carries LevelTried (writing_end s p fd) (λ e. refuse_if (nat_lt MAX_WRITE (length x)) EINVAL >> Ok
+      carries LevelTried (writing_end itself s p fd) (λ e. refuse_if (nat_lt MAX_WRITE (length x)) EINVAL >> Ok
       (try_write s e x written))
       (λ e. passes LevelTried (refuse_if (nat_lt MAX_WRITE (length x)) EINVAL) (Ok (try_write s e x written))
       (level-held s e.description.pipe _ level-s))
@@ -219,13 +225,13 @@ module _ (s : State Queue) (is : AllCanTry s) where
       (level-held s e.sink.description.pipe _ level-s))
 
   -- an attempt is finished with no error, or it waits in a call that may be tried
-  module _ (p : Process) where
-    abbrev pub Tells : Attempt → Type 0
+  module _ (p : Process ℕ) where
+    abbrev pub Tells : Attempt Segment ℕ → Type 0
     Tells (Finished t reply) = Level t × IsNoError reply
     Tells (Waits t call) = Level t × CanTry s p (Some call)
 
     -- one refusal alone comes of trying
-    abbrev pub Told : Result Attempt Errno → Type 0
+    abbrev pub Told : Result (Attempt Segment ℕ) Errno → Type 0
     Told (Ok a) = Tells a
     Told (Err e) = e ≡ EPIPE
 
@@ -265,7 +271,7 @@ module _ (s : State Queue) (is : AllCanTry s) where
     attempt-tells : (pid : ℕ) (call : Transfer) → Holds Tells (attempt s pid p (Moving call))
     attempt-tells pid call = by_tried (tried s p call) (tried-level p call) (λ h. h)
       where
-        holds : (r : Result Attempt Errno) → Told r → Holds Tells r
+        holds : (r : Result (Attempt Segment ℕ) Errno) → Told r → Holds Tells r
         holds (Ok a) h = h
         holds (Err e) h = tt
 
@@ -275,21 +281,23 @@ module _ (s : State Queue) (is : AllCanTry s) where
         by_tried (Err e) l k = tt
 
   -- who waited in a place, or was free, waits in a call now that may be tried
-  waits-all : (q : ℕ) (o : Option Call) (p : Process) (t : State Queue) → at s.processes (q - 1) ≡ Some p → Level t
+  waits-all : (q : ℕ) (o : Option (Call ℕ)) (p : Process ℕ) (t : State Segment ℕ) → at s.processes (q - 1) ≡ Some p
+      → Level t
       → CanTry s p o → AllCanTry (change_process (waiting o) t q)
   waits-all q o p t e l h = all-set (change_process (waiting o) t q) l.lasts (q - 1) (Some (waiting o p)) same can
     where
       same : change_at (waiting o) t.processes (q - 1) ≡ set s.processes (q - 1) (Some (waiting o p))
-      same = ap (λ (qs : List (Option Process)). change_at (waiting o) qs (q - 1)) l.people
-          ∙ ap (λ (x : Option Process). set s.processes (q - 1) (option_map (waiting o) x)) e
+      same = ap (λ (qs : List (Option (Process ℕ))). change_at (waiting o) qs (q - 1)) l.people
+          ∙ ap (λ (x : Option (Process ℕ)). set s.processes (q - 1) (option_map (waiting o) x)) e
 
-      can : (x : Process) → Some (waiting o p) ≡ Some x → CanTry (change_process (waiting o) t q) x x.parked
+      can : (x : Process ℕ) → Some (waiting o p) ≡ Some x → CanTry (change_process (waiting o) t q) x x.parked
       can x f =
           let both : waiting o p ≡ x = cc in
-          subst (λ (y : Process). CanTry (change_process (waiting o) t q) y y.parked) both
+          subst (λ (y : Process ℕ). CanTry (change_process (waiting o) t q) y y.parked) both
           (tries (change_process (waiting o) t q) p (waiting o p) l.lasts refl o h)
 
-  first-good : (q : ℕ) (p : Process) → at s.processes (q - 1) ≡ Some p → (b : Bool) (a : Attempt) → Tells p a
+  first-good : (q : ℕ) (p : Process ℕ) → at s.processes (q - 1) ≡ Some p → (b : Bool) (a : Attempt Segment ℕ)
+      → Tells p a
       → Holds Good (first q b a)
   first-good q p e b (Finished t reply) h = good-same t reply h.0.lasts h.0.people h.1
   first-good q p e false (Waits t call) h = record { can_try = waits-all q (Some call) p t e h.0 h.1; told = tt }
@@ -299,7 +307,7 @@ module _ (s : State Queue) (is : AllCanTry s) where
       by_none true = tt
       by_none false = good-same t (replies.Num (written_of call)) h.0.lasts h.0.people tt
 
-  transfer-good : (q : ℕ) (p : Process) → Free (q - 1) p → (flag : Bool) (call : Transfer)
+  transfer-good : (q : ℕ) (p : Process ℕ) → Free (q - 1) p → (flag : Bool) (call : Transfer)
       → Holds Good (transfer s q p flag call)
   transfer-good q p f flag call =
       goes (Tells p) Good (attempt s q p (Moving call)) (first q (flag || nonblocking s p call))
@@ -307,18 +315,19 @@ module _ (s : State Queue) (is : AllCanTry s) where
 
   -- Resume
 
-  again-all : (q : ℕ) (p : Process) → at s.processes (q - 1) ≡ Some p → (r : Result Attempt Errno) → Holds (Tells p) r
+  again-all : (q : ℕ) (p : Process ℕ) → at s.processes (q - 1) ≡ Some p → (r : Result (Attempt Segment ℕ) Errno)
+      → Holds (Tells p) r
       → AllCanTry (again s q r).state
   again-all q p e (Ok (Finished t reply)) h = waits-all q None p t e h.0 tt
   again-all q p e (Ok (Waits t call)) h = waits-all q (Some call) p t e h.0 h.1
   again-all q p e (Err x) h = waits-all q None p s e level-s tt
 
   -- an open has its descriptor, or waits on
-  opening-all : (q : ℕ) (p : Process) (n kept : ℕ) → at s.processes (q - 1) ≡ Some p
+  opening-all : (q : ℕ) (p : Process ℕ) (n kept : ℕ) → at s.processes (q - 1) ≡ Some p
       → CanTry s p (Some (Opening n kept)) → AllCanTry (again s q (attempt s q p (Opening n kept))).state
-  opening-all q p n kept e can = by_end (or_refuse EBADF (end_at s n))
+  opening-all q p n kept e can = by_end (or_refuse EBADF (end_at itself s n))
     where
-      y : Process
+      y : Process ℕ
       y = with_descriptor (first_free p.descriptors) n p
 
       same : change_at (waiting None) (put_at s.processes (q - 1) y) (q - 1) ≡ set s.processes (q - 1)
@@ -330,37 +339,39 @@ module _ (s : State Queue) (is : AllCanTry s) where
           (waiting None y) lasts-s same refl tt).can_try
       by_came false = waits-all q (Some (Opening n kept)) p s e level-s can
 
-      by_end : (r : Result (End Queue) Errno) → AllCanTry (again s q (r >>= (λ e. Ok (open_told s q p n kept e)))).state
+      by_end : (r : Result (End Segment ℕ) Errno)
+          → AllCanTry (again s q (r >>= (λ e. Ok (open_told s q p n kept e)))).state
       by_end (Err x) = waits-all q None p s e level-s tt
       by_end (Ok x) = by_came (nat_lt kept (other_opens x))
 
-  abbrev Keeps : Outcome → Type 0
+  abbrev Keeps : Outcome Segment ℕ → Type 0
   Keeps o = AllCanTry o.state
 
-  resume-all : (q : ℕ) (p : Process) → at s.processes (q - 1) ≡ Some p → Holds Keeps (resume s q p)
+  resume-all : (q : ℕ) (p : Process ℕ) → at s.processes (q - 1) ≡ Some p → Holds Keeps (resume s q p)
   resume-all q p e = found Keeps EINVAL p.parked (λ call. Ok (again s q (attempt s q p call))) by_call
     where
-      by_call : (call : Call) → p.parked ≡ Some call → AllCanTry (again s q (attempt s q p call)).state
-      by_call (Opening n kept) w = opening-all q p n kept e (subst (λ (o : Option Call). CanTry s p o) w
+      by_call : (call : Call ℕ) → p.parked ≡ Some call → AllCanTry (again s q (attempt s q p call)).state
+      by_call (Opening n kept) w = opening-all q p n kept e (subst (λ (o : Option (Call ℕ)). CanTry s p o) w
           (is.each (q - 1) p e))
       by_call (Moving call) w = again-all q p e (attempt s q p (Moving call)) (attempt-tells p q call)
 
   -- Open
 
   -- a pipe that is found stands
-  pub record IsThere (f : Found) : Type 0 where
+  pub record IsThere (f : Found Segment ℕ) : Type 0 where
     pub level : Level f.state
-    pub pipe : Pipe Queue
+    pub drawn : length s.descriptions ≡ length f.state.descriptions
+    pub pipe : Pipe Segment
     pub stands : at f.state.pipes f.pipe ≡ Some pipe
 
-  pipe_of-there : (c : Limits) (p : Process) (file : ℕ) (o : Option ℕ) → fifo_pipe s file ≡ o
+  pipe_of-there : (c : Limits) (p : Process ℕ) (file : ℕ) (o : Option ℕ) → fifo_pipe s file ≡ o
       → Holds IsThere (pipe_of c s p file o)
   pipe_of-there c p file (Some n) e = by_pipe (at s.pipes n) refl (found_at file s.pipes n e)
     where
-      by_pipe : (o : Option (Pipe Queue)) → at s.pipes n ≡ o
-          → option_and_then (λ (x : Pipe Queue). x.file) o ≡ Some file → IsThere (record { state = s; pipe = n })
+      by_pipe : (o : Option (Pipe Segment)) → at s.pipes n ≡ o
+          → option_and_then (λ (x : Pipe Segment). x.file) o ≡ Some file → IsThere (record { state = s; pipe = n })
       by_pipe None f g = absurd (cc)
-      by_pipe (Some x) f g = record { level = level-s; pipe = x; stands = f }
+      by_pipe (Some x) f g = record { level = level-s; drawn = refl; pipe = x; stands = f }
   pipe_of-there c p file None e =
       passes IsThere (refuse_if (is_spent s.pipes 1) ENFILE) _ (carries IsThere
       (told_as ENOMEM (capacity_for c s p.cred)) _ (λ slots.
@@ -371,18 +382,21 @@ module _ (s : State Queue) (is : AllCanTry s) where
               (Some x ∷ []) lasts-s;
           people = refl;
         };
+        drawn = refl;
         pipe = x;
         stands = at-push_new s.pipes (Some x);
       }))
 
-  open_pipe-good : (t : State Queue) → Level t → (q : ℕ) (p : Process) → Free (q - 1) p
-      → (a : Access) (n : ℕ) (x : Pipe Queue) → at t.pipes n ≡ Some x → Holds Good (first q false (open_pipe t q p a n))
-  open_pipe-good t l q p f a n x stands = by_other (is_waiting a (readers t n) (writers t n))
+  open_pipe-good : (name : ℕ) (t : State Segment ℕ) → name ≡ length t.descriptions → Level t → (q : ℕ) (p : Process ℕ)
+      → Free (q - 1) p
+      → (a : Access) (n : ℕ) (x : Pipe Segment) → at t.pipes n ≡ Some x
+      → Holds Good (first q false (open_pipe itself name n t q p a n))
+  open_pipe-good name t drawn l q p f a n x stands = by_other (is_waiting a (readers itself t n) (writers itself t n))
     where
-      d : Description
+      d : Description ℕ
       d = record { pipe = n; reads = a.reads; writes = a.writes; nonblocking = a.nonblock }
 
-      made : State Queue
+      made : State Segment ℕ
       made = change_pipe (counted a) (record t { descriptions = t.descriptions ++ Some d ∷ [] }) n
 
       lasts : Lasts made
@@ -390,82 +404,83 @@ module _ (s : State Queue) (is : AllCanTry s) where
           (lasting-drawn s.descriptions t.descriptions (Some d ∷ []) s.pipes t.pipes l.lasts)
 
       -- the description that is made is an end of the pipe
-      is_end : IsOk (or_refuse EBADF (end_at made (length t.descriptions)))
+      is_end : IsOk (or_refuse EBADF (end_at itself made name))
       is_end =
-          subst (λ (o : Option Description). IsOk {A = End Queue} (or_refuse EBADF
-          (option_and_then (λ d. option_map (λ (y : Pipe Queue). record { description = d; pipe = y })
+          subst (λ (o : Option (Description ℕ)). IsOk {A = End Segment ℕ} (or_refuse EBADF
+          (option_and_then (λ d. option_map (λ (y : Pipe Segment). record { description = d; pipe = y })
           (at made.pipes d.pipe)) o)))
-          (sym (at-push_new t.descriptions (Some d)))
-          (subst (λ (o : Option (Pipe Queue)). IsOk {A = End Queue} (or_refuse EBADF
-          (option_map (λ (y : Pipe Queue). record { description = d; pipe = y }) o)))
+          (sym (ap (at made.descriptions) drawn ∙ at-push_new t.descriptions (Some d)))
+          (subst (λ (o : Option (Pipe Segment)). IsOk {A = End Segment ℕ} (or_refuse EBADF
+          (option_map (λ (y : Pipe Segment). record { description = d; pipe = y }) o)))
           (sym (at-put_same t.pipes n (option_map (counted a) (at t.pipes n)) (at_within t.pipes n x stands)
           ∙ ap (option_map (counted a)) stands)) tt)
 
-      waits : (kept : ℕ) → Good (told (change_process (waiting (Some (Opening (length t.descriptions) kept))) made q)
+      waits : (kept : ℕ) → Good (told (change_process (waiting (Some (Opening name kept))) made q)
           replies.Parked)
       waits kept = record { can_try = all-set u lasts (q - 1) (Some w) same can; told = tt }
         where
-          w : Process
-          w = waiting (Some (Opening (length t.descriptions) kept)) p
+          w : Process ℕ
+          w = waiting (Some (Opening name kept)) p
 
-          u : State Queue
-          u = change_process (waiting (Some (Opening (length t.descriptions) kept))) made q
+          u : State Segment ℕ
+          u = change_process (waiting (Some (Opening name kept))) made q
 
           same : u.processes ≡ set s.processes (q - 1) (Some w)
           same =
-              ap (λ (qs : List (Option Process)). change_at (waiting (Some (Opening (length t.descriptions) kept))) qs
+              ap (λ (qs : List (Option (Process ℕ))). change_at (waiting (Some (Opening name kept))) qs
               (q - 1)) l.people
-              ∙ ap (λ (y : Option Process). set s.processes (q - 1) (option_map
-              (waiting (Some (Opening (length t.descriptions) kept))) y)) f.at_place
+              ∙ ap (λ (y : Option (Process ℕ)). set s.processes (q - 1) (option_map
+              (waiting (Some (Opening name kept))) y)) f.at_place
 
-          can : (y : Process) → Some w ≡ Some y → CanTry u y y.parked
-          can y e = let both : w ≡ y = cc in subst (λ (z : Process). CanTry u z z.parked) both is_end
+          can : (y : Process ℕ) → Some w ≡ Some y → CanTry u y y.parked
+          can y e = let both : w ≡ y = cc in subst (λ (z : Process ℕ). CanTry u z z.parked) both is_end
 
-      has : Good (told (with_process made q (with_descriptor (first_free p.descriptors) (length t.descriptions) p))
+      has : Good (told (with_process made q (with_descriptor (first_free p.descriptors) name p))
           (replies.Num (first_free p.descriptors)))
       has =
-          let y = with_descriptor (first_free p.descriptors) (length t.descriptions) p in
+          let y = with_descriptor (first_free p.descriptors) name p in
           good-put (with_process made q y) (replies.Num (first_free p.descriptors)) (q - 1) y lasts
-          (ap (λ (qs : List (Option Process)). put_at qs (q - 1) y) l.people) f.free tt
+          (ap (λ (qs : List (Option (Process ℕ))). put_at qs (q - 1) y) l.people) f.free tt
 
       by_other : (b : Bool) → Holds Good (first q false
-          (if b then Waits made (Opening (length t.descriptions) (kept_by a (at t.pipes n))) else given made q p
-          (length t.descriptions)))
+          (if b then Waits made (Opening name (kept_by a (at t.pipes n))) else given made q p name))
       by_other true = waits (kept_by a (at t.pipes n))
       by_other false = has
 
-  open-good : (c : Limits) (q : ℕ) (p : Process) → Free (q - 1) p → (path : List ℕ) (a : Access)
-      → Holds Good (open_path c s q p path a)
-  open-good c q p f path a = carries Good (openable s.files p.cred path a) (λ file. open_fifo c s q p a file.number)
-      (λ file. of_file file.number)
+  open-good : (c : Limits) (q : ℕ) (p : Process ℕ) → Free (q - 1) p → (path : List ℕ) (a : Access)
+      → Holds Good (open_path itself (length s.descriptions) itself c s q p path a)
+  open-good c q p f path a = carries Good (openable s.files p.cred path a)
+      (λ file. open_fifo itself (length s.descriptions) itself c s q p a file.number) (λ file. of_file file.number)
     where
-      of_file : (file : ℕ) → Holds Good (open_fifo c s q p a file)
+      of_file : (file : ℕ) → Holds Good (open_fifo itself (length s.descriptions) itself c s q p a file)
       of_file file =
           passes Good (refuse_if (nat_le MAX_DESCRIPTORS (first_free p.descriptors)) EMFILE) _
           (passes Good (refuse_if (a.writes && not a.reads && a.nonblock && nat_eq
-          (fifo_readers s (fifo_pipe s file)) 0) ENXIO) _
+          (fifo_readers itself s (fifo_pipe s file)) 0) ENXIO) _
           (passes Good (refuse_if (is_spent s.descriptions 1) ENFILE) _
           (goes IsThere Good (pipe_of c s p file (fifo_pipe s file)) (λ found. first q false
-          (open_pipe found.state q p a found.pipe))
+          (open_pipe itself (length s.descriptions) found.pipe found.state q p a found.pipe))
           (pipe_of-there c p file (fifo_pipe s file) refl)
-          (λ found h. open_pipe-good found.state h.level q p f a found.pipe h.pipe h.stands))))
+          (λ found h. open_pipe-good (length s.descriptions) found.state h.drawn h.level q p f a found.pipe h.pipe
+          h.stands))))
 
   -- Steps
 
   -- a call of files, or one that looks
-  looks : (t : State Queue) (r : Reply) → t.descriptions ≡ s.descriptions → t.pipes ≡ s.pipes
+  looks : (t : State Segment ℕ) (r : Reply) → t.descriptions ≡ s.descriptions → t.pipes ≡ s.pipes
       → t.processes ≡ s.processes → IsNoError r → Good (told t r)
   looks t r e f g fine = good-same t r (subst (λ (ps : Pipes). Lasting s.descriptions s.pipes t.descriptions ps)
-      (sym f) (subst (λ (ds : List (Option Description)). Lasting s.descriptions s.pipes ds s.pipes) (sym e) lasts-s))
+      (sym f)
+      (subst (λ (ds : List (Option (Description ℕ))). Lasting s.descriptions s.pipes ds s.pipes) (sym e) lasts-s))
       g fine
 
   -- what a Resume comes to may be an error, that of its call
-  abbrev pub GoodOf : Step → Outcome → Type 0
+  abbrev pub GoodOf : Step → Outcome Segment ℕ → Type 0
   GoodOf (steps.Resume pid) o = AllCanTry o.state
   GoodOf _ o = Good o
 
   pub good : (c : Limits) (step : Step) → Holds (GoodOf step) (call c s step)
-  good c (steps.Spawn uid gid groups umask) =
+  good c (steps.Spawn uid gid umask groups) =
       spawn-good (record { uid = uid; gid = gid; groups = groups; umask = umask })
   good c (steps.Exit pid) = carries Good (living s pid) (λ p. exit s pid)
       (λ p. good-clear _ (replies.Num 0) (pid - 1) lasts-s refl tt)
@@ -493,6 +508,6 @@ module _ (s : State Queue) (is : AllCanTry s) where
   good c (steps.GetSize pid fd) = search (carries, looks) depth 16
   good c (steps.SetNonblock pid fd on) = by_ready pid _ (λ p f. set_nonblock-good p fd on)
 
-  pub can-try : (step : Step) (o : Outcome) → GoodOf step o → AllCanTry o.state
+  pub can-try : (step : Step) (o : Outcome Segment ℕ) → GoodOf step o → AllCanTry o.state
   can-try (steps.Resume pid) o h = h
   can-try step o h = h.can_try

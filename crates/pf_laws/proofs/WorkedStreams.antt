@@ -4,7 +4,7 @@ use Rattle.std.specs.Prelude.{◌≡◌, ℕ, false, List, [], ◌∷◌, length
 use Rattle.std.proofs.Common.{arith}
 use Rattle.pf_base.specs.Limits.{Limits}
 use Rattle.pf_base.specs.Capacities.{pages_for}
-use Rattle.pf_machine.specs.Queue.{Queue}
+use Rattle.pf_machine.specs.Queue.{Segment}
 use Rattle.pf_machine.specs.State.{State, vacant}
 use Rattle.pf_machine.specs.Machine.{step_of}
 use Rattle.pf_laws.specs.Standing.{reached}
@@ -20,7 +20,7 @@ limits = record { reserve = 64; soft = 16384; hard = 0; max = 1048576 }
 -- a long write waits, another process's bytes come between, and Resume puts the rest
 abbrev between : List Step
 between =
-    Spawn 5 5 [] 18 ∷ Pipe 1 false ∷ SetSize 1 0 0 ∷ Fork 1 ∷ Write 1 1 (replicate 4098 97) ∷ Read 2 0 4096 ∷ Write 2 1 (98 ∷ [])
+    Spawn 5 5 18 [] ∷ Pipe 1 false ∷ SetSize 1 0 0 ∷ Fork 1 ∷ Write 1 1 (replicate 4098 97) ∷ Read 2 0 4096 ∷ Write 2 1 (98 ∷ [])
     ∷ Resume 1 ∷ Read 2 0 9 ∷ []
 
 between-given : given limits between ≡ record { call = 4; pipe = 0; bytes = replicate 4096 97 } ∷ record { call = 6; pipe = 0; bytes = 98 ∷ [] } ∷ record { call = 4; pipe = 0; bytes = 97 ∷ 97 ∷ [] } ∷ []
@@ -38,7 +38,7 @@ between-took = refl
 -- a small write waits and goes in whole; a tee gives its front to the other pipe and takes nothing
 abbrev teed : List Step
 teed =
-    Spawn 5 5 [] 18 ∷ Pipe 1 false ∷ Pipe 1 false ∷ SetSize 1 0 0 ∷ Fork 1 ∷ Write 1 1 (replicate 4096 97) ∷ Write 1 1 (98 ∷ 99 ∷ [])
+    Spawn 5 5 18 [] ∷ Pipe 1 false ∷ Pipe 1 false ∷ SetSize 1 0 0 ∷ Fork 1 ∷ Write 1 1 (replicate 4096 97) ∷ Write 1 1 (98 ∷ 99 ∷ [])
     ∷ Tee 2 0 3 2 false ∷ Resume 1 ∷ Splice 2 0 3 4096 false ∷ Resume 1 ∷ []
 
 teed-given_to : given_to 0 (given limits teed) ≡ replicate 4096 97 ∷ (98 ∷ 99 ∷ []) ∷ []
@@ -99,7 +99,7 @@ spliced-told = refl
 -- a write whose reader goes is told the part that went in
 abbrev left : List Step
 left =
-    Spawn 5 5 [] 18 ∷ Pipe 1 false ∷ SetSize 1 0 0 ∷ Fork 1 ∷ Close 1 0 ∷ Write 1 1 (replicate 4098 97) ∷ Exit 2
+    Spawn 5 5 18 [] ∷ Pipe 1 false ∷ SetSize 1 0 0 ∷ Fork 1 ∷ Close 1 0 ∷ Write 1 1 (replicate 4098 97) ∷ Exit 2
     ∷ Resume 1 ∷ Write 1 1 (98 ∷ []) ∷ []
 
 left-told : told_to 5 (told limits left) ≡ Parked ∷ Num 4096 ∷ []
@@ -123,9 +123,9 @@ left-nothing = refl
 
 -- a reader waits at an empty pipe, and three bytes come
 abbrev come : List Step
-come = Spawn 5 5 [] 18 ∷ Pipe 1 false ∷ Pipe 1 false ∷ Fork 1 ∷ Read 2 0 9 ∷ Write 1 1 (97 ∷ 98 ∷ 99 ∷ []) ∷ []
+come = Spawn 5 5 18 [] ∷ Pipe 1 false ∷ Pipe 1 false ∷ Fork 1 ∷ Read 2 0 9 ∷ Write 1 1 (97 ∷ 98 ∷ 99 ∷ []) ∷ []
 
-abbrev met : State Queue
+abbrev met : State Segment ℕ
 met = reached limits come
 
 resumed-reply : (step_of limits met (Resume 2)).reply ≡ Bytes (97 ∷ 98 ∷ 99 ∷ [])

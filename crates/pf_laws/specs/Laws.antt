@@ -1,7 +1,7 @@
 -- Laws of the definitions: what holds of every queue, every transfer and every list of events.
 
 use Rattle.std.specs.Prelude.{◌≡◌, ℕ, ◌+◌, ◌-◌, ◌*◌, ◌≤◌, ◌<◌, Bool, true, List, ◌++◌, length, take, ◌⊎◌}
-use Rattle.pf_machine.specs.Queue.{Queue, IsQueue, bytes_of, free_of, room_of, put, taken, after_take, tee_number, after_tee, after_splice}
+use Rattle.pf_machine.specs.Queue.{Segment, Queue, IsQueue, bytes_of, free_of, room_of, put, taken, after_take, tee_number, after_tee, after_splice}
 use Rattle.pf_machine.specs.Progress.{Passed, Crossed, moved, read_now, write_now, cross_now}
 use Rattle.pf_machine.specs.Events.{mine, kept, IsAmple}
 use Rattle.pf_machine.specs.FileMap.{IsFileMap, root_alone}
@@ -95,6 +95,6 @@ AmpleKeepsAll =
 -- at the opening there is the root alone. Each step leaves a map of files where there was one: the paths rise, the root
 -- is a directory, and what stands at a path has a directory at the path without its last name
 pub record FilesStay : Type 0 where
-  pub alone : (opening {Q = Queue}).files ≡ root_alone
+  pub alone : (opening {X = Segment} {N = ℕ}).files ≡ root_alone
   pub opens : IsFileMap root_alone
-  pub stays : (c : Limits) (s : State Queue) (step : Step) → IsFileMap s.files → IsFileMap (step_of c s step).state.files
+  pub stays : (c : Limits) (s : State Segment ℕ) (step : Step) → IsFileMap s.files → IsFileMap (step_of c s step).state.files

@@ -4,7 +4,7 @@ use Rattle.std.proofs.Common.{ℕ, ◌≡◌, true, false, List, [], ◌∷◌, 
 use Rattle.std.proofs.lemmas.Bool.{eq-eqb, ne_eqb, eqb-true}
 use Rattle.std.specs.Prelude.{nat_eq, if◌then◌else◌}
 use Rattle.pf_base.specs.Limits.{Limits}
-use Rattle.pf_machine.specs.Queue.{Queue}
+use Rattle.pf_machine.specs.Queue.{Segment}
 use Rattle.pf_machine.specs.State.{State}
 use Rattle.pf_machine.specs.Machine.{Answers}
 use Rattle.pf_machine.specs.Runs.{run_of}
@@ -74,14 +74,14 @@ replies-other es e answers a n l other =
 -- The run of a namespace so far, over the first so many events
 
 -- an event of its own goes on with its run
-pub told-own : (c : Limits) (s old new : State Queue) (es : List (ℕ × Step)) (e : ℕ × Step) (answers : List Answer) (a : Answer) (n : ℕ) → length es ≡ length answers → e.0 ≡ n → run_of c s (kept es answers n) ≡ record { state = old; replies = replies es answers n } → Answers c a old e.1 new → run_of c s (kept (es ++ e ∷ []) (answers ++ a ∷ []) n) ≡ record { state = new; replies = replies (es ++ e ∷ []) (answers ++ a ∷ []) n }
+pub told-own : (c : Limits) (s old new : State Segment ℕ) (es : List (ℕ × Step)) (e : ℕ × Step) (answers : List Answer) (a : Answer) (n : ℕ) → length es ≡ length answers → e.0 ≡ n → run_of c s (kept es answers n) ≡ record { state = old; replies = replies es answers n } → Answers c a old e.1 new → run_of c s (kept (es ++ e ∷ []) (answers ++ a ∷ []) n) ≡ record { state = new; replies = replies (es ++ e ∷ []) (answers ++ a ∷ []) n }
 told-own c s old new es e answers a n l own so made =
     ap (run_of c s) (kept-own es e answers a n l own)
     ∙ run_of-answered c s old new (kept es answers n) e.1 (replies es answers n) a so made
     ∙ (λ i. record { state = new; replies = sym (replies-own es e answers a n l own) i })
 
 -- another's event leaves it
-pub told-other : (c : Limits) (s old : State Queue) (es : List (ℕ × Step)) (e : ℕ × Step) (answers : List Answer) (a : Answer) (n : ℕ) → length es ≡ length answers → (e.0 ≡ n → ⊥) → run_of c s (kept es answers n) ≡ record { state = old; replies = replies es answers n } → run_of c s (kept (es ++ e ∷ []) (answers ++ a ∷ []) n) ≡ record { state = old; replies = replies (es ++ e ∷ []) (answers ++ a ∷ []) n }
+pub told-other : (c : Limits) (s old : State Segment ℕ) (es : List (ℕ × Step)) (e : ℕ × Step) (answers : List Answer) (a : Answer) (n : ℕ) → length es ≡ length answers → (e.0 ≡ n → ⊥) → run_of c s (kept es answers n) ≡ record { state = old; replies = replies es answers n } → run_of c s (kept (es ++ e ∷ []) (answers ++ a ∷ []) n) ≡ record { state = old; replies = replies (es ++ e ∷ []) (answers ++ a ∷ []) n }
 told-other c s old es e answers a n l other so =
     ap (run_of c s) (kept-other es e answers a n l other)
     ∙ so

@@ -7,6 +7,9 @@ pub mod RunLaws
 pub mod EventLaws
 pub mod FileLaws
 pub mod HoldsLaws
+pub mod MapLaws
+pub mod Natural
+pub mod NaturalOpens
 pub mod ReplyLaws
 pub mod HouseLaws
 pub mod FileLimitLaws

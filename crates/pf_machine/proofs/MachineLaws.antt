@@ -12,5 +12,5 @@ change_at-same {X = X} f xs n x stands same =
     ap (λ (o : Option X). set xs n o) (ap (option_map f) stands ∙ ap Some same ∙ sym stands) ∙ set-get_or xs n None
 
 -- to put back into a pipe what it holds changes nothing
-pub with_queue-same : {Q : Type 0} (s : State Q) (n : ℕ) (p : Pipe Q) → at s.pipes n ≡ Some p → with_queue s n p.queue ≡ s
+pub with_queue-same : {X N : Type 0} (s : State X N) (n : ℕ) (p : Pipe X) → at s.pipes n ≡ Some p → with_queue s n p.queue ≡ s
 with_queue-same s n p stands = ap (λ pipes. record s { pipes = pipes }) (change_at-same (holding p.queue) s.pipes n p stands refl)

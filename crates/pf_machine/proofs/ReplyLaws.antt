@@ -6,11 +6,11 @@ use Rattle.std.specs.Option.{option_and_then}
 use Rattle.pf_machine.specs.Refusals.{◌>>=◌, refuse_if, or_refuse}
 use Rattle.pf_base.specs.Limits.{Limits}
 use Rattle.pf_machine.specs.FileCalls as calls
-use Rattle.pf_machine.specs.Queue.{Queue, bytes_of, after_take}
+use Rattle.pf_machine.specs.Queue.{Segment, Queue, bytes_of, after_take}
 use Rattle.pf_machine.specs.Progress.{Passed, moved, read_now}
 use Rattle.pf_machine.specs.Numbered.{at, first_free}
 use Rattle.pf_machine.specs.Calls.{Transfer, Reading, Writing, Bringing, Call, Opening, Moving, written_of}
-use Rattle.pf_machine.specs.State.{State, Process, Description, End, Outcome, process, living, ready, settle, told, end_at, reading_end, change_pipe}
+use Rattle.pf_machine.specs.State.{itself, State, Process, Description, End, Outcome, process, living, ready, settle, told, end_at, reading_end, change_pipe}
 use Rattle.pf_machine.specs.Counts.{readers, writers}
 use Rattle.pf_machine.specs.Processes.{exit, fork}
 use Rattle.pf_machine.specs.Descriptors.{dup, close, set_nonblock}
@@ -52,14 +52,14 @@ read_by-le q n false false false = omega arith
 read_now-le : (q : Queue) (writers n : ℕ) → moved (read_now q writers n).progress ≤ min n (length (bytes_of q))
 read_now-le q writers n = read_by-le q n (nat_eq n 0) (nat_lt 0 (length (bytes_of q))) (nat_eq writers 0)
 
-pub read_bytes : (s : State Queue) (e : End Queue) (n : ℕ) → length (try_read s e n).bytes ≤ min n (length (bytes_of e.pipe.queue))
+pub read_bytes : (s : State Segment ℕ) (e : End Segment ℕ) (n : ℕ) → length (try_read s e n).bytes ≤ min n (length (bytes_of e.pipe.queue))
 read_bytes s e n =
-    let k = moved (read_now e.pipe.queue (writers s e.description.pipe) n).progress in
-    omega (arith, length-take k (bytes_of e.pipe.queue), read_now-le e.pipe.queue (writers s e.description.pipe) n)
+    let k = moved (read_now e.pipe.queue (writers itself s e.description.pipe) n).progress in
+    omega (arith, length-take k (bytes_of e.pipe.queue), read_now-le e.pipe.queue (writers itself s e.description.pipe) n)
 
 -- no reply hands out more than m bytes
-module _ (s : State Queue) (m : ℕ) where
-  abbrev pub Few : Outcome → Type 0
+module _ (s : State Segment ℕ) (m : ℕ) where
+  abbrev pub Few : Outcome Segment ℕ → Type 0
   Few o = reply_length o.reply ≤ m
 
   nothing : 0 ≤ m
@@ -67,7 +67,7 @@ module _ (s : State Queue) (m : ℕ) where
 
   -- Attempts
 
-  abbrev Told : Attempt → Type 0
+  abbrev Told : Attempt Segment ℕ → Type 0
   Told (Finished t reply) = reply_length reply ≤ m
   Told (Waits t call) = ⊤
 
@@ -99,10 +99,10 @@ module _ (s : State Queue) (m : ℕ) where
   told-few (Bringing c source sink n) t NoReader h = tt
   told-few (Bringing c source sink n) t WouldBlock h = tt
 
-  attempt-few : (pid : ℕ) (p : Process) (call : Transfer) → Holds (Little call) (tried s p call) → Holds Told (attempt s pid p (Moving call))
+  attempt-few : (pid : ℕ) (p : Process ℕ) (call : Transfer) → Holds (Little call) (tried s p call) → Holds Told (attempt s pid p (Moving call))
   attempt-few pid p call h = goes (Little call) Told (tried s p call) (λ t. transfer_told call t t.progress) h (λ t l. told-few call t t.progress l)
 
-  first-few : (pid : ℕ) (nonblock : Bool) (a : Attempt) → Told a → Holds Few (first pid nonblock a)
+  first-few : (pid : ℕ) (nonblock : Bool) (a : Attempt Segment ℕ) → Told a → Holds Few (first pid nonblock a)
   first-few pid nonblock (Finished t reply) h = h
   first-few pid false (Waits t call) h = nothing
   first-few pid true (Waits t call) h = by_none (nat_eq (written_of call) 0)
@@ -111,7 +111,7 @@ module _ (s : State Queue) (m : ℕ) where
       by_none true = tt
       by_none false = nothing
 
-  transfer-few : (pid : ℕ) (p : Process) (flag : Bool) (call : Transfer) → Holds (Little call) (tried s p call) → Holds Few (transfer s pid p flag call)
+  transfer-few : (pid : ℕ) (p : Process ℕ) (flag : Bool) (call : Transfer) → Holds (Little call) (tried s p call) → Holds Few (transfer s pid p flag call)
   transfer-few pid p flag call h =
       goes Told Few (attempt s pid p (Moving call)) (first pid (flag || nonblocking s p call)) (attempt-few pid p call h) (λ a t. first-few pid (flag || nonblocking s p call) a t)
 
@@ -119,52 +119,52 @@ module _ (s : State Queue) (m : ℕ) where
   any_tried (Ok t) = tt
   any_tried (Err e) = tt
 
-  again-few : (pid : ℕ) (r : Result Attempt Errno) → Holds Told r → Few (again s pid r)
+  again-few : (pid : ℕ) (r : Result (Attempt Segment ℕ) Errno) → Holds Told r → Few (again s pid r)
   again-few pid (Ok (Finished t reply)) h = h
   again-few pid (Ok (Waits t call)) h = nothing
   again-few pid (Err e) h = nothing
 
   -- Opens
 
-  told_open : (t u : State Queue) (pid : ℕ) (p : Process) (n : ℕ) (call : Call) (b : Bool) → Told (if b then Waits t call else given u pid p n)
+  told_open : (t u : State Segment ℕ) (pid : ℕ) (p : Process ℕ) (n : ℕ) (call : Call ℕ) (b : Bool) → Told (if b then Waits t call else given u pid p n)
   told_open t u pid p n call true = tt
   told_open t u pid p n call false = nothing
 
-  told_again : (t u : State Queue) (pid : ℕ) (p : Process) (n : ℕ) (call : Call) (b : Bool) → Told (if b then given u pid p n else Waits t call)
+  told_again : (t u : State Segment ℕ) (pid : ℕ) (p : Process ℕ) (n : ℕ) (call : Call ℕ) (b : Bool) → Told (if b then given u pid p n else Waits t call)
   told_again t u pid p n call true = nothing
   told_again t u pid p n call false = tt
 
-  open_pipe-few : (t : State Queue) (pid : ℕ) (p : Process) (a : Access) (n : ℕ) → Told (open_pipe t pid p a n)
-  open_pipe-few t pid p a n = told_open made made pid p (length t.descriptions) (Opening (length t.descriptions) (kept_by a (at t.pipes n))) (is_waiting a (readers t n) (writers t n))
+  open_pipe-few : (name of : ℕ) (t : State Segment ℕ) (pid : ℕ) (p : Process ℕ) (a : Access) (n : ℕ) → Told (open_pipe itself name of t pid p a n)
+  open_pipe-few name of t pid p a n = told_open made made pid p name (Opening name (kept_by a (at t.pipes n))) (is_waiting a (readers itself t n) (writers itself t n))
     where
-      d : Description
-      d = record { pipe = n; reads = a.reads; writes = a.writes; nonblocking = a.nonblock }
+      d : Description ℕ
+      d = record { pipe = of; reads = a.reads; writes = a.writes; nonblocking = a.nonblock }
 
-      made : State Queue
+      made : State Segment ℕ
       made = change_pipe (counted a) (record t { descriptions = t.descriptions ++ Some d ∷ [] }) n
 
-  open-few : (c : Limits) (pid : ℕ) (p : Process) (path : List ℕ) (a : Access) → Holds Few (open_path c s pid p path a)
-  open-few c pid p path a = carries Few (openable s.files p.cred path a) (λ f. open_fifo c s pid p a f.number) opened
+  open-few : (c : Limits) (pid : ℕ) (p : Process ℕ) (path : List ℕ) (a : Access) → Holds Few (open_path itself (length s.descriptions) itself c s pid p path a)
+  open-few c pid p path a = carries Few (openable s.files p.cred path a) (λ f. open_fifo itself (length s.descriptions) itself c s pid p a f.number) opened
     where
-      opened : (f : File) → Holds Few (open_fifo c s pid p a f.number)
+      opened : (f : File) → Holds Few (open_fifo itself (length s.descriptions) itself c s pid p a f.number)
       opened f =
           passes Few (refuse_if (nat_le MAX_DESCRIPTORS (first_free p.descriptors)) EMFILE) _
-          (passes Few (refuse_if (a.writes && not a.reads && a.nonblock && nat_eq (fifo_readers s (fifo_pipe s f.number)) 0) ENXIO) _
+          (passes Few (refuse_if (a.writes && not a.reads && a.nonblock && nat_eq (fifo_readers itself s (fifo_pipe s f.number)) 0) ENXIO) _
           (passes Few (refuse_if (is_spent s.descriptions 1) ENFILE) _
-          (carries Few (pipe_of c s p f.number (fifo_pipe s f.number)) (λ found. first pid false (open_pipe found.state pid p a found.pipe))
-          (λ found. first-few pid false (open_pipe found.state pid p a found.pipe) (open_pipe-few found.state pid p a found.pipe)))))
+          (carries Few (pipe_of c s p f.number (fifo_pipe s f.number)) (λ found. first pid false (open_pipe itself (length s.descriptions) found.pipe found.state pid p a found.pipe))
+          (λ found. first-few pid false (open_pipe itself (length s.descriptions) found.pipe found.state pid p a found.pipe) (open_pipe-few (length s.descriptions) found.pipe found.state pid p a found.pipe)))))
 
   -- Calls that hand out nothing
 
-  by_ready : (pid : ℕ) (f : Process → Result Outcome Errno) → ((p : Process) → Holds Few (f p)) → Holds Few (ready s pid >>= f)
+  by_ready : (pid : ℕ) (f : Process ℕ → Result (Outcome Segment ℕ) Errno) → ((p : Process ℕ) → Holds Few (f p)) → Holds Few (ready s pid >>= f)
   by_ready pid f h = carries Few (ready s pid) f h
 
-  transferred : (pid : ℕ) (p : Process) (flag : Bool) (fd : ℕ) (x : List ℕ) → Holds Few (transfer s pid p flag (Writing fd x 0))
+  transferred : (pid : ℕ) (p : Process ℕ) (flag : Bool) (fd : ℕ) (x : List ℕ) → Holds Few (transfer s pid p flag (Writing fd x 0))
   transferred pid p flag fd x = transfer-few pid p flag (Writing fd x 0) (any_tried (tried s p (Writing fd x 0)))
 
   pub quiet : (c : Limits) (step : Step) → ((pid fd n : ℕ) → step ≡ Read pid fd n → ⊥) → ((pid : ℕ) (path : List ℕ) → step ≡ Lists pid path → ⊥) → ((pid : ℕ) → step ≡ Resume pid → ⊥)
       → Holds Few (call c s step)
-  quiet c (Spawn uid gid groups umask) r l a = search (passes, nothing) depth 16
+  quiet c (Spawn uid gid umask groups) r l a = search (passes, nothing) depth 16
   quiet c (Exit pid) r l a = carries Few (living s pid) (λ p. exit s pid) (λ p. nothing)
   quiet c (Resume pid) r l a = absurd (a pid refl)
   quiet c (Read pid fd n) r l a = absurd (r pid fd n refl)
@@ -176,8 +176,8 @@ module _ (s : State Queue) (m : ℕ) where
   quiet c (Rmdir pid path) r l a = by_ready pid (λ p. rmdir s p path) (λ p. search (carries, nothing) depth 16)
   quiet c (Chmod pid path mode) r l a = by_ready pid (λ p. chmod s p path mode) (λ p. search (carries, nothing) depth 16)
   quiet c (Stat pid path) r l a = by_ready pid (λ p. stat s p path) (λ p. search (carries, nothing) depth 16)
-  quiet c (Open pid path flags) r l a = by_ready pid (λ p. open_path c s pid p path (access_of flags.0)) (λ p. open-few c pid p path (access_of flags.0))
-  quiet c (Pipe pid nonblock) r l a = by_ready pid (λ p. pipe c s pid p nonblock) (λ p. search (passes, carries, nothing) depth 16)
+  quiet c (Open pid path flags) r l a = by_ready pid (λ p. open_path itself (length s.descriptions) itself c s pid p path (access_of flags.0)) (λ p. open-few c pid p path (access_of flags.0))
+  quiet c (Pipe pid nonblock) r l a = by_ready pid (λ p. pipe (length s.descriptions) (length s.descriptions + 1) (length s.pipes) c s pid p nonblock) (λ p. search (passes, carries, nothing) depth 16)
   quiet c (Dup pid fd) r l a = by_ready pid (λ p. dup s pid p fd) (λ p. search (passes, carries, nothing) depth 16)
   quiet c (Close pid fd) r l a = by_ready pid (λ p. close s pid p fd) (λ p. search (carries, nothing) depth 16)
   quiet c (Write pid fd payload) r l a = by_ready pid (λ p. transfer s pid p false (Writing fd payload 0)) (λ p. transferred pid p false fd payload)
@@ -185,62 +185,62 @@ module _ (s : State Queue) (m : ℕ) where
       by_ready pid (λ p. transfer s pid p nonblock (Bringing crossings.Tee source sink n)) (λ p. transfer-few pid p nonblock (Bringing crossings.Tee source sink n) (any_tried (tried s p (Bringing crossings.Tee source sink n))))
   quiet c (Splice pid source sink n nonblock) r l a =
       by_ready pid (λ p. transfer s pid p nonblock (Bringing crossings.Splice source sink n)) (λ p. transfer-few pid p nonblock (Bringing crossings.Splice source sink n) (any_tried (tried s p (Bringing crossings.Splice source sink n))))
-  quiet c (SetSize pid fd bytes) r l a = by_ready pid (λ p. set_size c s p fd bytes) (λ p. search (passes, carries, nothing) depth 16)
-  quiet c (GetSize pid fd) r l a = by_ready pid (λ p. get_size s p fd) (λ p. search (carries, nothing) depth 16)
-  quiet c (SetNonblock pid fd on) r l a = by_ready pid (λ p. set_nonblock s p fd on) (λ p. search (carries, nothing) depth 16)
+  quiet c (SetSize pid fd bytes) r l a = by_ready pid (λ p. set_size itself c s p fd bytes) (λ p. search (passes, carries, nothing) depth 16)
+  quiet c (GetSize pid fd) r l a = by_ready pid (λ p. get_size itself s p fd) (λ p. search (carries, nothing) depth 16)
+  quiet c (SetNonblock pid fd on) r l a = by_ready pid (λ p. set_nonblock itself s p fd on) (λ p. search (carries, nothing) depth 16)
 
   -- A read
 
-  read-little : (p : Process) (fd n : ℕ) → ((e : End Queue) → reading_end s p fd ≡ Ok e → length (try_read s e n).bytes ≤ m) → Holds (Little (Reading fd n)) (tried s p (Reading fd n))
-  read-little p fd n h = by_end (reading_end s p fd) refl
+  read-little : (p : Process ℕ) (fd n : ℕ) → ((e : End Segment ℕ) → reading_end itself s p fd ≡ Ok e → length (try_read s e n).bytes ≤ m) → Holds (Little (Reading fd n)) (tried s p (Reading fd n))
+  read-little p fd n h = by_end (reading_end itself s p fd) refl
     where
-      by_end : (r : Result (End Queue) Errno) → reading_end s p fd ≡ r → Holds (Little (Reading fd n)) (r >>= (λ e. Ok (try_read s e n)))
+      by_end : (r : Result (End Segment ℕ) Errno) → reading_end itself s p fd ≡ r → Holds (Little (Reading fd n)) (r >>= (λ e. Ok (try_read s e n)))
       by_end (Ok e) is = h e is
       by_end (Err e) is = tt
 
-  pub read-few : (c : Limits) (pid fd n : ℕ) → ((e : End Queue) → (ready s pid >>= (λ p. reading_end s p fd)) ≡ Ok e → length (try_read s e n).bytes ≤ m) → Holds Few (call c s (Read pid fd n))
+  pub read-few : (c : Limits) (pid fd n : ℕ) → ((e : End Segment ℕ) → (ready s pid >>= (λ p. reading_end itself s p fd)) ≡ Ok e → length (try_read s e n).bytes ≤ m) → Holds Few (call c s (Read pid fd n))
   read-few c pid fd n h = by_caller (ready s pid) refl
     where
-      by_caller : (r : Result Process Errno) → ready s pid ≡ r → Holds Few (r >>= (λ p. transfer s pid p false (Reading fd n)))
+      by_caller : (r : Result (Process ℕ) Errno) → ready s pid ≡ r → Holds Few (r >>= (λ p. transfer s pid p false (Reading fd n)))
       by_caller (Err e) is = tt
-      by_caller (Ok p) is = transfer-few pid p false (Reading fd n) (read-little p fd n (λ e found. h e (ap (λ r. r >>= (λ q. reading_end s q fd)) is ∙ found)))
+      by_caller (Ok p) is = transfer-few pid p false (Reading fd n) (read-little p fd n (λ e found. h e (ap (λ r. r >>= (λ q. reading_end itself s q fd)) is ∙ found)))
 
   -- A call that is tried again
 
-  call_is : (pid : ℕ) (p : Process) → living s pid ≡ Ok p → call_of s pid ≡ p.parked
+  call_is : (pid : ℕ) (p : Process ℕ) → living s pid ≡ Ok p → call_of s pid ≡ p.parked
   call_is pid p is = by_process (process s pid) is
     where
-      by_process : (o : Option Process) → or_refuse ESRCH o ≡ Ok p → option_and_then (λ (q : Process). q.parked) o ≡ p.parked
+      by_process : (o : Option (Process ℕ)) → or_refuse ESRCH o ≡ Ok p → option_and_then (λ (q : Process ℕ). q.parked) o ≡ p.parked
       by_process None e = absurd (cc)
-      by_process (Some q) e = let same : q ≡ p = cc in ap (λ (x : Process). x.parked) same
+      by_process (Some q) e = let same : q ≡ p = cc in ap (λ (x : Process ℕ). x.parked) same
 
-  pub resume-few : (c : Limits) (pid : ℕ) → ((p : Process) (fd n : ℕ) (e : End Queue) → call_of s pid ≡ Some (Moving (Reading fd n)) → reading_end s p fd ≡ Ok e → length (try_read s e n).bytes ≤ m) → Holds Few (call c s (Resume pid))
+  pub resume-few : (c : Limits) (pid : ℕ) → ((p : Process ℕ) (fd n : ℕ) (e : End Segment ℕ) → call_of s pid ≡ Some (Moving (Reading fd n)) → reading_end itself s p fd ≡ Ok e → length (try_read s e n).bytes ≤ m) → Holds Few (call c s (Resume pid))
   resume-few c pid h = by_caller (living s pid) refl
     where
-      of_call : (p : Process) (call : Call) → call_of s pid ≡ Some call → Holds Told (attempt s pid p call)
-      of_call p (Opening n kept) is = carries Told (or_refuse EBADF (end_at s n)) (λ e. Ok (open_told s pid p n kept e)) (λ e. told_again s s pid p n (Opening n kept) (nat_lt kept (other_opens e)))
+      of_call : (p : Process ℕ) (call : Call ℕ) → call_of s pid ≡ Some call → Holds Told (attempt s pid p call)
+      of_call p (Opening n kept) is = carries Told (or_refuse EBADF (end_at itself s n)) (λ e. Ok (open_told s pid p n kept e)) (λ e. told_again s s pid p n (Opening n kept) (nat_lt kept (other_opens e)))
       of_call p (Moving (Reading fd n)) is = attempt-few pid p (Reading fd n) (read-little p fd n (λ e found. h p fd n e is found))
       of_call p (Moving (Writing fd x written)) is = attempt-few pid p (Writing fd x written) (any_tried (tried s p (Writing fd x written)))
       of_call p (Moving (Bringing c source sink n)) is = attempt-few pid p (Bringing c source sink n) (any_tried (tried s p (Bringing c source sink n)))
 
-      of_parked : (p : Process) (o : Option Call) → call_of s pid ≡ o → Holds Few (or_refuse EINVAL o >>= (λ call. Ok (again s pid (attempt s pid p call))))
+      of_parked : (p : Process ℕ) (o : Option (Call ℕ)) → call_of s pid ≡ o → Holds Few (or_refuse EINVAL o >>= (λ call. Ok (again s pid (attempt s pid p call))))
       of_parked p None is = tt
       of_parked p (Some call) is = again-few pid (attempt s pid p call) (of_call p call is)
 
-      by_caller : (r : Result Process Errno) → living s pid ≡ r → Holds Few (r >>= (λ p. resume s pid p))
+      by_caller : (r : Result (Process ℕ) Errno) → living s pid ≡ r → Holds Few (r >>= (λ p. resume s pid p))
       by_caller (Err e) is = tt
       by_caller (Ok p) is = of_parked p p.parked (call_is pid p is)
 
   -- A list
 
-  pub list-few : (c : Limits) (pid : ℕ) (path : List ℕ) → ((p : Process) → ready s pid ≡ Ok p → Holds (λ names. length names ≤ m) (calls.list s.files p.cred path)) → Holds Few (call c s (Lists pid path))
+  pub list-few : (c : Limits) (pid : ℕ) (path : List ℕ) → ((p : Process ℕ) → ready s pid ≡ Ok p → Holds (λ names. length names ≤ m) (calls.list s.files p.cred path)) → Holds Few (call c s (Lists pid path))
   list-few c pid path h = by_caller (ready s pid) refl
     where
-      by_caller : (r : Result Process Errno) → ready s pid ≡ r → Holds Few (r >>= (λ p. list s p path))
+      by_caller : (r : Result (Process ℕ) Errno) → ready s pid ≡ r → Holds Few (r >>= (λ p. list s p path))
       by_caller (Err e) is = tt
       by_caller (Ok p) is = goes (λ names. length names ≤ m) Few (calls.list s.files p.cred path) _ (h p is) (λ names few. few)
 
   -- what a step is told is the call's reply, or a refusal
-  pub few : (r : Result Outcome Errno) → Holds Few r → reply_length (settle s r).reply ≤ m
+  pub few : (r : Result (Outcome Segment ℕ) Errno) → Holds Few r → reply_length (settle s r).reply ≤ m
   few (Ok o) h = h
   few (Err e) h = nothing

@@ -23,8 +23,8 @@ house = record { frames = 17; guests = Some (newcomer (reserve 16)) ∷ [] }
 -- has a process, and red's number is nobody's any more
 comes_and_goes :
     turns_of house
-    (Stepping 0 (Spawn 5 5 [] 18) ∷ Admitting (reserve 2) ∷ Admitting (reserve 1) ∷ Stepping 0 (Exit 1) ∷ Retiring 0
-    ∷ Admitting (reserve 16) ∷ Stepping 1 (Spawn 5 5 [] 18) ∷ Retiring 1 ∷ Stepping 0 (Spawn 5 5 [] 18) ∷ Retiring 0 ∷ [])
+    (Stepping 0 (Spawn 5 5 18 []) ∷ Admitting (reserve 2) ∷ Admitting (reserve 1) ∷ Stepping 0 (Exit 1) ∷ Retiring 0
+    ∷ Admitting (reserve 16) ∷ Stepping 1 (Spawn 5 5 18 []) ∷ Retiring 1 ∷ Stepping 0 (Spawn 5 5 18 []) ∷ Retiring 0 ∷ [])
     ≡ told.Answer (Done (Pid 1)) ∷ told.NotAdmitted (NoRoom 1) ∷ told.Admitted 1 ∷ told.Answer (Done (Num 0))
     ∷ told.Retired ∷ told.Admitted 2 ∷ told.Answer (Done (Pid 1)) ∷ told.NotRetired (Alive 1) ∷ told.Gone
     ∷ told.NotRetired NoSuchNamespace ∷ []

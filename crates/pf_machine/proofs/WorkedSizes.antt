@@ -16,10 +16,10 @@ limits reserve soft hard = record { reserve = reserve; soft = soft; hard = hard;
 
 -- an unprivileged process, and one of uid 0
 abbrev user : Step
-user = Spawn 5 5 [] 18
+user = Spawn 5 5 18 []
 
 abbrev root : Step
-root = Spawn 0 0 [] 18
+root = Spawn 0 0 18 []
 
 -- a pipe of one page is full as soon as its page is
 single-page :

@@ -17,10 +17,10 @@
 
 use Rattle.std.specs.Prelude.{ℕ, ◌+◌, Bool, false, ◌||◌, List, [], length, Some, None, nat_eq, nat_lt, if◌then◌else◌, Result, Ok, Err}
 use Rattle.pf_machine.specs.Refusals.{◌>>=◌, or_refuse}
-use Rattle.pf_machine.specs.Queue.{Queue}
+use Rattle.pf_machine.specs.Queue.{Segment}
 use Rattle.pf_machine.specs.Numbered.{first_free}
 use Rattle.pf_machine.specs.Calls.{Transfer, Reading, Writing, Bringing, Call, Opening, Moving, written_of}
-use Rattle.pf_machine.specs.State.{State, Process, End, Outcome, end_at, end_of, with_process, change_process, with_descriptor, waiting, told}
+use Rattle.pf_machine.specs.State.{itself, State, Process, End, Outcome, end_at, end_of, with_process, change_process, with_descriptor, waiting, told}
 use Rattle.pf_machine.specs.Transfers.{Tried, tried}
 use Rattle.pf_base.specs.declared.errno.Errno.{Errno}
 use Rattle.pf_base.specs.declared.errno.Errno.TheVariants.{EBADF, EAGAIN, EINVAL, EPIPE}
@@ -30,14 +30,14 @@ use Rattle.pf_base.specs.declared.step.Reply.{Reply}
 use Rattle.pf_base.specs.declared.step.Reply.TheVariants.{Num, Bytes, Parked, Err as Refused}
 
 -- a call is finished, with what it leaves and its reply, or it waits, with what it has come to
-pub data Attempt : Type 0 where
-  Finished : State Queue → Reply → Attempt
-  Waits : State Queue → Call → Attempt
+pub data Attempt (X N : Type 0) : Type 0 where
+  Finished : State X N → Reply → Attempt X N
+  Waits : State X N → Call N → Attempt X N
 
 -- Transfers
 
 -- a read at the end of file is told that there are no bytes
-abbrev pub read_told : Call → Tried → Progress → Result Attempt Errno
+abbrev pub read_told : Call ℕ → Tried → Progress → Result (Attempt Segment ℕ) Errno
 read_told call t (Moved n) = Ok (Finished t.state (Bytes t.bytes))
 read_told call t EndOfFile = Ok (Finished t.state (Bytes []))
 read_told call t NoReader = Ok (Finished t.state (Bytes []))
@@ -45,7 +45,7 @@ read_told call t WouldBlock = Ok (Waits t.state call)
 
 -- a write is finished once all its bytes went in. Where nobody reads them any more it is told how many went in, and
 -- EPIPE where none did
-abbrev pub write_told : ℕ → List ℕ → ℕ → Tried → Progress → Result Attempt Errno
+abbrev pub write_told : ℕ → List ℕ → ℕ → Tried → Progress → Result (Attempt Segment ℕ) Errno
 write_told fd x written t (Moved n) =
     if nat_eq (written + n) (length x) then Ok (Finished t.state (Num (length x)))
     else Ok (Waits t.state (Moving (Writing fd x (written + n))))
@@ -54,13 +54,13 @@ write_told fd x written t WouldBlock = Ok (Waits t.state (Moving (Writing fd x w
 write_told fd x written t EndOfFile = Ok (Waits t.state (Moving (Writing fd x written)))
 
 -- a tee and a splice are told how many bytes came: 0 at the end of file, and EPIPE where nobody reads the sink
-abbrev pub cross_told : Call → Tried → Progress → Result Attempt Errno
+abbrev pub cross_told : Call ℕ → Tried → Progress → Result (Attempt Segment ℕ) Errno
 cross_told call t (Moved n) = Ok (Finished t.state (Num n))
 cross_told call t EndOfFile = Ok (Finished t.state (Num 0))
 cross_told call t NoReader = Err EPIPE
 cross_told call t WouldBlock = Ok (Waits t.state call)
 
-abbrev pub transfer_told : Transfer → Tried → Progress → Result Attempt Errno
+abbrev pub transfer_told : Transfer → Tried → Progress → Result (Attempt Segment ℕ) Errno
 transfer_told (Reading fd n) = read_told (Moving (Reading fd n))
 transfer_told (Writing fd x written) = write_told fd x written
 transfer_told (Bringing c source sink n) = cross_told (Moving (Bringing c source sink n))
@@ -68,23 +68,23 @@ transfer_told (Bringing c source sink n) = cross_told (Moving (Bringing c source
 -- Opens
 
 -- how often the other side of an end was opened
-abbrev pub other_opens : End Queue → ℕ
+abbrev pub other_opens : {X N : Type 0} → End X N → ℕ
 other_opens e = if e.description.reads then e.pipe.write_opens else e.pipe.read_opens
 
 -- a process that has a description at its lowest free descriptor
-abbrev pub given : State Queue → ℕ → Process → ℕ → Attempt
+abbrev pub given : {X N : Type 0} → State X N → ℕ → Process N → N → Attempt X N
 given s pid p n =
     Finished (with_process s pid (with_descriptor (first_free p.descriptors) n p)) (Num (first_free p.descriptors))
 
 -- a parked open is finished once the other side was opened after it parked, also where that side was closed again
-abbrev pub open_told : State Queue → ℕ → Process → ℕ → ℕ → End Queue → Attempt
+abbrev pub open_told : {X N : Type 0} → State X N → ℕ → Process N → N → ℕ → End X N → Attempt X N
 open_told s pid p n kept e = if nat_lt kept (other_opens e) then given s pid p n else Waits s (Opening n kept)
 
 -- Both
 
-abbrev pub attempt : State Queue → ℕ → Process → Call → Result Attempt Errno
+abbrev pub attempt : State Segment ℕ → ℕ → Process ℕ → Call ℕ → Result (Attempt Segment ℕ) Errno
 attempt s pid p (Opening n kept) = do
-  e ← or_refuse EBADF (end_at s n)
+  e ← or_refuse EBADF (end_at itself s n)
   Ok (open_told s pid p n kept e)
 attempt s pid p (Moving transfer) = do
   t ← tried s p transfer
@@ -93,33 +93,33 @@ attempt s pid p (Moving transfer) = do
 -- The first attempt
 
 -- a process that waits in a call
-abbrev pub parked : State Queue → ℕ → Call → Outcome
+abbrev pub parked : {X N : Type 0} → State X N → ℕ → Call N → Outcome X N
 parked s pid call = told (change_process (waiting (Some call)) s pid) Parked
 
 -- a nonblocking call doesn't wait: it is told how many bytes went in, and EAGAIN where none did
-abbrev pub unwaiting : State Queue → ℕ → Result Outcome Errno
+abbrev pub unwaiting : {X N : Type 0} → State X N → ℕ → Result (Outcome X N) Errno
 unwaiting s written = if nat_eq written 0 then Err EAGAIN else Ok (told s (Num written))
 
-abbrev pub first : ℕ → Bool → Attempt → Result Outcome Errno
+abbrev pub first : {X N : Type 0} → ℕ → Bool → Attempt X N → Result (Outcome X N) Errno
 first pid nonblock (Finished s reply) = Ok (told s reply)
 first pid nonblock (Waits s call) = if nonblock then unwaiting s (written_of call) else Ok (parked s pid call)
 
 -- whether the description at a descriptor has O_NONBLOCK
-abbrev pub is_nonblocking : State Queue → Process → ℕ → Bool
-is_nonblocking s p fd = of_end (end_of s p fd)
+abbrev pub is_nonblocking : State Segment ℕ → Process ℕ → ℕ → Bool
+is_nonblocking s p fd = of_end (end_of itself s p fd)
   where
-    of_end : Result (End Queue) Errno → Bool
+    of_end : Result (End Segment ℕ) Errno → Bool
     of_end (Ok e) = e.description.nonblocking
     of_end (Err e) = false
 
 -- or one of those of a transfer
-abbrev pub nonblocking : State Queue → Process → Transfer → Bool
+abbrev pub nonblocking : State Segment ℕ → Process ℕ → Transfer → Bool
 nonblocking s p (Reading fd n) = is_nonblocking s p fd
 nonblocking s p (Writing fd x written) = is_nonblocking s p fd
 nonblocking s p (Bringing c source sink n) = is_nonblocking s p source || is_nonblocking s p sink
 
 -- a transfer as a step of its own: the step's flag and the descriptions say whether it may wait
-abbrev pub transfer : State Queue → ℕ → Process → Bool → Transfer → Result Outcome Errno
+abbrev pub transfer : State Segment ℕ → ℕ → Process ℕ → Bool → Transfer → Result (Outcome Segment ℕ) Errno
 transfer s pid p flag call = do
   a ← attempt s pid p (Moving call)
   first pid (flag || nonblocking s p call) a
@@ -127,13 +127,13 @@ transfer s pid p flag call = do
 -- The others
 
 -- every reply but Parked ends the call, also that it is refused. O_NONBLOCK is not asked again
-abbrev pub again : State Queue → ℕ → Result Attempt Errno → Outcome
+abbrev pub again : {X N : Type 0} → State X N → ℕ → Result (Attempt X N) Errno → Outcome X N
 again s pid (Ok (Finished t reply)) = told (change_process (waiting None) t pid) reply
 again s pid (Ok (Waits t call)) = parked t pid call
 again s pid (Err e) = told (change_process (waiting None) s pid) (Refused e)
 
 -- the call in which a process waits, tried again
-abbrev pub resume : State Queue → ℕ → Process → Result Outcome Errno
+abbrev pub resume : State Segment ℕ → ℕ → Process ℕ → Result (Outcome Segment ℕ) Errno
 resume s pid p = do
   call ← or_refuse EINVAL p.parked
   Ok (again s pid (attempt s pid p call))

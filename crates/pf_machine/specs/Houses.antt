@@ -20,14 +20,14 @@ use Rattle.pf_machine.specs.Events.{kept, replies}
 use Rattle.pf_machine.specs.Machine.{step_of, may_want_memory}
 use Rattle.pf_machine.specs.Numbered.{at, put_at, clear_at, sum_of}
 use Rattle.pf_machine.specs.Processes.{alive}
-use Rattle.pf_machine.specs.Queue.{Queue}
+use Rattle.pf_machine.specs.Queue.{Segment}
 use Rattle.pf_machine.specs.Runs.{run_of, lone}
 use Rattle.pf_machine.specs.State.{State, opening}
 
 -- a namespace by itself: its limits, and the lone machine's state that it is in
 pub record Guest : Type 0 where
   pub limits : Limits
-  pub state : State Queue
+  pub state : State Segment ℕ
 
 -- a house: how many frames there are, and a place for each number of a namespace that was ever given, with nothing in
 -- it where that namespace is retired. The next number to give is the length

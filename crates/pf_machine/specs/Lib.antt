@@ -22,3 +22,4 @@ pub mod Replies
 pub mod Runs
 pub mod Events
 pub mod Houses
+pub mod Maps

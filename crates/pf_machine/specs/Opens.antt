@@ -8,7 +8,7 @@ use Rattle.pf_base.specs.Limits.{Limits}
 use Rattle.pf_base.specs.Permissions.{allows}
 use Rattle.pf_machine.specs.FileMap.{Files, is_directory}
 use Rattle.pf_machine.specs.Paths.{target}
-use Rattle.pf_machine.specs.Queue.{Queue, empty}
+use Rattle.pf_machine.specs.Queue.{empty}
 use Rattle.pf_base.specs.Capacities.{told_as}
 use Rattle.pf_machine.specs.Numbered.{at, first_free}
 use Rattle.pf_machine.specs.Calls.{Opening}
@@ -70,20 +70,20 @@ is_of_file file None = false
 is_of_file file (Some n) = nat_eq n file
 
 -- the pipe of a FIFO, which it has while somebody has it open
-abbrev pub fifo_pipe : {Q : Type 0} → State Q → ℕ → Option ℕ
+abbrev pub fifo_pipe : {X N : Type 0} → State X N → ℕ → Option ℕ
 fifo_pipe s file = first_where (λ p. is_of_file file p.file) s.pipes
 
-abbrev pub fifo_readers : {Q : Type 0} → State Q → Option ℕ → ℕ
-fifo_readers s None = 0
-fifo_readers s (Some n) = readers s n
+abbrev pub fifo_readers : {X N : Type 0} → (N → ℕ) → State X N → Option ℕ → ℕ
+fifo_readers number s None = 0
+fifo_readers number s (Some n) = readers number s n
 
 -- that pipe, in the state that has it
-pub record Found : Type 0 where
-  pub state : State Queue
+pub record Found (X N : Type 0) : Type 0 where
+  pub state : State X N
   pub pipe : ℕ
 
 -- a FIFO that nobody has open gets a pipe, which its opener is charged with
-abbrev pub pipe_of : Limits → State Queue → Process → ℕ → Option ℕ → Result Found Errno
+abbrev pub pipe_of : {X N : Type 0} → Limits → State X N → Process N → ℕ → Option ℕ → Result (Found X N) Errno
 pipe_of c s p file (Some n) = Ok (record { state = s; pipe = n })
 pipe_of c s p file None = do
   refuse_if (is_spent s.pipes 1) ENFILE
@@ -96,35 +96,40 @@ pipe_of c s p file None = do
 -- The open
 
 -- the counter of each side that is opened goes up
-abbrev pub counted : {Q : Type 0} → Access → Pipe Q → Pipe Q
+abbrev pub counted : {X : Type 0} → Access → Pipe X → Pipe X
 counted a p = record p {
   read_opens = if a.reads then p.read_opens + 1 else p.read_opens;
   write_opens = if a.writes then p.write_opens + 1 else p.write_opens;
 }
 
 -- how often the other side was opened
-abbrev pub kept_by : {Q : Type 0} → Access → Option (Pipe Q) → ℕ
+abbrev pub kept_by : {X : Type 0} → Access → Option (Pipe X) → ℕ
 kept_by a None = 0
 kept_by a (Some p) = if a.reads then p.write_opens else p.read_opens
 
--- one more description of a pipe, whose number is drawn at once: a descriptor names it, or the open that waits
-abbrev pub open_pipe : State Queue → ℕ → Process → Access → ℕ → Attempt
-open_pipe s pid p a n =
-    let d : Description = record { pipe = n; reads = a.reads; writes = a.writes; nonblocking = a.nonblock } in
-    let made = change_pipe (counted a) (record s { descriptions = s.descriptions ++ Some d ∷ [] }) n in
-    if is_waiting a (readers s n) (writers s n)
-    then Waits made (Opening (length s.descriptions) (kept_by a (at s.pipes n)))
-    else given made pid p (length s.descriptions)
+module _ {X N : Type 0} (number : N → ℕ) (name : N) where
+  -- one more description of the pipe of a number and a name. Its own name is drawn at once: a descriptor has it, or the
+  -- open that waits
+  abbrev pub open_pipe : N → State X N → ℕ → Process N → Access → ℕ → Attempt X N
+  open_pipe of s pid p a n =
+      let d : Description N = record { pipe = of; reads = a.reads; writes = a.writes; nonblocking = a.nonblock } in
+      let made = change_pipe (counted a) (record s { descriptions = s.descriptions ++ Some d ∷ [] }) n in
+      if is_waiting a (readers number s n) (writers number s n)
+      then Waits made (Opening name (kept_by a (at s.pipes n)))
+      else given made pid p name
 
-abbrev pub open_fifo : Limits → State Queue → ℕ → Process → Access → ℕ → Result Outcome Errno
-open_fifo c s pid p a file = do
-  refuse_if (nat_le MAX_DESCRIPTORS (first_free p.descriptors)) EMFILE
-  refuse_if (a.writes && not a.reads && a.nonblock && nat_eq (fifo_readers s (fifo_pipe s file)) 0) ENXIO
-  refuse_if (is_spent s.descriptions 1) ENFILE
-  found ← pipe_of c s p file (fifo_pipe s file)
-  first pid false (open_pipe found.state pid p a found.pipe)
+  -- which pipe a FIFO has is found here, so the pipe's name is given for every number
+  abbrev pub open_fifo :
+      (ℕ → N) → Limits → State X N → ℕ → Process N → Access → ℕ → Result (Outcome X N) Errno
+  open_fifo of c s pid p a file = do
+    refuse_if (nat_le MAX_DESCRIPTORS (first_free p.descriptors)) EMFILE
+    refuse_if (a.writes && not a.reads && a.nonblock && nat_eq (fifo_readers number s (fifo_pipe s file)) 0) ENXIO
+    refuse_if (is_spent s.descriptions 1) ENFILE
+    found ← pipe_of c s p file (fifo_pipe s file)
+    first pid false (open_pipe (of found.pipe) found.state pid p a found.pipe)
 
-abbrev pub open_path : Limits → State Queue → ℕ → Process → List ℕ → Access → Result Outcome Errno
-open_path c s pid p path a = do
-  f ← openable s.files p.cred path a
-  open_fifo c s pid p a f.number
+  abbrev pub open_path :
+      (ℕ → N) → Limits → State X N → ℕ → Process N → List ℕ → Access → Result (Outcome X N) Errno
+  open_path of c s pid p path a = do
+    f ← openable s.files p.cred path a
+    open_fifo of c s pid p a f.number

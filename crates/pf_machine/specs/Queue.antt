@@ -9,10 +9,14 @@ pub record Segment : Type 0 where
   pub bytes : List ℕ
   pub room : ℕ
 
--- how many slots there are, and the slots in use, the oldest first
-pub record Queue : Type 0 where
+-- how many slots there are, and what the slots in use hold, the oldest first
+pub record Slots (X : Type 0) : Type 0 where
   pub capacity : ℕ
-  pub segments : List Segment
+  pub segments : List X
+
+-- a queue has a segment in each slot that is in use
+abbrev pub Queue : Type 0
+Queue = Slots Segment
 
 -- a segment has a byte, and its bytes and its room are one page at most
 pub record IsSegment (s : Segment) : Type 0 where
@@ -25,7 +29,7 @@ pub record IsQueue (q : Queue) : Type 0 where
   pub slots : length q.segments ≤ q.capacity
 
 -- an empty queue
-abbrev pub empty : ℕ → Queue
+abbrev pub empty : {X : Type 0} → ℕ → Slots X
 empty capacity = record { capacity = capacity; segments = [] }
 
 -- the bytes of some segments, in order
@@ -112,5 +116,5 @@ after_splice source sink n = after_take source (tee_number source sink n)
 -- Capacities (fcntl(2), F_SETPIPE_SZ)
 
 -- a queue with another number of slots
-abbrev pub with_capacity : ℕ → Queue → Queue
+abbrev pub with_capacity : {X : Type 0} → ℕ → Slots X → Slots X
 with_capacity slots q = record q { capacity = slots }

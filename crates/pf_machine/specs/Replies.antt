@@ -23,6 +23,6 @@ most_of (Resume pid) = MAX_FRAMES * PAGE_SIZE
 most_of _ = 0
 
 -- how many bytes of its write went in before a process waited
-abbrev pub written_in : Option Call → ℕ
+abbrev pub written_in : {N : Type 0} → Option (Call N) → ℕ
 written_in None = 0
 written_in (Some call) = written_of call

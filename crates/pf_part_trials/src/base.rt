@@ -91,12 +91,13 @@ fn bytes_come_back_at_the_edge_of_the_place(rt: HostRuntime) -> Result<(), Fail>
     let alloc = rt.alloc();
     assert!(rt; EDGE.len() == BYTES_IN_PLACE);
     for text in [b"".as_slice(), EDGE, BEYOND] {
-        let copied = bytes(alloc, text)?;
+        assert!(rt; text.len() <= 4096);
+        let copied = ByteString::from_slice(alloc, text)?;
         assert!(rt; copied.as_slice() == text);
         assert!(rt; copied.copy(alloc)? == copied);
         assert!(rt; ByteString::new(alloc, Vec::from_slice(alloc, text)?)? == copied);
-        assert!(rt; ByteRoom::new(alloc, text.len())?.fill(alloc, text) == copied);
-        assert!(rt; ByteRoom::new(alloc, 4096)?.fill(alloc, text) == copied);
+        assert!(rt; ByteRoom::new(alloc, text.len())?.fill(alloc, &copied) == copied);
+        assert!(rt; ByteRoom::new(alloc, 4096)?.fill(alloc, &copied) == copied);
     }
     assert!(rt; bytes(alloc, EDGE)? != bytes(alloc, BEYOND)?);
     Ok(())
@@ -115,7 +116,7 @@ fn credentials_have_at_most_32_groups(rt: HostRuntime) -> Result<(), Fail> {
         let cred = Cred {
             uid: 5,
             gid: 5,
-            groups: Groups::new(vec![in rt.alloc(); 7; count]?),
+            groups: Groups::new(rt.alloc(), vec![in rt.alloc(); 7; count]?)?,
             umask,
         };
         assert!(rt; cred.is_valid() == want, "{count} {umask}");

@@ -49,10 +49,13 @@ const CHANGED: [(Call, &[u8]); 4] = [
     (Call::Unlink, b"b/y"),
 ];
 
-// What is told of a tree before and behind its changes.
-fn told<A: Allocator + Clone>(alloc: A, text: Global) -> Result<Vec<u8>, Fail> {
-    let (open, shut) = (Mode::new(0o777)?, Mode::new(0o640)?);
-    let mut desk = Desk::new(alloc, text, open, 5);
+// What is told of a tree before and behind its changes, at a desk whose root is empty.
+fn told_at<A: Allocator + Clone>(
+    desk: &mut Desk<A>,
+    text: Global,
+    open: Mode,
+    shut: Mode,
+) -> Result<Vec<u8>, Fail> {
     for (call, path) in BUILT {
         desk.call(call, path, open);
     }
@@ -63,6 +66,13 @@ fn told<A: Allocator + Clone>(alloc: A, text: Global) -> Result<Vec<u8>, Fail> {
     }
     lines.extend_from_slice(walked(&desk.tree, text)?.as_slice())?;
     Ok(lines)
+}
+
+// The same, at a desk of its own.
+fn told<A: Allocator + Clone>(alloc: A, text: Global) -> Result<Vec<u8>, Fail> {
+    let (open, shut) = (Mode::new(0o777)?, Mode::new(0o640)?);
+    let mut desk = Desk::new(alloc, text, open, 5);
+    told_at(&mut desk, text, open, shut)
 }
 
 const TOLD: &[u8] = b"a/ab/b/x/y/0 /r\n1 a/r\n1 ab|-\n1 b/r\n2 x/-\n3 z|-\n";
@@ -82,8 +92,12 @@ fn a_tree_under_an_arena(rt: HostRuntime) -> Result<(), Fail> {
 
 // Makes FIFOs with ever longer names until a growth is refused. Tells whether the tree was then as before, and whether
 // the FIFO is made once there is memory.
-fn until_refused(bump: &Bump, text: Global, mode: Mode) -> Result<(bool, bool), AllocError> {
-    let mut desk = Desk::new(bump, text, mode, 5);
+fn refused_at(
+    desk: &mut Desk<&Bump>,
+    bump: &Bump,
+    text: Global,
+    mode: Mode,
+) -> Result<(bool, bool), AllocError> {
     let name = [b'n'; 200];
     for length in 1..200 {
         let before = walked(&desk.tree, text)?;
@@ -97,6 +111,12 @@ fn until_refused(bump: &Bump, text: Global, mode: Mode) -> Result<(bool, bool), 
     Ok((false, false))
 }
 
+// The same, at a desk of its own.
+fn until_refused(bump: &Bump, text: Global, mode: Mode) -> Result<(bool, bool), AllocError> {
+    let mut desk = Desk::new(bump, text, mode, 5);
+    refused_at(&mut desk, bump, text, mode)
+}
+
 #[test]
 fn a_refused_growth_changes_nothing(rt: HostRuntime) -> Result<(), Fail> {
     let mode = Mode::new(0o777)?;
@@ -108,9 +128,13 @@ fn a_refused_growth_changes_nothing(rt: HostRuntime) -> Result<(), Fail> {
     Ok(())
 }
 
-// A tree of directories, each but the first in the one before: the number of its deepest, and its depth.
-fn deep(alloc: Global, mode: Mode, levels: usize) -> Result<(u64, usize), Fail> {
-    let mut desk = Desk::new(alloc, alloc, mode, 5);
+// Makes directories, each but the first in the one before: the number of the deepest, and its depth.
+fn deepened(
+    desk: &mut Desk<Global>,
+    alloc: Global,
+    mode: Mode,
+    levels: usize,
+) -> Result<(u64, usize), Fail> {
     let mut path = Vec::new(alloc);
     for level in 0..levels {
         if level > 0 {
@@ -125,6 +149,12 @@ fn deep(alloc: Global, mode: Mode, levels: usize) -> Result<(u64, usize), Fail> 
     ));
     let (number, _) = desk.number(&path)?;
     Ok((number, deepest))
+}
+
+// The same, in a tree of its own.
+fn deep(alloc: Global, mode: Mode, levels: usize) -> Result<(u64, usize), Fail> {
+    let mut desk = Desk::new(alloc, alloc, mode, 5);
+    deepened(&mut desk, alloc, mode, levels)
 }
 
 #[test]

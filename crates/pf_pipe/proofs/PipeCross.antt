@@ -40,35 +40,35 @@ tee_some f (w ∷ ws) k n sound s some free any =
     omega (arith, ap (λ (b : List ℕ). length b) step, length-append (take n own.bytes) (joined rest), length-take n own.bytes, size, s.some.0, any)
 
 module _ (source sink : CountedPipe) (n : ℕ) where
-  bytes_are : (f : Live) → IsSound f → Stands f source.ring.windows → length (bytes_of (queue_of f source.ring)) ≡ bytes_in source.ring.windows
-  bytes_are f sound s = segments_length f source.ring.windows sound s
+  bytes_are : (f : Live) → IsSound f → Stands f source.ring.segments → length (bytes_of (queue_of f source.ring)) ≡ bytes_in source.ring.segments
+  bytes_are f sound s = segments_length f source.ring.segments sound s
 
-  free_is : (f : Live) → free_of (queue_of f sink.ring) ≡ sink.ring.capacity - length sink.ring.windows
-  free_is f = omega (arith, length-map sink.ring.windows (segment_of f))
+  free_is : (f : Live) → free_of (queue_of f sink.ring) ≡ sink.ring.capacity - length sink.ring.segments
+  free_is f = omega (arith, length-map sink.ring.segments (segment_of f))
 
-  pub goes : 0 < n → 0 < sink.readers → 0 < bytes_in source.ring.windows → length sink.ring.windows < sink.ring.capacity → Goes source sink n
+  pub goes : 0 < n → 0 < sink.readers → 0 < bytes_in source.ring.segments → length sink.ring.segments < sink.ring.capacity → Goes source sink n
   goes any read some free f c sound s = record {
-    some = tee_some f source.ring.windows (free_of (queue_of f sink.ring)) n sound s some (omega (arith, free_is f, free)) any;
+    some = tee_some f source.ring.segments (free_of (queue_of f sink.ring)) n sound s some (omega (arith, free_is f, free)) any;
     machine = λ i. tests (some_test n any i) (some_test sink.readers read i) (nat_eq source.writers 0) (some_test (length (bytes_of (queue_of f source.ring))) (omega (arith, bytes_are f sound s, some)) i)
         (some_test (free_of (queue_of f sink.ring)) (omega (arith, free_is f, free)) i) c (queue_of f source.ring) (queue_of f sink.ring) n;
   }
 
 -- nothing goes, and nothing has changed
-pub stopped_crosses : (f : Live) (c : Crossing) (source sink : CountedPipe) (n : ℕ) (progress : Progress) → IsSound f → Stands f (source.ring.windows ++ sink.ring.windows) → Stops source sink n progress
+pub stopped_crosses : (f : Live) (c : Crossing) (source sink : CountedPipe) (n : ℕ) (progress : Progress) → IsSound f → Stands f (source.ring.segments ++ sink.ring.segments) → Stops source sink n progress
     → Crosses source source sink sink f f progress (cross_now c (queue_of f source.ring) (queue_of f sink.ring) source.writers sink.readers n)
 stopped_crosses f c source sink n progress sound s stops =
-    let here : Stands f source.ring.windows = stands_first f source.ring.windows sink.ring.windows s in
+    let here : Stands f source.ring.segments = stands_first f source.ring.segments sink.ring.segments s in
     record {
       told = stops f c sound here;
       source_is = record { owner = refl; readers = refl; writers = refl; opens = refl; capacity = refl; fits = λ h. h };
       sink_is = record { owner = refl; readers = refl; writers = refl; opens = refl; capacity = refl; fits = λ h. h };
-      moves = record { between = f; copied = keeps_same f source.ring.windows sink.ring.windows (stands_second f source.ring.windows sink.ring.windows s); dropped = keeps_same f [] source.ring.windows here };
+      moves = record { between = f; copied = keeps_same f source.ring.segments sink.ring.segments (stands_second f source.ring.segments sink.ring.segments s); dropped = keeps_same f [] source.ring.segments here };
     }
 
 -- some bytes go
 pub moved_crosses : (f g : Live) (c : Crossing) (source source' sink sink' : CountedPipe) (n m : ℕ) → GoesIn f c source sink n → SameButWindows source source' → SameButWindows sink sink'
     → m ≡ tee_number (queue_of f source.ring) (queue_of f sink.ring) n → queue_of g sink'.ring ≡ after_tee (queue_of f source.ring) (queue_of f sink.ring) n
-    → queue_of g source'.ring ≡ source_after c (queue_of f source.ring) (queue_of f sink.ring) n → Moves source.ring.windows source'.ring.windows sink.ring.windows sink'.ring.windows f g
+    → queue_of g source'.ring ≡ source_after c (queue_of f source.ring) (queue_of f sink.ring) n → Moves source.ring.segments source'.ring.segments sink.ring.segments sink'.ring.segments f g
     → Crosses source source' sink sink' f g (Moved m) (cross_now c (queue_of f source.ring) (queue_of f sink.ring) source.writers sink.readers n)
 moved_crosses f g c source source' sink sink' n m will source_is sink_is number put left moves = record {
   told = will.machine ∙ sym (λ i. record { progress = Moved (number i); source = left i; sink = put i });

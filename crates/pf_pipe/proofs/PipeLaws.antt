@@ -11,8 +11,8 @@ use Rattle.pf_ring.proofs.TableLaws.{joined_after, queues_after, no_source}
 use Rattle.pf_pipe.specs.Pipe.{CountedPipe, Passes}
 
 module _ (f g : Live) (rings : List Ring) (k : ℕ) (old new : CountedPipe) (progress : Progress) (machine : Passed) (l : k < length rings) (is : ring_at rings k ≡ old.ring) (joined : Joined f rings) (p : Passes old new f g progress machine) where
-  keeps_at : Keeps [] (ring_at rings k).windows new.ring.windows f g
-  keeps_at = subst (λ (r : Ring). Keeps [] r.windows new.ring.windows f g) (sym is) p.keeps
+  keeps_at : Keeps [] (ring_at rings k).segments new.ring.segments f g
+  keeps_at = subst (λ (r : Ring). Keeps [] r.segments new.ring.segments f g) (sym is) p.keeps
 
   -- the table stands with the ring as it is now
   pub passes_joined : Joined g (set rings k new.ring)

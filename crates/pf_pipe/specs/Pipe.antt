@@ -62,8 +62,8 @@ pub record Passes (old new : CountedPipe) (f g : Live) (progress : Progress) (ma
   pub writers : new.writers ≡ old.writers
   pub opens : new.opens ≡ old.opens
   pub capacity : new.ring.capacity ≡ old.ring.capacity
-  pub fits : length old.ring.windows ≤ old.ring.capacity → length new.ring.windows ≤ new.ring.capacity
-  pub keeps : Keeps [] old.ring.windows new.ring.windows f g
+  pub fits : length old.ring.segments ≤ old.ring.capacity → length new.ring.segments ≤ new.ring.capacity
+  pub keeps : Keeps [] old.ring.segments new.ring.segments f g
 
 -- all of a pipe is as it was but its windows, which are no more than its slots
 pub record SameButWindows (old new : CountedPipe) : Type 0 where
@@ -72,7 +72,7 @@ pub record SameButWindows (old new : CountedPipe) : Type 0 where
   pub writers : new.writers ≡ old.writers
   pub opens : new.opens ≡ old.opens
   pub capacity : new.ring.capacity ≡ old.ring.capacity
-  pub fits : length old.ring.windows ≤ old.ring.capacity → length new.ring.windows ≤ new.ring.capacity
+  pub fits : length old.ring.segments ≤ old.ring.capacity → length new.ring.segments ≤ new.ring.capacity
 
 -- a transfer from a pipe to another came as far as the machine says, and left the queues that it says. No more than the
 -- two rings have changed, and all other rings in the frames show what they showed
@@ -80,12 +80,12 @@ pub record Crosses (source source' sink sink' : CountedPipe) (f g : Live) (progr
   pub told : machine ≡ record { progress = progress; source = queue_of g source'.ring; sink = queue_of g sink'.ring }
   pub source_is : SameButWindows source source'
   pub sink_is : SameButWindows sink sink'
-  pub moves : Moves source.ring.windows source'.ring.windows sink.ring.windows sink'.ring.windows f g
+  pub moves : Moves source.ring.segments source'.ring.segments sink.ring.segments sink'.ring.segments f g
 
 -- in whatever frames the two pipes stand, no byte goes from one to the other, and this is why
 abbrev pub Stops : CountedPipe → CountedPipe → ℕ → Progress → Type 0
 Stops source sink n progress =
-    (f : Live) (c : Crossing) → IsSound f → Stands f source.ring.windows
+    (f : Live) (c : Crossing) → IsSound f → Stands f source.ring.segments
     → cross_now c (queue_of f source.ring) (queue_of f sink.ring) source.writers sink.readers n
     ≡ record { progress = progress; source = queue_of f source.ring; sink = queue_of f sink.ring }
 
@@ -101,12 +101,12 @@ pub record GoesIn (f : Live) (c : Crossing) (source sink : CountedPipe) (n : ℕ
 
 abbrev pub Goes : CountedPipe → CountedPipe → ℕ → Type 0
 Goes source sink n =
-    (f : Live) (c : Crossing) → IsSound f → Stands f source.ring.windows → GoesIn f c source sink n
+    (f : Live) (c : Crossing) → IsSound f → Stands f source.ring.segments → GoesIn f c source sink n
 
 -- a pipe has another number of slots, with all that it holds; or it has more in use, or memory was wanted, and it is as it
 -- was
 abbrev pub Resizes : CountedPipe → CountedPipe → ℕ → Result (Unit {0}) Fault → Type 0
-Resizes old new slots (Ok done) = (length old.ring.windows ≤ slots)
-    × (new ≡ record old { ring = record { capacity = slots; windows = old.ring.windows } })
-Resizes old new slots (Err (faults.Errno e)) = (slots < length old.ring.windows) × (e ≡ EBUSY) × (new ≡ old)
-Resizes old new slots (Err faults.NoMemory) = (length old.ring.windows ≤ slots) × (new ≡ old)
+Resizes old new slots (Ok done) = (length old.ring.segments ≤ slots)
+    × (new ≡ record old { ring = record { capacity = slots; segments = old.ring.segments } })
+Resizes old new slots (Err (faults.Errno e)) = (slots < length old.ring.segments) × (e ≡ EBUSY) × (new ≡ old)
+Resizes old new slots (Err faults.NoMemory) = (length old.ring.segments ≤ slots) × (new ≡ old)

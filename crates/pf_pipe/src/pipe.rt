@@ -13,6 +13,7 @@ use pf_frame::Frames;
 use pf_ring::SlotRing;
 use std::alloc::{AllocError, Global};
 use std::marker::Model;
+use std::sync::Arc;
 
 // How many bytes went.
 fn moved(progress: Progress) -> usize
@@ -66,7 +67,7 @@ impl Pipe {
     ) -> Result<Pipe, AllocError>
         requires { slots < 2 ^ 32 }
         ensures { IfOk result (λ p. p ≡ record {
-          ring = record { capacity = slots; windows = [] };
+          ring = record { capacity = slots; segments = [] };
           owner = owner;
           readers = 0;
           writers = 0;
@@ -95,7 +96,7 @@ impl Pipe {
 
     /// How many slots are in use.
     pub fn used(&self) -> usize
-        ensures number { result ≡ length self.now.ring.windows }
+        ensures number { result ≡ length self.now.ring.segments }
         ensures most { result ≤ self.now.ring.capacity }
     {
         self.ring.used()
@@ -103,8 +104,8 @@ impl Pipe {
 
     /// How many bytes there are to read.
     pub fn len(&self) -> usize
-        ensures number { result ≡ bytes_in self.now.ring.windows }
-        ensures bytes { (f : Live) → IsSound f → Stands f self.now.ring.windows
+        ensures number { result ≡ bytes_in self.now.ring.segments }
+        ensures bytes { (f : Live) → IsSound f → Stands f self.now.ring.segments
             → result ≡ length (bytes_of (queue_of f self.now.ring)) }
     {
         self.ring.len()
@@ -218,20 +219,20 @@ impl Pipe {
     #[inline(always)]
     pub fn write_now<F: Frames>(&mut self, door: &mut F, bytes: &[u8], whole: bool) -> Progress
         requires fact { F.fact door.old }
-        requires stands { Stands (F.live door.old) self.old.ring.windows }
+        requires stands { Stands (F.live door.old) self.old.ring.segments }
         // A credit for each free slot: nothing can fail.
-        requires credits { let free = self.old.ring.capacity - length self.old.ring.windows in
+        requires credits { let free = self.old.ring.capacity - length self.old.ring.segments in
             (F.live door.old).held + free ≤ (F.live door.old).reserved }
         ensures fact { F.fact door.new }
         ensures rest { F.rest door.new ≡ F.rest door.old }
         ensures passes { Passes self.old self.new (F.live door.old) (F.live door.new) result
             (write_now (queue_of (F.live door.old) self.old.ring) self.old.readers whole bytes.now) }
         // As many frames are taken as slots.
-        ensures takes { (F.live door.new).held + length self.old.ring.windows
-            ≡ (F.live door.old).held + length self.new.ring.windows }
+        ensures takes { (F.live door.new).held + length self.old.ring.segments
+            ≡ (F.live door.old).held + length self.new.ring.segments }
         // A frame that was live is written to behind the last slot's end alone, and where no byte goes nothing is
         // touched.
-        ensures puts_behind { PutsBehind self.old.ring.windows (moved result)
+        ensures puts_behind { PutsBehind self.old.ring.segments (moved result)
             (F.live door.old) (F.live door.new) }
         ensures untouched { moved result ≡ 0 → (self.new ≡ self.old) × (door.new ≡ door.old) }
     {
@@ -252,7 +253,7 @@ impl Pipe {
     /// Reads what there is now into a buffer (read(2)), as many bytes as it has room for.
     pub fn read_now<F: Frames>(&mut self, door: &mut F, buffer: &mut [u8]) -> Progress
         requires fact { F.fact door.old }
-        requires stands { Stands (F.live door.old) self.old.ring.windows }
+        requires stands { Stands (F.live door.old) self.old.ring.segments }
         ensures fact { F.fact door.new }
         ensures rest { F.rest door.new ≡ F.rest door.old }
         ensures passes { Passes self.old self.new (F.live door.old) (F.live door.new) result
@@ -277,8 +278,8 @@ impl Pipe {
     #[inline(always)]
     pub fn read_onto<F: Frames>(&mut self, door: &mut F, most: usize, out: &mut Vec<u8>) -> Progress
         requires fact { F.fact door.old }
-        requires stands { Stands (F.live door.old) self.old.ring.windows }
-        requires room { vec_len out.old + min most (bytes_in self.old.ring.windows) ≤ vec_capacity out.old }
+        requires stands { Stands (F.live door.old) self.old.ring.segments }
+        requires room { vec_len out.old + min most (bytes_in self.old.ring.segments) ≤ vec_capacity out.old }
         ensures fact { F.fact door.new }
         ensures rest { F.rest door.new ≡ F.rest door.old }
         ensures passes { Passes self.old self.new (F.live door.old) (F.live door.new) result
@@ -309,7 +310,7 @@ impl Pipe {
         most: usize,
     ) -> Result<(Progress, ByteString), AllocError>
         requires fact { F.fact door.old }
-        requires stands { Stands (F.live door.old) self.old.ring.windows }
+        requires stands { Stands (F.live door.old) self.old.ring.segments }
         ensures fact { F.fact door.new }
         ensures rest { F.rest door.new ≡ F.rest door.old }
         ensures passes { IfOk result (λ r. Passes self.old self.new (F.live door.old) (F.live door.new) r.0
@@ -326,9 +327,13 @@ impl Pipe {
             let progress = self.read_now(door, &mut bytes[..most.min(BYTES_IN_PLACE)]);
             return Ok((progress, ByteString::in_place(bytes, moved(progress))));
         }
-        let mut bytes = Box::new(alloc, Vec::with_capacity(alloc, number)?)?;
-        let progress = self.read_onto(door, most, &mut *bytes);
-        Ok((progress, ByteString::from_box(bytes)))
+        let mut bytes = Arc::new(alloc, Vec::with_capacity(alloc, number)?)?;
+        // Nobody else has them yet.
+        let Some(room) = Arc::get_mut(&mut bytes) else {
+            return Err(AllocError);
+        };
+        let progress = self.read_onto(door, most, room);
+        Ok((progress, ByteString::from_arc(bytes)))
     }
 
     /// Puts a copy of the first bytes into another pipe (tee(2)): at most `n`, and at most as many slots as are free
@@ -336,7 +341,7 @@ impl Pipe {
     pub fn tee_now<F: Frames>(&self, door: &mut F, sink: &mut Pipe, n: usize) -> Progress
         requires fact { F.fact door.old }
         // The two pipes are two in the same frames, and no count can pass the end of its type.
-        requires stands { Stands (F.live door.old) (self.now.ring.windows ++ sink.old.ring.windows) }
+        requires stands { Stands (F.live door.old) (self.now.ring.segments ++ sink.old.ring.segments) }
         requires few { (F.live door.old).shares + sink.old.ring.capacity < 2 ^ 32 }
         ensures fact { F.fact door.new }
         ensures rest { F.rest door.new ≡ F.rest door.old }
@@ -361,7 +366,7 @@ impl Pipe {
     pub fn splice_now<F: Frames>(&mut self, door: &mut F, sink: &mut Pipe, n: usize) -> Progress
         requires fact { F.fact door.old }
         // The two pipes are two in the same frames, and no count can pass the end of its type.
-        requires stands { Stands (F.live door.old) (self.old.ring.windows ++ sink.old.ring.windows) }
+        requires stands { Stands (F.live door.old) (self.old.ring.segments ++ sink.old.ring.segments) }
         requires few { (F.live door.old).shares + sink.old.ring.capacity < 2 ^ 32 }
         ensures fact { F.fact door.new }
         ensures rest { F.rest door.new ≡ F.rest door.old }
@@ -392,7 +397,7 @@ impl Pipe {
     ) -> Progress
         requires fact { F.fact door.old }
         // The two pipes are two in the same frames, and no count can pass the end of its type.
-        requires stands { Stands (F.live door.old) (self.old.ring.windows ++ sink.old.ring.windows) }
+        requires stands { Stands (F.live door.old) (self.old.ring.segments ++ sink.old.ring.segments) }
         requires few { (F.live door.old).shares + sink.old.ring.capacity < 2 ^ 32 }
         ensures fact { F.fact door.new }
         ensures rest { F.rest door.new ≡ F.rest door.old }
@@ -446,13 +451,13 @@ impl Pipe {
     /// Empties all slots, and releases the frame of each. The ends stay counted.
     pub fn clear<F: Frames>(&mut self, door: &mut F)
         requires fact { F.fact door.old }
-        requires stands { Stands (F.live door.old) self.old.ring.windows }
+        requires stands { Stands (F.live door.old) self.old.ring.segments }
         ensures fact { F.fact door.new }
         ensures rest { F.rest door.new ≡ F.rest door.old }
         ensures pipe { self.new
-            ≡ record self.old { ring = record { capacity = self.old.ring.capacity; windows = [] } } }
+            ≡ record self.old { ring = record { capacity = self.old.ring.capacity; segments = [] } } }
         // Other rings show what they showed, and nothing is written.
-        ensures keeps { Keeps [] self.old.ring.windows [] (F.live door.old) (F.live door.new) }
+        ensures keeps { Keeps [] self.old.ring.segments [] (F.live door.old) (F.live door.new) }
         ensures bytes_stay { SameBytes (F.live door.old) (F.live door.new) }
     {
         self.ring.clear(door);

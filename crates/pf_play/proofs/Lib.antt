@@ -1,9 +1,19 @@
 mod CommandLineExamples
 pub mod CommandLineLaws
 pub mod EngineLaws
+pub mod NumberLaws
+pub mod ToldLaws
+pub mod PlayLaws
+pub mod StayLaws
+pub mod AloneLaws
+pub mod SameLaws
+pub mod SectionLaws
+pub mod AdmittedLaws
+pub mod KnownLaws
 pub mod ProgramLaws
 pub mod TextLaws
 pub mod TreeHeapLaws
 pub mod WorkLaws
 pub mod MergeLaws
+pub mod AnsweredLaws
 pub mod Sendable

@@ -2,17 +2,17 @@
 
 use Rattle.std.proofs.Common.{◌≡◌, ℕ, zero, suc, ◌+◌, ◌<◌, ◌≤◌, true, false, List, [], ◌∷◌, ◌++◌, length, map, take}
 use Rattle.std.proofs.Common.{drop, get_or, Option, Some, None, refl, ap, subst, sym, ◌∙◌, arith, length-append}
-use Rattle.std.specs.Prelude.{nat_eq, slice_get, slice_index, IfSome, option_map, if◌then◌else◌}
-use Rattle.std.proofs.lemmas.List.{length-map, get_or-map, drop_more, length-drop, take_more}
+use Rattle.std.specs.Prelude.{not, nat_eq, slice_get, slice_index, IfSome, option_map, if◌then◌else◌}
+use Rattle.std.proofs.lemmas.List.{length-map, get_or-map, drop_more, length-drop, take_more, get_or_append_left}
 use Rattle.std.proofs.lemmas.Option.{slice_get-map}
 use Rattle.std.proofs.lemmas.Slice.Zip.{AllZip-long}
-use Rattle.std.specs.List.{All}
+use Rattle.std.specs.List.{All, list_any}
 use Rattle.std.specs.Option.{option_to_list}
 use Rattle.pf_base.specs.Limits.{Limits}
 use Rattle.pf_base.specs.declared.step.Step.{Step}
 use Rattle.pf_base.specs.declared.step.Answer.{Answer}
 use Rattle.pf_machine.specs.Machine.{Answers, may_want_memory}
-use Rattle.pf_machine.specs.Queue.{Queue}
+use Rattle.pf_machine.specs.Queue.{Segment}
 use Rattle.pf_machine.specs.State.{State, opening}
 use Rattle.pf_machine.specs.Events.{mine, IsDone}
 use Rattle.pf_machine.specs.Runs.{Run, run_of, lone}
@@ -21,51 +21,101 @@ use Rattle.pf_hub.proofs.NeedLemmas.{may_want}
 use Rattle.pf_hub.specs.Opening.{new_tenant}
 use Rattle.pf_hub.specs.Tenants.{Tenant}
 use Rattle.pf_script.specs.Script.{Draft}
-use Rattle.pf_script.specs.Places.{places_from, places_of}
+use Rattle.pf_script.specs.Places.{places_from, places_of, lines_of}
+use Rattle.pf_script.specs.declared.line.Line.{Line}
+use Rattle.pf_script.specs.declared.line.Line.TheVariants as lines
 use Rattle.pf_play.proofs.EngineLaws.{kept_push, replies_push, needed_push, take_all}
 use Rattle.pf_play.specs.Played.{IsPlayedAlone, IsToldAlone, NoWantAlone, kept_alone, replies_alone}
+use Rattle.pf_play.specs.Played.{comes_and_goes, is_step, steps_among, steps_of}
 use Rattle.pf_play.specs.Workers.{Passed, ArePassed, IsOpened, IsPassed, IsWorked, AreWorked}
 use Rattle.pf_worker.specs.Workers.{OneWorker, new_worker, new_workers, new_workers_from}
 
 -- The steps at a namespace's places are its own
 
--- they are counted from i on, where these events stand behind i others
-mine_from : (all : List (ℕ × Step)) (d : ℕ × Step) (i : ℕ) (es : List (ℕ × Step)) (n : ℕ) → drop i all ≡ es
-    → mine es n ≡ map (λ p. (get_or all p d).1) (places_from i es n)
-mine_from all d i [] n behind = refl
-mine_from all d i (e ∷ es) n behind =
-    let long : length (drop i all) ≡ length (e ∷ es) = ap (λ (xs : List (ℕ × Step)). length xs) behind in
+-- a namespace's lines are counted from i on, where these lines stand behind i others
+lines_from : (all : List (ℕ × Line)) (d : ℕ × Line) (i : ℕ) (es : List (ℕ × Line)) (n : ℕ) → drop i all ≡ es
+    → lines_of es n ≡ map (λ p. (get_or all p d).1) (places_from i es n)
+lines_from all d i [] n behind = refl
+lines_from all d i (e ∷ es) n behind =
+    let long : length (drop i all) ≡ length (e ∷ es) = ap (λ (xs : List (ℕ × Line)). length xs) behind in
     let high : i < length all = omega (arith, length-drop i all, long) in
     let split = sym (drop_more all i d high) ∙ behind in
     let here : get_or all i d ≡ e = cc in
     let rests : drop (i + 1) all ≡ es = cc in
-    let more = mine_from all d (i + 1) es n rests in
+    let more = lines_from all d (i + 1) es n rests in
     elim (nat_eq e.0 n) as
-    (λ b. (if b then e.1 ∷ mine es n else mine es n) ≡ map (λ p. (get_or all p d).1)
+    (λ b. (if b then e.1 ∷ lines_of es n else lines_of es n) ≡ map (λ p. (get_or all p d).1)
     (if b then i ∷ places_from (i + 1) es n else places_from (i + 1) es n)) [
       | true ↦ λ j. (sym here j).1 ∷ more j
       | false ↦ more
     ]
 
-pub mine_are : (es : List (ℕ × Step)) (d : ℕ × Step) (n : ℕ) → mine es n ≡ map (λ p. (get_or es p d).1) (places_of es n)
-mine_are es d n = mine_from es d 0 es n refl
+lines_are : (es : List (ℕ × Line)) (d : ℕ × Line) (n : ℕ) →
+    lines_of es n ≡ map (λ p. (get_or es p d).1) (places_of es n)
+lines_are es d n = lines_from es d 0 es n refl
 
 -- as many
-many_from : (i : ℕ) (es : List (ℕ × Step)) (n : ℕ) → length (mine es n) ≡ length (places_from i es n)
+many_from : (i : ℕ) (es : List (ℕ × Line)) (n : ℕ) → length (lines_of es n) ≡ length (places_from i es n)
 many_from i [] n = refl
 many_from i (e ∷ es) n =
     let more = many_from (i + 1) es n in
     elim (nat_eq e.0 n) as
-    (λ b. length (if b then e.1 ∷ mine es n else mine es n) ≡ length
+    (λ b. length (if b then e.1 ∷ lines_of es n else lines_of es n) ≡ length
     (if b then i ∷ places_from (i + 1) es n else places_from (i + 1) es n)) [
       | true ↦ ap suc more
       | false ↦ more
     ]
 
+-- where no namespace comes or goes each line is a step
+pub lines_mine : (es : List (ℕ × Line)) (n : ℕ) → list_any (λ (e : ℕ × Line). not (is_step e.1)) es ≡ false →
+    lines_of es n ≡ map (λ s. lines.Step s) (mine (steps_among es) n)
+lines_mine [] n only = refl
+lines_mine ((k, lines.Step s) ∷ es) n only =
+    let more = lines_mine es n only in
+    elim (nat_eq k n) as
+    (λ b. (if b then lines.Step s ∷ lines_of es n else lines_of es n)
+    ≡ map (λ s. lines.Step s) (if b then s ∷ mine (steps_among es) n else mine (steps_among es) n)) [
+      | true ↦ ap (λ (r : List Line). lines.Step s ∷ r) more
+      | false ↦ more
+    ]
+lines_mine ((k, lines.Admit) ∷ es) n only = absurd (cc)
+lines_mine ((k, lines.Retire) ∷ es) n only = absurd (cc)
+
+-- so is each that is met
+pub all_steps : (es : List (ℕ × Line)) (i : ℕ) (d : ℕ × Line) →
+    list_any (λ (e : ℕ × Line). not (is_step e.1)) es ≡ false →
+    i < length es → (s : Step) × ((get_or es i d).1 ≡ lines.Step s)
+all_steps [] i d only low = absurd (omega (arith, low))
+all_steps ((k, lines.Step s) ∷ es) zero d only low = (s, refl)
+all_steps ((k, lines.Step s) ∷ es) (suc i) d only low = all_steps es i d only (omega (arith, low))
+all_steps ((k, lines.Admit) ∷ es) i d only low = absurd (cc)
+all_steps ((k, lines.Retire) ∷ es) i d only low = absurd (cc)
+
+many_mine : (script : Draft) (n : ℕ) → comes_and_goes script ≡ false →
+    length (mine (steps_of script) n) ≡ length (places_of script.steps n)
+many_mine script n only =
+    sym (length-map (mine (steps_of script) n) (λ s. lines.Step s))
+    ∙ ap (λ (xs : List Line). length xs) (sym (lines_mine script.steps n only)) ∙ many_from 0 script.steps n
+
+same_step : (s t : Step) → ◌≡◌ {A = Line} (lines.Step s) (lines.Step t) → s ≡ t
+same_step s t same = cc
+
+own_step : (script : Draft) (n k : ℕ) (d : ℕ × Line) (x : Step) → comes_and_goes script ≡ false →
+    k < length (places_of script.steps n) → (get_or script.steps (slice_index (places_of script.steps n) k) d).1 ≡ lines.Step x →
+    get_or (mine (steps_of script) n) k x ≡ x
+own_step script n k d x only low is =
+    same_step (get_or (mine (steps_of script) n) k x) x
+    (sym (get_or-map (λ s. lines.Step s) (mine (steps_of script) n) k x (lines.Step x)
+    (omega (arith, many_mine script n only, low)))
+    ∙ ap (λ (xs : List Line). get_or xs k (lines.Step x))
+    (sym (lines_mine script.steps n only) ∙ lines_are script.steps d n)
+    ∙ get_or-map (λ p. (get_or script.steps p d).1) (places_of script.steps n) k 0 (lines.Step x) low
+    ∙ is)
+
 -- Steps in turn
 
 -- these steps were made with these answers, from the opening state to this one
-pub record Worked (c : Limits) (xs : List Step) (answers : List Answer) (state : State Queue) : Type 0 where
+pub record Worked (c : Limits) (xs : List Step) (answers : List Answer) (state : State Segment ℕ) : Type 0 where
   pub many : length answers ≡ length xs
   pub ran : run_of c opening (kept_alone xs answers) ≡ record { state = state; replies = replies_alone answers }
   pub needed : NoWantAlone c xs answers
@@ -76,7 +126,7 @@ worked_none c =
     record { many = refl; ran = refl; needed = needed }
 
 -- one more
-pub worked_on : (c : Limits) (xs : List Step) (x : Step) (answers : List Answer) (a : Answer) (old new : State Queue) →
+pub worked_on : (c : Limits) (xs : List Step) (x : Step) (answers : List Answer) (a : Answer) (old new : State Segment ℕ) →
     Worked c xs answers old → Answers c a old x new → (may_want_memory c old x ≡ false → IsDone a) →
     Worked c (xs ++ x ∷ []) (answers ++ a ∷ []) new
 worked_on c xs x answers a old new worked answered succeeds = record {
@@ -95,7 +145,7 @@ pub record Works {Z : Type 0} (script : Draft) (n : ℕ) (made : ℕ) (answers :
     0 where
   pub number : worker.number ≡ n
   pub limits : slice_get (map (λ s. s.1) script.spaces) n ≡ Some worker.tenant.limits
-  pub worked : Worked worker.tenant.limits (take made (mine script.steps n)) answers worker.tenant.state
+  pub worked : Worked worker.tenant.limits (take made (mine (steps_of script) n)) answers worker.tenant.state
 
 limits_from : (spaces : List (List ℕ × Limits)) (n : ℕ) (t : Tenant) →
     slice_get (map (λ s. new_tenant s.1) spaces) n ≡ Some t
@@ -110,7 +160,7 @@ pub works_none : {Z : Type 0} (script : Draft) (worker : OneWorker Z) (answers :
     IsOpened script worker → answers ≡ []
     → Works script worker.number 0 answers worker
 works_none {Z} script worker answers opened none =
-    let new = limits_from script.spaces worker.number worker.tenant opened in
+    let new = limits_from script.spaces worker.number worker.tenant opened.1 in
     rw none (record {
       number = refl;
       limits = new.0;
@@ -119,56 +169,52 @@ works_none {Z} script worker answers opened none =
     })
 
 -- the step at the next place
-pub works_on : {Z : Type 0} (script : Draft) (n k : ℕ) (d : ℕ × Step) (answers : List Answer) (a : Answer)
-    (old new : OneWorker Z) (at : ℕ) (x : Step) →
+pub works_on : {Z : Type 0} (script : Draft) (n k : ℕ) (d : ℕ × Line) (answers : List Answer) (a : Answer)
+    (old new : OneWorker Z) (at : ℕ) (x : Step) → comes_and_goes script ≡ false →
     Works script n k answers old → k < length (places_of script.steps n) →
-    at ≡ slice_index (places_of script.steps n) k → x ≡ (get_or script.steps at d).1 →
+    at ≡ slice_index (places_of script.steps n) k → (get_or script.steps at d).1 ≡ lines.Step x →
     new.number ≡ old.number → new.tenant.limits ≡ old.tenant.limits →
     Answers old.tenant.limits a old.tenant.state x new.tenant.state →
     (may_want_memory old.tenant.limits old.tenant.state x ≡ false → IsDone a) →
     Works script n (k + 1) (answers ++ a ∷ []) new
-works_on script n k d answers a old new at x works low place is same keeps answered succeeds =
-    let own = mine_are script.steps d n in
-    let many = many_from 0 script.steps n in
-    let here : x ≡ get_or (mine script.steps n) k x =
-    is ∙ ap (λ p. (get_or script.steps p d).1) place
-    ∙ sym (get_or-map (λ p. (get_or script.steps p d).1) (places_of script.steps n) k 0 x low)
-    ∙ ap (λ (xs : List Step). get_or xs k x) (sym own) in
-    let taken : take (k + 1) (mine script.steps n) ≡ take k (mine script.steps n) ++ x ∷ [] =
-    take_more (mine script.steps n) k x (omega (arith, many, low))
-    ∙ ap (λ (y : Step). take k (mine script.steps n) ++ y ∷ []) (sym here) in
+works_on script n k d answers a old new at x only works low place is same keeps answered succeeds =
+    let here : get_or (mine (steps_of script) n) k x ≡ x =
+    own_step script n k d x only low (ap (λ p. (get_or script.steps p d).1) (sym place) ∙ is) in
+    let taken : take (k + 1) (mine (steps_of script) n) ≡ take k (mine (steps_of script) n) ++ x ∷ [] =
+    take_more (mine (steps_of script) n) k x (omega (arith, many_mine script n only, low))
+    ∙ ap (λ (y : Step). take k (mine (steps_of script) n) ++ y ∷ []) here in
     record {
       number = same ∙ works.number;
       limits = works.limits ∙ ap Some (sym keeps);
       worked =
-          subst (λ c. Worked c (take (k + 1) (mine script.steps n)) (answers ++ a ∷ []) new.tenant.state) (sym keeps)
+          subst (λ c. Worked c (take (k + 1) (mine (steps_of script) n)) (answers ++ a ∷ []) new.tenant.state) (sym keeps)
           (subst (λ xs. Worked old.tenant.limits xs (answers ++ a ∷ []) new.tenant.state) (sym taken)
-          (worked_on old.tenant.limits (take k (mine script.steps n)) x answers a old.tenant.state new.tenant.state
+          (worked_on old.tenant.limits (take k (mine (steps_of script) n)) x answers a old.tenant.state new.tenant.state
           works.worked answered succeeds));
     }
 
 -- it made all
 pub works_all : {Z : Type 0} (script : Draft) (n k : ℕ) (answers : List Answer) (worker : OneWorker Z) →
-    Works script n k answers worker →
+    comes_and_goes script ≡ false → Works script n k answers worker →
     length (places_of script.steps n) ≤ k → IsPlayedAlone script n answers
-works_all script n k answers worker works past =
-    let many = many_from 0 script.steps n in
-    let worked = rw (take_all (mine script.steps n) (subst (λ m. m ≤ k) (sym many) past)) at works.worked in (
+works_all script n k answers worker only works past =
+    let past' : length (mine (steps_of script) n) ≤ k = omega (arith, many_mine script n only, past) in
+    let worked = rw (take_all (mine (steps_of script) n) past') at works.worked in (
       worked.many,
       by (slice_get script.spaces n) (sym (slice_get-map (λ (s : List ℕ × Limits). s.1) script.spaces n)
           ∙ works.limits),
     )
   where
     by : (r : Option (List ℕ × Limits)) → option_map (λ s. s.1) r ≡ Some worker.tenant.limits
-        → IfSome r (λ space. IsToldAlone space.1 (mine script.steps n) answers)
+        → IfSome r (λ space. IsToldAlone space.1 (mine (steps_of script) n) answers)
     by None is = absurd (cc)
     by (Some s) is =
         let same : s.1 ≡ worker.tenant.limits = cc in
-        let past' : length (mine script.steps n) ≤ k = omega (arith, many_from 0 script.steps n, past) in
-        let worked = rw (take_all (mine script.steps n) past') at works.worked in (
+        let past' : length (mine (steps_of script) n) ≤ k = omega (arith, many_mine script n only, past) in
+        let worked = rw (take_all (mine (steps_of script) n) past') at works.worked in (
           sym (ap (λ (w : Run). w.replies) worked.ran)
-              ∙ ap (λ l. lone l (kept_alone (mine script.steps n) answers)) (sym same),
-          subst (λ l. NoWantAlone l (mine script.steps n) answers) (sym same) worked.needed,
+              ∙ ap (λ l. lone l (kept_alone (mine (steps_of script) n) answers)) (sym same),
+          subst (λ l. NoWantAlone l (mine (steps_of script) n) answers) (sym same) worked.needed,
         )
 
 -- The workers of all of a script's namespaces
@@ -198,13 +244,16 @@ opened_from z all m (s ∷ ss) behind (suc k) d low =
     ∙ behind (suc i)) k d (omega (arith, low))
 
 -- they are new
-pub all_opened : {Z : Type 0} (script : Draft) (z : Z) (workers : List (OneWorker Z)) →
+pub all_opened : {Z : Type 0} (script : Draft) (z : Z) (workers : List (OneWorker Z)) → comes_and_goes script ≡ false →
     workers ≡ new_workers (configs_of z script.spaces) →
     All (IsOpened script) workers
-all_opened script z workers is =
-    rw is (λ k d low. opened_from z (map (λ s. new_tenant s.1) script.spaces) 0 script.spaces
-    (λ i. let same : 0 + i ≡ i
-    = omega arith in ap (λ n. slice_get (map (λ s. new_tenant s.1) script.spaces) n) same) k d low)
+all_opened script z workers only is =
+    rw is (λ k d low. (
+      only,
+      opened_from z (map (λ s. new_tenant s.1) script.spaces) 0 script.spaces
+          (λ i. let same : 0 + i ≡ i
+          = omega arith in ap (λ n. slice_get (map (λ s. new_tenant s.1) script.spaces) n) same) k d low,
+    ))
 
 tenant_at : (spaces : List (List ℕ × Limits)) (n : ℕ) (l : Limits) → slice_get (map (λ s. s.1) spaces) n ≡ Some l
     → slice_get (map (λ s. new_tenant s.1) spaces) n ≡ Some (new_tenant l)
@@ -214,12 +263,12 @@ tenant_at (s ∷ ss) (suc n) l is = tenant_at ss n l is
 
 -- so is one of them
 pub one_opened : {Z : Type 0} (script : Draft) (z : Z) (n : ℕ) (limits : Limits) (workers : List (OneWorker Z)) →
-    slice_get (map (λ s. s.1) script.spaces) n ≡ Some limits → workers ≡ new_worker n (limits, z) ∷ [] →
+    comes_and_goes script ≡ false → slice_get (map (λ s. s.1) script.spaces) n ≡ Some limits → workers ≡ new_worker n (limits, z) ∷ [] →
     All (IsOpened script) workers
-one_opened {Z} script z n limits workers at_place is = rw is by
+one_opened {Z} script z n limits workers only at_place is = rw is by
   where
     by : (k : ℕ) (d : OneWorker Z) → k < 1 → IsOpened script (get_or (new_worker n (limits, z) ∷ []) k d)
-    by zero d low = tenant_at script.spaces n limits at_place
+    by zero d low = (only, tenant_at script.spaces n limits at_place)
     by (suc k) d low = absurd (omega (arith, low))
 
 -- there is a list of answers for each
@@ -277,3 +326,13 @@ pub alone_worked : {Z : Type 0} (passed : Passed) (script : Draft) (worker : One
     → workers ≡ worker ∷ [] → AreWorked passed script workers (map f own) → own ≡ left ++ option_to_list last → last ≡ Some v → IsWorked passed script worker.number (f v)
 alone_worked passed script worker workers f own left last v one worked is some =
     alone_at passed script worker f own left v (subst (λ ws. AreWorked passed script ws (map f own)) one worked) (is ∙ ap (λ o. left ++ option_to_list o) some)
+
+-- those before the last are opened where all are
+pub opened_before : {Z : Type 0} (script : Draft) (workers before : List (OneWorker Z)) (worker : OneWorker Z) →
+    All (IsOpened script) workers → workers ≡ before ++ worker ∷ [] → All (IsOpened script) before
+opened_before script workers before worker opened is k d low =
+    let long : length workers ≡ length before + 1 =
+    ap (λ ws. length ws) is ∙ length-append before (worker ∷ []) in
+    subst (λ w. IsOpened script w)
+    (ap (λ ws. get_or ws k d) is ∙ get_or_append_left before (worker ∷ []) d k low)
+    (opened k d (omega (arith, long, low)))

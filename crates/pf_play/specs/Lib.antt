@@ -1,6 +1,9 @@
 pub mod CommandLine
 pub mod Filled
+pub mod Houses
+pub mod Numbers
 pub mod Played
+pub mod Plays
 pub mod Program
 pub mod Replays
 pub mod Texts

@@ -1,6 +1,6 @@
 -- What the program does on the words of its command line: what it prints, and what it ends with.
 
-use Rattle.std.specs.Prelude.{ℕ, ◌≡◌, ◌≢◌, ◌⊎◌, ◌==◌, true, false, List, [], ◌++◌, codes, Option, Some, None, unwrap_or}
+use Rattle.std.specs.Prelude.{ℕ, ◌≡◌, ◌≢◌, ◌⊎◌, ◌==◌, Bool, true, false, List, [], ◌++◌, codes, Option, Some, None, unwrap_or}
 use Rattle.std.specs.Prelude.{Result, Ok, Err, if◌then◌else◌}
 use Rattle.pf_script.specs.Ports.{Input, Output, IsWritten, IsCut}
 use Rattle.pf_script.specs.Notices.{refusal_text}
@@ -10,7 +10,7 @@ use Rattle.pf_play.specs.declared.run.ReplayFault.TheVariants as faults
 use Rattle.pf_play.specs.declared.program.Status.{Status}
 use Rattle.pf_play.specs.declared.program.Status.TheVariants as statuses
 use Rattle.pf_play.specs.Replays.{IsReplayed, IsFault}
-use Rattle.pf_play.specs.CommandLine.{name_in, needs_one_thread, refusals}
+use Rattle.pf_play.specs.CommandLine.{name_in, needs_one_thread, refusals, wants_threads}
 use Rattle.pf_play.specs.Workers.{Passed, IsGated}
 
 -- the number that the process ends with
@@ -26,6 +26,7 @@ abbrev pub status_of : Result Replayed ReplayFault → Status
 status_of (Ok replayed) = if replayed.nomem == 0 then statuses.Done else statuses.NoMemory
 status_of (Err (faults.Script refusal)) = statuses.Refused
 status_of (Err faults.NoSuchName) = statuses.Usage
+status_of (Err faults.NeedsOneThread) = statuses.Usage
 status_of (Err faults.NoMemory) = statuses.NoMemory
 status_of (Err faults.ReadFault) = statuses.Fault
 status_of (Err faults.WriteFault) = statuses.Fault
@@ -35,6 +36,7 @@ abbrev pub words_of : Option (List ℕ) → Result Replayed ReplayFault → Opti
 words_of name (Ok replayed) = None
 words_of name (Err (faults.Script refusal)) = Some (refusal_text refusal)
 words_of name (Err faults.NoSuchName) = Some (codes "no namespace " ++ unwrap_or name [])
+words_of name (Err faults.NeedsOneThread) = Some (codes "admit and retire need one thread")
 words_of name (Err faults.NoMemory) = Some (codes "no memory")
 words_of name (Err faults.ReadFault) = Some (codes "read fault")
 words_of name (Err faults.WriteFault) = None
@@ -59,14 +61,14 @@ abbrev pub IsNoMemory : Output → Output → Status → Type 0
 IsNoMemory old new status = IsToldLine old new (Some (codes "no memory")) statuses.NoMemory status
 
 -- what a replay promises of its end
-abbrev pub IsEnd : Input → Input → Output → Output → Option (List ℕ) → Result Replayed ReplayFault → Type 0
-IsEnd input rest old new name (Ok replayed) = IsReplayed input rest old new name replayed.nomem
-IsEnd input rest old new name (Err fault) = IsFault input rest old new name fault
+abbrev pub IsEnd : Bool → Input → Input → Output → Output → Option (List ℕ) → Result Replayed ReplayFault → Type 0
+IsEnd threads input rest old new name (Ok replayed) = IsReplayed threads input rest old new name replayed.nomem
+IsEnd threads input rest old new name (Err fault) = IsFault threads input rest old new name fault
 
--- the script was run, with this name chosen or with none, and then its end was told
-abbrev pub IsRun : Input → Input → Output → Output → Option (List ℕ) → Status → Type 0
-IsRun input rest old new name status =
-    (end : Result Replayed ReplayFault) × (text : Output) × IsEnd input rest old text name end
+-- the script was run, on threads or on one, with this name chosen or with none, and then its end was told
+abbrev pub IsRun : Bool → Input → Input → Output → Output → Option (List ℕ) → Status → Type 0
+IsRun threads input rest old new name status =
+    (end : Result Replayed ReplayFault) × (text : Output) × IsEnd threads input rest old text name end
     × IsToldLine text new (words_of name end) (status_of end) status
 
 -- what is told where threads are asked for and heaps for the files
@@ -78,7 +80,8 @@ one_thread_line = codes "--tree-heap needs one thread\n"
 -- line says so
 abbrev pub Obeys : List (List ℕ) → Input → Input → Output → Output → Status → Type 0
 Obeys words input rest old new status =
-    ((refusals words ≡ []) × (needs_one_thread words ≡ false) × IsRun input rest old new (name_in words) status)
+    ((refusals words ≡ []) × (needs_one_thread words ≡ false)
+    × IsRun (wants_threads words) input rest old new (name_in words) status)
     ⊎ (((refusals words ≢ []) × (rest ≡ input) × IsUsage old new status)
     ⊎ (((refusals words ≡ []) × (needs_one_thread words ≡ true) × (rest ≡ input)
     × IsTold old new one_thread_line statuses.Usage status)

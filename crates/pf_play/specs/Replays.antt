@@ -1,11 +1,12 @@
 -- What a run of a whole script promises of the bytes that were read and written.
 
-use Rattle.std.specs.Prelude.{ℕ, ◌≡◌, ◌⊎◌, List, Option, Some, None, Result, Ok, Err}
+use Rattle.std.specs.Prelude.{ℕ, ◌≡◌, ◌⊎◌, Bool, true, false, List, Option, Some, None, Result, Ok, Err}
 use Rattle.pf_script.specs.declared.refusal.Refusal.{Refusal}
-use Rattle.pf_base.specs.declared.step.Answer.{Answer}
+use Rattle.pf_base.specs.declared.admission.EventAnswer.{EventAnswer}
 use Rattle.pf_script.specs.Script.{Draft, place_of, read_script}
 use Rattle.pf_script.specs.Text.{text}
-use Rattle.pf_play.specs.Played.{IsPlayedFor, nomem_of}
+use Rattle.pf_play.specs.Played.{comes_and_goes}
+use Rattle.pf_play.specs.Plays.{IsPlayedFor, nomem_of}
 use Rattle.pf_script.specs.Ports.{Input, Output, IsWhole, BreaksOff, IsTooLong, IsGivenUp, IsWritten, IsCut}
 use Rattle.pf_script.specs.declared.fault.ScriptFault.{ScriptFault}
 use Rattle.pf_script.specs.declared.fault.ScriptFault.TheVariants as script_faults
@@ -32,20 +33,28 @@ abbrev pub NamesNone : Draft → Option (List ℕ) → Type 0
 NamesNone script None = ⊥
 NamesNone script (Some name) = place_of name script.spaces ≡ None
 
--- the whole input is accepted; its steps, or those of the name that is chosen, have answers, of which this many met want of memory; and exactly their text was written
-abbrev pub IsReplayed : Input → Input → Output → Output → Option (List ℕ) → ℕ → Type 0
-IsReplayed input rest old new name nomem =
-    IsJudged input rest (λ script. (only : Option ℕ) × (answers : List Answer) × Names script name only × IsPlayedFor script only answers
+-- threads aren't asked for, or no namespace comes or goes
+abbrev pub Suits : Bool → Draft → Type 0
+Suits threads script = threads ≡ true → comes_and_goes script ≡ false
+
+-- the whole input is accepted, and suits threads where they are asked for; its lines, or those of the name that is
+-- chosen, have answers, of which this many met want of memory; and exactly their text was written
+abbrev pub IsReplayed : Bool → Input → Input → Output → Output → Option (List ℕ) → ℕ → Type 0
+IsReplayed threads input rest old new name nomem =
+    IsJudged input rest (λ script. Suits threads script × (only : Option ℕ) × (answers : List EventAnswer) × Names script name only × IsPlayedFor script only answers
     × IsWritten old new (text script answers only) × (nomem ≡ nomem_of answers))
 
 -- each fault has its cause, and only at a write fault was the writer asked for anything: it took a front of such a text
-abbrev pub IsFault : Input → Input → Output → Output → Option (List ℕ) → ReplayFault → Type 0
-IsFault input rest old new name (faults.Script refusal) = ((bytes : List ℕ) × IsWhole input rest bytes × (read_script bytes ≡ Err refusal)) × (new ≡ old)
-IsFault input rest old new name faults.NoMemory = IsGivenUp input rest × (new ≡ old)
-IsFault input rest old new name faults.ReadFault = (BreaksOff input rest ⊎ IsTooLong input rest) × (new ≡ old)
-IsFault input rest old new name faults.NoSuchName = IsJudged input rest (λ script. NamesNone script name) × (new ≡ old)
-IsFault input rest old new name faults.WriteFault =
-    IsJudged input rest (λ script. (only : Option ℕ) × (answers : List Answer) × Names script name only × IsPlayedFor script only answers × IsCut old new (text script answers only))
+abbrev pub IsFault : Bool → Input → Input → Output → Output → Option (List ℕ) → ReplayFault → Type 0
+IsFault threads input rest old new name (faults.Script refusal) = ((bytes : List ℕ) × IsWhole input rest bytes × (read_script bytes ≡ Err refusal)) × (new ≡ old)
+IsFault threads input rest old new name faults.NoMemory = IsGivenUp input rest × (new ≡ old)
+IsFault threads input rest old new name faults.ReadFault = (BreaksOff input rest ⊎ IsTooLong input rest) × (new ≡ old)
+IsFault threads input rest old new name faults.NoSuchName =
+    IsJudged input rest (λ script. Suits threads script × NamesNone script name) × (new ≡ old)
+IsFault threads input rest old new name faults.NeedsOneThread =
+    IsJudged input rest (λ script. (threads ≡ true) × (comes_and_goes script ≡ true)) × (new ≡ old)
+IsFault threads input rest old new name faults.WriteFault =
+    IsJudged input rest (λ script. Suits threads script × (only : Option ℕ) × (answers : List EventAnswer) × Names script name only × IsPlayedFor script only answers × IsCut old new (text script answers only))
 
 -- a script's fault as a fault of the run
 abbrev pub of_script : ScriptFault → ReplayFault

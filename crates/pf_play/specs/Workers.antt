@@ -1,11 +1,11 @@
 -- A script's namespaces as workers, each on a thread of its own, and a gate that is told of their steps.
 
-use Rattle.std.specs.Prelude.{◌≡◌, ℕ, ◌<◌, List, length, map, slice_get, Option, Some, None}
+use Rattle.std.specs.Prelude.{◌≡◌, ℕ, false, ◌<◌, List, length, map, slice_get, Option, Some, None}
 use Rattle.std.specs.List.{AllZip}
 use Rattle.pf_base.specs.declared.step.Answer.{Answer}
 use Rattle.pf_hub.specs.Opening.{new_tenant}
 use Rattle.pf_machine.specs.Events.{mine}
-use Rattle.pf_play.specs.Played.{IsPlayedAlone}
+use Rattle.pf_play.specs.Played.{IsPlayedAlone, comes_and_goes, steps_of}
 use Rattle.pf_play.specs.Replays.{IsJudged, Names}
 use Rattle.pf_script.specs.Ports.{Input}
 use Rattle.pf_script.specs.Script.{Draft}
@@ -15,9 +15,11 @@ use Rattle.pf_worker.specs.Workers.{OneWorker}
 abbrev pub Passed : Type 1
 Passed = ℕ → ℕ → Type 0
 
--- the worker of a namespace of the script that nothing has happened to
+-- the worker of a namespace of the script that nothing has happened to; and no namespace of the script comes or goes
 abbrev pub IsOpened : {Z : Type 0} → Draft → OneWorker Z → Type 0
-IsOpened script worker = slice_get (map (λ s. new_tenant s.1) script.spaces) worker.number ≡ Some worker.tenant
+IsOpened script worker =
+    (comes_and_goes script ≡ false)
+    × (slice_get (map (λ s. new_tenant s.1) script.spaces) worker.number ≡ Some worker.tenant)
 
 -- the gate was told of so many steps of namespace n, at the places from 0
 abbrev pub ArePassed : Passed → ℕ → ℕ → Type 0
@@ -34,7 +36,7 @@ AreWorked passed script workers own =
 
 -- the gate was told of each step of namespace n
 abbrev pub IsPassed : Passed → Draft → ℕ → Type 0
-IsPassed passed script n = ArePassed passed n (length (mine script.steps n))
+IsPassed passed script n = ArePassed passed n (length (mine (steps_of script) n))
 
 -- of each step of all namespaces, or of the one that is chosen
 abbrev pub IsPassedFor : Passed → Draft → Option ℕ → Type 0

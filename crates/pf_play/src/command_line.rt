@@ -15,7 +15,8 @@ const FILL: u8 = 165;
 const ABOUT: &str = "Runs a script of pipe calls from standard input and prints each call's answer";
 
 /// What it says of `--threads`.
-const ABOUT_THREADS: &str = "Runs each namespace on a thread of its own; the text is the same";
+const ABOUT_THREADS: &str =
+    "Runs each namespace on a thread of its own, with the same text; admit and retire need one thread";
 
 /// What it says of `--only`.
 const ABOUT_ONLY: &str = "Runs this namespace's steps alone, and prints its section";
@@ -41,6 +42,8 @@ const SCRIPT: &str = "Lines of a script:
   NAME setsize PID FD BYTES  NAME getsize PID FD
   NAME nonblock PID FD on|off
   NAME resume PID
+  admit NAME RESERVE [SOFT [HARD [MAX]]]
+  retire NAME
 
 UMASK and MODE are octal: a umask at most 0777, a mode at most 01777, where 01000 is the sticky bit.
 FLAGS are r, w or rw, with n behind them for O_NONBLOCK.

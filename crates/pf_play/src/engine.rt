@@ -1,13 +1,24 @@
-ghost use Rattle.std.specs.Prelude.{◌≡◌, ◌<◌, ◌≤◌, length, map, take, None, IfOk};
+ghost use Rattle.std.specs.Prelude.{false, ◌≡◌, ◌+◌, ◌<◌, ◌≤◌, ◌⊎◌, ◌++◌, ℕ, List, [], ◌∷◌, length, map, take, slice_get, Option, Some, None, IfOk};
+ghost use Rattle.std.specs.Prelude.{not};
+ghost use Rattle.std.specs.List.{list_any};
+ghost use Rattle.std.specs.Vec.{vec_capacity};
+ghost use Rattle.pf_base.specs.Limits.{Limits};
+ghost use Rattle.pf_machine.specs.Houses.{House, Stepping, Admitting, Retiring};
+ghost use Rattle.pf_machine.specs.Numbered.{at};
 ghost use Rattle.pf_hub.specs.Opening.{new_hub, new_allocators, limits_of, allocators_of, first_fault};
+ghost use Rattle.pf_hub.specs.Tenants.{house_of};
+ghost use Rattle.pf_script.specs.Sound.{given};
 ghost use Rattle.pf_play.specs.Filled.{AreFilled};
-ghost use Rattle.pf_play.specs.Played.{IsPlayed, IsPlayedAlone, IsPlayedFor, IsChosen, nomem_of};
+ghost use Rattle.pf_play.specs.Houses.{said_of, lone_limits};
+ghost use Rattle.pf_play.specs.Numbers.{IsNamed, Follows, numbers_from};
+ghost use Rattle.pf_play.specs.Played.{IsChosen, comes_and_goes, is_step};
+ghost use Rattle.pf_play.specs.Plays.{IsPlayedFor, nomem_of};
 
 use linked_list_allocator::LocalHeap;
-use pf_base::{Answer, Config};
+use pf_base::{AdmitFault, Answer, Config, EventAnswer, RetireFault, Step};
 use pf_frame::{Frame, PoolFault};
-use pf_hub::{Hub, RunFault};
-use pf_script::Script;
+use pf_hub::Hub;
+use pf_script::{Line, Script};
 use std::alloc::{AllocError, Allocator, Global};
 
 /// The fewest bytes that a heap for a namespace's files may have.
@@ -41,16 +52,6 @@ pub fn frames_of(alloc: Global, count: u32, fill: u8) -> Result<Vec<Frame>, Allo
     Ok(frames)
 }
 
-/// Limits, each with an allocator for its namespace's files: the global one.
-pub fn with_allocators(
-    alloc: Global,
-    limits: &[Config],
-) -> Result<Vec<(Config, Global)>, AllocError>
-    ensures { IfOk result (λ configs. configs.items ≡ map (λ l. (l, alloc)) limits.now) }
-{
-    limits.iter().map(|config| (*config, alloc)).collect(alloc)
-}
-
 /// So many heaps of this many bytes each.
 fn heaps_of(alloc: Global, count: usize, bytes: u32) -> Result<Vec<LocalHeap>, AllocError>
     ensures { IfOk result (λ heaps. length heaps.items ≡ count) }
@@ -62,20 +63,19 @@ fn heaps_of(alloc: Global, count: usize, bytes: u32) -> Result<Vec<LocalHeap>, A
     Ok(heaps)
 }
 
-/// Limits, each with an allocator for its namespace's files: the heap at its place.
-fn with_heaps<'a>(
+/// Limits, each with the allocator for its namespace's files: the one at its place.
+pub fn with_trees<A: Copy>(
     alloc: Global,
     limits: &[Config],
-    heaps: &'a [LocalHeap],
-) -> Result<Vec<(Config, &'a LocalHeap)>, AllocError>
-    requires { length limits.now ≤ length heaps.now }
+    trees: &[A],
+) -> Result<Vec<(Config, A)>, AllocError>
+    requires { length limits.now ≤ length trees.now }
     ensures limits { IfOk result (λ configs. limits_of configs.items ≡ limits.now) }
-    ensures heaps { IfOk result (λ configs. map (λ h. h.now) (allocators_of configs.items)
-        ≡ take (length limits.now) heaps.now) }
+    ensures trees { IfOk result (λ configs. allocators_of configs.items ≡ take (length limits.now) trees.now) }
 {
     let mut configs = Vec::with_capacity(alloc, limits.len())?;
     for place in 0..limits.len() {
-        configs.push_reserved((limits[place], &heaps[place]));
+        configs.push_reserved((limits[place], trees[place]));
     }
     Ok(configs)
 }
@@ -98,77 +98,221 @@ fn hub_of<A: Allocator + Clone>(
     }
 }
 
-/// Runs all of a script's steps over these frames, whatever they hold. Each namespace's files stand in memory of the
-/// allocator beside its limits.
-fn play_all<A: Allocator + Clone>(
-    alloc: Global,
-    script: &Script,
-    configs: Vec<(Config, A)>,
-    frames: Vec<Frame>,
-) -> Result<Vec<Answer>, AllocError>
-    requires frames { length frames.items ≡ script.now.frames }
-    requires limits { limits_of configs.items ≡ map (λ s. s.1) script.now.spaces }
-    requires fits { first_fault (length frames.items) (limits_of configs.items) ≡ None }
-    ensures { IfOk result (λ answers. IsPlayed script.now answers.items) }
+/// The numbers that a hub gives to those that it opens with, and room for those of all names.
+fn first_numbers(alloc: Global, opening: usize, most: usize) -> Result<Vec<Option<u32>>, AllocError>
+    requires within { opening ≤ most }
+    requires few { most ≤ 64 }
+    ensures numbers { IfOk result (λ numbers. numbers.items ≡ numbers_from 0 opening) }
+    ensures room { IfOk result (λ numbers. most ≤ vec_capacity numbers) }
 {
-    let mut hub = hub_of(alloc, configs, frames)?;
-    match hub.run(script.steps()) {
-        Ok(answers) => Ok(answers),
-        Err(RunFault::NoMemory { .. }) => Err(AllocError),
-        Err(RunFault::NoSuchNamespace { .. }) => unreachable!(),
+    let mut numbers = Vec::with_capacity(alloc, most)?;
+    for number in 0..opening {
+        numbers.push_reserved(Some(number as u32));
+    }
+    Ok(numbers)
+}
+
+/// The number that the name at this place has, if it has one.
+fn number_of(numbers: &[Option<u32>], place: u32) -> Option<u32>
+    ensures { result ≡ at numbers.now place }
+{
+    match numbers.get(place as usize) {
+        Some(number) => *number,
+        None => None,
     }
 }
 
-/// Runs all of a script's steps, with all files in the global allocator's memory.
+/// A step of the namespace with this number, if one lives.
+fn step_if_living<A: Allocator + Clone>(
+    hub: &mut Hub<A>,
+    number: Option<u32>,
+    step: &Step,
+) -> EventAnswer
+    ensures follows { (names : List (Option ℕ)) (named : House) (place : ℕ) →
+        IsNamed names (house_of hub.old.world) named → at names place ≡ number →
+        Follows names (house_of hub.new.world) named (Stepping place step.now) result }
+    ensures allocators { hub.new.allocators ≡ hub.old.allocators }
+{
+    match number {
+        Some(ns) if hub.lives(ns) => EventAnswer::Answer(hub.step(ns, step)),
+        _ => EventAnswer::Gone,
+    }
+}
+
+/// Retires the namespace with this number, if one lives.
+fn retire<A: Allocator + Clone>(hub: &mut Hub<A>, number: Option<u32>) -> EventAnswer
+    ensures { (names : List (Option ℕ)) (named : House) (place : ℕ) →
+        IsNamed names (house_of hub.old.world) named → at names place ≡ number →
+        Follows names (house_of hub.new.world) named (Retiring place) result }
+{
+    let Some(ns) = number else {
+        return EventAnswer::NotRetired(RetireFault::NoSuchNamespace);
+    };
+    match hub.retire(ns) {
+        Ok(()) => EventAnswer::Retired,
+        Err(fault) => EventAnswer::NotRetired(fault),
+    }
+}
+
+/// Admits the namespace of the next name, and keeps the number that the hub gives it. A name that isn't admitted keeps its
+/// place among the names, without a number.
+fn admit<A: Allocator + Clone>(
+    hub: &mut Hub<A>,
+    numbers: &mut Vec<Option<u32>>,
+    config: Config,
+    tree: A,
+) -> EventAnswer
+    requires room { length numbers.old.items < vec_capacity numbers.old }
+    requires few { length numbers.old.items < 64 }
+    ensures follows { (named : House) → IsNamed numbers.old.items (house_of hub.old.world) named →
+        Follows numbers.new.items (house_of hub.new.world) named (Admitting config) result }
+    ensures number { length numbers.new.items ≡ length numbers.old.items + 1 }
+    ensures room { vec_capacity numbers.new ≡ vec_capacity numbers.old }
+    ensures tree { (hub.new.allocators ≡ hub.old.allocators ++ Some tree ∷ []) ⊎ (hub.new.allocators ≡ hub.old.allocators) }
+{
+    let place = numbers.len() as u32;
+    match hub.admit(config, tree) {
+        Ok(number) => {
+            numbers.push_reserved(Some(number));
+            EventAnswer::Admitted(place)
+        }
+        Err(fault) => {
+            numbers.push_reserved(None);
+            EventAnswer::NotAdmitted(fault)
+        }
+    }
+}
+
+/// Does what a line of the script says. `ns` is its name's place in the script, and `place` among the names that are run.
+fn tell<A: Allocator + Clone>(
+    hub: &mut Hub<A>,
+    numbers: &mut Vec<Option<u32>>,
+    script: &Script,
+    ns: u32,
+    place: u32,
+    line: &Line,
+    tree: A,
+) -> EventAnswer
+    requires exists { ns < length script.now.spaces }
+    requires room { given (length numbers.old.items) line.now ≤ vec_capacity numbers.old }
+    requires few { given (length numbers.old.items) line.now ≤ 64 }
+    ensures follows { (limits : Limits) (named : House) →
+        slice_get (map (λ s. s.1) script.now.spaces) ns ≡ Some limits →
+        IsNamed numbers.old.items (house_of hub.old.world) named →
+        Follows numbers.new.items (house_of hub.new.world) named (said_of limits place line.now) result }
+    ensures number { length numbers.new.items ≡ given (length numbers.old.items) line.now }
+    ensures room { vec_capacity numbers.new ≡ vec_capacity numbers.old }
+{
+    match line {
+        Line::Step(step) => step_if_living(hub, number_of(numbers, place), step),
+        Line::Admit => admit(hub, numbers, script.config(ns as usize), tree),
+        Line::Retire => retire(hub, number_of(numbers, place)),
+    }
+}
+
+/// Runs all of a script's lines over these frames, whatever they hold. Each namespace's files stand in memory of the
+/// allocator at its place.
+fn play_all<A: Allocator + Copy>(
+    alloc: Global,
+    script: &Script,
+    trees: &[A],
+    frames: Vec<Frame>,
+) -> Result<Vec<EventAnswer>, AllocError>
+    requires frames { length frames.items ≡ script.now.frames }
+    requires trees { length trees.now ≡ length script.now.spaces }
+    ensures { IfOk result (λ answers. IsPlayedFor script.now None answers.items) }
+{
+    let limits = script.configs(alloc)?;
+    let configs = with_trees(alloc, limits.as_slice(), trees)?;
+    let mut hub = hub_of(alloc, configs, frames)?;
+    let mut numbers = first_numbers(alloc, script.opening(), script.count_spaces())?;
+    let lines = script.steps();
+    let mut answers = Vec::with_capacity(alloc, lines.len())?;
+    for event in lines {
+        let ns = event.0;
+        let tree = trees[ns as usize];
+        let answer = tell(&mut hub, &mut numbers, script, ns, ns, &event.1, tree);
+        answers.push_reserved(answer);
+    }
+    Ok(answers)
+}
+
+/// Runs all of a script's lines, with all files in the global allocator's memory.
 fn play_all_in_global(
     alloc: Global,
     script: &Script,
     frames: Vec<Frame>,
-) -> Result<Vec<Answer>, AllocError>
+) -> Result<Vec<EventAnswer>, AllocError>
     requires { length frames.items ≡ script.now.frames }
-    ensures { IfOk result (λ answers. IsPlayed script.now answers.items) }
+    ensures { IfOk result (λ answers. IsPlayedFor script.now None answers.items) }
 {
-    let limits = script.configs(alloc)?;
-    let configs = with_allocators(alloc, limits.as_slice())?;
-    play_all(alloc, script, configs, frames)
+    let trees = Vec::from_elem(alloc, alloc, script.count_spaces())?;
+    play_all(alloc, script, trees.as_slice(), frames)
 }
 
-/// Runs all of a script's steps, with each namespace's files in a heap of its own, of this many bytes.
+/// Runs all of a script's lines, with the files of each name in a heap of its own, of this many bytes.
 fn play_all_in_heaps(
     alloc: Global,
     script: &Script,
     bytes: u32,
     frames: Vec<Frame>,
-) -> Result<Vec<Answer>, AllocError>
+) -> Result<Vec<EventAnswer>, AllocError>
     requires { length frames.items ≡ script.now.frames }
-    ensures { IfOk result (λ answers. IsPlayed script.now answers.items) }
+    ensures { IfOk result (λ answers. IsPlayedFor script.now None answers.items) }
 {
-    let limits = script.configs(alloc)?;
-    let heaps = heaps_of(alloc, limits.len(), bytes)?;
-    let configs = with_heaps(alloc, limits.as_slice(), heaps.as_slice())?;
-    play_all(alloc, script, configs, frames)
+    let heaps = heaps_of(alloc, script.count_spaces(), bytes)?;
+    let trees: Vec<&LocalHeap> = heaps.iter().collect(alloc)?;
+    play_all(alloc, script, trees.as_slice(), frames)
 }
 
-/// Runs the steps of one namespace alone over all of the script's frames, whatever they hold. Its files stand in memory of
-/// the allocator `tree`.
-fn play_alone<A: Allocator + Clone>(
+/// What the hub of one name alone opens with, over all of the script's frames: the name is there from the start where it
+/// has a space line.
+fn lone_configs<A: Allocator + Copy>(
+    alloc: Global,
+    script: &Script,
+    ns: u32,
+    tree: A,
+) -> Result<Vec<(Config, A)>, AllocError>
+    requires { ns < length script.now.spaces }
+    ensures limits { IfOk result (λ configs. limits_of configs.items ≡ lone_limits script.now ns) }
+    ensures allocators { IfOk result (λ configs. allocators_of configs.items ≡ map (λ _. tree) (limits_of configs.items)) }
+    ensures fits { IfOk result (λ configs. first_fault script.now.frames (limits_of configs.items) ≡ None) }
+    ensures few { IfOk result (λ configs. length configs.items ≤ 1) }
+{
+    let config = script.config(ns as usize);
+    let opening = script.opening();
+    let mut configs = Vec::with_capacity(alloc, 1)?;
+    if (ns as usize) < opening {
+        configs.push_reserved((config, tree));
+        Ok(configs)
+    } else {
+        Ok(configs)
+    }
+}
+
+/// Runs the lines of one name alone over all of the script's frames, whatever they hold. Its files stand in memory of the
+/// allocator `tree`.
+fn play_alone<A: Allocator + Copy>(
     alloc: Global,
     script: &Script,
     ns: u32,
     tree: A,
     frames: Vec<Frame>,
-) -> Result<Vec<Answer>, AllocError>
+) -> Result<Vec<EventAnswer>, AllocError>
     requires frames { length frames.items ≡ script.now.frames }
     requires exists { ns < length script.now.spaces }
-    ensures { IfOk result (λ answers. IsPlayedAlone script.now ns answers.items) }
+    ensures { IfOk result (λ answers. IsPlayedFor script.now (Some ns) answers.items) }
 {
-    let mut configs = Vec::with_capacity(alloc, 1)?;
-    configs.push_reserved((script.config(ns as usize), tree));
+    let configs = lone_configs(alloc, script, ns, tree)?;
+    let count = configs.len();
+    let mut numbers = first_numbers(alloc, count, 1)?;
     let mut hub = hub_of(alloc, configs, frames)?;
+    let lines = script.steps();
     let mut answers = Vec::with_capacity(alloc, script.places(ns as usize).len())?;
-    for event in script.steps() {
+    for event in lines {
         if event.0 == ns {
-            answers.push(hub.step(0, &event.1))?;
+            let answer = tell(&mut hub, &mut numbers, script, ns, 0, &event.1, tree);
+            answers.push(answer)?;
         }
     }
     Ok(answers)
@@ -181,16 +325,16 @@ fn play_alone_in_heap(
     ns: u32,
     bytes: u32,
     frames: Vec<Frame>,
-) -> Result<Vec<Answer>, AllocError>
+) -> Result<Vec<EventAnswer>, AllocError>
     requires frames { length frames.items ≡ script.now.frames }
     requires exists { ns < length script.now.spaces }
-    ensures { IfOk result (λ answers. IsPlayedAlone script.now ns answers.items) }
+    ensures { IfOk result (λ answers. IsPlayedFor script.now (Some ns) answers.items) }
 {
     let heap = LocalHeap::new(alloc, bytes as usize)?;
     play_alone(alloc, script, ns, &heap, frames)
 }
 
-/// Runs a script's steps over these frames, or those of one namespace alone: with the files of each namespace that is run
+/// Runs a script's lines over these frames, or those of one name alone: with the files of each namespace that is run
 /// in a heap of its own, where its bytes are told, and else in the global allocator's memory.
 pub fn play(
     alloc: Global,
@@ -198,7 +342,7 @@ pub fn play(
     only: Option<u32>,
     tree_heap: Option<u32>,
     frames: Vec<Frame>,
-) -> Result<Vec<Answer>, AllocError>
+) -> Result<Vec<EventAnswer>, AllocError>
     requires frames { length frames.items ≡ script.now.frames }
     requires chosen { IsChosen script.now only }
     ensures { IfOk result (λ answers. IsPlayedFor script.now only answers.items) }
@@ -211,13 +355,32 @@ pub fn play(
     }
 }
 
+/// Whether a line of the script admits or retires a namespace.
+pub fn comes_and_goes(script: &Script) -> bool
+    ensures comes { result ≡ comes_and_goes script.now }
+    ensures whole { result ≡ false → script.now.opening ≡ length script.now.spaces }
+{
+    let lines = script.steps();
+    are_others(lines)
+}
+
+/// Whether one of these lines isn't a step.
+fn are_others(lines: &[(u32, Line)]) -> bool
+    ensures { result ≡ list_any (λ e. not (is_step e.1)) lines.now }
+{
+    lines.iter().any(|event| !matches!(event.1, Line::Step(_)))
+}
+
 /// How many of these answers say that memory was wanted.
-pub fn count_nomem(answers: &[Answer]) -> u64
+pub fn count_nomem(answers: &[EventAnswer]) -> u64
     ensures { result ≡ nomem_of answers.now }
 {
     let mut count: u64 = 0;
     for answer in answers {
-        if matches!(answer, Answer::NoMemory) {
+        if matches!(
+            answer,
+            EventAnswer::Answer(Answer::NoMemory) | EventAnswer::NotAdmitted(AdmitFault::NoMemory)
+        ) {
             count += 1;
         }
     }

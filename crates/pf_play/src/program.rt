@@ -24,6 +24,9 @@ use std::{env, io};
 /// What is told where a word of the command line is no text.
 const NO_TEXT: &str = "error: a word of the command line isn't UTF-8\n";
 
+/// What is told where threads are asked for and the script admits or retires a namespace.
+const NEEDS_ONE: &str = "admit and retire need one thread\n";
+
 /// What is told where threads are asked for and heaps for the files.
 const ONE_THREAD: &str = "--tree-heap needs one thread\n";
 
@@ -34,8 +37,8 @@ pub enum Status {
     Done = 0,
     /// The script is refused.
     Refused = 1,
-    /// The words of the command line aren't taken, they ask for help or for what threads can't have, or no namespace has
-    /// the name that they choose.
+    /// The words of the command line aren't taken, they ask for help or for what threads can't have, no namespace has the
+    /// name that they choose, or the script needs one thread and they ask for more.
     Usage = 2,
     /// Memory was wanted, by a step or outside of them.
     NoMemory = 3,
@@ -104,6 +107,7 @@ fn tell_fault<W: Sink>(writer: &mut W, only: Option<&str>, fault: ReplayFault) -
             let name = only.unwrap_or("");
             tell(writer, &Notice::NoNamespace(name), Status::Usage)
         }
+        ReplayFault::NeedsOneThread => tell_text(writer, NEEDS_ONE, Status::Usage),
         ReplayFault::NoMemory => tell_no_memory(writer),
         ReplayFault::ReadFault => tell(writer, &Notice::ReadFault, Status::Fault),
         ReplayFault::WriteFault => Status::Fault,
@@ -134,7 +138,7 @@ fn play_input<R: Source, W: Sink>(
     asked: &Asked<'_>,
 ) -> Status
     requires { asked.now.threads ≡ false }
-    ensures { IsRun (R.input reader.old) (R.input reader.new) (W.output writer.old) (W.output writer.new)
+    ensures { IsRun false (R.input reader.old) (R.input reader.new) (W.output writer.old) (W.output writer.new)
         (option_copied asked.now.options.only) result }
 {
     let end = replay(alloc, reader, writer, &asked.options);
@@ -152,7 +156,7 @@ fn play_input_threads<T: Threads + Wait + Sync, R: Source, W: Sink, G: Gate + Sy
 ) -> Status
     requires threads { asked.now.threads ≡ true }
     requires no_heap { asked.now.options.tree_heap ≡ None }
-    ensures run { IsRun (R.input reader.old) (R.input reader.new) (W.output writer.old) (W.output writer.new)
+    ensures run { IsRun true (R.input reader.old) (R.input reader.new) (W.output writer.old) (W.output writer.new)
         (option_copied asked.now.options.only) result }
     ensures gated { IsGatedIfDone (G.passed gate.now) (R.input reader.old) (R.input reader.new)
         (option_copied asked.now.options.only) result }
@@ -162,7 +166,8 @@ fn play_input_threads<T: Threads + Wait + Sync, R: Source, W: Sink, G: Gate + Sy
 }
 
 /// Judges the words of the command line, of which the first is the program's name, and then does what they say. What is
-/// written is the same with threads and without. The gate is told of each step where threads are asked for, and of none
+/// written is the same with threads and without, but for a script that admits or retires a namespace: that needs one
+/// thread. The gate is told of each step where threads are asked for, and of none
 /// else. A heap for the files is for one thread.
 pub fn obey<T: Threads + Wait + Sync, R: Source, W: Sink, G: Gate + Sync>(
     rt: &T,

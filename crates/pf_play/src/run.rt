@@ -1,4 +1,4 @@
-ghost use Rattle.std.specs.Prelude.{◌≡◌, IfOk, IfErr, OnErr, option_copied};
+ghost use Rattle.std.specs.Prelude.{◌≡◌, false, IfOk, IfErr, OnErr, option_copied};
 ghost use Rattle.pf_play.specs.Played.{IsChosen};
 ghost use Rattle.pf_play.specs.Replays.{IsReplayed, IsFault, Names, NamesNone};
 
@@ -32,6 +32,10 @@ pub enum ReplayFault {
     /// The script is accepted, and no namespace of it has the name that was chosen. Nothing was written.
     #[error("no such name")]
     NoSuchName,
+    /// The script is accepted, but one of its lines admits or retires a namespace, and threads were asked for. Nothing was
+    /// written.
+    #[error("admit and retire need one thread")]
+    NeedsOneThread,
 }
 
 impl From<ScriptFault> for ReplayFault {
@@ -87,9 +91,9 @@ pub fn chosen(script: &Script, name: Option<&str>) -> Result<Option<u32>, NoName
     }
 }
 
-/// Reads a script to its end, runs its steps, and writes the text of the answers. With one name chosen the steps of its
-/// namespace are run alone, over all of the script's frames, and its section alone is written. With heaps for the files
-/// each namespace that is run has one of its own.
+/// Reads a script to its end, runs its lines, and writes the text of the answers. With one name chosen its lines are run
+/// alone, over all of the script's frames, and its section alone is written. With heaps for the files each name that is
+/// run has one of its own.
 ///
 /// All faults but `WriteFault` come before the writer is asked for anything. A read or a write fault comes with the
 /// first call that fails, and nothing is asked after it.
@@ -99,9 +103,9 @@ pub fn replay<R: Source, W: Sink>(
     writer: &mut W,
     options: &Options<'_>,
 ) -> Result<Replayed, ReplayFault>
-    ensures played { IfOk result (λ r. IsReplayed (R.input reader.old) (R.input reader.new)
+    ensures played { IfOk result (λ r. IsReplayed false (R.input reader.old) (R.input reader.new)
         (W.output writer.old) (W.output writer.new) (option_copied options.now.only) r.nomem) }
-    ensures fault { IfErr result (IsFault (R.input reader.old) (R.input reader.new)
+    ensures fault { IfErr result (IsFault false (R.input reader.old) (R.input reader.new)
         (W.output writer.old) (W.output writer.new) (option_copied options.now.only)) }
 {
     let script = read_script(alloc, reader)?;

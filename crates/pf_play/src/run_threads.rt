@@ -1,8 +1,8 @@
-ghost use Rattle.std.specs.Prelude.{◌≡◌, None, IfOk, IfErr, IsOk, option_copied};
+ghost use Rattle.std.specs.Prelude.{◌≡◌, true, None, IfOk, IfErr, IsOk, option_copied};
 ghost use Rattle.pf_play.specs.Replays.{IsReplayed, IsFault};
 ghost use Rattle.pf_play.specs.Workers.{IsGated};
 
-use crate::engine::{Options, count_nomem, frames_of};
+use crate::engine::{Options, comes_and_goes, count_nomem, frames_of};
 use crate::run::{ReplayFault, Replayed, chosen};
 use crate::threads::play_threads;
 use pf_script::{Sink, Source, print, read_script};
@@ -18,6 +18,8 @@ use std::thread::Threads;
 /// among the namespace's own, while no lock is held; and of each frame before it is taken. A thread that can't be started
 /// counts as a growth of memory that was refused. The files stand in the global allocator's memory: a heap of
 /// `Options::tree_heap` is for one thread.
+///
+/// A script that admits or retires a namespace needs one thread: it is refused before the chosen name is looked for.
 pub fn replay_threads<T: Threads + Wait + Sync, R: Source, W: Sink, G: Gate + Sync>(
     rt: &T,
     alloc: Global,
@@ -27,14 +29,17 @@ pub fn replay_threads<T: Threads + Wait + Sync, R: Source, W: Sink, G: Gate + Sy
     gate: &G,
 ) -> Result<Replayed, ReplayFault>
     requires { options.now.tree_heap ≡ None }
-    ensures played { IfOk result (λ r. IsReplayed (R.input reader.old) (R.input reader.new)
+    ensures played { IfOk result (λ r. IsReplayed true (R.input reader.old) (R.input reader.new)
         (W.output writer.old) (W.output writer.new) (option_copied options.now.only) r.nomem) }
-    ensures fault { IfErr result (IsFault (R.input reader.old) (R.input reader.new)
+    ensures fault { IfErr result (IsFault true (R.input reader.old) (R.input reader.new)
         (W.output writer.old) (W.output writer.new) (option_copied options.now.only)) }
     ensures passed { IsOk result → IsGated (G.passed gate.now) (R.input reader.old) (R.input reader.new)
         (option_copied options.now.only) }
 {
     let script = read_script(alloc, reader)?;
+    if comes_and_goes(&script) {
+        return Err(ReplayFault::NeedsOneThread);
+    }
     let Ok(only) = chosen(&script, options.only) else {
         return Err(ReplayFault::NoSuchName);
     };

@@ -5,15 +5,16 @@ ghost use Rattle.std.specs.List.{All};
 ghost use Rattle.pf_base.specs.declared.TheConstants.{MAX_FRAMES, MAX_NAMESPACES};
 ghost use Rattle.pf_machine.specs.Events.{IsDone};
 ghost use Rattle.pf_machine.specs.Machine.{Answers, may_want_memory};
-ghost use Rattle.pf_play.specs.Played.{IsPlayed, IsPlayedAlone, IsPlayedFor, IsChosen};
+ghost use Rattle.pf_base.specs.declared.admission.EventAnswer.TheVariants as events;
+ghost use Rattle.pf_play.specs.Played.{IsPlayed, IsPlayedAlone, IsRunFor, IsChosen, comes_and_goes};
+ghost use Rattle.pf_play.specs.Plays.{IsPlayedFor};
 ghost use Rattle.pf_play.specs.Workers.{IsOpened, IsPassed, IsPassedFor, IsWorked, AreWorked};
 ghost use Rattle.pf_worker.specs.Workers.{new_worker};
 
-use crate::engine::with_allocators;
-use pf_base::{Answer, Config, MAX_NAMESPACES, Step};
+use pf_base::{Answer, Config, EventAnswer, MAX_NAMESPACES, Step};
 use pf_depot::DepotBook;
 use pf_frame::{Frame, PoolFault};
-use pf_script::Script;
+use pf_script::{Line, Script};
 use pf_worker::{Gate, Worker, open};
 use std::alloc::{AllocError, Global};
 use std::marker::Brand;
@@ -64,7 +65,9 @@ fn make_steps<R: Wait, G: Gate, C: Ledger, H: Ledger>(
     for at in places {
         let place = answers.len() as u64;
         gate.pass(ns, place);
-        let step = &steps[*at as usize].1;
+        let Line::Step(step) = &steps[*at as usize].1 else {
+            unreachable!()
+        };
         answers.push_reserved(step_told(rt, book, gate, place, worker, step));
     }
     Ok(answers)
@@ -198,6 +201,7 @@ fn work_all<
 
 /// The answers of all namespaces, in the order of the script's steps.
 fn merge(alloc: Global, script: &Script, own: Vec<Vec<Answer>>) -> Result<Vec<Answer>, AllocError>
+    requires only { comes_and_goes script.now ≡ false }
     requires number { length own.items ≡ length script.now.spaces }
     requires alone { (n : ℕ) → n < length script.now.spaces
         → IsPlayedAlone script.now n (slice_index_or (map (λ v. v.items) own.items) n []) }
@@ -226,6 +230,13 @@ fn left_of(alloc: Global, own: Vec<Vec<Answer>>) -> Result<Vec<IntoIter<Answer>>
     Ok(left)
 }
 
+/// Limits, each with an allocator for its namespace's files: the global one.
+fn with_allocators(alloc: Global, limits: &[Config]) -> Result<Vec<(Config, Global)>, AllocError>
+    ensures { IfOk result (λ configs. configs.items ≡ map (λ l. (l, alloc)) limits.now) }
+{
+    limits.iter().map(|config| (*config, alloc)).collect(alloc)
+}
+
 /// Runs all of a script's steps, each namespace's on a thread of its own, over these frames, whatever they hold.
 fn play_all<
     R: Threads + Wait + Sync,
@@ -244,6 +255,8 @@ fn play_all<
     requires names { (credits.name ≡ C.name) × (held.name ≡ H.name) }
     requires cut { (credits.parts ≡ C.parts) × (held.parts ≡ H.parts) }
     requires parts { (MAX_NAMESPACES ≤ credits.parts) × (MAX_NAMESPACES ≤ held.parts) }
+    requires only { comes_and_goes script.now ≡ false }
+    requires whole { script.now.opening ≡ length script.now.spaces }
     requires frames { length frames.items ≡ script.now.frames }
     ensures played { IfOk result (λ answers. IsPlayed script.now answers.items) }
     ensures passed { IsOk result → IsPassedFor (G.passed gate.now) script.now None }
@@ -306,6 +319,8 @@ fn play_alone<
     requires names { (credits.name ≡ C.name) × (held.name ≡ H.name) }
     requires cut { (credits.parts ≡ C.parts) × (held.parts ≡ H.parts) }
     requires parts { (MAX_NAMESPACES ≤ credits.parts) × (MAX_NAMESPACES ≤ held.parts) }
+    requires only { comes_and_goes script.now ≡ false }
+    requires whole { script.now.opening ≡ length script.now.spaces }
     requires frames { length frames.items ≡ script.now.frames }
     requires exists { ns < length script.now.spaces }
     ensures played { IfOk result (λ answers. IsPlayedAlone script.now ns answers.items) }
@@ -338,9 +353,11 @@ fn play_for<
     requires names { (credits.name ≡ C.name) × (held.name ≡ H.name) }
     requires cut { (credits.parts ≡ C.parts) × (held.parts ≡ H.parts) }
     requires parts { (MAX_NAMESPACES ≤ credits.parts) × (MAX_NAMESPACES ≤ held.parts) }
+    requires only { comes_and_goes script.now ≡ false }
+    requires whole { script.now.opening ≡ length script.now.spaces }
     requires frames { length frames.items ≡ script.now.frames }
     requires chosen { IsChosen script.now only }
-    ensures played { IfOk result (λ answers. IsPlayedFor script.now only answers.items) }
+    ensures played { IfOk result (λ answers. IsRunFor script.now only answers.items) }
     ensures passed { IsOk result → IsPassedFor (G.passed gate.now) script.now only }
 {
     match only {
@@ -349,8 +366,18 @@ fn play_for<
     }
 }
 
-/// Runs a script's steps over these frames, or those of one namespace alone: each namespace's on a thread of its own. A
-/// thread that can't be started counts as want of memory.
+// Answers to steps as answers to a script's lines.
+fn as_told(alloc: Global, answers: Vec<Answer>) -> Result<Vec<EventAnswer>, AllocError>
+    ensures { IfOk result (λ told. told.items ≡ map (λ a. events.Answer a) answers.items) }
+{
+    answers
+        .into_iter()
+        .map(|answer| EventAnswer::Answer(answer))
+        .collect(alloc)
+}
+
+/// Runs the steps of a script in which no namespace comes or goes over these frames, or those of one namespace alone: each
+/// namespace's on a thread of its own. A thread that can't be started counts as want of memory.
 pub fn play_threads<R: Threads + Wait + Sync, G: Gate + Sync>(
     rt: &R,
     alloc: Global,
@@ -358,14 +385,16 @@ pub fn play_threads<R: Threads + Wait + Sync, G: Gate + Sync>(
     only: Option<u32>,
     frames: Vec<Frame>,
     gate: &G,
-) -> Result<Vec<Answer>, AllocError>
+) -> Result<Vec<EventAnswer>, AllocError>
+    requires only { comes_and_goes script.now ≡ false }
+    requires whole { script.now.opening ≡ length script.now.spaces }
     requires frames { length frames.items ≡ script.now.frames }
     requires chosen { IsChosen script.now only }
     ensures played { IfOk result (λ answers. IsPlayedFor script.now only answers.items) }
     ensures passed { IsOk result → IsPassedFor (G.passed gate.now) script.now only }
 {
     let most = MAX_NAMESPACES as u64;
-    play_for::<R, G, Brand, Brand>(
+    let answers = play_for::<R, G, Brand, Brand>(
         rt,
         alloc,
         script,
@@ -374,5 +403,7 @@ pub fn play_threads<R: Threads + Wait + Sync, G: Gate + Sync>(
         gate,
         Blank::new(most),
         Blank::new(most),
-    )
+    )?;
+    let told = as_told(alloc, answers)?;
+    Ok(told)
 }

@@ -7,8 +7,9 @@ use crate::end::End;
 use crate::row::Row;
 use crate::scripts::frames_of;
 use crate::told::Told;
+use pf_base::EventAnswer;
 use pf_frame::OwnFrames;
-use pf_script::Script;
+use pf_script::{Line, Script};
 use pf_space::Space;
 use std::alloc::Global;
 
@@ -23,11 +24,14 @@ fn make_all(
 ) -> Result<(), End>
     requires owns { Owns (own_live frames.old) space.old }
 {
-    for (place, (_, step)) in script.steps().iter().enumerate() {
+    for (place, (_, line)) in script.steps().iter().enumerate() {
+        let Line::Step(step) = line else {
+            return Err(End::NoScript);
+        };
         row.give_sign_at(alloc, place)?;
         let answer = space.step(frames, step);
         row.give_sign_at(alloc, place)?;
-        told.answers.push(answer)?;
+        told.answers.push(EventAnswer::Answer(answer))?;
     }
     Ok(())
 }

@@ -7,7 +7,7 @@ use crate::scripts::{configs_of, frames_of};
 use crate::told::{Told, admission, retirement};
 use pf_base::{AdmitFault, Answer, Config, EventAnswer, Step};
 use pf_hub::{Event, EventFault, Hub, RunFault};
-use pf_script::Script;
+use pf_script::{Line, Script};
 use std::alloc::Global;
 
 /// A hub that makes steps one by one.
@@ -18,11 +18,11 @@ struct Single<'a> {
 }
 
 impl Host for Single<'_> {
-    fn make(&mut self, ns: u32, step: &Step) -> Result<Answer, End> {
+    fn make(&mut self, ns: u32, step: &Step) -> Result<EventAnswer, End> {
         if !self.hub.lives(ns) {
-            return Err(End::NoScript);
+            return Ok(EventAnswer::Gone);
         }
-        Ok(self.hub.step(ns, step))
+        Ok(EventAnswer::Answer(self.hub.step(ns, step)))
     }
 
     fn comes(&mut self, config: Config) -> Result<EventAnswer, End> {
@@ -34,14 +34,35 @@ impl Host for Single<'_> {
     }
 }
 
+/// Copies of a script's steps.
+fn steps_of(alloc: Global, script: &Script) -> Result<Vec<(u32, Step)>, End> {
+    let mut steps = Vec::new(alloc);
+    for (ns, line) in script.steps() {
+        let Line::Step(step) = line else {
+            return Err(End::NoScript);
+        };
+        steps.push((*ns, step.copy(alloc)?))?;
+    }
+    Ok(steps)
+}
+
 /// Has a hub make all steps at once. Where it stops, those that have no answer count as refused.
-fn run_all(script: &Script, hub: &mut Hub<Global>, told: &mut Told) -> Result<(), End> {
-    told.answers = match hub.run(script.steps()) {
+fn run_all(
+    alloc: Global,
+    script: &Script,
+    hub: &mut Hub<Global>,
+    told: &mut Told,
+) -> Result<(), End> {
+    let steps = steps_of(alloc, script)?;
+    let answers = match hub.run(&steps) {
         Ok(answers) | Err(RunFault::NoMemory { answers }) => answers,
         Err(RunFault::NoSuchNamespace { .. }) => return Err(End::NoScript),
     };
-    for _ in told.answers.len()..script.steps().len() {
-        told.answers.push(Answer::NoMemory)?;
+    for answer in answers {
+        told.answers.push(EventAnswer::Answer(answer))?;
+    }
+    for _ in told.answers.len()..steps.len() {
+        told.answers.push(EventAnswer::Answer(Answer::NoMemory))?;
     }
     Ok(())
 }
@@ -49,10 +70,13 @@ fn run_all(script: &Script, hub: &mut Hub<Global>, told: &mut Told) -> Result<()
 /// Adds steps to a list of events.
 fn add_steps(
     alloc: Global,
-    steps: &[(u32, Step)],
+    lines: &[(u32, Line)],
     events: &mut Vec<Event<Global>>,
 ) -> Result<(), End> {
-    for (ns, step) in steps {
+    for (ns, line) in lines {
+        let Line::Step(step) = line else {
+            return Err(End::NoScript);
+        };
         events.push(Event::Step(*ns, step.copy(alloc)?))?;
     }
     Ok(())
@@ -61,12 +85,12 @@ fn add_steps(
 /// Adds what happens in a row with this guest, which comes in front of the step of this place.
 fn add_all(
     alloc: Global,
-    steps: &[(u32, Step)],
+    lines: &[(u32, Line)],
     comes: usize,
     guest: (u32, Config),
     events: &mut Vec<Event<Global>>,
 ) -> Result<(), End> {
-    let (before, after) = steps.split_at(comes.min(steps.len()));
+    let (before, after) = lines.split_at(comes.min(lines.len()));
     let (ns, config) = guest;
     add_steps(alloc, before, events)?;
     events.push(Event::Admit(config, alloc))?;
@@ -80,7 +104,7 @@ fn add_all(
 /// Adds what an event was told.
 fn add_answer(answer: EventAnswer, told: &mut Told) -> Result<(), End> {
     match answer {
-        EventAnswer::Answer(answer) => told.answers.push(answer)?,
+        EventAnswer::Answer(_) => told.answers.push(answer)?,
         EventAnswer::Gone => return Err(End::NoScript),
         coming => told.comings.push(coming)?,
     }
@@ -105,7 +129,7 @@ fn add_answers(
             told.comings
                 .push(EventAnswer::NotAdmitted(AdmitFault::NoMemory))?;
         } else {
-            told.answers.push(Answer::NoMemory)?;
+            told.answers.push(EventAnswer::Answer(Answer::NoMemory))?;
         }
     }
     Ok(())
@@ -147,7 +171,7 @@ fn make(
     told: &mut Told,
 ) -> Result<(), End> {
     match row.way {
-        Way::Run => run_all(script, hub, told),
+        Way::Run => run_all(alloc, script, hub, told),
         Way::GuestEvents => run_events(alloc, row, script, hub, told),
         _ => make_all(alloc, row, script, &mut Single { alloc, hub }, told),
     }

@@ -8,8 +8,8 @@ use crate::row::Row;
 use crate::scripts::blank;
 use crate::served::{answer_at, close, service_of};
 use crate::told::Told;
-use pf_base::{Answer, Step};
-use pf_script::Script;
+use pf_base::{Answer, EventAnswer, Step};
+use pf_script::{Line, Script};
 use pf_service::{Gate, Seat, Service, ServiceFault};
 use std::alloc::Global;
 use std::marker::Brand;
@@ -152,14 +152,17 @@ fn call_each<R: Wait, C: Ledger, H: Ledger>(
     rt: &R,
     service: &Counted<'_, C, H>,
     seat: &mut Seat,
-    steps: &[(u32, Step)],
+    lines: &[(u32, Line)],
     place: usize,
     told: &mut Told,
 ) -> Result<(), End> {
     let mut place = place;
-    for (_, step) in steps {
+    for (_, line) in lines {
+        let Line::Step(step) = line else {
+            return Err(End::NoScript);
+        };
         let answer = answer_at(rt, service, seat, step, place)?;
-        if matches!(&answer, Answer::Done(_)) {
+        if matches!(&answer, EventAnswer::Answer(Answer::Done(_))) {
             place = place.saturating_add(1);
         }
         told.answers.push(answer)?;
@@ -181,7 +184,7 @@ fn keep(
         Some(event) => Answer::Done(event.reply.copy(alloc)?),
         None => Answer::NoMemory,
     };
-    told.answers.push(answer)?;
+    told.answers.push(EventAnswer::Answer(answer))?;
     seats.push(seat)?;
     Ok(())
 }
@@ -243,9 +246,9 @@ fn make<R: Threads + Wait + Sync, C: Ledger + Send + Sync, H: Ledger + Send + Sy
     seats: &mut Vec<Seat>,
     told: &mut Told,
 ) -> Result<(), End> {
-    let steps = script.steps();
-    let (before, rest) = steps.split_at(row.at.min(steps.len()));
-    let [(_, waiting), (_, next), after @ ..] = rest else {
+    let lines = script.steps();
+    let (before, rest) = lines.split_at(row.at.min(lines.len()));
+    let [(_, Line::Step(waiting)), (_, Line::Step(next)), after @ ..] = rest else {
         return Err(End::NoScript);
     };
     seats.push(sit(rt, service)?)?;

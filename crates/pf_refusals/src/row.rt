@@ -128,13 +128,15 @@ impl Row<'_> {
 
     /// How many of a script's namespaces are there from the start.
     pub(crate) fn residents(&self, script: &Script) -> u32 {
-        (script.count_spaces() as u32).saturating_sub(u32::from(self.way.has_guest()))
+        // (there are at most 64 in all)
+        let opening = script.opening().min(script.count_spaces()) as u32;
+        opening.saturating_sub(u32::from(self.way.has_guest()))
     }
 
-    /// The number and the limits of its guest.
+    /// The number and the limits of its guest, if it has one.
     pub(crate) fn guest(&self, script: &Script) -> Option<(u32, Config)> {
         let ns = self.residents(script);
-        if ns as usize >= script.count_spaces() {
+        if !self.way.has_guest() || ns as usize >= script.count_spaces() {
             return None;
         }
         Some((ns, script.config(ns as usize)))

@@ -43,11 +43,22 @@ pub(crate) fn answer_at<R: Wait, G: Gate, C: Ledger, H: Ledger>(
     seat: &mut Seat,
     step: &Step,
     place: usize,
-) -> Result<Answer, End> {
+) -> Result<EventAnswer, End> {
     let kept = seat.events().len();
     match service.call(rt, seat, step) {
-        Ok(receipt) if receipt.place == place as u64 => Ok(Answer::Done(receipt.reply)),
-        Err(ServiceFault::NoMemory) if seat.events().len() == kept => Ok(Answer::NoMemory),
+        Ok(receipt) if receipt.place == place as u64 => {
+            Ok(EventAnswer::Answer(Answer::Done(receipt.reply)))
+        }
+        Err(fault) if seat.events().len() == kept => refusal(fault),
+        _ => Err(End::NoScript),
+    }
+}
+
+/// What a refused call is answered.
+fn refusal(fault: ServiceFault) -> Result<EventAnswer, End> {
+    match fault {
+        ServiceFault::NoMemory => Ok(EventAnswer::Answer(Answer::NoMemory)),
+        ServiceFault::Gone => Ok(EventAnswer::Gone),
         _ => Err(End::NoScript),
     }
 }
@@ -59,7 +70,7 @@ fn answer_after_wait<R: Wait, C: Ledger, H: Ledger>(
     service: &Shared<C, H>,
     seat: &mut Seat,
     step: &Step,
-) -> Result<Answer, End> {
+) -> Result<EventAnswer, End> {
     let kept = seat.events().len();
     let mut receipts = Vec::new(alloc);
     let end = service.call_waiting(rt, seat, step, &mut receipts);
@@ -67,8 +78,10 @@ fn answer_after_wait<R: Wait, C: Ledger, H: Ledger>(
         return Err(End::NoScript);
     }
     match (end, receipts.pop()) {
-        (Ok(()) | Err(ServiceFault::NoMemory), Some(receipt)) => Ok(Answer::Done(receipt.reply)),
-        (Err(ServiceFault::NoMemory), None) => Ok(Answer::NoMemory),
+        (Ok(()) | Err(ServiceFault::NoMemory), Some(receipt)) => {
+            Ok(EventAnswer::Answer(Answer::Done(receipt.reply)))
+        }
+        (Err(fault), None) => refusal(fault),
         _ => Err(End::NoScript),
     }
 }
@@ -95,7 +108,7 @@ impl<R: Wait, C: Ledger, H: Ledger> Callers<'_, R, C, H> {
 }
 
 impl<R: Wait, C: Ledger, H: Ledger> Host for Callers<'_, R, C, H> {
-    fn make(&mut self, ns: u32, step: &Step) -> Result<Answer, End> {
+    fn make(&mut self, ns: u32, step: &Step) -> Result<EventAnswer, End> {
         let Some(seat) = self.seats.get_mut(ns as usize) else {
             return Err(End::NoScript);
         };

@@ -8,7 +8,7 @@ use crate::host::{Host, make_all};
 use crate::row::Row;
 use crate::scripts::{blank, configs_of, frames_of};
 use crate::told::Told;
-use pf_base::{Answer, Config, EventAnswer, Step};
+use pf_base::{Config, EventAnswer, Step};
 use pf_depot::DepotBook;
 use pf_script::Script;
 use pf_worker::{NoGate, Worker, open};
@@ -29,9 +29,9 @@ struct Shift<'a, R: Wait, C: Ledger, H: Ledger> {
 }
 
 impl<R: Wait, C: Ledger, H: Ledger> Host for Shift<'_, R, C, H> {
-    fn make(&mut self, ns: u32, step: &Step) -> Result<Answer, End> {
+    fn make(&mut self, ns: u32, step: &Step) -> Result<EventAnswer, End> {
         match self.team.get_mut(ns as usize) {
-            Some(worker) => Ok(worker.step(self.rt, self.book, &NoGate, step)),
+            Some(worker) => Ok(EventAnswer::Answer(worker.step(self.rt, self.book, &NoGate, step))),
             None => Err(End::NoScript),
         }
     }
@@ -47,6 +47,7 @@ impl<R: Wait, C: Ledger, H: Ledger> Host for Shift<'_, R, C, H> {
         }
     }
 
+    // It came last of those that live.
     fn goes(&mut self, ns: u32) -> Result<EventAnswer, End> {
         let Some(worker) = self.team.pop() else {
             return Err(End::NoScript);

@@ -87,13 +87,13 @@ pub taken_number : (f : Live) (ws : List Window) (most n : ℕ) → IsSound f �
     → n ≡ length (take most (joined (shown f ws)))
 taken_number f ws most n sound s e = omega (arith, e, segments_length f ws sound s, length-take most (joined (shown f ws)))
 
-pub cut_queue : (f g : Live) (old new : Ring) (most n : ℕ) → IsSound f → Stands f old.windows → n ≡ min (bytes_in old.windows) most → new.capacity ≡ old.capacity
-    → Cut old.windows new.windows n f g → queue_of g new ≡ after_take (queue_of f old) most
+pub cut_queue : (f g : Live) (old new : Ring) (most n : ℕ) → IsSound f → Stands f old.segments → n ≡ min (bytes_in old.segments) most → new.capacity ≡ old.capacity
+    → Cut old.segments new.segments n f g → queue_of g new ≡ after_take (queue_of f old) most
 cut_queue f g old new most n sound s e same c =
-    let left : shown g new.windows ≡ without_front most (shown f old.windows) = elim (cases_lt n most) [
-      | inl l ↦ c.segments ∙ (without_rest n (shown f old.windows) (omega (arith, e, l, segments_length f old.windows sound s))
-          ∙ sym (without_rest most (shown f old.windows) (omega (arith, e, l, segments_length f old.windows sound s))))
-      | inr g ↦ c.segments ∙ ap (λ (k : ℕ). without_front k (shown f old.windows)) (omega (arith, e, g))
+    let left : shown g new.segments ≡ without_front most (shown f old.segments) = elim (cases_lt n most) [
+      | inl l ↦ c.segments ∙ (without_rest n (shown f old.segments) (omega (arith, e, l, segments_length f old.segments sound s))
+          ∙ sym (without_rest most (shown f old.segments) (omega (arith, e, l, segments_length f old.segments sound s))))
+      | inr g ↦ c.segments ∙ ap (λ (k : ℕ). without_front k (shown f old.segments)) (omega (arith, e, g))
     ] in
     λ i. record { capacity = same i; segments = left i }
 

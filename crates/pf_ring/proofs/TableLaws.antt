@@ -67,7 +67,7 @@ slack (r ∷ rings) zero h = omega (arith, sum_by-cons slots_used r rings, sum_b
 slack (r ∷ rings) (suc k) h = omega (arith, sum_by-cons slots_used r rings, sum_by-cons slots_of r rings, h 0, slack rings k (λ n. h (suc n)))
 
 -- a ring's windows stand in the frames
-pub ring_stands : (f : Live) (rings : List Ring) (k : ℕ) → Joined f rings → Stands f (ring_at rings k).windows
+pub ring_stands : (f : Live) (rings : List Ring) (k : ℕ) → Joined f rings → Stands f (ring_at rings k).segments
 ring_stands f rings k j = record {
   counted = λ q. omega (arith, at_le (named_by q) rings k refl, j.counts q);
   within = λ q. j.within q k;
@@ -81,54 +81,54 @@ pub credits_for : (f : Live) (rings : List Ring) (k : ℕ) → IsSound f → Joi
 credits_for f rings k s j = omega (arith, s.spread, j.total, slack rings k j.fits, j.reserve)
 
 -- a frame that was not live is named by no ring
-not_named : (f : Live) (rings : List Ring) (q i : ℕ) → Joined f rings → f.count q ≡ 0 → named q (ring_at rings i).windows ≡ 0
+not_named : (f : Live) (rings : List Ring) (q i : ℕ) → Joined f rings → f.count q ≡ 0 → named q (ring_at rings i).segments ≡ 0
 not_named f rings q i j e = omega (arith, at_le (named_by q) rings i refl, j.counts q)
 
-not_open : (f : Live) (rings : List Ring) (q i : ℕ) → Joined f rings → f.count q ≡ 0 → opens q (ring_at rings i).windows ≡ 0
-not_open f rings q i j e = omega (arith, not_named f rings q i j e, opens_le_named q (ring_at rings i).windows)
+not_open : (f : Live) (rings : List Ring) (q i : ℕ) → Joined f rings → f.count q ≡ 0 → opens q (ring_at rings i).segments ≡ 0
+not_open f rings q i j e = omega (arith, not_named f rings q i j e, opens_le_named q (ring_at rings i).segments)
 
 opens_le_names : (rings : List Ring) (q : ℕ) → sum_by (opens_by q) rings ≤ sum_by (named_by q) rings
-opens_le_names rings q = sum_by-le-sum_by (opens_by q) (named_by q) rings (λ r. opens_le_named q r.windows)
+opens_le_names rings q = sum_by-le-sum_by (opens_by q) (named_by q) rings (λ r. opens_le_named q r.segments)
 
 -- the parts of joined_after that speak of two rings
 after_single : (f g : Live) (rings : List Ring) (k : ℕ) (r : Ring) (src : List Window) (q : ℕ) → k < length rings → Joined f rings
-    → Keeps src (ring_at rings k).windows r.windows f g → sum_by (opens_by q) (set rings k r) ≤ 1
+    → Keeps src (ring_at rings k).segments r.segments f g → sum_by (opens_by q) (set rings k r) ≤ 1
 after_single f g rings k r src q l j c = elim (cases_lt 0 (f.count q)) [
   | inl p ↦ omega (arith, sum_by-set (opens_by q) rings k r no_ring l, j.single q, c.opened q p)
   | inr z ↦ omega (arith, sum_by-set (opens_by q) rings k r no_ring l, opens_le_names rings q, j.counts q, c.single q)
 ]
 
-after_reach : (f g : Live) (rings : List Ring) (k : ℕ) (r : Ring) (src : List Window) (q b : ℕ) → b ≢ k → Joined f rings → reach q src ≤ limit q (ring_at rings b).windows
-    → Keeps src (ring_at rings k).windows r.windows f g → reach q r.windows ≤ limit q (ring_at rings b).windows
+after_reach : (f g : Live) (rings : List Ring) (k : ℕ) (r : Ring) (src : List Window) (q b : ℕ) → b ≢ k → Joined f rings → reach q src ≤ limit q (ring_at rings b).segments
+    → Keeps src (ring_at rings k).segments r.segments f g → reach q r.segments ≤ limit q (ring_at rings b).segments
 after_reach f g rings k r src q b n j s c = elim (cases_lt 0 (f.count q)) [
-  | inl p ↦ elim (cases_lt 0 (opens q (ring_at rings k).windows)) [
-    | inl o ↦ let shut : opens q (ring_at rings b).windows ≡ 0 = omega (arith, two_le (opens_by q) rings k b refl n, j.single q) in
-        omega (arith, limit_closed q (ring_at rings b).windows shut, c.within q)
+  | inl p ↦ elim (cases_lt 0 (opens q (ring_at rings k).segments)) [
+    | inl o ↦ let shut : opens q (ring_at rings b).segments ≡ 0 = omega (arith, two_le (opens_by q) rings k b refl n, j.single q) in
+        omega (arith, limit_closed q (ring_at rings b).segments shut, c.within q)
     | inr z ↦ omega (arith, c.reached q p (omega arith), j.apart q k b, s)
   ]
-  | inr z ↦ omega (arith, limit_closed q (ring_at rings b).windows (not_open f rings q b j (omega arith)), c.within q)
+  | inr z ↦ omega (arith, limit_closed q (ring_at rings b).segments (not_open f rings q b j (omega arith)), c.within q)
 ]
 
 after_limit : (f g : Live) (rings : List Ring) (k : ℕ) (r : Ring) (src : List Window) (q a : ℕ) → Joined f rings
-    → Keeps src (ring_at rings k).windows r.windows f g → reach q (ring_at rings a).windows ≤ limit q r.windows
+    → Keeps src (ring_at rings k).segments r.segments f g → reach q (ring_at rings a).segments ≤ limit q r.segments
 after_limit f g rings k r src q a j c = elim (cases_lt 0 (f.count q)) [
   | inl p ↦ omega (arith, j.apart q a k, c.limits q p)
-  | inr z ↦ omega (arith, reach_unnamed q (ring_at rings a).windows (not_named f rings q a j (omega arith)))
+  | inr z ↦ omega (arith, reach_unnamed q (ring_at rings a).segments (not_named f rings q a j (omega arith)))
 ]
 
 -- a call on ring k. src: windows that were copied into it ([] for append, take_into and clear)
 pub joined_after : (f g : Live) (rings : List Ring) (k : ℕ) (r : Ring) (src : List Window) → k < length rings → Joined f rings
-    → ((q j : ℕ) → reach q src ≤ limit q (ring_at rings j).windows) → Keeps src (ring_at rings k).windows r.windows f g
+    → ((q j : ℕ) → reach q src ≤ limit q (ring_at rings j).segments) → Keeps src (ring_at rings k).segments r.segments f g
     → slots_of r ≡ slots_of (ring_at rings k) → slots_used r ≤ slots_of r → Joined g (set rings k r)
 joined_after f g rings k r src l j s c e u = record {
   counts = λ q. omega (arith, sum_by-set (named_by q) rings k r no_ring l, j.counts q, c.counts q);
   total = omega (arith, sum_by-set slots_used rings k r no_ring l, j.total, c.total);
   single = λ q. after_single f g rings k r src q l j c;
-  within = λ q i. set_all (λ (x : Ring). reach q x.windows ≤ PAGE_SIZE) rings k r i l (c.within q) (λ n. j.within q i);
-  apart = λ q a b. set_all (λ (x : Ring). reach q x.windows ≤ limit q (ring_at (set rings k r) b).windows) rings k r a l
-      (set_all (λ (y : Ring). reach q r.windows ≤ limit q y.windows) rings k r b l (c.apart q) (λ n. after_reach f g rings k r src q b n j (s q b) c))
-      (λ m. set_all (λ (y : Ring). reach q (ring_at rings a).windows ≤ limit q y.windows) rings k r b l (after_limit f g rings k r src q a j c) (λ n. j.apart q a b));
-  some = λ i. set_all (λ (x : Ring). NoEmpty x.windows) rings k r i l c.some (λ n. j.some i);
+  within = λ q i. set_all (λ (x : Ring). reach q x.segments ≤ PAGE_SIZE) rings k r i l (c.within q) (λ n. j.within q i);
+  apart = λ q a b. set_all (λ (x : Ring). reach q x.segments ≤ limit q (ring_at (set rings k r) b).segments) rings k r a l
+      (set_all (λ (y : Ring). reach q r.segments ≤ limit q y.segments) rings k r b l (c.apart q) (λ n. after_reach f g rings k r src q b n j (s q b) c))
+      (λ m. set_all (λ (y : Ring). reach q (ring_at rings a).segments ≤ limit q y.segments) rings k r b l (after_limit f g rings k r src q a j c) (λ n. j.apart q a b));
+  some = λ i. set_all (λ (x : Ring). NoEmpty x.segments) rings k r i l c.some (λ n. j.some i);
   fits = λ i. set_all (λ (x : Ring). slots_used x ≤ slots_of x) rings k r i l u (λ n. j.fits i);
   reserve = omega (arith, sum_by-set slots_of rings k r no_ring l, j.reserve, e, c.reservation);
 }
@@ -139,49 +139,49 @@ with_segments n e = λ i. record { capacity = n; segments = e i }
 -- the queue of every other ring stays
 
 pub queue_stays : (f g : Live) (rings : List Ring) (k i : ℕ) (r : Ring) (src : List Window) → Joined f rings
-    → Keeps src (ring_at rings k).windows r.windows f g → i ≢ k → queue_of g (ring_at rings i) ≡ queue_of f (ring_at rings i)
+    → Keeps src (ring_at rings k).segments r.segments f g → i ≢ k → queue_of g (ring_at rings i) ≡ queue_of f (ring_at rings i)
 queue_stays f g rings k i r src j c n =
-    let same : map (segment_of g) (ring_at rings i).windows ≡ map (segment_of f) (ring_at rings i).windows = segments_stay f g (ring_at rings i).windows (λ q m.
-    let both : named q (ring_at rings k).windows + named q (ring_at rings i).windows ≤ f.count q = omega (arith, two_le (named_by q) rings k i refl n, j.counts q) in
+    let same : map (segment_of g) (ring_at rings i).segments ≡ map (segment_of f) (ring_at rings i).segments = segments_stay f g (ring_at rings i).segments (λ q m.
+    let both : named q (ring_at rings k).segments + named q (ring_at rings i).segments ≤ f.count q = omega (arith, two_le (named_by q) rings k i refl n, j.counts q) in
     take_less _ _ _ _ (j.apart q i k) (c.contents q (omega (arith, both, m)) (omega (arith, both, m, c.counts q)))) in
     with_segments (ring_at rings i).capacity same
 
 pub queues_after : (f g : Live) (rings : List Ring) (k : ℕ) (r : Ring) (src : List Window) → k < length rings → Joined f rings
-    → Keeps src (ring_at rings k).windows r.windows f g → map (queue_of g) (set rings k r) ≡ set (map (queue_of f) rings) k (queue_of g r)
+    → Keeps src (ring_at rings k).segments r.segments f g → map (queue_of g) (set rings k r) ≡ set (map (queue_of f) rings) k (queue_of g r)
 queues_after f g rings k r src l j c = map-set (queue_of g) rings k r ∙ set_same (queue_of g) (queue_of f) rings k (queue_of g r) (λ i n. queue_stays f g rings k i r src j c n)
 
 -- a ring with other slots, as many as are in use at least, where all slots stay within the reservation
 pub joined_resized : (f : Live) (rings : List Ring) (k slots : ℕ) → k < length rings → Joined f rings → slots_used (ring_at rings k) ≤ slots
-    → sum_by slots_of rings + slots ≤ f.reserved + slots_of (ring_at rings k) → Joined f (set rings k (record { capacity = slots; windows = (ring_at rings k).windows }))
+    → sum_by slots_of rings + slots ≤ f.reserved + slots_of (ring_at rings k) → Joined f (set rings k (record { capacity = slots; segments = (ring_at rings k).segments }))
 joined_resized f rings k slots l j u within =
-    let r : Ring = record { capacity = slots; windows = (ring_at rings k).windows } in
+    let r : Ring = record { capacity = slots; segments = (ring_at rings k).segments } in
     record {
       counts = λ q. omega (arith, sum_by-set (named_by q) rings k r no_ring l, j.counts q);
       total = omega (arith, sum_by-set slots_used rings k r no_ring l, j.total);
       single = λ q. omega (arith, sum_by-set (opens_by q) rings k r no_ring l, j.single q);
-      within = λ q i. set_all (λ (x : Ring). reach q x.windows ≤ PAGE_SIZE) rings k r i l (j.within q k) (λ n. j.within q i);
-      apart = λ q a b. set_all (λ (x : Ring). reach q x.windows ≤ limit q (ring_at (set rings k r) b).windows) rings k r a l
-          (set_all (λ (y : Ring). reach q r.windows ≤ limit q y.windows) rings k r b l (j.apart q k k) (λ n. j.apart q k b))
-          (λ m. set_all (λ (y : Ring). reach q (ring_at rings a).windows ≤ limit q y.windows) rings k r b l (j.apart q a k) (λ n. j.apart q a b));
-      some = λ i. set_all (λ (x : Ring). NoEmpty x.windows) rings k r i l (j.some k) (λ n. j.some i);
+      within = λ q i. set_all (λ (x : Ring). reach q x.segments ≤ PAGE_SIZE) rings k r i l (j.within q k) (λ n. j.within q i);
+      apart = λ q a b. set_all (λ (x : Ring). reach q x.segments ≤ limit q (ring_at (set rings k r) b).segments) rings k r a l
+          (set_all (λ (y : Ring). reach q r.segments ≤ limit q y.segments) rings k r b l (j.apart q k k) (λ n. j.apart q k b))
+          (λ m. set_all (λ (y : Ring). reach q (ring_at rings a).segments ≤ limit q y.segments) rings k r b l (j.apart q a k) (λ n. j.apart q a b));
+      some = λ i. set_all (λ (x : Ring). NoEmpty x.segments) rings k r i l (j.some k) (λ n. j.some i);
       fits = λ i. set_all (λ (x : Ring). slots_used x ≤ slots_of x) rings k r i l u (λ n. j.fits i);
       reserve = omega (arith, sum_by-set slots_of rings k r no_ring l, within);
     }
 
 -- what joined_after asks of src
-pub no_source : (rings : List Ring) (q j : ℕ) → reach q [] ≤ limit q (ring_at rings j).windows
+pub no_source : (rings : List Ring) (q j : ℕ) → reach q [] ≤ limit q (ring_at rings j).segments
 no_source rings q j = omega arith
 
-pub source_at : (f : Live) (rings : List Ring) (i : ℕ) → Joined f rings → (q j : ℕ) → reach q (ring_at rings i).windows ≤ limit q (ring_at rings j).windows
+pub source_at : (f : Live) (rings : List Ring) (i : ℕ) → Joined f rings → (q j : ℕ) → reach q (ring_at rings i).segments ≤ limit q (ring_at rings j).segments
 source_at f rings i j q k = j.apart q i k
 
 -- Two rings of a table
 
 -- their windows stand in the frames together
-pub rings_stand : (f : Live) (rings : List Ring) (i j : ℕ) → j ≢ i → Joined f rings → Stands f ((ring_at rings i).windows ++ (ring_at rings j).windows)
+pub rings_stand : (f : Live) (rings : List Ring) (i j : ℕ) → j ≢ i → Joined f rings → Stands f ((ring_at rings i).segments ++ (ring_at rings j).segments)
 rings_stand f rings i j n is =
-    let a : List Window = (ring_at rings i).windows in
-    let b : List Window = (ring_at rings j).windows in
+    let a : List Window = (ring_at rings i).segments in
+    let b : List Window = (ring_at rings j).segments in
     record {
       counted = λ q. omega (arith, named-append q a b, two_le (named_by q) rings i j refl n, is.counts q);
       within = λ q. omega (arith, reach-append q a b, is.within q i, is.within q j);
@@ -204,7 +204,7 @@ joined_same f g rings j s = record {
 }
 
 pub queue_same : (f g : Live) (rings : List Ring) (i : ℕ) → Joined f rings → SameLive f g → queue_of g (ring_at rings i) ≡ queue_of f (ring_at rings i)
-queue_same f g rings i j s = with_segments (ring_at rings i).capacity (segments_same f g (ring_at rings i).windows (λ q m. s.bytes q (omega (arith, m, at_le (named_by q) rings i refl, j.counts q))))
+queue_same f g rings i j s = with_segments (ring_at rings i).capacity (segments_same f g (ring_at rings i).segments (λ q m. s.bytes q (omega (arith, m, at_le (named_by q) rings i refl, j.counts q))))
 
 pub queues_same : (f g : Live) (rings : List Ring) → Joined f rings → SameLive f g → map (queue_of g) rings ≡ map (queue_of f) rings
 queues_same f g rings j s = map_same (queue_of g) (queue_of f) rings (λ i. queue_same f g rings i j s)
@@ -224,35 +224,35 @@ joined_nothing f c s = record {
 
 -- a new ring with nothing in it
 pub joined_pushed : (f : Live) (rings : List Ring) (c : ℕ) → Joined f rings → sum_by slots_of rings + c ≤ f.reserved
-    → Joined f (rings ++ record { capacity = c; windows = [] } ∷ [])
+    → Joined f (rings ++ record { capacity = c; segments = [] } ∷ [])
 joined_pushed f rings c j l =
-    let r : Ring = record { capacity = c; windows = [] } in
+    let r : Ring = record { capacity = c; segments = [] } in
     record {
       counts = λ q. omega (arith, sum_by_push (named_by q) rings r, j.counts q);
       total = omega (arith, sum_by_push slots_used rings r, j.total);
       single = λ q. omega (arith, sum_by_push (opens_by q) rings r, j.single q);
-      within = λ q i. push_all (λ (x : Ring). reach q x.windows ≤ PAGE_SIZE) rings r i (omega arith) (omega arith) (j.within q);
-      apart = λ q a b. push_all (λ (x : Ring). reach q x.windows ≤ limit q (ring_at (rings ++ r ∷ []) b).windows) rings r a (omega arith) (omega arith)
-          (λ n. push_all (λ (y : Ring). reach q (ring_at rings n).windows ≤ limit q y.windows) rings r b (j.within q n) (j.within q n) (λ m. j.apart q n m));
-      some = λ i. push_all (λ (x : Ring). NoEmpty x.windows) rings r i tt tt j.some;
+      within = λ q i. push_all (λ (x : Ring). reach q x.segments ≤ PAGE_SIZE) rings r i (omega arith) (omega arith) (j.within q);
+      apart = λ q a b. push_all (λ (x : Ring). reach q x.segments ≤ limit q (ring_at (rings ++ r ∷ []) b).segments) rings r a (omega arith) (omega arith)
+          (λ n. push_all (λ (y : Ring). reach q (ring_at rings n).segments ≤ limit q y.segments) rings r b (j.within q n) (j.within q n) (λ m. j.apart q n m));
+      some = λ i. push_all (λ (x : Ring). NoEmpty x.segments) rings r i tt tt j.some;
       fits = λ i. push_all (λ (x : Ring). slots_used x ≤ slots_of x) rings r i (omega arith) (omega arith) j.fits;
       reserve = omega (arith, sum_by_push slots_of rings r, l);
     }
 
-cleared : (f : Live) (rings : List Ring) (k : ℕ) → k < length rings → Joined f rings → (ring_at rings k).windows ≡ [] → Joined f (set rings k no_ring)
+cleared : (f : Live) (rings : List Ring) (k : ℕ) → k < length rings → Joined f rings → (ring_at rings k).segments ≡ [] → Joined f (set rings k no_ring)
 cleared f rings k l j e = record {
   counts = λ q. let z : named_by q (ring_at rings k) ≡ 0 = ap (named q) e in omega (arith, z, sum_by-set (named_by q) rings k no_ring no_ring l, j.counts q);
   total = let z : slots_used (ring_at rings k) ≡ 0 = ap (λ (w : List Window). length w) e in omega (arith, z, sum_by-set slots_used rings k no_ring no_ring l, j.total);
   single = λ q. omega (arith, sum_by-set (opens_by q) rings k no_ring no_ring l, j.single q);
-  within = λ q i. set_all (λ (x : Ring). reach q x.windows ≤ PAGE_SIZE) rings k no_ring i l (omega arith) (λ n. j.within q i);
-  apart = λ q a b. set_all (λ (x : Ring). reach q x.windows ≤ limit q (ring_at (set rings k no_ring) b).windows) rings k no_ring a l (omega arith)
-      (λ m. set_all (λ (y : Ring). reach q (ring_at rings a).windows ≤ limit q y.windows) rings k no_ring b l (j.within q a) (λ n. j.apart q a b));
-  some = λ i. set_all (λ (x : Ring). NoEmpty x.windows) rings k no_ring i l tt (λ n. j.some i);
+  within = λ q i. set_all (λ (x : Ring). reach q x.segments ≤ PAGE_SIZE) rings k no_ring i l (omega arith) (λ n. j.within q i);
+  apart = λ q a b. set_all (λ (x : Ring). reach q x.segments ≤ limit q (ring_at (set rings k no_ring) b).segments) rings k no_ring a l (omega arith)
+      (λ m. set_all (λ (y : Ring). reach q (ring_at rings a).segments ≤ limit q y.segments) rings k no_ring b l (j.within q a) (λ n. j.apart q a b));
+  some = λ i. set_all (λ (x : Ring). NoEmpty x.segments) rings k no_ring i l tt (λ n. j.some i);
   fits = λ i. set_all (λ (x : Ring). slots_used x ≤ slots_of x) rings k no_ring i l (omega arith) (λ n. j.fits i);
   reserve = omega (arith, sum_by-set slots_of rings k no_ring no_ring l, j.reserve);
 }
 
-pub joined_cleared : (f : Live) (rings : List Ring) (k : ℕ) → Joined f rings → (ring_at rings k).windows ≡ [] → Joined f (set rings k no_ring)
+pub joined_cleared : (f : Live) (rings : List Ring) (k : ℕ) → Joined f rings → (ring_at rings k).segments ≡ [] → Joined f (set rings k no_ring)
 joined_cleared f rings k j e = elim (cases_lt k (length rings)) [
   | inl l ↦ cleared f rings k l j e
   | inr g ↦ subst (λ (xs : List Ring). Joined f xs) (sym (set_past rings k no_ring g)) j
@@ -262,8 +262,8 @@ joined_cleared f rings k j e = elim (cases_lt k (length rings)) [
 pub held_le_used : (f : Live) (rings : List Ring) → IsSound f → Joined f rings → f.held ≤ sum_by slots_used rings
 held_le_used f rings s j = omega (arith, s.spread, j.total)
 
-pub none_held : (f : Live) (rings : List Ring) → IsSound f → Joined f rings → f.held ≡ 0 → (i : ℕ) → (ring_at rings i).windows ≡ []
-none_held f rings s j h i = nil_from_length (ring_at rings i).windows (omega (arith, at_le slots_used rings i refl, j.total, s.none h))
+pub none_held : (f : Live) (rings : List Ring) → IsSound f → Joined f rings → f.held ≡ 0 → (i : ℕ) → (ring_at rings i).segments ≡ []
+none_held f rings s j h i = nil_from_length (ring_at rings i).segments (omega (arith, at_le slots_used rings i refl, j.total, s.none h))
 
 -- the same of the bytes of the queues
 pub none_held_bytes : (f : Live) (rings : List Ring) → IsSound f → Joined f rings → f.held ≡ 0 → (i : ℕ) → bytes_of (queue_of f (ring_at rings i)) ≡ []
@@ -282,11 +282,11 @@ each_segment f (w ∷ ws) s t zero d h = is_segment f w ws s t
 each_segment f (w ∷ ws) s t (suc k) d h = each_segment f ws s (stands_rest f w ws t) k d (omega arith)
 
 -- what a ring shows is a queue, and its bytes are as many as its windows show
-pub ring_queue : (f : Live) (r : Ring) → IsSound f → Stands f r.windows → slots_used r ≤ slots_of r → IsQueue (queue_of f r)
-ring_queue f r s t u = record { each = each_segment f r.windows s t; slots = omega (arith, length-map r.windows (segment_of f), u) }
+pub ring_queue : (f : Live) (r : Ring) → IsSound f → Stands f r.segments → slots_used r ≤ slots_of r → IsQueue (queue_of f r)
+ring_queue f r s t u = record { each = each_segment f r.segments s t; slots = omega (arith, length-map r.segments (segment_of f), u) }
 
-pub bytes_number : (f : Live) (r : Ring) → IsSound f → Stands f r.windows → length (bytes_of (queue_of f r)) ≡ bytes_in r.windows
-bytes_number f r s t = segments_length f r.windows s t
+pub bytes_number : (f : Live) (r : Ring) → IsSound f → Stands f r.segments → length (bytes_of (queue_of f r)) ≡ bytes_in r.segments
+bytes_number f r s t = segments_length f r.segments s t
 
 -- Joined is a fact, with one proof at most
 pub Joined-prop : (f : Live) (rings : List Ring) → IsProp (Joined f rings)

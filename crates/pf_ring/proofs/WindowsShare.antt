@@ -224,16 +224,16 @@ all_or_full src ws0 ws slots place e most = elim (cases_lt ws slots) [
 ]
 
 -- how many bytes the windows show that were put
-pub tee_number_is : (f g : Live) (source sink : Ring) (new : List Window) (used n m : ℕ) → IsSound f → IsSound g → Stands f sink.windows → Stands g new → used ≡ length sink.windows → bytes_in new ≡ bytes_in sink.windows + m
-    → shown g new ≡ shown f sink.windows ++ copied (sink.capacity - used) n (shown f source.windows) → m ≡ tee_number (queue_of f source) (queue_of f sink) n
+pub tee_number_is : (f g : Live) (source sink : Ring) (new : List Window) (used n m : ℕ) → IsSound f → IsSound g → Stands f sink.segments → Stands g new → used ≡ length sink.segments → bytes_in new ≡ bytes_in sink.segments + m
+    → shown g new ≡ shown f sink.segments ++ copied (sink.capacity - used) n (shown f source.segments) → m ≡ tee_number (queue_of f source) (queue_of f sink) n
 tee_number_is f g source sink new used n m before after stands stand e bytes shows =
-    let old : List Segment = shown f sink.windows in
-    let put : List Segment = copied (sink.capacity - used) n (shown f source.windows) in
-    let free : sink.capacity - used ≡ free_of (queue_of f sink) = omega (arith, e, length-map sink.windows (segment_of f)) in
+    let old : List Segment = shown f sink.segments in
+    let put : List Segment = copied (sink.capacity - used) n (shown f source.segments) in
+    let free : sink.capacity - used ≡ free_of (queue_of f sink) = omega (arith, e, length-map sink.segments (segment_of f)) in
     let all : length (joined (shown g new)) ≡ length (joined old ++ joined put) = ap (λ (ss : List Segment). length (joined ss)) shows ∙ ap (λ (b : List ℕ). length b) (joined-append old put) in
     let number : m ≡ length (joined put) =
-    omega (arith, bytes, all, length-append (joined old) (joined put), segments_length f sink.windows before stands, segments_length g new after stand) in
-    number ∙ ap (λ (k : ℕ). length (joined (copied k n (shown f source.windows)))) free
+    omega (arith, bytes, all, length-append (joined old) (joined put), segments_length f sink.segments before stands, segments_length g new after stand) in
+    number ∙ ap (λ (k : ℕ). length (joined (copied k n (shown f source.segments)))) free
 
 -- windows that came stand, once the source has lost what they show
 pub moves_stand : (f g : Live) (src src' old new : List Window) → Stands f (src ++ old) → Moves src src' old new f g → Stands g new
@@ -248,7 +248,7 @@ moves_stand f g src src' old new s m =
     }
 
 -- the source shows what it showed
-pub source_shows : (f g : Live) (r : Ring) → Stands f r.windows → ((q : ℕ) → 0 < f.count q → g.bytes q ≡ f.bytes q) → queue_of g r ≡ queue_of f r
+pub source_shows : (f g : Live) (r : Ring) → Stands f r.segments → ((q : ℕ) → 0 < f.count q → g.bytes q ≡ f.bytes q) → queue_of g r ≡ queue_of f r
 source_shows f g r s same =
-    let stay : shown g r.windows ≡ shown f r.windows = segments_same f g r.windows (λ q named. same q (omega (arith, named, s.counted q))) in
+    let stay : shown g r.segments ≡ shown f r.segments = segments_same f g r.segments (λ q named. same q (omega (arith, named, s.counted q))) in
     λ i. record { capacity = r.capacity; segments = stay i }

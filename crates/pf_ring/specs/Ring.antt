@@ -2,14 +2,13 @@
 
 use Rattle.std.specs.Prelude.{ℕ, ◌+◌, ◌-◌, List, [], map, take, drop, if◌then◌else◌}
 use Rattle.pf_base.specs.declared.TheConstants.{PAGE_SIZE}
-use Rattle.pf_machine.specs.Queue.{Segment, Queue}
+use Rattle.pf_machine.specs.Queue.{Segment, Slots, Queue}
 use Rattle.pf_frame.specs.Live.{Live}
 use Rattle.pf_ring.specs.declared.ring.Window.{Window}
 
--- how many slots there are, and the slots in use, the oldest first
-pub record Ring : Type 0 where
-  pub capacity : ℕ
-  pub windows : List Window
+-- a ring has a window in each slot that is in use
+abbrev pub Ring : Type 0
+Ring = Slots Window
 
 -- the segment that a window shows: its bytes, and the room behind them where it grows
 abbrev pub segment_of : Live → Window → Segment
@@ -21,8 +20,8 @@ shown f ws = map (segment_of f) ws
 
 -- the queue that a ring shows
 abbrev pub queue_of : Live → Ring → Queue
-queue_of f r = record { capacity = r.capacity; segments = shown f r.windows }
+queue_of f r = record { capacity = r.capacity; segments = shown f r.segments }
 
 -- no slot at all
 abbrev pub no_ring : Ring
-no_ring = record { capacity = 0; windows = [] }
+no_ring = record { capacity = 0; segments = [] }

@@ -22,17 +22,17 @@ ring_at rings i = slice_index_or rings i no_ring
 
 -- how often a ring names the frame q, and how many of its windows on q grow
 abbrev pub named_by : ℕ → Ring → ℕ
-named_by q r = named q r.windows
+named_by q r = named q r.segments
 
 abbrev pub opens_by : ℕ → Ring → ℕ
-opens_by q r = opens q r.windows
+opens_by q r = opens q r.segments
 
 -- how many slots a ring has, and how many are in use
 abbrev pub slots_of : Ring → ℕ
 slots_of r = r.capacity
 
 abbrev pub slots_used : Ring → ℕ
-slots_used r = length r.windows
+slots_used r = length r.segments
 
 -- the live frames are those that the rings name, as often as they name them. On a frame at most one window grows, and
 -- no window of any ring ends behind it. No ring has more windows than slots, and the slots are within the reservation
@@ -40,8 +40,8 @@ pub record Joined (f : Live) (rings : List Ring) : Type 0 where
   pub counts : (q : ℕ) → sum_by (named_by q) rings ≡ f.count q
   pub total : sum_by slots_used rings ≡ f.shares
   pub single : (q : ℕ) → sum_by (opens_by q) rings ≤ 1
-  pub within : (q i : ℕ) → reach q (ring_at rings i).windows ≤ PAGE_SIZE
-  pub apart : (q i j : ℕ) → reach q (ring_at rings i).windows ≤ limit q (ring_at rings j).windows
-  pub some : (i : ℕ) → NoEmpty (ring_at rings i).windows
+  pub within : (q i : ℕ) → reach q (ring_at rings i).segments ≤ PAGE_SIZE
+  pub apart : (q i j : ℕ) → reach q (ring_at rings i).segments ≤ limit q (ring_at rings j).segments
+  pub some : (i : ℕ) → NoEmpty (ring_at rings i).segments
   pub fits : (i : ℕ) → slots_used (ring_at rings i) ≤ slots_of (ring_at rings i)
   pub reserve : sum_by slots_of rings ≤ f.reserved

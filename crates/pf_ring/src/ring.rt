@@ -60,7 +60,7 @@ impl Model for SlotRing {
 
     ghost Value = { Ring };
 
-    ghost view = { λ r. record { capacity = r.slots; windows = r.windows.items } };
+    ghost view = { λ r. record { capacity = r.slots; segments = r.windows.items } };
 
     ghost invariant = { λ r. (deque_len r.windows ≤ r.slots) × (r.slots ≤ deque_capacity r.windows)
         × (r.slots < 2 ^ 32) × (r.bytes ≡ bytes_in r.windows.items) };
@@ -71,7 +71,7 @@ impl SlotRing {
     /// memory.
     pub fn new(alloc: Global, slots: usize) -> Result<Self, AllocError>
         requires { slots < 2 ^ 32 }
-        ensures { IfOk result (λ r. r ≡ record { capacity = slots; windows = [] }) }
+        ensures { IfOk result (λ r. r ≡ record { capacity = slots; segments = [] }) }
     {
         let windows = VecDeque::with_capacity(alloc, slots)?;
         Ok(SlotRing {
@@ -91,7 +91,7 @@ impl SlotRing {
 
     /// How many slots are in use.
     pub fn used(&self) -> usize
-        ensures number { result ≡ length self.now.windows }
+        ensures number { result ≡ length self.now.segments }
         ensures most { result ≤ self.now.capacity }
     {
         self.windows.len()
@@ -99,8 +99,8 @@ impl SlotRing {
 
     /// How many bytes there are to read.
     pub fn len(&self) -> usize
-        ensures number { result ≡ bytes_in self.now.windows }
-        ensures bytes { (f : Live) → IsSound f → Stands f self.now.windows
+        ensures number { result ≡ bytes_in self.now.segments }
+        ensures bytes { (f : Live) → IsSound f → Stands f self.now.segments
             → result ≡ length (bytes_of (queue_of f self.now)) }
     {
         self.bytes
@@ -120,24 +120,24 @@ impl SlotRing {
     #[inline(always)]
     pub fn append<F: Frames>(&mut self, door: &mut F, bytes: &[u8])
         requires fact { F.fact door.old }
-        requires stands { Stands (F.live door.old) self.old.windows }
+        requires stands { Stands (F.live door.old) self.old.segments }
         // There is room for all the bytes, and a credit for each free slot: nothing can fail.
         requires room { length bytes.now ≤ room_of (queue_of (F.live door.old) self.old) }
-        requires credits { (F.live door.old).held + (self.old.capacity - length self.old.windows)
+        requires credits { (F.live door.old).held + (self.old.capacity - length self.old.segments)
             ≤ (F.live door.old).reserved }
         ensures fact { F.fact door.new }
         ensures rest { F.rest door.new ≡ F.rest door.old }
         ensures capacity { self.new.capacity ≡ self.old.capacity }
-        ensures fits { length self.new.windows ≤ self.new.capacity }
+        ensures fits { length self.new.segments ≤ self.new.capacity }
         ensures queue { queue_of (F.live door.new) self.new
             ≡ put (queue_of (F.live door.old) self.old) bytes.now }
         // As many frames are taken as slots.
-        ensures takes { (F.live door.new).held + length self.old.windows
-            ≡ (F.live door.old).held + length self.new.windows }
+        ensures takes { (F.live door.new).held + length self.old.segments
+            ≡ (F.live door.old).held + length self.new.segments }
         // Other rings show what they showed, and a frame that was live is written to behind the last slot's
         // end alone.
-        ensures keeps { Keeps [] self.old.windows self.new.windows (F.live door.old) (F.live door.new) }
-        ensures puts_behind { PutsBehind self.old.windows (length bytes.now)
+        ensures keeps { Keeps [] self.old.segments self.new.segments (F.live door.old) (F.live door.new) }
+        ensures puts_behind { PutsBehind self.old.segments (length bytes.now)
             (F.live door.old) (F.live door.new) }
     {
         windows::append(&mut self.windows, self.slots, door, bytes);
@@ -148,11 +148,11 @@ impl SlotRing {
     /// The frame of a slot that is emptied is released.
     pub fn take_into<F: Frames>(&mut self, door: &mut F, buffer: &mut [u8]) -> usize
         requires fact { F.fact door.old }
-        requires stands { Stands (F.live door.old) self.old.windows }
+        requires stands { Stands (F.live door.old) self.old.segments }
         ensures fact { F.fact door.new }
         ensures rest { F.rest door.new ≡ F.rest door.old }
         ensures capacity { self.new.capacity ≡ self.old.capacity }
-        ensures fits { length self.new.windows ≤ self.new.capacity }
+        ensures fits { length self.new.segments ≤ self.new.capacity }
         // What is moved, and what is left.
         ensures number { result ≡ length (taken (queue_of (F.live door.old) self.old) (length buffer.old)) }
         ensures bytes { buffer.new
@@ -160,7 +160,7 @@ impl SlotRing {
         ensures queue { queue_of (F.live door.new) self.new
             ≡ after_take (queue_of (F.live door.old) self.old) (length buffer.old) }
         // Other rings show what they showed, and nothing is written.
-        ensures keeps { Keeps [] self.old.windows self.new.windows (F.live door.old) (F.live door.new) }
+        ensures keeps { Keeps [] self.old.segments self.new.segments (F.live door.old) (F.live door.new) }
         ensures bytes_stay { SameBytes (F.live door.old) (F.live door.new) }
     {
         let number = self.len().min(buffer.len());
@@ -174,19 +174,19 @@ impl SlotRing {
     #[inline(always)]
     pub fn take_onto<F: Frames>(&mut self, door: &mut F, most: usize, out: &mut Vec<u8>) -> usize
         requires fact { F.fact door.old }
-        requires stands { Stands (F.live door.old) self.old.windows }
-        requires room { vec_len out.old + min most (bytes_in self.old.windows) ≤ vec_capacity out.old }
+        requires stands { Stands (F.live door.old) self.old.segments }
+        requires room { vec_len out.old + min most (bytes_in self.old.segments) ≤ vec_capacity out.old }
         ensures fact { F.fact door.new }
         ensures rest { F.rest door.new ≡ F.rest door.old }
         ensures capacity { self.new.capacity ≡ self.old.capacity }
-        ensures fits { length self.new.windows ≤ self.new.capacity }
+        ensures fits { length self.new.segments ≤ self.new.capacity }
         // What is moved, and what is left.
         ensures number { result ≡ length (taken (queue_of (F.live door.old) self.old) most) }
         ensures bytes { out.new.items ≡ out.old.items ++ taken (queue_of (F.live door.old) self.old) most }
         ensures queue { queue_of (F.live door.new) self.new
             ≡ after_take (queue_of (F.live door.old) self.old) most }
         // Other rings show what they showed, and nothing is written.
-        ensures keeps { Keeps [] self.old.windows self.new.windows (F.live door.old) (F.live door.new) }
+        ensures keeps { Keeps [] self.old.segments self.new.segments (F.live door.old) (F.live door.new) }
         ensures bytes_stay { SameBytes (F.live door.old) (F.live door.new) }
     {
         let taken = self.len().min(most);
@@ -203,12 +203,12 @@ impl SlotRing {
     pub fn tee_into<F: Frames>(&self, door: &mut F, sink: &mut SlotRing, n: usize) -> usize
         requires fact { F.fact door.old }
         // The two rings are two in the same frames, and no count can pass the end of its type.
-        requires stands { Stands (F.live door.old) (self.now.windows ++ sink.old.windows) }
+        requires stands { Stands (F.live door.old) (self.now.segments ++ sink.old.segments) }
         requires few { (F.live door.old).shares + sink.old.capacity < 2 ^ 32 }
         ensures fact { F.fact door.new }
         ensures rest { F.rest door.new ≡ F.rest door.old }
         ensures capacity { sink.new.capacity ≡ sink.old.capacity }
-        ensures fits { length sink.new.windows ≤ sink.new.capacity }
+        ensures fits { length sink.new.segments ≤ sink.new.capacity }
         // What is put, and what this ring has then: what it had.
         ensures number { result
             ≡ tee_number (queue_of (F.live door.old) self.now) (queue_of (F.live door.old) sink.old) n }
@@ -217,7 +217,7 @@ impl SlotRing {
         ensures source { queue_of (F.live door.new) self.now ≡ queue_of (F.live door.old) self.now }
         // No frame is taken. Other rings show what they showed, and nothing is written.
         ensures takes { (F.live door.new).held ≡ (F.live door.old).held }
-        ensures keeps { Keeps self.now.windows sink.old.windows sink.new.windows
+        ensures keeps { Keeps self.now.segments sink.old.segments sink.new.segments
             (F.live door.old) (F.live door.new) }
         ensures bytes_stay { SameBytes (F.live door.old) (F.live door.new) }
     {
@@ -234,14 +234,14 @@ impl SlotRing {
     pub fn splice_into<F: Frames>(&mut self, door: &mut F, sink: &mut SlotRing, n: usize) -> usize
         requires fact { F.fact door.old }
         // The two rings are two in the same frames, and no count can pass the end of its type.
-        requires stands { Stands (F.live door.old) (self.old.windows ++ sink.old.windows) }
+        requires stands { Stands (F.live door.old) (self.old.segments ++ sink.old.segments) }
         requires few { (F.live door.old).shares + sink.old.capacity < 2 ^ 32 }
         ensures fact { F.fact door.new }
         ensures rest { F.rest door.new ≡ F.rest door.old }
         ensures capacity { self.new.capacity ≡ self.old.capacity }
-        ensures fits { length self.new.windows ≤ self.new.capacity }
+        ensures fits { length self.new.segments ≤ self.new.capacity }
         ensures sink_capacity { sink.new.capacity ≡ sink.old.capacity }
-        ensures sink_fits { length sink.new.windows ≤ sink.new.capacity }
+        ensures sink_fits { length sink.new.segments ≤ sink.new.capacity }
         // What is put, and what is left.
         ensures number { result
             ≡ tee_number (queue_of (F.live door.old) self.old) (queue_of (F.live door.old) sink.old) n }
@@ -251,7 +251,7 @@ impl SlotRing {
             ≡ after_splice (queue_of (F.live door.old) self.old) (queue_of (F.live door.old) sink.old) n }
         // No frame is taken or freed. Other rings show what they showed, and nothing is written.
         ensures takes { (F.live door.new).held ≡ (F.live door.old).held }
-        ensures moves { Moves self.old.windows self.new.windows sink.old.windows sink.new.windows
+        ensures moves { Moves self.old.segments self.new.segments sink.old.segments sink.new.segments
             (F.live door.old) (F.live door.new) }
         ensures bytes_stay { SameBytes (F.live door.old) (F.live door.new) }
     {
@@ -264,9 +264,9 @@ impl SlotRing {
     /// Gives the ring another number of slots (fcntl(2), F_SETPIPE_SZ): not fewer than are in use. What it holds stays,
     /// and so does the room of the last slot in use. It costs no more than the slots in use, and copies no byte.
     pub fn resized(&mut self, alloc: Global, slots: usize) -> Result<(), AllocError>
-        requires fits { length self.old.windows ≤ slots }
+        requires fits { length self.old.segments ≤ slots }
         requires few { slots < 2 ^ 32 }
-        ensures ring { OnOk result (self.new ≡ record { capacity = slots; windows = self.old.windows }) }
+        ensures ring { OnOk result (self.new ≡ record { capacity = slots; segments = self.old.segments }) }
         ensures queue { OnOk result
             ((f : Live) → queue_of f self.new ≡ with_capacity slots (queue_of f self.old)) }
         // Memory is wanted where the number changes, and where it is refused nothing has changed.
@@ -286,12 +286,12 @@ impl SlotRing {
     /// Empties all slots, and releases the frame of each.
     pub fn clear<F: Frames>(&mut self, door: &mut F)
         requires fact { F.fact door.old }
-        requires stands { Stands (F.live door.old) self.old.windows }
+        requires stands { Stands (F.live door.old) self.old.segments }
         ensures fact { F.fact door.new }
         ensures rest { F.rest door.new ≡ F.rest door.old }
-        ensures ring { self.new ≡ record { capacity = self.old.capacity; windows = [] } }
+        ensures ring { self.new ≡ record { capacity = self.old.capacity; segments = [] } }
         // Other rings show what they showed, and nothing is written.
-        ensures keeps { Keeps [] self.old.windows [] (F.live door.old) (F.live door.new) }
+        ensures keeps { Keeps [] self.old.segments [] (F.live door.old) (F.live door.new) }
         ensures bytes_stay { SameBytes (F.live door.old) (F.live door.new) }
     {
         windows::clear(&mut self.windows, door);

@@ -1,6 +1,6 @@
 -- What a map by names says, as the definitions say it of a list.
 
-use Rattle.std.proofs.Common.{◌≡◌, ℕ, ◌+◌, List, [], ◌∷◌, ◌++◌, map, Some, None, Bool, true, false, cond, refl, ap, ◌∙◌}
+use Rattle.std.proofs.Common.{◌≡◌, ℕ, ◌+◌, List, [], ◌∷◌, ◌++◌, length, map, take, Some, None, Bool, true, false, cond, refl, ap, sym, ◌∙◌}
 use Rattle.std.specs.Prelude.{bytes_eq, position, sum_by, fold, slice_get, option_map}
 use Rattle.std.specs.List.{position_from}
 use Rattle.std.specs.Map.{keys_of, values_of, lookup}
@@ -8,7 +8,7 @@ use Rattle.std.specs.Cmp.Lexicographic.{nat_list_eq_equiv}
 use Rattle.std.specs.declared.vec.Vec.{Vec}
 use Rattle.std.specs.declared.alloc.Global.{Global}
 use Rattle.std.proofs.lemmas.Iterator.Adapters.{position_from-zero}
-use Rattle.std.proofs.lemmas.List.{map-append}
+use Rattle.std.proofs.lemmas.List.{map-append, take-map, length-map}
 use Rattle.std.proofs.lemmas.Option.{slice_get-map}
 use Rattle.pf_base.specs.Limits.{Limits}
 use Rattle.pf_script.specs.Script.{place_of, reserved}
@@ -41,6 +41,11 @@ pub limits_of : (entries : List (Vec ℕ Global × Limits)) → map (λ s. s.1) 
 limits_of [] = refl
 limits_of (e ∷ es) = ap (λ ls. e.1 ∷ ls) (limits_of es)
 
+-- and so are the first of both
+pub first_limits : (n : ℕ) (entries : List (Vec ℕ Global × Limits)) →
+    map (λ s. s.1) (take n (named entries)) ≡ take n (values_of entries)
+first_limits n entries = sym (take-map (λ (s : List ℕ × Limits). s.1) n (named entries)) ∙ ap (λ ls. take n ls) (limits_of entries)
+
 -- a map that a name was put into last
 pub grown : (old new : List (Vec ℕ Global × Limits)) (key : Vec ℕ Global) (limits : Limits) (name : List ℕ) → new ≡ old ++ (key, limits) ∷ [] → key.items ≡ name → named new ≡ named old ++ (name, limits) ∷ []
 grown old new key limits name is same = ap named is ∙ (map-append (λ (e : Vec ℕ Global × Limits). (e.0.items, e.1)) old ((key, limits) ∷ []) ∙ ap (λ n. named old ++ (n, limits) ∷ []) same)
@@ -66,3 +71,7 @@ summed a (e ∷ es) = summed (a + e.1.reserve) es
 -- the sum of the values' reservations
 pub reserved_is : (entries : List (Vec ℕ Global × Limits)) → reserved (named entries) ≡ sum_by (λ l. l.reserve) (values_of entries)
 reserved_is entries = summed 0 entries
+
+-- each entry is a namespace
+pub many_named : (entries : List (Vec ℕ Global × Limits)) → length (named entries) ≡ length entries
+many_named entries = length-map entries (λ (e : Vec ℕ Global × Limits). (e.0.items, e.1))

@@ -1,18 +1,19 @@
 -- Each step has a line that says it.
 
-use Rattle.std.proofs.Common.{◌≡◌, ℕ, ◌<◌, ◌≤◌, List, [], ◌∷◌, ◌++◌, length, Some, Ok, refl, ap, arith, ◌∙◌}
-use Rattle.std.specs.Prelude.{Bool, true, false, not, ◌==◌, ◌&&◌, ◌||◌, nat_lt, nat_le, codes, bytes_eq, if◌then◌else◌}
+use Rattle.std.proofs.Common.{◌≡◌, ℕ, ◌<◌, ◌≤◌, List, [], ◌∷◌, ◌++◌, length, Some, Ok, refl, arith, ◌∙◌}
+use Rattle.std.specs.Prelude.{Bool, true, false, not, ◌==◌, ◌&&◌, ◌||◌, nat_lt, nat_le, codes, bytes_eq}
 use Rattle.std.specs.List.{list_all, list_any, AllByRecursion}
 use Rattle.std.proofs.lemmas.Bool.{ne_eqb}
 use Rattle.std.proofs.lemmas.Bool.Decides.{nat_tests}
 use Rattle.pf_base.specs.declared.step.Step.{Step}
-use Rattle.pf_words.specs.Words.{pieces_of, words_of, is_letter, is_name_byte, begins_with_letter, is_kept_word}
+use Rattle.pf_words.specs.Words.{words_of, is_letter, is_name_byte, begins_with_letter, is_kept_word}
 use Rattle.pf_words.specs.Words.{is_name}
 use Rattle.pf_words.specs.Verbs.{step_words}
-use Rattle.pf_words.specs.Spelling.{joined, spell, HasWords, IsWord, is_inner, EachStepIsRead}
+use Rattle.pf_words.specs.Spelling.{joined, spell, IsWord, is_inner, EachStepIsRead}
 use Rattle.pf_words.proofs.JoinLaws.{Lacks, both, is_not, one_piece, cut_again, joined_passes, passes_too}
 use Rattle.pf_script.specs.Script.{Draft, place_of, line_of, words_line, first_word_line, step_line, is_skipped}
 use Rattle.pf_script.specs.Script.{is_empty_word}
+use Rattle.pf_script.specs.declared.line.Line.TheVariants as lines
 use Rattle.pf_script.specs.StepLines.{step_text, EachStepHasALine}
 
 -- a name as a word
@@ -75,14 +76,15 @@ lack_feeds (word ∷ words) all =
 -- a line of a step by its first word
 by_first : (d : Draft) (name : List ℕ) (place : ℕ) (step : Step) (words : List (List ℕ)) → 0 < d.frames →
     is_kept_word name ≡ false → place_of name d.spaces ≡ Some place → step_words words ≡ Ok step →
-    words_line d (name ∷ words) ≡ Ok (record d { steps = d.steps ++ (place, step) ∷ [] })
+    words_line d (name ∷ words) ≡ Ok (record d { steps = d.steps ++ (place, lines.Step step) ∷ [] })
 unfolding words_line first_word_line step_line
 by_first d name place step words pool kept named read =
     let guests = bytes_eq name (codes "admit") || bytes_eq name (codes "retire") in
     let first = neither (bytes_eq name (codes "pool")) (bytes_eq name (codes "space") || guests) kept in
     let second = neither (bytes_eq name (codes "space")) guests first.1 in
+    let third = neither (bytes_eq name (codes "admit")) (bytes_eq name (codes "retire")) second.1 in
     let frames : (d.frames == 0) ≡ false = ne_eqb d.frames 0 (λ is. omega arith) in
-    rw (first.0, frames, second.0, named, read) refl
+    rw (first.0, frames, second.0, third.0, third.1, named, read) refl
 
 -- a line whose words are these
 by_words : (d : Draft) (text : List ℕ) (words : List (List ℕ)) → length text ≤ 2200000 → is_skipped text ≡ false →

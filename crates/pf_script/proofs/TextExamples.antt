@@ -4,11 +4,15 @@ use Rattle.std.proofs.Common.{◌≡◌, ℕ, List, [], ◌∷◌, refl}
 use Rattle.std.proofs.Common.{arith}
 use Rattle.std.proofs.lemmas.Fmt.{decimal_digit}
 use Rattle.std.specs.Prelude.{codes}
-use Rattle.pf_base.specs.declared.step.Answer.{Answer}
+use Rattle.pf_base.specs.declared.admission.AdmitFault.TheVariants as admission
+use Rattle.pf_base.specs.declared.admission.RetireFault.TheVariants as retirement
+use Rattle.pf_base.specs.declared.admission.EventAnswer.{EventAnswer}
+use Rattle.pf_base.specs.declared.admission.EventAnswer.TheVariants as told
+use Rattle.pf_base.specs.declared.step.Reply.{Reply}
 use Rattle.pf_base.specs.declared.step.Answer.TheVariants.{Done}
 use Rattle.pf_base.specs.declared.step.Reply.TheVariants as kinds
 use Rattle.pf_script.specs.Text.{print, line_text, lines_text, answers_of, sections, octal_text, number_of_names, names_text}
-use Rattle.pf_script.proofs.ScriptExamples.{hello_draft}
+use Rattle.pf_script.proofs.ScriptExamples.{hello_draft, guests_draft}
 use Rattle.hex.specs.Hex.{encode_with}
 use Rattle.std.specs.Fmt.{digits}
 use Rattle.std.specs.Borrow.{Bor}
@@ -16,16 +20,41 @@ use Rattle.pf_words.specs.declared.cause.Cause.TheVariants as causes
 use Rattle.pf_script.specs.declared.notice.Notice.TheVariants as notices
 use Rattle.pf_script.specs.Notices.{notice_line}
 
-abbrev pub hello_answers : List Answer
-hello_answers = Done (kinds.Pid 1) ∷ Done (kinds.Fds 0 1) ∷ Done (kinds.Num 5) ∷ Done (kinds.Bytes (codes "hel")) ∷ Done (kinds.Bytes (codes "lo")) ∷ Done (kinds.Num 0) ∷ Done (kinds.Bytes []) ∷ Done (kinds.Num 0) ∷ []
+-- a step that was made
+abbrev pub done : Reply → EventAnswer
+done reply = told.Answer (Done reply)
+
+abbrev pub hello_answers : List EventAnswer
+hello_answers = done (kinds.Pid 1) ∷ done (kinds.Fds 0 1) ∷ done (kinds.Num 5) ∷ done (kinds.Bytes (codes "hel")) ∷ done (kinds.Bytes (codes "lo")) ∷ done (kinds.Num 0) ∷ done (kinds.Bytes []) ∷ done (kinds.Num 0) ∷ []
 
 pub hello_text : print hello_draft hello_answers ≡ codes "== red\n1: pid 1\n2: fds 0 1\n3: num 5\n4: bytes 3 68656c\n5: bytes 2 6c6f\n6: num 0\n7: bytes 0 -\n8: num 0\n"
 unfolding lines_text answers_of sections encode_with
 hello_text = rw (decimal_digit 0 (omega arith), decimal_digit 1 (omega arith), decimal_digit 2 (omega arith), decimal_digit 3 (omega arith), decimal_digit 4 (omega arith), decimal_digit 5 (omega arith), decimal_digit 6 (omega arith), decimal_digit 7 (omega arith), decimal_digit 8 (omega arith)) refl
 
 -- a call that waits
-pub waits : line_text 3 (Done kinds.Parked) ≡ codes "3: parked\n"
+pub waits : line_text 3 (done kinds.Parked) ≡ codes "3: parked\n"
 waits = rw (decimal_digit 3 (omega arith)) refl
+
+-- what is told of a namespace that doesn't come, or stays
+no_room : line_text 1 (told.NotAdmitted (admission.NoRoom 1)) ≡ codes "1: no room 1\n"
+no_room = rw (decimal_digit 1 (omega arith)) refl
+
+too_many : line_text 1 (told.NotAdmitted admission.TooManyNamespaces) ≡ codes "1: too many namespaces\n"
+too_many = rw (decimal_digit 1 (omega arith)) refl
+
+no_memory : line_text 1 (told.NotAdmitted admission.NoMemory) ≡ codes "1: nomem\n"
+no_memory = rw (decimal_digit 1 (omega arith)) refl
+
+retired_before : line_text 2 (told.NotRetired retirement.NoSuchNamespace) ≡ codes "2: gone\n"
+retired_before = rw (decimal_digit 2 (omega arith)) refl
+
+-- namespaces that come and go
+abbrev pub guests_answers : List EventAnswer
+guests_answers = done (kinds.Pid 1) ∷ told.NotAdmitted (admission.NoRoom 1) ∷ told.Admitted 1 ∷ done (kinds.Num 0) ∷ told.Retired ∷ told.Admitted 2 ∷ done (kinds.Pid 1) ∷ told.NotRetired (retirement.Alive 1) ∷ told.Gone ∷ told.Gone ∷ []
+
+pub guests_text : print guests_draft guests_answers ≡ codes "== red\n1: pid 1\n2: num 0\n3: retired\n4: gone\n== blue\n1: no room 1\n2: gone\n== green\n1: admitted\n2: pid 1\n3: alive 1\n== grey\n1: admitted\n"
+unfolding lines_text answers_of sections
+guests_text = rw (decimal_digit 0 (omega arith), decimal_digit 1 (omega arith), decimal_digit 2 (omega arith), decimal_digit 3 (omega arith), decimal_digit 4 (omega arith)) refl
 
 -- a mode, and names
 octal : octal_text 420 ≡ codes "0644"

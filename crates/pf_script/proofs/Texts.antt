@@ -6,10 +6,10 @@ use Rattle.std.proofs.lemmas.List.{take-append-drop, append-nil, get_or_default}
 use Rattle.std.proofs.Math.ListN.{drop_of_length-le}
 use Rattle.std.proofs.lemmas.Option.{slice_get-map, slice_get-get_or}
 use Rattle.hex.specs.Hex.{encode_with, encode_lower, lower_digits}
-use Rattle.pf_base.specs.declared.step.Answer.{Answer}
-use Rattle.pf_base.specs.declared.step.Answer.TheVariants.{NoMemory}
+use Rattle.pf_base.specs.declared.admission.EventAnswer.{EventAnswer}
+use Rattle.pf_base.specs.declared.admission.EventAnswer.TheVariants as told
 use Rattle.pf_script.specs.Places.{places_from, places_of}
-use Rattle.pf_base.specs.declared.step.Step.{Step}
+use Rattle.pf_script.specs.declared.line.Line.{Line}
 use Rattle.pf_base.specs.Limits.{Limits}
 use Rattle.pf_script.specs.Script.{Draft}
 use Rattle.memchr.specs.Find.{IsFirstByte, is_byte}
@@ -64,7 +64,8 @@ pub names_end : (text rest all : List ℕ) → IsFirstByte (is_byte 47) rest Non
 names_end text rest all none same = sym (append-nil text) ∙ ap (λ x. text ++ x) (sym (no_name [] rest none)) ∙ same
 
 -- a line was put
-pub line_on : (done all : List ℕ) (i : ℕ) (answers : List Answer) (d : Answer) → i < length answers → d ≡ get_or answers i d →
+pub line_on : (done all : List ℕ) (i : ℕ) (answers : List EventAnswer) (d : EventAnswer) → i < length answers →
+    d ≡ get_or answers i d →
     done ++ lines_text (i + 1) (drop i answers) ≡ all →
     (done ++ line_text (i + 1) d) ++ lines_text (i + 1 + 1) (drop (i + 1) answers) ≡ all
 unfolding lines_text
@@ -72,7 +73,7 @@ line_on done all i answers d high is same =
     let here = rw (next_of answers i d high, ← is) at same in
     append_assoc done (line_text (i + 1) d) (lines_text (i + 1 + 1) (drop (i + 1) answers)) ∙ here
 
-pub lines_end : (done all : List ℕ) (i : ℕ) (answers : List Answer) → length answers ≤ i →
+pub lines_end : (done all : List ℕ) (i : ℕ) (answers : List EventAnswer) → length answers ≤ i →
     done ++ lines_text (i + 1) (drop i answers) ≡ all → done ≡ all
 unfolding lines_text
 lines_end done all i answers past same =
@@ -80,16 +81,17 @@ lines_end done all i answers past same =
     sym (append-nil done) ∙ here
 
 -- the line of an answer at a place was put
-pub chosen_on : (done all : List ℕ) (i place : ℕ) (answers : List Answer) (places : List ℕ) (d : Answer) → i < length places → place ≡ get_or places i 0 → place < length answers → d ≡ get_or answers place d →
+pub chosen_on : (done all : List ℕ) (i place : ℕ) (answers : List EventAnswer) (places : List ℕ) (d : EventAnswer) →
+    i < length places → place ≡ get_or places i 0 → place < length answers → d ≡ get_or answers place d →
     done ++ lines_text (i + 1) (chosen answers (drop i places)) ≡ all →
     (done ++ line_text (i + 1) d) ++ lines_text (i + 1 + 1) (chosen answers (drop (i + 1) places)) ≡ all
 unfolding lines_text
 chosen_on done all i place answers places d high at_place low is same =
-    let one : get_or answers place NoMemory ≡ d = get_or_default answers place NoMemory d low ∙ sym is in
+    let one : get_or answers place told.Gone ≡ d = get_or_default answers place told.Gone d low ∙ sym is in
     let here = rw (next_of places i 0 high, ← at_place, one) at same in
     append_assoc done (line_text (i + 1) d) (lines_text (i + 1 + 1) (chosen answers (drop (i + 1) places))) ∙ here
 
-pub chosen_end : (done all : List ℕ) (i : ℕ) (answers : List Answer) (places : List ℕ) → length places ≤ i →
+pub chosen_end : (done all : List ℕ) (i : ℕ) (answers : List EventAnswer) (places : List ℕ) → length places ≤ i →
     done ++ lines_text (i + 1) (chosen answers (drop i places)) ≡ all → done ≡ all
 unfolding lines_text
 chosen_end done all i answers places past same =
@@ -97,15 +99,17 @@ chosen_end done all i answers places past same =
     sym (append-nil done) ∙ here
 
 -- the answers to a namespace's steps are those at their places
-chosen_from : (all : List Answer) (i : ℕ) (steps : List (ℕ × Step)) (answers : List Answer) (n : ℕ) → drop i all ≡ answers → length answers ≡ length steps → answers_of steps answers n ≡ chosen all (places_from i steps n)
+chosen_from : (all : List EventAnswer) (i : ℕ) (steps : List (ℕ × Line)) (answers : List EventAnswer) (n : ℕ) →
+    drop i all ≡ answers → length answers ≡ length steps →
+    answers_of steps answers n ≡ chosen all (places_from i steps n)
 unfolding answers_of
 chosen_from all i [] answers n behind many = refl
 chosen_from all i (e ∷ es) [] n behind many = absurd (omega (arith, many))
 chosen_from all i (e ∷ es) (a ∷ rest) n behind many =
     let long : length (drop i all) ≡ length (a ∷ rest) = ap length behind in
     let high : i < length all = omega (arith, length-drop i all, long) in
-    let split = sym (next_of all i NoMemory high) ∙ behind in
-    let here : get_or all i NoMemory ≡ a = cc in
+    let split = sym (next_of all i told.Gone high) ∙ behind in
+    let here : get_or all i told.Gone ≡ a = cc in
     let rests : drop (i + 1) all ≡ rest = cc in
     let more = chosen_from all (i + 1) es rest n rests (omega (arith, many)) in
     elim (nat_eq e.0 n) as (λ b. (if b then a ∷ answers_of es rest n else answers_of es rest n) ≡ chosen all (if b then i ∷ places_from (i + 1) es n else places_from (i + 1) es n)) [
@@ -113,11 +117,13 @@ chosen_from all i (e ∷ es) (a ∷ rest) n behind many =
       | false ↦ more
     ]
 
-pub chosen_are : (steps : List (ℕ × Step)) (answers : List Answer) (n : ℕ) → length answers ≡ length steps → answers_of steps answers n ≡ chosen answers (places_of steps n)
+pub chosen_are : (steps : List (ℕ × Line)) (answers : List EventAnswer) (n : ℕ) → length answers ≡ length steps →
+    answers_of steps answers n ≡ chosen answers (places_of steps n)
 chosen_are steps answers n many = chosen_from answers 0 steps answers n refl many
 
 -- the section of a namespace that has this name
-pub section_named : (script : Draft) (own : List Answer) (n : ℕ) (name : List ℕ) → slice_get (map (λ s. s.0) script.spaces) n ≡ Some name → section_at script own n ≡ section name own
+pub section_named : (script : Draft) (own : List EventAnswer) (n : ℕ) (name : List ℕ) →
+    slice_get (map (λ s. s.0) script.spaces) n ≡ Some name → section_at script own n ≡ section name own
 section_named script own n name is = by (slice_get script.spaces n) (sym (slice_get-map (λ (s : List ℕ × Limits). s.0) script.spaces n) ∙ is)
   where
     by : (r : Option (List ℕ × Limits)) → option_map (λ s. s.0) r ≡ Some name → section_of r own ≡ section name own
@@ -127,7 +133,7 @@ section_named script own n name is = by (slice_get script.spaces n) (sym (slice_
         ap (λ n. section n own) same
 
 -- a section was put
-pub section_on : (done all : List ℕ) (i : ℕ) (script : Draft) (answers : List Answer) → i < length script.spaces →
+pub section_on : (done all : List ℕ) (i : ℕ) (script : Draft) (answers : List EventAnswer) → i < length script.spaces →
     done ++ sections i (drop i script.spaces) script.steps answers ≡ all →
     (done ++ section_at script (answers_of script.steps answers i) i) ++ sections (i + 1) (drop (i + 1) script.spaces) script.steps answers ≡ all
 unfolding sections
@@ -137,7 +143,7 @@ section_on done all i script answers high same =
     rw (slice_get-get_or script.spaces i other high)
     (append_assoc done (section (get_or script.spaces i other).0 (answers_of script.steps answers i)) (sections (i + 1) (drop (i + 1) script.spaces) script.steps answers) ∙ here)
 
-pub sections_end : (text all : List ℕ) (i : ℕ) (spaces : List (List ℕ × Limits)) (steps : List (ℕ × Step)) (answers : List Answer) → length spaces ≤ i →
+pub sections_end : (text all : List ℕ) (i : ℕ) (spaces : List (List ℕ × Limits)) (steps : List (ℕ × Line)) (answers : List EventAnswer) → length spaces ≤ i →
     text ++ sections i (drop i spaces) steps answers ≡ all → text ≡ all
 unfolding sections
 sections_end text all i spaces steps answers past same =

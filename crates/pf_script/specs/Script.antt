@@ -8,21 +8,25 @@ use Rattle.pf_base.specs.declared.config.ConfigFault.{ConfigFault}
 use Rattle.pf_words.specs.declared.cause.Cause.{Cause}
 use Rattle.pf_words.specs.declared.cause.Cause.TheVariants as causes
 use Rattle.pf_script.specs.declared.refusal.Refusal.{Refusal}
-use Rattle.pf_base.specs.declared.step.Step.{Step}
+use Rattle.pf_script.specs.declared.line.Line.{Line}
+use Rattle.pf_script.specs.declared.line.Line.TheVariants as lines
 use Rattle.pf_base.specs.Limits.{Limits, config_of}
 use Rattle.pf_words.specs.Words.{pieces_of, words_of, is_name}
 use Rattle.pf_words.specs.Arguments.{◌>>=◌, or_cause, number_at, u32_at}
 use Rattle.pf_words.specs.Verbs.{step_words}
 
--- what lines say. frames: those of the pool line, 0 where there is none;  spaces: each namespace's name and limits;  steps: each with its namespace's number, from 0
+-- what lines say. frames: those of the pool line, 0 where there is none;  spaces: each namespace's name and limits,
+-- first those that there are from the start;  opening: how many these are;  steps: what each line behind the space
+-- lines says, with its namespace's number, from 0
 pub record Draft : Type 0 where
   pub frames : ℕ
+  pub opening : ℕ
   pub spaces : List (List ℕ × Limits)
-  pub steps : List (ℕ × Step)
+  pub steps : List (ℕ × Line)
 
 -- nothing said
 abbrev pub blank : Draft
-blank = record { frames = 0; spaces = []; steps = [] }
+blank = record { frames = 0; opening = 0; spaces = []; steps = [] }
 
 unfoldable pub pool_with : Draft → List ℕ → Result Draft Cause
 pool_with d frames = do
@@ -59,20 +63,26 @@ limits_with reserve soft hard max = do
   m ← number_or DEFAULT_MAX max
   limits_or_cause (config_of n s h m)
 
--- a namespace of this name and these limits, unless the reservations are too many
+-- a namespace of this name and these limits from the start, unless the reservations are too many
 unfoldable pub with_limits : Draft → List ℕ → Limits → Result Draft Cause
 with_limits d name limits =
     if nat_lt d.frames (reserved d.spaces + limits.reserve) then Err (causes.ReservationsExceed (reserved d.spaces + limits.reserve) d.frames)
-    else Ok (record d { spaces = d.spaces ++ (name, limits) ∷ [] })
+    else Ok (record d { opening = length d.spaces + 1; spaces = d.spaces ++ (name, limits) ∷ [] })
 
-unfoldable pub space_with : Draft → List ℕ → List ℕ → Option (List ℕ) → Option (List ℕ) → Option (List ℕ) → Result Draft Cause
-space_with d name reserve soft hard max =
+-- the limits of a namespace more: its name is no other's, and there are few enough
+unfoldable pub fresh_limits : Draft → List ℕ → List ℕ → Option (List ℕ) → Option (List ℕ) → Option (List ℕ) →
+    Result Limits Cause
+fresh_limits d name reserve soft hard max =
     if not (is_name name) then Err causes.BadName
     else if is_some (place_of name d.spaces) then Err causes.NameTwice
     else if nat_le MAX_NAMESPACES (length d.spaces) then Err causes.TooManyNamespaces
-    else do
-      limits ← limits_with reserve soft hard max
-      with_limits d name limits
+    else limits_with reserve soft hard max
+
+unfoldable pub space_with : Draft → List ℕ → List ℕ → Option (List ℕ) → Option (List ℕ) → Option (List ℕ) →
+    Result Draft Cause
+space_with d name reserve soft hard max = do
+  limits ← fresh_limits d name reserve soft hard max
+  with_limits d name limits
 
 -- space NAME RESERVE [SOFT [HARD [MAX]]]
 unfoldable pub space_words : Draft → List (List ℕ) → Result Draft Cause
@@ -85,12 +95,44 @@ space_words d _ = Err causes.WrongWords
 unfoldable pub space_line : Draft → List (List ℕ) → Result Draft Cause
 space_line d words = if length d.steps == 0 then space_words d words else Err causes.LateSpace
 
+-- a namespace of this name and these limits that is admitted here. Its reservation isn't summed: whether there is room
+-- is seen when the line is run
+abbrev pub admitted : Draft → List ℕ → Limits → Draft
+admitted d name limits = record d {
+  spaces = d.spaces ++ (name, limits) ∷ [];
+  steps = d.steps ++ (length d.spaces, lines.Admit) ∷ [];
+}
+
+unfoldable pub admit_with : Draft → List ℕ → List ℕ → Option (List ℕ) → Option (List ℕ) → Option (List ℕ) →
+    Result Draft Cause
+admit_with d name reserve soft hard max = do
+  limits ← fresh_limits d name reserve soft hard max
+  Ok (admitted d name limits)
+
+-- admit NAME RESERVE [SOFT [HARD [MAX]]]
+unfoldable pub admit_line : Draft → List (List ℕ) → Result Draft Cause
+admit_line d (name ∷ reserve ∷ []) = admit_with d name reserve None None None
+admit_line d (name ∷ reserve ∷ soft ∷ []) = admit_with d name reserve (Some soft) None None
+admit_line d (name ∷ reserve ∷ soft ∷ hard ∷ []) = admit_with d name reserve (Some soft) (Some hard) None
+admit_line d (name ∷ reserve ∷ soft ∷ hard ∷ max ∷ []) = admit_with d name reserve (Some soft) (Some hard) (Some max)
+admit_line d _ = Err causes.WrongWords
+
+unfoldable pub retire_with : Draft → List ℕ → Result Draft Cause
+retire_with d name = do
+  place ← or_cause (place_of name d.spaces) causes.UnknownNamespace
+  Ok (record d { steps = d.steps ++ (place, lines.Retire) ∷ [] })
+
+-- retire NAME
+unfoldable pub retire_line : Draft → List (List ℕ) → Result Draft Cause
+retire_line d (name ∷ []) = retire_with d name
+retire_line d _ = Err causes.WrongWords
+
 -- NAME VERB ..
 unfoldable pub step_line : Draft → List ℕ → List (List ℕ) → Result Draft Cause
 step_line d name words = do
   place ← or_cause (place_of name d.spaces) causes.UnknownNamespace
   step ← step_words words
-  Ok (record d { steps = d.steps ++ (place, step) ∷ [] })
+  Ok (record d { steps = d.steps ++ (place, lines.Step step) ∷ [] })
 
 -- a line of words is of the kind that its first word says; the first one is the pool line
 unfoldable pub first_word_line : Draft → List ℕ → List (List ℕ) → Result Draft Cause
@@ -98,6 +140,8 @@ first_word_line d first words =
     if bytes_eq first (codes "pool") then (if d.frames == 0 then pool_line d words else Err causes.SecondPool)
     else if d.frames == 0 then Err causes.NoPool
     else if bytes_eq first (codes "space") then space_line d words
+    else if bytes_eq first (codes "admit") then admit_line d words
+    else if bytes_eq first (codes "retire") then retire_line d words
     else step_line d first words
 
 unfoldable pub words_line : Draft → List (List ℕ) → Result Draft Cause

@@ -4,6 +4,7 @@ use Rattle.std.specs.Prelude.{ℕ, ◌≡◌, ◌≤◌, ◌<◌, true, List, []
 use Rattle.pf_base.specs.declared.step.Step.{Step}
 use Rattle.pf_words.specs.Words.{pieces_of, is_name}
 use Rattle.pf_words.specs.Spelling.{joined, spell, HasWords}
+use Rattle.pf_script.specs.declared.line.Line.TheVariants as lines
 use Rattle.pf_script.specs.Script.{Draft, place_of, line_of}
 
 -- a namespace's name, and a step's verb and words, with spaces between them
@@ -17,4 +18,4 @@ EachStepHasALine = (d : Draft) (name : List ℕ) (place : ℕ) (step : Step) →
     0 < d.frames → is_name name ≡ true → place_of name d.spaces ≡ Some place →
     HasWords step → length (step_text name step) ≤ 2200000 →
     (pieces_of 10 (step_text name step) ≡ step_text name step ∷ [])
-    × (line_of d (step_text name step) ≡ Ok (record d { steps = d.steps ++ (place, step) ∷ [] }))
+    × (line_of d (step_text name step) ≡ Ok (record d { steps = d.steps ++ (place, lines.Step step) ∷ [] }))

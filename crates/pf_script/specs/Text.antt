@@ -2,7 +2,7 @@
 
 use Rattle.std.specs.Prelude.{ℕ, ◌+◌, ◌/◌, ◌%◌, ◌≡◌, ◌<◌, nat_eq, List, [], ◌∷◌, ◌++◌, length, filter, codes, decimal, slice_get, slice_index_or, map, Option, Some, None, if◌then◌else◌}
 use Rattle.hex.specs.Hex.{encode_lower}
-use Rattle.pf_base.specs.declared.step.Step.{Step}
+use Rattle.pf_script.specs.declared.line.Line.{Line}
 use Rattle.pf_base.specs.declared.step.Reply.{Reply}
 use Rattle.pf_base.specs.declared.step.Reply.TheVariants as kinds
 use Rattle.pf_base.specs.declared.step.Answer.{Answer}
@@ -11,7 +11,11 @@ use Rattle.pf_base.specs.declared.meta.Kind.{Kind}
 use Rattle.pf_base.specs.declared.meta.Kind.TheVariants.{Fifo, Directory}
 use Rattle.pf_base.specs.declared.meta.Meta.{Meta}
 use Rattle.pf_base.specs.Errors.{name_of}
-use Rattle.pf_machine.specs.Events.{mine}
+use Rattle.pf_base.specs.declared.admission.AdmitFault.TheVariants as admission
+use Rattle.pf_base.specs.declared.admission.RetireFault.TheVariants as retirement
+use Rattle.pf_base.specs.declared.admission.EventAnswer.{EventAnswer}
+use Rattle.pf_base.specs.declared.admission.EventAnswer.TheVariants as told
+use Rattle.pf_script.specs.Places.{lines_of}
 use Rattle.pf_base.specs.Limits.{Limits}
 use Rattle.pf_script.specs.Script.{Draft}
 
@@ -56,12 +60,24 @@ abbrev pub answer_text : Answer → List ℕ
 answer_text (Done reply) = reply_text reply
 answer_text NoMemory = codes "nomem"
 
+-- what an event is answered
+abbrev pub event_text : EventAnswer → List ℕ
+event_text (told.Answer answer) = answer_text answer
+event_text told.Gone = codes "gone"
+event_text (told.Admitted number) = codes "admitted"
+event_text (told.NotAdmitted (admission.NoRoom slack)) = codes "no room " ++ decimal slack
+event_text (told.NotAdmitted admission.TooManyNamespaces) = codes "too many namespaces"
+event_text (told.NotAdmitted admission.NoMemory) = codes "nomem"
+event_text told.Retired = codes "retired"
+event_text (told.NotRetired retirement.NoSuchNamespace) = codes "gone"
+event_text (told.NotRetired (retirement.Alive processes)) = codes "alive " ++ decimal processes
+
 -- the line of the step with this number
-abbrev pub line_text : ℕ → Answer → List ℕ
-line_text i answer = decimal i ++ codes ": " ++ answer_text answer ++ codes "\n"
+abbrev pub line_text : ℕ → EventAnswer → List ℕ
+line_text i answer = decimal i ++ codes ": " ++ event_text answer ++ codes "\n"
 
 -- the lines of the steps from number i on
-unfoldable pub lines_text : ℕ → List Answer → List ℕ
+unfoldable pub lines_text : ℕ → List EventAnswer → List ℕ
 lines_text i [] = []
 lines_text i (answer ∷ answers) = line_text i answer ++ lines_text (i + 1) answers
 
@@ -70,42 +86,42 @@ abbrev pub header : List ℕ → List ℕ
 header name = codes "== " ++ name ++ codes "\n"
 
 -- a namespace's name and the answers to its steps
-abbrev pub section : List ℕ → List Answer → List ℕ
+abbrev pub section : List ℕ → List EventAnswer → List ℕ
 section name answers = header name ++ lines_text 1 answers
 
 -- the answers to the steps of namespace n
-unfoldable pub answers_of : List (ℕ × Step) → List Answer → ℕ → List Answer
+unfoldable pub answers_of : List (ℕ × Line) → List EventAnswer → ℕ → List EventAnswer
 answers_of [] answers n = []
 answers_of (e ∷ es) [] n = []
 answers_of (e ∷ es) (a ∷ answers) n = if nat_eq e.0 n then a ∷ answers_of es answers n else answers_of es answers n
 
 -- the sections of the namespaces from number n on
-unfoldable pub sections : ℕ → List (List ℕ × Limits) → List (ℕ × Step) → List Answer → List ℕ
+unfoldable pub sections : ℕ → List (List ℕ × Limits) → List (ℕ × Line) → List EventAnswer → List ℕ
 sections n [] steps answers = []
 sections n (space ∷ spaces) steps answers = section space.0 (answers_of steps answers n) ++ sections (n + 1) spaces steps answers
 
 -- the whole text of a script whose steps have these answers
-abbrev pub print : Draft → List Answer → List ℕ
+abbrev pub print : Draft → List EventAnswer → List ℕ
 print script answers = sections 0 script.spaces script.steps answers
 
-abbrev pub section_of : Option (List ℕ × Limits) → List Answer → List ℕ
+abbrev pub section_of : Option (List ℕ × Limits) → List EventAnswer → List ℕ
 section_of None own = []
 section_of (Some space) own = section space.0 own
 
 -- the section of namespace n, where these are the answers to its own steps
-abbrev pub section_at : Draft → List Answer → ℕ → List ℕ
+abbrev pub section_at : Draft → List EventAnswer → ℕ → List ℕ
 section_at script own n = section_of (slice_get script.spaces n) own
 
 -- the text, or with one namespace chosen its section alone
-abbrev pub text : Draft → List Answer → Option ℕ → List ℕ
+abbrev pub text : Draft → List EventAnswer → Option ℕ → List ℕ
 text script answers None = print script answers
 text script answers (Some n) = section_at script answers n
 
 -- each step has an answer, or with one namespace chosen each of its own
-abbrev pub IsAnswered : Draft → List Answer → Option ℕ → Type 0
+abbrev pub IsAnswered : Draft → List EventAnswer → Option ℕ → Type 0
 IsAnswered script answers None = length answers ≡ length script.steps
-IsAnswered script answers (Some n) = (n < length script.spaces) × (length answers ≡ length (mine script.steps n))
+IsAnswered script answers (Some n) = (n < length script.spaces) × (length answers ≡ length (lines_of script.steps n))
 
 -- the answers at these places
-abbrev pub chosen : List Answer → List ℕ → List Answer
-chosen answers places = map (λ i. slice_index_or answers i NoMemory) places
+abbrev pub chosen : List EventAnswer → List ℕ → List EventAnswer
+chosen answers places = map (λ i. slice_index_or answers i told.Gone) places

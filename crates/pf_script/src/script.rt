@@ -1,15 +1,16 @@
-ghost use Rattle.std.specs.Prelude.{◌≡◌, ◌≤◌, ◌<◌, map, length, slice_get, IfOk, IfSome, Some, None, true, option_copied};
+ghost use Rattle.std.specs.Prelude.{◌≡◌, ◌≤◌, ◌<◌, map, take, length, slice_get, IfOk, OnOk, IfSome, Some, None, Ok, true, option_copied};
 ghost use Rattle.std.specs.List.{list_any};
 ghost use Rattle.pf_base.specs.declared.TheConstants.{MAX_FRAMES};
 ghost use Rattle.pf_script.specs.Script as grammar;
 ghost use Rattle.pf_script.specs.Script.{blank, place_of, reserved, number_or};
 ghost use Rattle.pf_script.specs.Places.{places_of};
-ghost use Rattle.pf_script.specs.Sound.{first_stray};
+ghost use Rattle.pf_script.specs.Sound.{first_stray, AreGiven};
 ghost use Rattle.pf_words.specs.Faults.{Gives, Moves};
 
+use crate::line::Line;
 use crate::steps::Steps;
 use indexmap::IndexMap;
-use pf_base::{Config, MAX_FRAMES, MAX_NAMESPACES, MAX_RESERVE, Step};
+use pf_base::{Config, MAX_FRAMES, MAX_NAMESPACES, MAX_RESERVE};
 use pf_words::{Cause, LineFault, cut_into, is_name_word, number_32, small_number, step_of};
 use std::alloc::{AllocError, Global};
 use std::marker::Model;
@@ -17,10 +18,13 @@ use std::marker::Model;
 /// The longest line in bytes, its line feed not counted.
 const LINE_LIMIT: usize = 2_200_000;
 
-/// What a script says: its pool, its namespaces, and its steps, each with its namespace's number, from 0.
+/// What a script says: its pool, its namespaces, and what its lines behind the space lines say, each with its
+/// namespace's number, from 0.
 #[derive(Debug, Drop)]
 pub struct Script {
     frames: u32,
+    // How many namespaces there are from the start.
+    opening: u32,
     // Limits by name, in the order of their lines.
     spaces: IndexMap<Vec<u8>, Config>,
     steps: Steps,
@@ -33,10 +37,20 @@ impl Model for Script {
 
     ghost Value = { Draft };
 
-    ghost view = { λ s. record { frames = s.frames; spaces = named s.spaces.entries; steps = s.steps } };
+    ghost view = { λ s. record {
+      frames = s.frames;
+      opening = s.opening;
+      spaces = named s.spaces.entries;
+      steps = s.steps;
+    } };
 
     ghost invariant = { λ s.
-        IsSound (record { frames = s.frames; spaces = named s.spaces.entries; steps = s.steps }) };
+        IsSound (record {
+          frames = s.frames;
+          opening = s.opening;
+          spaces = named s.spaces.entries;
+          steps = s.steps;
+        }) };
 }
 
 /// Whether a line is empty or begins with `#`.
@@ -98,6 +112,7 @@ impl Script {
         let steps = Steps::new(alloc)?;
         Ok(Script {
             frames: 0,
+            opening: 0,
             spaces: IndexMap::new(alloc),
             steps,
         })
@@ -110,7 +125,16 @@ impl Script {
         self.frames
     }
 
-    /// How many namespaces there are.
+    /// How many namespaces there are from the start, one for each space line: they have the first numbers. Each other is
+    /// admitted by a line.
+    pub fn opening(&self) -> usize
+        ensures opening { result ≡ self.now.opening }
+        ensures most { result ≤ length self.now.spaces }
+    {
+        self.opening as usize
+    }
+
+    /// How many namespaces there are, those of the admit lines among them.
     pub fn count_spaces(&self) -> usize
         ensures count { result ≡ length self.now.spaces }
         ensures most { result ≤ 64 }
@@ -127,26 +151,32 @@ impl Script {
         name.as_slice()
     }
 
-    /// The limits of each namespace, in the order of their numbers. They reserve no more frames than the pool has.
-    #[tactic(auto, using(crate::proofs::ScriptNames::limits_of))]
+    /// The limits of each namespace that is there from the start, in the order of their numbers. They reserve no more frames
+    /// than the pool has.
+    #[tactic(auto, using(crate::proofs::ScriptNames::first_limits))]
     pub fn configs(&self, alloc: Global) -> Result<Vec<Config>, AllocError>
-        ensures limits { IfOk result (λ configs. configs.items ≡ map (λ s. s.1) self.now.spaces) }
+        ensures limits { IfOk result
+            (λ configs. configs.items ≡ map (λ s. s.1) (take self.now.opening self.now.spaces)) }
         ensures most { IfOk result (λ configs. length configs.items ≤ 64) }
         ensures small { self.now.frames ≤ MAX_FRAMES }
-        ensures fits { reserved self.now.spaces ≤ self.now.frames }
+        ensures fits { reserved (take self.now.opening self.now.spaces) ≤ self.now.frames }
     {
-        self.spaces.values().copied().collect(alloc)
+        let mut configs: Vec<Config> = self.spaces.values().copied().collect(alloc)?;
+        configs.truncate(self.opening as usize);
+        Ok(configs)
     }
 
-    /// The steps, each with its namespace's number.
-    pub fn steps(&self) -> &[(u32, Step)]
+    /// What the lines behind the space lines say, each with its namespace's number. A line's namespace is there from the
+    /// start, or an earlier line admits it; the line that admits it has the next number.
+    pub fn steps(&self) -> &[(u32, Line)]
         ensures steps { result.now ≡ self.now.steps }
         ensures exist { first_stray (length self.now.spaces) result.now ≡ None }
+        ensures known { AreGiven self.now.opening result.now (length self.now.spaces) }
     {
         self.steps.as_slice()
     }
 
-    /// The places of one namespace's steps among all steps.
+    /// The places of one namespace's lines among all of these.
     pub fn places(&self, ns: usize) -> &[u32]
         requires { ns < length self.now.spaces }
         ensures { result.now ≡ places_of self.now.steps ns }
@@ -154,20 +184,22 @@ impl Script {
         self.steps.places(ns)
     }
 
-    /// The limits of the namespace with this number. It reserves no more frames than the pool has.
+    /// The limits of the namespace with this number. One that is there from the start reserves no more frames than the
+    /// pool has.
     pub fn config(&self, ns: usize) -> Config
         requires { ns < length self.now.spaces }
         ensures limits { slice_get (map (λ s. s.1) self.now.spaces) ns ≡ Some result }
         ensures small { self.now.frames ≤ MAX_FRAMES }
-        ensures fits { result.reserve ≤ self.now.frames }
+        ensures fits { ns < self.now.opening → result.reserve ≤ self.now.frames }
     {
         let (_, config) = self.spaces.get_index(ns).unwrap();
         *config
     }
 
-    /// The sum of the reservations.
+    /// The sum of the reservations. They are all in the pool where no line follows the space lines yet.
     #[tactic(auto, using(crate::proofs::ScriptNames::reserved_is))]
     fn reserved_frames(&self) -> u64
+        requires { reserved self.now.spaces ≤ self.now.frames }
         ensures sum { result ≡ reserved self.now.spaces }
         ensures most { result ≤ MAX_FRAMES }
     {
@@ -250,6 +282,7 @@ impl Script {
 
     #[tactic(auto, unfolding(crate::specs::Script::with_limits))]
     fn with_limits(&mut self, alloc: Global, name: &[u8], config: Config) -> Result<(), LineFault>
+        requires none { length self.old.steps ≡ 0 }
         requires few { length self.old.spaces < 64 }
         requires fresh { place_of name.now self.old.spaces ≡ None }
         ensures { Moves result self.new (grammar.with_limits self.old name.now config) }
@@ -261,9 +294,38 @@ impl Script {
                 frames: self.frames,
             }));
         }
+        let opening = self.spaces.len() as u32 + 1;
         let name = Vec::from_slice(alloc, name)?;
         self.spaces.insert(name, config)?;
+        self.opening = opening;
         Ok(())
+    }
+
+    /// The limits of a namespace more, whose name no other has.
+    #[tactic(auto, unfolding(crate::specs::Script::fresh_limits))]
+    fn fresh_limits(
+        &self,
+        name: &[u8],
+        reserve: &[u8],
+        soft: Option<&[u8]>,
+        hard: Option<&[u8]>,
+        max: Option<&[u8]>,
+    ) -> Result<Config, LineFault>
+        ensures limits { Gives result (grammar.fresh_limits self.now name.now reserve.now
+            (option_copied soft.entry) (option_copied hard.entry) (option_copied max.entry)) }
+        ensures few { OnOk result (length self.now.spaces < 64) }
+        ensures fresh { OnOk result (place_of name.now self.now.spaces ≡ None) }
+    {
+        if !is_name_word(name) {
+            return Err(LineFault::Refused(Cause::BadName));
+        }
+        if self.place(name).is_some() {
+            return Err(LineFault::Refused(Cause::NameTwice));
+        }
+        if self.spaces.len() >= MAX_NAMESPACES {
+            return Err(LineFault::Refused(Cause::TooManyNamespaces));
+        }
+        limits_with(reserve, soft, hard, max)
     }
 
     #[tactic(auto, unfolding(crate::specs::Script::space_with))]
@@ -276,24 +338,17 @@ impl Script {
         hard: Option<&[u8]>,
         max: Option<&[u8]>,
     ) -> Result<(), LineFault>
+        requires { length self.old.steps ≡ 0 }
         ensures { Moves result self.new (grammar.space_with self.old name.now reserve.now
             (option_copied soft.entry) (option_copied hard.entry) (option_copied max.entry)) }
     {
-        if !is_name_word(name) {
-            return Err(LineFault::Refused(Cause::BadName));
-        }
-        if self.place(name).is_some() {
-            return Err(LineFault::Refused(Cause::NameTwice));
-        }
-        if self.spaces.len() >= MAX_NAMESPACES {
-            return Err(LineFault::Refused(Cause::TooManyNamespaces));
-        }
-        let config = limits_with(reserve, soft, hard, max)?;
+        let config = self.fresh_limits(name, reserve, soft, hard, max)?;
         self.with_limits(alloc, name, config)
     }
 
     #[tactic(auto, unfolding(crate::specs::Script::space_words))]
     fn space_words(&mut self, alloc: Global, words: &[&[u8]]) -> Result<(), LineFault>
+        requires { length self.old.steps ≡ 0 }
         ensures { Moves result self.new (grammar.space_words self.old (map (λ w. w.now) words.now)) }
     {
         match words {
@@ -320,6 +375,76 @@ impl Script {
         }
     }
 
+    /// Takes on a namespace that a line admits.
+    fn admit(&mut self, alloc: Global, name: &[u8], config: Config) -> Result<(), LineFault>
+        requires few { length self.old.spaces < 64 }
+        requires fresh { place_of name.now self.old.spaces ≡ None }
+        ensures { Moves result self.new (Ok (grammar.admitted self.old name.now config)) }
+    {
+        let place = self.spaces.len() as u32;
+        let name = Vec::from_slice(alloc, name)?;
+        self.spaces.reserve(1)?;
+        self.steps.push(place, Line::Admit)?;
+        // The map has room.
+        self.spaces.insert(name, config).unwrap();
+        Ok(())
+    }
+
+    #[tactic(auto, unfolding(crate::specs::Script::admit_with))]
+    fn admit_with(
+        &mut self,
+        alloc: Global,
+        name: &[u8],
+        reserve: &[u8],
+        soft: Option<&[u8]>,
+        hard: Option<&[u8]>,
+        max: Option<&[u8]>,
+    ) -> Result<(), LineFault>
+        ensures { Moves result self.new (grammar.admit_with self.old name.now reserve.now
+            (option_copied soft.entry) (option_copied hard.entry) (option_copied max.entry)) }
+    {
+        let config = self.fresh_limits(name, reserve, soft, hard, max)?;
+        self.admit(alloc, name, config)
+    }
+
+    #[tactic(auto, unfolding(crate::specs::Script::admit_line))]
+    fn admit_line(&mut self, alloc: Global, words: &[&[u8]]) -> Result<(), LineFault>
+        ensures { Moves result self.new (grammar.admit_line self.old (map (λ w. w.now) words.now)) }
+    {
+        match words {
+            [name, reserve] => self.admit_with(alloc, name, reserve, None, None, None),
+            [name, reserve, soft] => self.admit_with(alloc, name, reserve, Some(soft), None, None),
+            [name, reserve, soft, hard] => {
+                self.admit_with(alloc, name, reserve, Some(soft), Some(hard), None)
+            }
+            [name, reserve, soft, hard, max] => {
+                self.admit_with(alloc, name, reserve, Some(soft), Some(hard), Some(max))
+            }
+            _ => Err(LineFault::Refused(Cause::WrongWords)),
+        }
+    }
+
+    #[tactic(auto, unfolding(crate::specs::Script::retire_with))]
+    fn retire_with(&mut self, name: &[u8]) -> Result<(), LineFault>
+        ensures { Moves result self.new (grammar.retire_with self.old name.now) }
+    {
+        let Some(place) = self.place(name) else {
+            return Err(LineFault::Refused(Cause::UnknownNamespace));
+        };
+        self.steps.push(place, Line::Retire)?;
+        Ok(())
+    }
+
+    #[tactic(auto, unfolding(crate::specs::Script::retire_line))]
+    fn retire_line(&mut self, words: &[&[u8]]) -> Result<(), LineFault>
+        ensures { Moves result self.new (grammar.retire_line self.old (map (λ w. w.now) words.now)) }
+    {
+        match words {
+            [name] => self.retire_with(name),
+            _ => Err(LineFault::Refused(Cause::WrongWords)),
+        }
+    }
+
     #[tactic(auto, unfolding(crate::specs::Script::step_line))]
     fn step_line(&mut self, alloc: Global, name: &[u8], words: &[&[u8]]) -> Result<(), LineFault>
         ensures { Moves result self.new (grammar.step_line self.old name.now (map (λ w. w.now) words.now)) }
@@ -328,7 +453,7 @@ impl Script {
             return Err(LineFault::Refused(Cause::UnknownNamespace));
         };
         let step = step_of(alloc, words)?;
-        self.steps.push(place, step)?;
+        self.steps.push(place, Line::Step(step))?;
         Ok(())
     }
 
@@ -352,6 +477,10 @@ impl Script {
             Err(LineFault::Refused(Cause::NoPool))
         } else if first == b"space".as_slice() {
             self.space_line(alloc, words)
+        } else if first == b"admit".as_slice() {
+            self.admit_line(alloc, words)
+        } else if first == b"retire".as_slice() {
+            self.retire_line(words)
         } else {
             self.step_line(alloc, first, words)
         }

@@ -4,25 +4,26 @@ ghost use Rattle.std.specs.declared.vec.Vec.{Vec};
 ghost use Rattle.std.specs.declared.alloc.Global.{Global};
 ghost use Rattle.pf_script.specs.Places.{places_of};
 
-use pf_base::{MAX_NAMESPACES, Step};
+use crate::line::Line;
+use pf_base::MAX_NAMESPACES;
 use std::alloc::{AllocError, Global};
 use std::marker::Model;
 
-/// The steps of a script, each with its namespace's number, below 64, and for each namespace the places of its
-/// steps. A contract sees the list of the steps.
+/// What the lines behind a script's space lines say, each with its namespace's number, below 64, and for each namespace
+/// the places of its lines. A contract sees the list of the lines.
 #[derive(Debug, Drop)]
 pub struct Steps {
-    all: Vec<(u32, Step)>,
+    all: Vec<(u32, Line)>,
     // For each number of a namespace the places of its steps in `all`.
     places: Vec<Vec<u32>>,
 }
 
 impl Model for Steps {
     ghost use Rattle.std.specs.Prelude.{List, ℕ};
-    ghost use Rattle.pf_base.specs.declared.step.Step.{Step};
+    ghost use Rattle.pf_script.specs.declared.line.Line.{Line};
     ghost use Rattle.pf_script.specs.Places.{AreKept};
 
-    ghost Value = { List (ℕ × Step) };
+    ghost Value = { List (ℕ × Line) };
 
     ghost view = { λ s. s.all.items };
 
@@ -57,7 +58,7 @@ fn note(places: &mut Vec<Vec<u32>>, number: usize, place: u32) -> Result<(), All
 }
 
 impl Steps {
-    /// No steps.
+    /// No lines.
     pub fn new(alloc: Global) -> Result<Self, AllocError>
         ensures { IfOk result (λ s. s ≡ []) }
     {
@@ -66,14 +67,14 @@ impl Steps {
         Ok(Steps { all, places })
     }
 
-    /// All steps.
-    pub fn as_slice(&self) -> &[(u32, Step)]
+    /// All lines.
+    pub fn as_slice(&self) -> &[(u32, Line)]
         ensures { result.now ≡ self.now }
     {
         self.all.as_slice()
     }
 
-    /// The places of the steps of the namespace with this number.
+    /// The places of the lines of the namespace with this number.
     pub fn places(&self, ns: usize) -> &[u32]
         requires { ns < 64 }
         ensures { result.now ≡ places_of self.now ns }
@@ -81,10 +82,10 @@ impl Steps {
         self.places[ns].as_slice()
     }
 
-    /// Puts a step behind the others, unless memory is wanted, as it is for more than 2^32 steps.
-    pub fn push(&mut self, ns: u32, step: Step) -> Result<(), AllocError>
+    /// Puts a line behind the others, unless memory is wanted, as it is for more than 2^32 lines.
+    pub fn push(&mut self, ns: u32, line: Line) -> Result<(), AllocError>
         requires { ns < 64 }
-        ensures pushed { OnOk result (self.new ≡ self.old ++ (ns, step) ∷ []) }
+        ensures pushed { OnOk result (self.new ≡ self.old ++ (ns, line) ∷ []) }
         ensures unchanged { OnErr result (self.new ≡ self.old) }
     {
         let Ok(place) = u32::try_from(self.all.len()) else {
@@ -92,7 +93,7 @@ impl Steps {
         };
         self.all.reserve(1)?;
         note(&mut self.places, ns as usize, place)?;
-        self.all.push_reserved((ns, step));
+        self.all.push_reserved((ns, line));
         Ok(())
     }
 }

@@ -1,6 +1,7 @@
 ghost use Rattle.std.specs.Prelude.{◌≡◌, ◌≤◌, ◌<◌, [], decimal, length};
-ghost use Rattle.pf_script.specs.Text.{hex_text, octal_text, kind_text, number_of_names, names_text, meta_text, reply_text, answer_text, line_text, header};
+ghost use Rattle.pf_script.specs.Text.{hex_text, octal_text, kind_text, number_of_names, names_text, meta_text, reply_text, answer_text, event_text, line_text, header};
 ghost use Rattle.pf_script.specs.Puts.{Puts};
+ghost use Rattle.pf_base.specs.declared.admission.EventAnswer.TheVariants.{NotAdmitted, NotRetired};
 ghost use Rattle.pf_script.specs.declared.text.TheConstants.{PIECE};
 ghost use Rattle.hex.specs.Hex.{encode_lower};
 
@@ -8,7 +9,7 @@ use crate::port::Sink;
 use crate::printer::Printer;
 use itoa::Buffer;
 use memchr::memchr;
-use pf_base::{Answer, Kind, Meta, Mode, Reply};
+use pf_base::{AdmitFault, Answer, EventAnswer, Kind, Meta, Mode, Reply, RetireFault};
 use pf_words::cut_at;
 
 /// How many bytes are turned into digits at once.
@@ -176,14 +177,56 @@ fn put_answer<W: Sink>(out: &mut Printer, writer: &mut W, answer: &Answer)
     }
 }
 
-/// Puts the line of the step with this number.
-pub fn put_line<W: Sink>(out: &mut Printer, writer: &mut W, number: u64, answer: &Answer)
+/// Puts why a namespace isn't admitted.
+fn put_admission<W: Sink>(out: &mut Printer, writer: &mut W, fault: AdmitFault)
+    ensures { Puts (W.output writer.old) out.old (W.output writer.new) out.new
+        (event_text (NotAdmitted fault)) }
+{
+    match fault {
+        AdmitFault::NoRoom { slack } => {
+            out.put(writer, b"no room ");
+            put_number(out, writer, u64::from(slack));
+        }
+        AdmitFault::TooManyNamespaces => out.put(writer, b"too many namespaces"),
+        AdmitFault::NoMemory => out.put(writer, b"nomem"),
+    }
+}
+
+/// Puts why a namespace isn't retired.
+fn put_retirement<W: Sink>(out: &mut Printer, writer: &mut W, fault: RetireFault)
+    ensures { Puts (W.output writer.old) out.old (W.output writer.new) out.new
+        (event_text (NotRetired fault)) }
+{
+    match fault {
+        RetireFault::NoSuchNamespace => out.put(writer, b"gone"),
+        RetireFault::Alive { processes } => {
+            out.put(writer, b"alive ");
+            put_number(out, writer, u64::from(processes));
+        }
+    }
+}
+
+fn put_event<W: Sink>(out: &mut Printer, writer: &mut W, answer: &EventAnswer)
+    ensures { Puts (W.output writer.old) out.old (W.output writer.new) out.new (event_text answer.now) }
+{
+    match answer {
+        EventAnswer::Answer(answer) => put_answer(out, writer, answer),
+        EventAnswer::Gone => out.put(writer, b"gone"),
+        EventAnswer::Admitted(_) => out.put(writer, b"admitted"),
+        EventAnswer::NotAdmitted(fault) => put_admission(out, writer, *fault),
+        EventAnswer::Retired => out.put(writer, b"retired"),
+        EventAnswer::NotRetired(fault) => put_retirement(out, writer, *fault),
+    }
+}
+
+/// Puts the line with this number among its namespace's.
+pub fn put_line<W: Sink>(out: &mut Printer, writer: &mut W, number: u64, answer: &EventAnswer)
     ensures { Puts (W.output writer.old) out.old (W.output writer.new) out.new
         (line_text number answer.now) }
 {
     put_number(out, writer, number);
     out.put(writer, b": ");
-    put_answer(out, writer, answer);
+    put_event(out, writer, answer);
     out.put(writer, b"\n");
 }
 

@@ -8,10 +8,10 @@ use crate::port::{Sink, WriteFault};
 use crate::printer::Printer;
 use crate::script::Script;
 use crate::text::{put_header, put_line};
-use pf_base::Answer;
+use pf_base::EventAnswer;
 
 /// Puts the lines of these answers.
-fn put_lines<W: Sink>(out: &mut Printer, writer: &mut W, answers: &[Answer])
+fn put_lines<W: Sink>(out: &mut Printer, writer: &mut W, answers: &[EventAnswer])
     ensures { Puts (W.output writer.old) out.old (W.output writer.new) out.new (lines_text 1 answers.now) }
 {
     for i in 0..answers.len() {
@@ -23,7 +23,7 @@ fn put_lines<W: Sink>(out: &mut Printer, writer: &mut W, answers: &[Answer])
 }
 
 /// Puts the lines of the answers at these places.
-fn put_chosen<W: Sink>(out: &mut Printer, writer: &mut W, answers: &[Answer], places: &[u32])
+fn put_chosen<W: Sink>(out: &mut Printer, writer: &mut W, answers: &[EventAnswer], places: &[u32])
     requires { All (λ i. i < length answers.now) places.now }
     ensures { Puts (W.output writer.old) out.old (W.output writer.new) out.new
         (lines_text 1 (chosen answers.now places.now)) }
@@ -42,7 +42,7 @@ fn put_section<W: Sink>(
     writer: &mut W,
     script: &Script,
     ns: usize,
-    answers: &[Answer],
+    answers: &[EventAnswer],
 )
     requires exists { ns < length script.now.spaces }
     requires answered { length answers.now ≡ length script.now.steps }
@@ -54,7 +54,12 @@ fn put_section<W: Sink>(
 }
 
 /// Puts the sections of all namespaces.
-fn put_sections<W: Sink>(out: &mut Printer, writer: &mut W, script: &Script, answers: &[Answer])
+fn put_sections<W: Sink>(
+    out: &mut Printer,
+    writer: &mut W,
+    script: &Script,
+    answers: &[EventAnswer],
+)
     requires { length answers.now ≡ length script.now.steps }
     ensures { Puts (W.output writer.old) out.old (W.output writer.new) out.new
         (print script.now answers.now) }
@@ -73,7 +78,7 @@ fn put_alone<W: Sink>(
     writer: &mut W,
     script: &Script,
     ns: usize,
-    answers: &[Answer],
+    answers: &[EventAnswer],
 )
     requires { ns < length script.now.spaces }
     ensures { Puts (W.output writer.old) out.old (W.output writer.new) out.new
@@ -88,7 +93,7 @@ fn put_text<W: Sink>(
     out: &mut Printer,
     writer: &mut W,
     script: &Script,
-    answers: &[Answer],
+    answers: &[EventAnswer],
     only: Option<u32>,
 )
     requires { IsAnswered script.now answers.now only }
@@ -109,7 +114,7 @@ fn put_text<W: Sink>(
 pub fn print<W: Sink>(
     writer: &mut W,
     script: &Script,
-    answers: &[Answer],
+    answers: &[EventAnswer],
     only: Option<u32>,
 ) -> Result<(), WriteFault>
     requires { IsAnswered script.now answers.now only }

@@ -1,7 +1,7 @@
 -- What a call answers, of what its parts do.
 
 use Rattle.std.proofs.Common.{◌≡◌, ℕ, ◌<◌, List, sym, subst}
-use Rattle.std.specs.Prelude.{Result, Ok, Err, IfOk, IfErr, IsErr, IsErrAnd, OnOk}
+use Rattle.std.specs.Prelude.{Result, Ok, Err, IfOk, IfErr, IsErr, IsErrAnd, OnOk, OnErr}
 use Rattle.pf_base.specs.declared.TheConstants.{MAX_NUMBERS}
 use Rattle.pf_base.specs.declared.step.Step.{Step}
 use Rattle.pf_base.specs.declared.step.Reply.{Reply}
@@ -12,7 +12,7 @@ use Rattle.pf_service.specs.declared.living.Living.{Living as OneLiving}
 use Rattle.pf_service.specs.declared.seated.Tenant.{Tenant}
 use Rattle.pf_service.specs.declared.seated.Tenant.TheVariants.{Living, Retired}
 use Rattle.pf_service.specs.Faults.{IsApplyFault, IsEventFault, IsCallFault}
-use Rattle.pf_service.specs.Tenants.{IsTenantFault}
+use Rattle.pf_service.specs.Tenants.{IsTenantFault, IsReturned}
 use Rattle.pf_service.specs.Told.{Told}
 
 -- without the entries
@@ -56,3 +56,18 @@ told_at ns place step (Err e) at told = tt
 pub on_ok : {T E : Type 0} (P : Type 0) (r : Result T E) → IsErr r → OnOk r P
 on_ok P (Ok x) is = absurd (cc)
 on_ok P (Err e) is = tt
+
+-- what is said of an error, where it is so
+pub on_err : {T E : Type 0} (P : Type 0) (r : Result T E) → P → OnErr r P
+on_err P (Ok x) p = tt
+on_err P (Err e) p = p
+
+-- of a namespace of which nothing is known
+there_is : {A C H : Type 0} (Returned : ℕ → ℕ → Type 0) (t : Tenant (OneLiving A C H)) → IsReturned Returned t → (reserve : ℕ) × (stock : ℕ) × Returned reserve stock
+there_is Returned (Living l) is = (l.logged.limits.reserve, l.stock, is)
+there_is Returned (Retired t) is = absurd is
+
+pub gave_back : {A C H T E : Type 0} (Returned : ℕ → ℕ → Type 0) (t : Tenant (OneLiving A C H)) (r : Result T E) → OnOk r (IsReturned Returned t)
+    → OnOk r ((reserve : ℕ) × (stock : ℕ) × Returned reserve stock)
+gave_back Returned t (Ok x) is = there_is Returned t is
+gave_back Returned t (Err e) is = tt

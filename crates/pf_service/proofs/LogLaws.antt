@@ -5,7 +5,7 @@ use Rattle.std.specs.Prelude.{Result, Ok, Err, OnErr}
 use Rattle.std.proofs.Math.Seq.{drop-append_seam}
 use Rattle.std.proofs.lemmas.List.{map-append, length-map}
 use Rattle.pf_base.specs.Limits.{Limits}
-use Rattle.pf_machine.specs.Queue.{Queue}
+use Rattle.pf_machine.specs.Queue.{Segment}
 use Rattle.pf_machine.specs.State.{State, opening}
 use Rattle.pf_machine.specs.Machine.{Answers, step_of}
 use Rattle.pf_machine.specs.Runs.{Run, run_of}
@@ -65,7 +65,7 @@ pub alone : (space : Namespace) (loans : Loans) (t : OneTranscript) → IsLog sp
 alone space loans t log = sym (ap (λ (r : Run). r.replies) log.ran)
 
 -- what the caller of the event after these is told
-pub told : (limits : Limits) (state : State Queue) (es : List (Step × Reply)) (step : Step) (reply : Reply)
+pub told : (limits : Limits) (state : State Segment ℕ) (es : List (Step × Reply)) (step : Step) (reply : Reply)
     → run_of limits opening (steps_in es) ≡ record { state = state; replies = replies_in es } → reply ≡ (step_of limits state step).reply → Told step (length es) reply
 told limits state es step reply ran is = (
   limits,

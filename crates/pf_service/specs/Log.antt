@@ -2,7 +2,7 @@
 
 use Rattle.std.specs.Prelude.{◌≡◌, ℕ, ◌++◌, List, [], ◌∷◌}
 use Rattle.pf_base.specs.Limits.{Limits}
-use Rattle.pf_machine.specs.Queue.{Queue}
+use Rattle.pf_machine.specs.Queue.{Segment}
 use Rattle.pf_machine.specs.State.{State, opening}
 use Rattle.pf_machine.specs.Machine.{step_of}
 use Rattle.pf_machine.specs.Runs.{run_of}
@@ -19,7 +19,7 @@ use Rattle.pf_service.specs.Transcripts.{OneTranscript, steps_in, replies_in}
 -- was asked and told; and the allocator whose memory its files stand in
 pub record Log (Z : Type 0) : Type 0 where
   pub limits : Limits
-  pub state : State Queue
+  pub state : State Segment ℕ
   pub held : ℕ
   pub transcript : List (Step × Reply)
   pub allocator : Z

@@ -1,14 +1,15 @@
 -- A namespace of a service that lives, or is retired.
 
-use Rattle.std.specs.Prelude.{◌≡◌, ℕ, Bool, false, ◌<◌, ◌≤◌}
+use Rattle.std.specs.Prelude.{◌≡◌, ℕ, Bool, false, ◌<◌, ◌≤◌, length}
 use Rattle.pf_base.specs.declared.admission.RetireFault.{RetireFault}
 use Rattle.pf_base.specs.declared.admission.RetireFault.TheVariants.{NoSuchNamespace, Alive}
 use Rattle.pf_base.specs.declared.step.Reply.{Reply}
 use Rattle.pf_base.specs.declared.step.Step.{Step}
 use Rattle.pf_machine.specs.Processes.{alive}
 use Rattle.pf_service.specs.Faults.{IsApplyFault}
+use Rattle.pf_service.specs.Log.{IsLogged}
 use Rattle.pf_service.specs.Transcripts.{OneTranscript}
-use Rattle.pf_service.specs.declared.TheConstants.{MAX_SEATS}
+use Rattle.pf_service.specs.declared.TheConstants.{MAX_ENTRIES, MAX_SEATS}
 use Rattle.pf_service.specs.declared.fault.ServiceFault.{ServiceFault}
 use Rattle.pf_service.specs.declared.fault.ServiceFault.TheVariants.{TooManySeats, Gone}
 use Rattle.pf_service.specs.declared.living.Living.{Living as OneLiving}
@@ -36,10 +37,27 @@ abbrev pub IsTenantFault : {A C H : Type 0} → Tenant (OneLiving A C H) → Ser
 IsTenantFault (Living l) fault = IsApplyFault l.logged.transcript fault
 IsTenantFault (Retired t) fault = fault ≡ Gone
 
+-- nothing has happened to it: what is known of a living one is as it was, and so is what stays of a retired one
+abbrev pub IsSameTenant : {A C H : Type 0} → Tenant (OneLiving A C H) → Tenant (OneLiving A C H) → Type 0
+IsSameTenant (Living l) (Living m) = m.logged ≡ l.logged
+IsSameTenant (Retired t) (Retired u) = u ≡ t
+IsSameTenant _ _ = ⊥
+
+-- one event happened to it: at this place, the next one of a transcript that wasn't full, and nothing else
+abbrev pub IsEvent : {A C H : Type 0} → Tenant (OneLiving A C H) → Tenant (OneLiving A C H) → Step → ℕ → Reply → Type 0
+IsEvent (Living l) (Living m) step place reply =
+    (place ≡ length l.logged.transcript) × (place < MAX_ENTRIES) × IsLogged l.logged m.logged step reply
+IsEvent _ _ _ _ _ = ⊥
+
 -- one that lived, with no process, is retired: its limits and its transcript stay, and nothing else
 abbrev pub IsRetirement : {A C H : Type 0} → Tenant (OneLiving A C H) → Tenant (OneLiving A C H) → Type 0
 IsRetirement (Living l) (Retired t) = (alive l.logged.state ≡ 0) × (t ≡ transcript_of (Living l))
 IsRetirement _ _ = ⊥
+
+-- it gave back what it had at the depot: its reservation, and its stock
+abbrev pub IsReturned : {A C H : Type 0} → (ℕ → ℕ → Type 0) → Tenant (OneLiving A C H) → Type 0
+IsReturned Returned (Living l) = Returned l.logged.limits.reserve l.stock
+IsReturned Returned (Retired t) = ⊥
 
 -- an event there is of no use to whoever waits
 abbrev pub is_idle_at : {A C H : Type 0} → Tenant (OneLiving A C H) → Tenant (OneLiving A C H) → Step → Reply → Bool

@@ -1,6 +1,6 @@
 -- What a call that waits leaves behind.
 
-use Rattle.std.specs.Prelude.{◌≡◌, ◌≢◌, ℕ, List, [], ◌∷◌, ◌++◌, map, Option, Some, None}
+use Rattle.std.specs.Prelude.{◌≡◌, ◌≢◌, ℕ, List, [], ◌∷◌, ◌++◌, map, Option, Some, None, All}
 use Rattle.pf_machine.specs.Machine.{pid_of}
 use Rattle.pf_base.specs.declared.step.Step.{Step}
 use Rattle.pf_base.specs.declared.step.Step.TheVariants.{Resume}
@@ -29,6 +29,10 @@ abbrev pub IsAnswered : List Event → Type 0
 IsAnswered [] = ⊥
 IsAnswered (e ∷ []) = e.reply ≢ Parked
 IsAnswered (e ∷ (f ∷ es)) = IsAnswered (f ∷ es)
+
+-- each reply is Parked
+abbrev pub AreParked : List Event → Type 0
+AreParked es = All (λ e. e.reply ≡ Parked) es
 
 abbrev pub receipt_of : ℕ → Event → Receipt
 receipt_of ns e = record { ns = ns; place = e.place; reply = e.reply }

@@ -15,6 +15,7 @@ mod opening;
 mod place;
 pub mod receipt;
 mod retired;
+mod returns;
 pub mod seat;
 mod seated;
 pub mod service;

@@ -2,6 +2,7 @@ ghost use Rattle.std.specs.Prelude.{◌≡◌, ◌+◌, ◌<◌};
 
 use crate::logged::Logged;
 use crate::retired::Retired;
+use crate::returns::Returns;
 use crate::transcript::Transcript;
 use pf_base::{Config, Reply, Step};
 use pf_depot::{Allotment, DepotBook, Stock};
@@ -108,9 +109,15 @@ impl<A: Allocator + Clone, C: Ledger, H: Ledger> Living<A, C, H> {
     /// Gives what the namespace has at the depot back, and keeps what it was asked and told. It holds no frame.
     ///
     /// The depot's lock is held once.
-    pub(crate) fn retire<R: Wait>(self, rt: &R, book: &Mutex<DepotBook<C, H>>) -> Retired
+    pub(crate) fn retire<R: Wait, D: Returns>(
+        self,
+        rt: &R,
+        way: &D,
+        book: &Mutex<DepotBook<C, H>>,
+    ) -> Retired
         requires none { self.logged.held ≡ 0 }
-        ensures { result ≡ record { limits = self.logged.limits; entries = self.logged.transcript } }
+        ensures kept { result ≡ record { limits = self.logged.limits; entries = self.logged.transcript } }
+        ensures returned { D.returned way.now self.logged.limits.reserve self.stock }
     {
         let Living {
             logged,
@@ -119,7 +126,7 @@ impl<A: Allocator + Clone, C: Ledger, H: Ledger> Living<A, C, H> {
             stock,
         } = self;
         let (transcript, loans) = logged.into_parts();
-        book.lock(rt).retire(loans, credits, held, stock);
+        way.give_back(rt, book, loans, credits, held, stock);
         Retired::new(transcript)
     }
 

@@ -1,14 +1,17 @@
-ghost use Rattle.std.specs.Prelude.{◌≡◌, ◌≤◌, length, map, IfOk};
+ghost use Rattle.std.specs.Prelude.{◌≡◌, ◌≤◌, length, map, IfOk, MatchResult, None};
 ghost use Rattle.std.specs.List.{range_with_len};
+ghost use Rattle.pf_depot.specs.Admission.{admit_fault, IsAdmitFault};
 ghost use Rattle.pf_depot.specs.AllLoans.{reserved_of};
+ghost use Rattle.pf_depot.specs.Book.{Admits};
 ghost use Rattle.pf_hub.specs.Opening.{limits_of};
 ghost use Rattle.pf_machine.specs.State.{opening};
+ghost use Rattle.pf_service.specs.Log.{new_log};
 
 use crate::living::Living;
 use crate::place::Place;
 use crate::seated::Seated;
-use pf_base::Config;
-use pf_depot::{Allotment, Stock};
+use pf_base::{AdmitFault, Config};
+use pf_depot::{Allotment, DepotBook, Stock};
 use pf_space::Placed;
 use std::alloc::{AllocError, Allocator, Global};
 use std::sync::ledger::Ledger;
@@ -37,6 +40,29 @@ pub(crate) fn furnished<A: Allocator + Clone>(
     let placed = Placed::new(alloc, tree, config)?;
     let stock = Stock::new(alloc)?;
     Ok((placed, stock))
+}
+
+/// What is done under the depot's lock where a namespace comes: its number there, and the namespace with what it begins
+/// with at the depot. The fault is the depot's, and at a fault nothing has changed.
+pub(crate) fn admitted<A: Allocator + Clone, C: Ledger, H: Ledger>(
+    alloc: Global,
+    book: &mut DepotBook<C, H>,
+    config: Config,
+    placed: Placed<A>,
+    stock: Stock,
+) -> Result<(u32, Living<A, C, H>), AdmitFault>
+    requires opening { placed.space ≡ record { limits = config; state = opening } }
+    requires none { stock ≡ 0 }
+    ensures { MatchResult result
+        (λ made. (admit_fault book.old.living book.old.given book.old.slack config.reserve ≡ None)
+        × Admits book.old book.new config.reserve
+        × (made.0 ≡ book.old.given)
+        × (made.1.logged ≡ new_log config placed.allocator))
+        (λ fault. (book.new ≡ book.old)
+        × IsAdmitFault (admit_fault book.old.living book.old.given book.old.slack config.reserve) fault) }
+{
+    let (ns, allotment) = book.admit(config.reserve())?;
+    Ok((ns, Living::new(alloc, placed, stock, config, allotment)))
 }
 
 /// The namespaces of some limits, by their numbers, each with what it begins with at the depot.

@@ -1,10 +1,11 @@
-ghost use Rattle.std.specs.Prelude.{◌≡◌, ◌<◌, [], ◌∷◌, ◌&&◌, false, true, nat_eq, length, All, IfOk, IfErr, OnOk, OnErr};
+ghost use Rattle.std.specs.Prelude.{◌≡◌, ℕ, ◌<◌, [], ◌∷◌, ◌&&◌, false, true, nat_eq, length, All, IfOk, IfErr, OnOk, OnErr};
 ghost use Rattle.pf_service.specs.Faults.{IsApplyFault, IsEventFault, IsRefusal, IsRetirementFault};
 ghost use Rattle.pf_service.specs.Log.{IsLogged};
 ghost use Rattle.pf_service.specs.Seats.{Gains, event_at};
-ghost use Rattle.pf_service.specs.Tenants.{Lives, IsTenantFault, is_idle_at};
+ghost use Rattle.pf_service.specs.Tenants.{IsEvent, IsSameTenant, IsTenantFault, is_idle_at};
 ghost use Rattle.pf_service.specs.Told.{Told};
 ghost use Rattle.pf_service.specs.Transcripts.{IsLone};
+ghost use Rattle.pf_service.specs.declared.TheConstants.{MAX_ENTRIES};
 ghost use Rattle.pf_service.specs.Woken.{is_parked_again, written_by, is_idle};
 
 use crate::copies::copy_into;
@@ -13,6 +14,7 @@ use crate::fault::ServiceFault;
 use crate::living::Living;
 use crate::logged::Logged;
 use crate::receipt::Receipt;
+use crate::returns::Returns;
 use crate::seat::Seat;
 use crate::seated::{Seated, Tenant};
 use crate::transcript::Transcript;
@@ -85,6 +87,7 @@ pub(crate) fn event<A: Allocator + Clone, R: Wait, G: Gate, C: Ledger, H: Ledger
         × (r.place ≡ length living.old.logged.transcript)) }
     ensures kept { IfOk result (λ r.
         Gains seat.old seat.new (event_at r.place step.now r.reply ∷ [])) }
+    ensures room { OnOk result (length living.old.logged.transcript < MAX_ENTRIES) }
     ensures logged { IfOk result (λ r. IsLogged living.old.logged living.new.logged step.now r.reply) }
     ensures told { IfOk result (λ r. Told step.now r.place r.reply) }
     ensures passed { IfOk result (λ r. G.passed gate.now r.ns r.place) }
@@ -133,7 +136,8 @@ pub(crate) fn event_of<A: Allocator + Clone, R: Wait, G: Gate, C: Ledger, H: Led
     seat: &mut Seat,
     step: &Step,
 ) -> Result<Receipt, ServiceFault>
-    ensures lives { OnOk result (Lives seated.old.tenant) }
+    ensures event { IfOk result (λ r.
+        IsEvent seated.old.tenant seated.new.tenant step.now r.place r.reply) }
     ensures kept { IfOk result (λ r.
         Gains seat.old seat.new (event_at r.place step.now r.reply ∷ [])) }
     ensures told { IfOk result (λ r. (r.ns ≡ seat.old.ns) × Told step.now r.place r.reply) }
@@ -147,6 +151,7 @@ pub(crate) fn event_of<A: Allocator + Clone, R: Wait, G: Gate, C: Ledger, H: Led
     ensures given { seated.new.given ≡ seated.old.given }
     ensures fault { IfErr result (IsTenantFault seated.old.tenant) }
     ensures refused { OnErr result (Gains seat.old seat.new []) }
+    ensures unchanged { OnErr result (IsSameTenant seated.old.tenant seated.new.tenant) }
     ensures waiting { OnErr result (seated.new.is_awaited ≡ seated.old.is_awaited) }
 {
     match &mut seated.tenant {
@@ -210,14 +215,16 @@ impl<A: Allocator + Clone, C: Ledger, H: Ledger> Place<A, C, H> {
     }
 
     /// The namespace is retired, where it lives and has no process.
-    pub(crate) fn retire<R: Wait>(
+    pub(crate) fn retire<R: Wait, D: Returns>(
         &self,
         rt: &R,
+        way: &D,
         book: &Mutex<DepotBook<C, H>>,
     ) -> Result<(), RetireFault>
-        ensures { IfErr result IsRetirementFault }
+        ensures returned { OnOk result ((reserve : ℕ) × (stock : ℕ) × D.returned way.now reserve stock) }
+        ensures fault { IfErr result IsRetirementFault }
     {
-        self.seated.lock(rt).retire(rt, book, &self.next)
+        self.seated.lock(rt).retire(rt, way, book, &self.next)
     }
 
     /// What the namespace was asked and told, and how many seats it gave.

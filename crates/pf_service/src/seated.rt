@@ -4,6 +4,7 @@ use crate::MAX_SEATS;
 use crate::fault::ServiceFault;
 use crate::living::Living;
 use crate::retired::Retired;
+use crate::returns::Returns;
 use crate::transcript::Transcript;
 use crate::waiters::Waiters;
 use pf_base::RetireFault;
@@ -31,7 +32,7 @@ pub(crate) struct Seated<A: Allocator, C: Ledger, H: Ledger> {
 
 impl<A: Allocator + Clone, C: Ledger, H: Ledger> Seated<A, C, H> {
     ghost use Rattle.std.specs.Prelude.{IfOk, IfErr, OnOk, OnErr};
-    ghost use Rattle.pf_service.specs.Tenants.{Lives, IsGiveFault, IsRetirement, IsRetireFault, transcript_of};
+    ghost use Rattle.pf_service.specs.Tenants.{Lives, IsGiveFault, IsRetirement, IsRetireFault, IsReturned, transcript_of};
     ghost use Rattle.pf_service.specs.Transcripts.{IsLone};
     ghost use Rattle.pf_service.specs.declared.TheConstants.{MAX_SEATS};
 
@@ -73,13 +74,15 @@ impl<A: Allocator + Clone, C: Ledger, H: Ledger> Seated<A, C, H> {
     /// was asked and told stays. Those who wait are woken.
     ///
     /// It takes no memory, and holds the depot's lock once.
-    pub(crate) fn retire<R: Wait, W: Waiters>(
+    pub(crate) fn retire<R: Wait, D: Returns, W: Waiters>(
         &mut self,
         rt: &R,
+        way: &D,
         book: &Mutex<DepotBook<C, H>>,
         waiters: &W,
     ) -> Result<(), RetireFault>
         ensures retired { OnOk result (IsRetirement self.old.tenant self.new.tenant) }
+        ensures returned { OnOk result (IsReturned (λ reserve stock. D.returned way.now reserve stock) self.old.tenant) }
         ensures woken { OnOk result (W.woken waiters.now true) }
         ensures fault { IfErr result (IsRetireFault self.old.tenant) }
         ensures unchanged { OnErr result (self.new.tenant ≡ self.old.tenant) }
@@ -95,7 +98,7 @@ impl<A: Allocator + Clone, C: Ledger, H: Ledger> Seated<A, C, H> {
         }
         let nothing = Tenant::Retired(living.get_ref().nothing());
         if let Tenant::Living(living) = mem::replace(&mut self.tenant, nothing) {
-            self.tenant = Tenant::Retired(living.retire(rt, book));
+            self.tenant = Tenant::Retired(living.retire(rt, way, book));
         }
         waiters.wake_all(true);
         Ok(())

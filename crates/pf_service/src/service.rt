@@ -6,10 +6,10 @@ ghost use Rattle.pf_hub.specs.Opening.{limits_of};
 use crate::fault::{CloseFault, ServiceFault};
 use crate::guests::Guests;
 use crate::judge::compare;
-use crate::living::Living;
-use crate::opening::{configs_of, furnished, places_of};
+use crate::opening::{admitted, configs_of, furnished, places_of};
 use crate::place::{Place, parts_of};
 use crate::receipt::Receipt;
+use crate::returns::ToTheDepot;
 use crate::seat::Seat;
 use crate::seated::Seated;
 use crate::transcript::Transcripts;
@@ -69,7 +69,7 @@ impl<A: Allocator + Clone, G: Gate, C: Ledger, H: Ledger> Service<A, G, C, H> {
     ghost use Rattle.pf_hub.specs.Opening.{first_fault};
     ghost use Rattle.pf_service.specs.Seats.{Gains, event_at, IsSeatFault};
     ghost use Rattle.pf_service.specs.Told.{Told};
-    ghost use Rattle.pf_service.specs.Waited.{IsWaited, IsAnswered};
+    ghost use Rattle.pf_service.specs.Waited.{IsWaited, IsAnswered, AreParked};
     ghost use Rattle.pf_service.specs.declared.TheConstants.{MAX_SEATS};
 
     /// A service of these frames, with a namespace of each of these limits: their numbers are their places. A namespace's
@@ -153,8 +153,7 @@ impl<A: Allocator + Clone, G: Gate, C: Ledger, H: Ledger> Service<A, G, C, H> {
         let Ok(room) = Box::new(alloc, None) else {
             return Err(AdmitFault::NoMemory);
         };
-        let (ns, allotment) = self.book.lock(rt).admit(config.reserve())?;
-        let living = Living::new(alloc, placed, stock, config, allotment);
+        let (ns, living) = admitted(alloc, &mut *self.book.lock(rt), config, placed, stock)?;
         let place = Place::new(ns, Seated::new(living));
         self.guests.admit(rt, room, place);
         Ok(ns)
@@ -170,7 +169,7 @@ impl<A: Allocator + Clone, G: Gate, C: Ledger, H: Ledger> Service<A, G, C, H> {
         ensures fault { IfErr result IsRetirementFault }
     {
         match self.place(ns) {
-            Ok(place) => place.retire(rt, &self.book),
+            Ok(place) => place.retire(rt, &ToTheDepot, &self.book),
             Err(_) => Err(RetireFault::NoSuchNamespace),
         }
     }
@@ -226,7 +225,8 @@ impl<A: Allocator + Clone, G: Gate, C: Ledger, H: Ledger> Service<A, G, C, H> {
         ensures waited { (gate : G) × (es : List OneEvent)
             × IsWaited (λ s p r. Told s p r × G.passed gate seat.old.ns p) step.now seat.old seat.new
             receipts.old.items receipts.new.items es
-            × OnOk result (IsAnswered es) }
+            × OnOk result (IsAnswered es)
+            × OnErr result (AreParked es) }
         ensures missing { MAX_NUMBERS ≤ seat.old.ns → result ≡ Err ServiceFault.NoSuchNamespace }
         ensures fault { IfErr result (IsCallFault (length self.now) seat.old.ns) }
     {

@@ -1,17 +1,17 @@
-ghost use Rattle.std.specs.Prelude.{◌≡◌, ℕ, ◌↔◌, ◌<◌, ◌++◌, [], ◌∷◌, List, length, vec_capacity, IsTrue, IfOk, IfErr, OnOk, OnErr};
+ghost use Rattle.std.specs.Prelude.{◌≡◌, ℕ, ◌↔◌, ◌<◌, ◌++◌, [], ◌∷◌, List, length, vec_capacity, false, true, IsTrue, IfOk, IfErr, OnOk, OnErr};
 ghost use Rattle.pf_base.specs.declared.step.Reply.{Reply as OneReply};
 ghost use Rattle.pf_base.specs.declared.step.Reply.TheVariants.{Parked};
 ghost use Rattle.pf_machine.specs.Machine.{pid_of};
 ghost use Rattle.pf_service.specs.declared.event.Event.{Event as OneEvent};
 ghost use Rattle.pf_service.specs.Faults.{IsApplyFault, IsEventFault};
-ghost use Rattle.pf_service.specs.Tenants.{IsTenantFault};
+ghost use Rattle.pf_service.specs.Tenants.{IsEvent, IsSameTenant, IsTenantFault, is_idle_at};
 ghost use Rattle.pf_service.specs.Seats.{Gains};
 ghost use Rattle.pf_service.specs.Told.{Told};
-ghost use Rattle.pf_service.specs.Waited.{maker, resume_of, IsTried, IsWaited, IsAnswered};
+ghost use Rattle.pf_service.specs.Waited.{maker, resume_of, IsTried, IsWaited, IsAnswered, AreParked};
 
 use crate::fault::ServiceFault;
 use crate::living::Living;
-use crate::place::{Place, event};
+use crate::place::{Place, event_of};
 use crate::receipt::Receipt;
 use crate::seat::Seat;
 use crate::seated::{Seated, Tenant};
@@ -83,18 +83,24 @@ fn try_once<A: Allocator + Clone, R: Wait, G: Gate, C: Ledger, H: Ledger, W: Wai
     ensures tried { IfOk result (λ waits. (place : ℕ) × (reply : OneReply)
         × IsTried (λ s p r. Told s p r × G.passed gate.now seat.old.ns p) step.now seat.old seat.new
         receipts.old.items receipts.new.items place reply
-        × (IsTrue waits ↔ (reply ≡ Parked))) }
+        × (IsTrue waits ↔ (reply ≡ Parked))
+        × IsEvent seated.old.tenant seated.new.tenant step.now place reply
+        × (is_idle_at seated.old.tenant seated.new.tenant step.now reply ≡ false
+        → W.woken waiters.now seated.old.is_awaited)
+        × (is_idle_at seated.old.tenant seated.new.tenant step.now reply ≡ true
+        → seated.new.is_awaited ≡ seated.old.is_awaited)) }
+    ensures given { seated.new.given ≡ seated.old.given }
+    ensures unchanged { OnErr result (IsSameTenant seated.old.tenant seated.new.tenant) }
     ensures fault { IfErr result (IsTenantFault seated.old.tenant) }
     ensures seat { OnErr result (Gains seat.old seat.new []) }
     ensures receipts { OnErr result (receipts.new.items ≡ receipts.old.items) }
     ensures waiting { OnErr result (seated.new.is_awaited ≡ seated.old.is_awaited) }
 {
-    let Tenant::Living(living) = &mut seated.tenant else {
+    let Tenant::Living(living) = &seated.tenant else {
         return Err(ServiceFault::Gone);
     };
     make_room(living, receipts)?;
-    let is_awaited = &mut seated.is_awaited;
-    let receipt = event(rt, gate, book, living, is_awaited, waiters, seat, step)?;
+    let receipt = event_of(rt, gate, book, seated, waiters, seat, step)?;
     let waits = receipt.reply.is_same(&Reply::Parked);
     receipts.push_reserved(receipt);
     Ok(waits)
@@ -118,7 +124,8 @@ impl<A: Allocator + Clone, C: Ledger, H: Ledger> Place<A, C, H> {
         ensures waited { (es : List OneEvent)
             × IsWaited (λ s p r. Told s p r × G.passed gate.now seat.old.ns p) step.now seat.old seat.new
             receipts.old.items receipts.new.items es
-            × OnOk result (IsAnswered es) }
+            × OnOk result (IsAnswered es)
+            × OnErr result (AreParked es) }
         ensures fault { IfErr result IsEventFault }
     {
         let pid = maker(step);

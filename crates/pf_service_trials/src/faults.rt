@@ -93,7 +93,7 @@ impl CallersOfTwo for SeatOfAnother {
     ) -> Result<Vec<Seat>, Fail> {
         let mut own = first.seat(rt, RED)?;
         let other = second.seat(rt, RED)?;
-        let receipt = first.call(rt, &mut own, &spawn(alloc))?;
+        let receipt = first.call(rt, &mut own, &spawn())?;
         assert_eq!(rt;
             (receipt.ns, receipt.place, &receipt.reply),
             (RED, 0, &Reply::Pid(1))

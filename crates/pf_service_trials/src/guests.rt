@@ -56,10 +56,7 @@ impl Callers<NoGate> for OneComesAndGoes {
         assert_eq!(rt; ns, 1);
         assert_eq!(rt; service.admit(rt, one, alloc).err(), no_room(0));
         let mut seat = service.seat(rt, ns)?;
-        assert_eq!(rt;
-            service.call(rt, &mut seat, &spawn(alloc))?.reply,
-            Reply::Pid(1)
-        );
+        assert_eq!(rt; service.call(rt, &mut seat, &spawn())?.reply, Reply::Pid(1));
         assert_eq!(rt;
             service.retire(rt, ns).err(),
             Some(RetireFault::Alive { processes: 1 })
@@ -84,7 +81,7 @@ fn is_gone<C: Ledger, H: Ledger, R: Wait + Abort>(
     seat: &mut Seat,
 ) {
     let events = seat.events().len();
-    let step = spawn(alloc);
+    let step = spawn();
     let mut receipts = Vec::new(alloc);
     assert_eq!(rt;
         service.retire(rt, ns).err(),

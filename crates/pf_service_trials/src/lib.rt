@@ -19,3 +19,5 @@ mod tenants;
 mod threads;
 #[cfg(test)]
 mod waiting;
+#[cfg(test)]
+mod woken;

@@ -96,7 +96,7 @@ impl Gate for Holder<'_> {
 // A process writes five bytes to its pipe.
 fn writing(alloc: Global) -> Result<Vec<Step>, AllocError> {
     let mut steps = Vec::with_capacity(alloc, 3)?;
-    steps.push(spawn(alloc))?;
+    steps.push(spawn())?;
     steps.push(Step::Pipe {
         pid: 1,
         nonblock: false,

@@ -222,12 +222,12 @@ fn configs_of(alloc: Global, namespaces: usize) -> Option<Vec<(Config, Global)>>
     Some(configs)
 }
 
-pub(crate) fn spawn(alloc: Global) -> Step {
+pub(crate) fn spawn() -> Step {
     Step::Spawn {
         uid: 5,
         gid: 5,
-        groups: Groups::new(Vec::new(alloc)),
         umask: 18,
+        groups: Groups::none(),
     }
 }
 
@@ -251,7 +251,7 @@ pub(crate) fn write_by(
 // A process fills its pipe with bytes 61, and exits.
 pub(crate) fn steps_of_red(alloc: Global) -> Result<Vec<Step>, AllocError> {
     let mut steps = Vec::with_capacity(alloc, 4)?;
-    steps.push(spawn(alloc))?;
+    steps.push(spawn())?;
     steps.push(Step::Pipe {
         pid: 1,
         nonblock: true,
@@ -264,7 +264,7 @@ pub(crate) fn steps_of_red(alloc: Global) -> Result<Vec<Step>, AllocError> {
 // Another writes a byte 7a, and reads as many as there are.
 pub(crate) fn steps_of_blue(alloc: Global) -> Result<Vec<Step>, AllocError> {
     let mut steps = Vec::with_capacity(alloc, 4)?;
-    steps.push(spawn(alloc))?;
+    steps.push(spawn())?;
     steps.push(Step::Pipe {
         pid: 1,
         nonblock: true,

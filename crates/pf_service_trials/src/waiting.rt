@@ -80,7 +80,7 @@ fn wait_for(count: &Count, number: u64) {
 // A process with a pipe, and so many that share it.
 fn opening(alloc: Global, others: usize) -> Result<Vec<Step>, AllocError> {
     let mut steps = Vec::new(alloc);
-    steps.push(spawn(alloc))?;
+    steps.push(spawn())?;
     steps.push(Step::Pipe {
         pid: 1,
         nonblock: false,

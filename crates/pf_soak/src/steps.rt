@@ -87,7 +87,7 @@ fn process(alloc: Global, random: &mut Pcg32) -> Result<Step, AllocError> {
         0 => Step::Spawn {
             uid: below(random, 3),
             gid: below(random, 3),
-            groups: Groups::new(Vec::from_elem(alloc, 2, below(random, 6) as usize)?),
+            groups: Groups::new(alloc, Vec::from_elem(alloc, 2, below(random, 6) as usize)?)?,
             umask: MODES[below(random, 7) as usize],
         },
         1 => Step::Fork { pid: pid(random) },

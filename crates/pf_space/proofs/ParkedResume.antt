@@ -10,9 +10,9 @@ use Rattle.pf_base.specs.Limits.{Limits}
 use Rattle.pf_machine.specs.Machine.{call, call_of}
 use Rattle.pf_machine.specs.Numbered.{at, change_at, first_free}
 use Rattle.pf_machine.proofs.NumberedLaws.{at_within, at-put_same}
-use Rattle.pf_machine.specs.Queue.{Queue}
+use Rattle.pf_machine.specs.Queue.{Segment}
 use Rattle.pf_machine.specs.Refusals.{◌>>=◌, ◌>>◌, refuse_if, or_refuse}
-use Rattle.pf_machine.specs.State.{State, Process, End, Outcome, process, ready, reading_end, writing_end, change_process, with_process, with_descriptor, waiting, told}
+use Rattle.pf_machine.specs.State.{itself, State, Process, End, Outcome, process, ready, reading_end, writing_end, change_process, with_process, with_descriptor, waiting, told}
 use Rattle.pf_machine.specs.Sweep.{sweep}
 use Rattle.pf_machine.specs.Transfers.{Tried, Ends, tried, two_ends, try_read, try_write, try_cross}
 use Rattle.pf_machine.specs.Attempts.{Attempt, Finished, Waits, given, transfer_told, attempt, first, again, resume}
@@ -39,27 +39,27 @@ use Rattle.pf_space.proofs.ParkedTransfers.{sweep-waiting}
 -- A transfer of a process that was woken
 
 module _ (pid : ℕ) where
-  abbrev pub awake : {Q : Type 0} → State Q → State Q
+  abbrev pub awake : {X : Type 0} → State X ℕ → State X ℕ
   awake s = change_process (waiting None) s pid
 
   abbrev lifted : Result Tried Errno → Result Tried Errno
   lifted (Ok r) = Ok (record r { state = awake r.state })
   lifted (Err e) = Err e
 
-  abbrev lifted_told : Result Attempt Errno → Result Attempt Errno
+  abbrev lifted_told : Result (Attempt Segment ℕ) Errno → Result (Attempt Segment ℕ) Errno
   lifted_told (Ok (Finished s reply)) = Ok (Finished (awake s) reply)
   lifted_told (Ok (Waits s c)) = Ok (Waits (awake s) c)
   lifted_told (Err e) = Err e
 
-  tried-lifted : (s : State Queue) (p : Process) (t : Transfer) → tried (awake s) (waiting None p) t ≡ lifted (tried s p t)
-  tried-lifted s p (Reading fd n) = by_end (reading_end s p fd)
+  tried-lifted : (s : State Segment ℕ) (p : Process ℕ) (t : Transfer) → tried (awake s) (waiting None p) t ≡ lifted (tried s p t)
+  tried-lifted s p (Reading fd n) = by_end (reading_end itself s p fd)
     where
-      by_end : (e : Result (End Queue) Errno) → (e >>= (λ e. Ok (try_read (awake s) e n))) ≡ lifted (e >>= (λ e. Ok (try_read s e n)))
+      by_end : (e : Result (End Segment ℕ) Errno) → (e >>= (λ e. Ok (try_read (awake s) e n))) ≡ lifted (e >>= (λ e. Ok (try_read s e n)))
       by_end (Ok e) = refl
       by_end (Err e) = refl
-  tried-lifted s p (Writing fd x written) = by_end (writing_end s p fd) (nat_lt MAX_WRITE (length x))
+  tried-lifted s p (Writing fd x written) = by_end (writing_end itself s p fd) (nat_lt MAX_WRITE (length x))
     where
-      by_end : (e : Result (End Queue) Errno) (b : Bool)
+      by_end : (e : Result (End Segment ℕ) Errno) (b : Bool)
           → (e >>= (λ e. refuse_if b EINVAL >> Ok (try_write (awake s) e x written))) ≡ lifted (e >>= (λ e. refuse_if b EINVAL >> Ok (try_write s e x written)))
       by_end (Ok e) true = refl
       by_end (Ok e) false = refl
@@ -94,7 +94,7 @@ module _ (pid : ℕ) where
   told-lifted (Bringing c source sink n) r NoReader = refl
   told-lifted (Bringing c source sink n) r WouldBlock = refl
 
-  attempt-lifted : (s : State Queue) (p : Process) (t : Transfer)
+  attempt-lifted : (s : State Segment ℕ) (p : Process ℕ) (t : Transfer)
       → (tried (awake s) (waiting None p) t >>= (λ r. transfer_told t r r.progress)) ≡ lifted_told (tried s p t >>= (λ r. transfer_told t r r.progress))
   attempt-lifted s p t = ap (λ q. q >>= (λ r. transfer_told t r r.progress)) (tried-lifted s p t) ∙ by_tried (tried s p t)
     where
@@ -103,7 +103,7 @@ module _ (pid : ℕ) where
       by_tried (Err e) = refl
 
   -- to wait again is to go on waiting
-  parked-again : (s : State Queue) (c : Call) → change_process (waiting (Some c)) (awake s) pid ≡ change_process (waiting (Some c)) s pid
+  parked-again : (s : State Segment ℕ) (c : Call ℕ) → change_process (waiting (Some c)) (awake s) pid ≡ change_process (waiting (Some c)) s pid
   parked-again s c =
       ap (λ ps. record s { processes = ps })
       (elim (cases_lt (pid - 1) (length s.processes)) [
@@ -112,28 +112,28 @@ module _ (pid : ℕ) where
       ])
 
 -- who waits in a transfer
-pub record WaitsIn (s : State Queue) (pid : ℕ) (t : Transfer) : Type 0 where
-  pub p : Process
+pub record WaitsIn (s : State Segment ℕ) (pid : ℕ) (t : Transfer) : Type 0 where
+  pub p : Process ℕ
   pub lives : process s pid ≡ Some p
   pub waits : p.parked ≡ Some (Moving t)
   pub stands : at s.processes (pid - 1) ≡ Some p
 
-pub waiter : (s : State Queue) (pid : ℕ) (t : Transfer) → call_of s pid ≡ Some (Moving t) → WaitsIn s pid t
+pub waiter : (s : State Segment ℕ) (pid : ℕ) (t : Transfer) → call_of s pid ≡ Some (Moving t) → WaitsIn s pid t
 waiter s pid t h = by_row (process s pid) refl h
   where
-    place : (m : ℕ) (q : Process) → process s m ≡ Some q → at s.processes (m - 1) ≡ Some q
+    place : (m : ℕ) (q : Process ℕ) → process s m ≡ Some q → at s.processes (m - 1) ≡ Some q
     place zero q g = absurd (cc)
     place (suc i) q g = let same : suc i - 1 ≡ i = omega arith in ap (at s.processes) same ∙ g
 
-    by_row : (o : Option Process) → process s pid ≡ o → option_and_then (λ (p : Process). p.parked) o ≡ Some (Moving t) → WaitsIn s pid t
+    by_row : (o : Option (Process ℕ)) → process s pid ≡ o → option_and_then (λ (p : Process ℕ). p.parked) o ≡ Some (Moving t) → WaitsIn s pid t
     by_row None g h = absurd (cc)
     by_row (Some p) g h = record { p = p; lives = g; waits = h; stands = place pid p g }
 
-module _ (s : State Queue) (pid : ℕ) (t : Transfer) (w : WaitsIn s pid t) where
+module _ (s : State Segment ℕ) (pid : ℕ) (t : Transfer) (w : WaitsIn s pid t) where
   -- it is woken
   awake_is : awoken s pid ≡ awake pid s
   awake_is =
-      ap (λ (o : Option Process). record s { processes = set s.processes (pid - 1) o })
+      ap (λ (o : Option (Process ℕ)). record s { processes = set s.processes (pid - 1) o })
       (ap (option_map woken) w.stands ∙ ap (λ o. Some (over o w.p)) w.waits ∙ ap (option_map (waiting None)) (sym w.stands))
 
   ready_is : ready (awake pid s) pid ≡ Ok (waiting None w.p)
@@ -147,7 +147,7 @@ module _ (s : State Queue) (pid : ℕ) (t : Transfer) (w : WaitsIn s pid t) wher
           ap (λ m. at (change_at (waiting None) s.processes m) i) same ∙ at-put_same s.processes i (option_map (waiting None) (at s.processes i)) (at_within s.processes i w.p g) ∙ ap (option_map (waiting None)) g in
           ap (λ o. or_refuse ESRCH o >>= (λ p. refuse_if (is_some p.parked) EBUSY >> Ok p)) here
 
-  abbrev came : Result Attempt Errno
+  abbrev came : Result (Attempt Segment ℕ) Errno
   came = tried s w.p t >>= (λ r. transfer_told t r r.progress)
 
   machine_is : (c : Limits) → call c s (steps.Resume pid) ≡ Ok (again s pid came)
@@ -156,29 +156,29 @@ module _ (s : State Queue) (pid : ℕ) (t : Transfer) (w : WaitsIn s pid t) wher
   tried_is : tried_call (awake pid s) pid false t ≡ (lifted_told pid came >>= first pid false)
   tried_is = ap (λ q. q >>= (λ p. (tried (awake pid s) p t >>= (λ r. transfer_told t r r.progress)) >>= first pid false)) ready_is ∙ ap (λ q. q >>= first pid false) (attempt-lifted pid s w.p t)
 
-  still_awake : s ≡ sweep s → sweep (awake pid s) ≡ awake pid s
+  still_awake : s ≡ sweep itself s → sweep itself (awake pid s) ≡ awake pid s
   still_awake still = sweep-waiting s pid w.p w.stands (ap made_by w.waits) None refl ∙ ap (awake pid) (sym still)
 
   -- a reply
-  replied : (o : Outcome) → settled (lifted_told pid came >>= first pid false) ≡ Ok o → settled (Ok (again s pid came)) ≡ Ok o
+  replied : (o : Outcome Segment ℕ) → settled (lifted_told pid came >>= first pid false) ≡ Ok o → settled (Ok (again s pid came)) ≡ Ok o
   replied o h = by_attempt came h
     where
-      by_attempt : (a : Result Attempt Errno) → settled (lifted_told pid a >>= first pid false) ≡ Ok o → settled (Ok (again s pid a)) ≡ Ok o
+      by_attempt : (a : Result (Attempt Segment ℕ) Errno) → settled (lifted_told pid a >>= first pid false) ≡ Ok o → settled (Ok (again s pid a)) ≡ Ok o
       by_attempt (Ok (Finished z reply)) h = h
-      by_attempt (Ok (Waits z c)) h = ap (λ (y : State Queue). Ok (record { state = sweep y; reply = replies.Parked })) (sym (parked-again pid z c)) ∙ h
+      by_attempt (Ok (Waits z c)) h = ap (λ (y : State Segment ℕ). Ok (record { state = sweep itself y; reply = replies.Parked })) (sym (parked-again pid z c)) ∙ h
       by_attempt (Err e) h = absurd (cc)
 
   -- a refusal is one
-  refused : (e : Errno) → s ≡ sweep s → (lifted_told pid came >>= first pid false) ≡ Err e → settled (Ok (again s pid came)) ≡ Ok (record { state = awake pid s; reply = replies.Err e })
+  refused : (e : Errno) → s ≡ sweep itself s → (lifted_told pid came >>= first pid false) ≡ Err e → settled (Ok (again s pid came)) ≡ Ok (record { state = awake pid s; reply = replies.Err e })
   refused e still h = by_attempt came h
     where
-      by_attempt : (a : Result Attempt Errno) → (lifted_told pid a >>= first pid false) ≡ Err e → settled (Ok (again s pid a)) ≡ Ok (record { state = awake pid s; reply = replies.Err e })
+      by_attempt : (a : Result (Attempt Segment ℕ) Errno) → (lifted_told pid a >>= first pid false) ≡ Err e → settled (Ok (again s pid a)) ≡ Ok (record { state = awake pid s; reply = replies.Err e })
       by_attempt (Ok (Finished z reply)) h = absurd (cc)
       by_attempt (Ok (Waits z c)) h = absurd (cc)
       by_attempt (Err x) h = let same : x ≡ e = cc in λ i. Ok (record { state = still_awake still i; reply = replies.Err (same i) })
 
 module _ (c : Limits) (f g : Live) (old mid new : Namespace) (pid : ℕ) (t : Transfer) (waits : call_of (meaning f old.state) pid ≡ Some (Moving t)) (mid_is : mid ≡ record old { state = awoken old.state pid })
-    (still : meaning f old.state ≡ sweep (meaning f old.state)) where
+    (still : meaning f old.state ≡ sweep itself (meaning f old.state)) where
   w : WaitsIn (meaning f old.state) pid t
   w = waiter (meaning f old.state) pid t waits
 
@@ -200,31 +200,31 @@ module _ (c : Limits) (f g : Live) (old mid new : Namespace) (pid : ℕ) (t : Tr
       by_result (Ok reply) says ample = ap settled (machine_is (meaning f old.state) pid t w c) ∙ replied (meaning f old.state) pid t w _ (ap settled (sym machine) ∙ says)
       by_result (Err (faults.Errno e)) says ample =
           ap settled (machine_is (meaning f old.state) pid t w c) ∙ refused (meaning f old.state) pid t w e still (sym machine ∙ says.0)
-          ∙ ap (λ (z : State Queue). Ok (record { state = z; reply = replies.Err e })) (sym mid_state ∙ sym says.1)
+          ∙ ap (λ (z : State Segment ℕ). Ok (record { state = z; reply = replies.Err e })) (sym mid_state ∙ sym says.1)
       by_result (Err faults.NoMemory) says ample = absurd (ample refl)
 
   -- a process that waits again as before has not changed
   pub restored : waits_in (Some (Moving t)) mid pid ≡ old
   restored =
       let ps = old.state.processes in
-      let call : Option Call = Some (Moving t) in
-      let here : ◌≡◌ {A = Option Process} (option_map (waiting call) (at (change_at woken ps (pid - 1)) (pid - 1))) (Some w.p) =
+      let call : Option (Call ℕ) = Some (Moving t) in
+      let here : ◌≡◌ {A = Option (Process ℕ)} (option_map (waiting call) (at (change_at woken ps (pid - 1)) (pid - 1))) (Some w.p) =
       ap (option_map (waiting call)) (at-put_same ps (pid - 1) (option_map woken (at ps (pid - 1))) (at_within ps (pid - 1) w.p w.stands) ∙ ap (option_map woken) w.stands ∙ ap (λ o. Some (over o w.p)) w.waits)
       ∙ ap (λ o. Some (record w.p { parked = o })) (sym w.waits) in
       ap (λ (n : Namespace). waits_in call n pid) mid_is
-      ∙ ap (λ (xs : List (Option Process)). record old { state = record old.state { processes = xs } })
+      ∙ ap (λ (xs : List (Option (Process ℕ))). record old { state = record old.state { processes = xs } })
       (ap (set (change_at woken ps (pid - 1)) (pid - 1)) here ∙ set-set ps (pid - 1) (option_map woken (at ps (pid - 1))) (Some w.p) ∙ set_same ps (pid - 1) (Some w.p) (sym w.stands))
 
 -- An open that waits
 
 module _ (c : Limits) (f : Live) (old : Namespace) (pid : ℕ) (over_now : Bool) (w : IsOver (meaning f old.state) pid over_now) where
-  s : State Queue
+  s : State Segment ℕ
   s = meaning f old.state
 
   opener : process (meaning f old.state) pid ≡ Some w.p
   opener = found (process (meaning f old.state) pid) w.lives
     where
-      found : (o : Option Process) → or_refuse ESRCH o ≡ Ok w.p → o ≡ Some w.p
+      found : (o : Option (Process ℕ)) → or_refuse ESRCH o ≡ Ok w.p → o ≡ Some w.p
       found None h = absurd (cc)
       found (Some q) h = cc
 
@@ -240,9 +240,9 @@ module _ (c : Limits) (f : Live) (old : Namespace) (pid : ℕ) (over_now : Bool)
       ap (λ r. r >>= (λ p. resume (meaning f old.state) pid p)) w.lives ∙ ap (λ o. or_refuse EINVAL o >>= (λ x. Ok (again (meaning f old.state) pid (attempt (meaning f old.state) pid w.p x)))) w.waits
 
   -- it goes on waiting
-  pub still_waits : over_now ≡ false → Owns f old → meaning f old.state ≡ sweep (meaning f old.state) → Told f f old old (Ok replies.Parked) (call c (meaning f old.state) (steps.Resume pid))
+  pub still_waits : over_now ≡ false → Owns f old → meaning f old.state ≡ sweep itself (meaning f old.state) → Told f f old old (Ok replies.Parked) (call c (meaning f old.state) (steps.Resume pid))
   still_waits isnt owns still =
-      let call : Option Call = Some (Opening w.n w.before) in
+      let call : Option (Call ℕ) = Some (Opening w.n w.before) in
       let same : change_process (waiting call) (meaning f old.state) pid ≡ meaning f old.state =
       ap (λ ps. record (meaning f old.state) { processes = ps })
       (set_same (meaning f old.state).processes (pid - 1) (option_map (waiting call) (at (meaning f old.state).processes (pid - 1)))
@@ -252,8 +252,8 @@ module _ (c : Limits) (f : Live) (old : Namespace) (pid : ℕ) (over_now : Bool)
         limits = refl;
         says =
             ap settled open_is ∙ ap (λ a. settled (Ok (again (meaning f old.state) pid a))) (w.is ∙ ap (λ b. Ok (if b then given (meaning f old.state) pid w.p w.n else Waits (meaning f old.state) (Opening w.n w.before))) isnt)
-            ∙ ap (λ (z : State Queue). Ok (record { state = sweep z; reply = replies.Parked })) same
-            ∙ ap (λ (z : State Queue). Ok (record { state = z; reply = replies.Parked })) (sym still);
+            ∙ ap (λ (z : State Segment ℕ). Ok (record { state = sweep itself z; reply = replies.Parked })) same
+            ∙ ap (λ (z : State Segment ℕ). Ok (record { state = z; reply = replies.Parked })) (sym still);
       }
 
   -- or has its description at a descriptor
@@ -271,5 +271,5 @@ module _ (c : Limits) (f : Live) (old : Namespace) (pid : ℕ) (over_now : Bool)
         limits = becomes.limits;
         says =
             ap settled open_is ∙ ap (λ a. settled (Ok (again (meaning f old.state) pid a))) (w.is ∙ ap (λ b. Ok (if b then given (meaning f old.state) pid w.p w.n else Waits (meaning f old.state) (Opening w.n w.before))) came_back)
-            ∙ (λ i. Ok (record { state = (ap sweep same ∙ sym becomes.state) i; reply = replies.Num (sym (lowest w.p w.lives) i) }));
+            ∙ (λ i. Ok (record { state = (ap (sweep itself) same ∙ sym becomes.state) i; reply = replies.Num (sym (lowest w.p w.lives) i) }));
       }

@@ -101,9 +101,9 @@ impl<A: Allocator + Clone> Space<A> {
             Step::Spawn {
                 uid,
                 gid,
-                groups,
                 umask,
-            } => self.spawn(door, *uid, *gid, groups, *umask),
+                groups,
+            } => self.spawn(door, *uid, *gid, *umask, groups),
             Step::Exit { pid } => self.exit(door, *pid),
             Step::Pipe { pid, nonblock } => self.pipe(door, *pid, *nonblock),
             Step::Close { pid, fd } => self.close(door, *pid, *fd),

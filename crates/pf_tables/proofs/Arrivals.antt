@@ -5,10 +5,10 @@ use Rattle.std.specs.Option.{option_map}
 use Rattle.std.proofs.lemmas.List.{map-set}
 use Rattle.pf_machine.specs.FileMap.{Files}
 use Rattle.pf_base.specs.Limits.{Limits}
-use Rattle.pf_machine.specs.Queue.{Queue}
+use Rattle.pf_machine.specs.Queue.{Segment}
 use Rattle.pf_machine.specs.Numbered.{at, put_at, first_free}
 use Rattle.pf_machine.proofs.NumberedLaws.{at-first_free, first_free-map}
-use Rattle.pf_machine.specs.State.{State, vacant, with_process}
+use Rattle.pf_machine.specs.State.{itself, State, vacant, with_process}
 use Rattle.pf_machine.specs.Sweep.{sweep}
 use Rattle.pf_base.specs.declared.TheConstants.{MAX_PROCESSES, MAX_DESCRIPTORS}
 use Rattle.pf_frame.specs.Live.{Live}
@@ -22,8 +22,8 @@ use Rattle.pf_tables.proofs.TablesSettled.{settled}
 use Rattle.pf_tables.proofs.ProcessTableEmpty.{vacant_at, length-vacant, map-vacant, made}
 
 -- a change that leaves nothing that nobody can reach
-pub becomes : (f g : Live) (old new : Namespace) (s : State Queue) → Owns g new → new.limits ≡ old.limits → meaning g new.state ≡ s → new.state ≡ sweep new.state → Becomes f g old new s
-becomes f g old new s owns limits is still = record { owns = owns; limits = limits; state = settled-meaning g new.state still ∙ ap sweep is }
+pub becomes : (f g : Live) (old new : Namespace) (s : State Segment ℕ) → Owns g new → new.limits ≡ old.limits → meaning g new.state ≡ s → new.state ≡ sweep itself new.state → Becomes f g old new s
+becomes f g old new s owns limits is still = record { owns = owns; limits = limits; state = settled-meaning g new.state still ∙ ap (sweep itself) is }
 
 -- no process is in the place of the lowest free pid
 pub spawned-free : (ps : ProcessRows) (pid : ℕ) → pid ≡ first_free (processes_of ps) + 1 → at ps (pid - 1) ≡ None

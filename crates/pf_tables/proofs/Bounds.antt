@@ -3,20 +3,21 @@
 use Rattle.std.proofs.Common.{◌≡◌, ℕ, zero, suc, ◌≤◌, not, List, length, Option, Some, None, Result, Ok, Err, refl, sym, ap, subst, ◌∙◌, arith}
 use Rattle.std.specs.Prelude.{min}
 use Rattle.std.specs.Option.{option_map, option_and_then}
+use Rattle.pf_ring.specs.declared.ring.Window.{Window}
 use Rattle.pf_machine.specs.FileMap.{Files, Path, names_below, listed, is_directory}
 use Rattle.pf_machine.specs.Paths.{target}
 use Rattle.pf_base.specs.Permissions.{allows}
 use Rattle.pf_base.specs.declared.permissions.Want.TheVariants as Access
 use Rattle.pf_base.specs.Limits.{Limits}
 use Rattle.pf_machine.specs.Refusals.{refuse_if, or_refuse}
-use Rattle.pf_machine.specs.Queue.{Queue, IsQueue, bytes_of}
+use Rattle.pf_machine.specs.Queue.{Segment, IsQueue, bytes_of}
 use Rattle.pf_machine.proofs.QueueLaws.{length-joined-le}
 use Rattle.pf_machine.specs.Numbered.{at, weight}
 use Rattle.pf_machine.proofs.NumberedLaws.{at-map, weight-le-sum_of}
 use Rattle.pf_machine.proofs.HoldsLaws.{Holds, goes, carries, passes}
 use Rattle.pf_machine.specs.Calls as calls
 use Rattle.pf_machine.specs.State as machine
-use Rattle.pf_machine.specs.State.{State, End, ready, end_at, end_of, reading_end}
+use Rattle.pf_machine.specs.State.{itself, State, End, ready, end_at, end_of, reading_end}
 use Rattle.pf_machine.specs.Machine.{step_of, call, call_of as machine_call_of}
 use Rattle.pf_base.specs.declared.TheConstants.{MAX_RESERVE}
 use Rattle.pf_base.specs.declared.errno.Errno.{Errno}
@@ -50,25 +51,25 @@ AtMost f step bound n = reply_length (step_of n.limits (meaning f n.state) step)
 -- No pipe has more bytes than all frames
 
 module _ (f : Live) (n : Namespace) (sound : IsSound f) (owns : Owns f n) (most : n.limits.reserve ≤ MAX_RESERVE) where
-  pub all_bytes : (j : ℕ) (p : machine.Pipe Queue) → at (meaning f n.state).pipes j ≡ Some p → length (bytes_of p.queue) ≤ 268435456
+  pub all_bytes : (j : ℕ) (p : machine.Pipe Segment) → at (meaning f n.state).pipes j ≡ Some p → length (bytes_of p.queue) ≤ 268435456
   all_bytes j p there =
       let w = was (pipe_meaning f) n.state.pipes j p there in
       let fits : slots_used w.0.queue ≤ slots_of w.0.queue = subst (λ (r : Ring). slots_used r ≤ slots_of r) (ring_at-pipe n.state.pipes j w.0 w.1) (owns.joined.fits j) in
       let queue : IsQueue (queue_of f w.0.queue) = ring_queue f w.0.queue sound (stands_at f n.state j w.0 owns.joined w.1) fits in
       let bytes = length-joined-le (queue_of f w.0.queue).segments queue.each in
       let slots = queue.slots in
-      let h : machine.Pipe Ring → ℕ = λ (q : machine.Pipe Ring). q.queue.capacity in
+      let h : machine.Pipe Window → ℕ = λ (q : machine.Pipe Window). q.queue.capacity in
       let weighs = ap (weight h) w.1 in
       let among = weight-le-sum_of h n.state.pipes j in
       let within : pages n.state ≤ n.limits.reserve = pages_within f n owns in
       let here : length (bytes_of (queue_of f w.0.queue)) ≤ 268435456 = omega (arith, bytes, slots, weighs, among, within, most) in
-      subst (λ (q : machine.Pipe Queue). length (bytes_of q.queue) ≤ 268435456) w.2 here
+      subst (λ (q : machine.Pipe Segment). length (bytes_of q.queue) ≤ 268435456) w.2 here
 
 -- A read
 
 module _ {files : Files} {files_made : ℕ} (limits : Limits) (charges : UserPages) (ps : ProcessRows) (ds : DescriptionRows) (pipes : PipeRows) (k : Kept charges ps ds pipes)
     (n : Namespace) (view : record { limits = limits; state = state_of ps ds pipes files files_made } ≡ n) (pid fd count : ℕ) where
-  abbrev shows : Live → State Queue
+  abbrev shows : Live → State Segment ℕ
   shows f = meaning f (state_of ps ds pipes files files_made)
 
   -- nothing where there is no end that reads
@@ -79,7 +80,7 @@ module _ {files : Files} {files_made : ℕ} (limits : Limits) (charges : UserPag
       by_end (Ok d) h = absurd (none d h)
       by_end (Err e) h =
           few (shows f) 0 (call limits (shows f) (steps.Read pid fd count)) (read-few (shows f) 0 limits pid fd count
-          (λ x is. let both : ◌≡◌ {A = Result (End Queue) Errno} (Err e) (Ok x) = sym (refused f (Some sides.Read) ps ds pipes files files_made k.tied pid fd e h) ∙ is in absurd (cc)))
+          (λ x is. let both : ◌≡◌ {A = Result (End Segment ℕ) Errno} (Err e) (Ok x) = sym (refused f (Some sides.Read) ps ds pipes files files_made k.tied pid fd e h) ∙ is in absurd (cc)))
 
   module _ (d : Description) (h : end_in (Some sides.Read) ps ds pid fd ≡ Ok d) where
     -- it has a pipe
@@ -91,20 +92,20 @@ module _ {files : Files} {files_made : ℕ} (limits : Limits) (charges : UserPag
         absurd (cc)
 
     -- what the pipe holds, up to what is asked for
-    pub reads : (r : Pipe) → find pipes d.pipe.slot d.pipe.serial ≡ Some r → (held : ℕ) → ((f : Live) → IsSound f → Stands f r.ring.windows → held ≡ length (bytes_of (queue_of f r.ring)))
+    pub reads : (r : Pipe) → find pipes d.pipe.slot d.pipe.serial ≡ Some r → (held : ℕ) → ((f : Live) → IsSound f → Stands f r.ring.segments → held ≡ length (bytes_of (queue_of f r.ring)))
         → Covers n (steps.Read pid fd count) (min held count)
     reads r handed held holds f sound owns =
         let e = found f (Some sides.Read) ps ds pipes files files_made k.tied pid fd d h in
         let rows : ◌≡◌ {A = Option Pipe} (Some e.pipe) (Some r) = sym (find_at pipes d.pipe.slot d.pipe.serial e.pipe e.stands) ∙ handed in
         let same : e.pipe ≡ r = cc in
-        let stands : Stands f r.ring.windows = transfers.stands_in f limits charges ps ds pipes k n view owns d r handed in
+        let stands : Stands f r.ring.segments = transfers.stands_in f limits charges ps ds pipes k n view owns d r handed in
         let number : held ≡ length (bytes_of (queue_of f r.ring)) = holds f sound stands in
         subst (AtMost f (steps.Read pid fd count) (min held count)) view
         (few (shows f) (min held count) (call limits (shows f) (steps.Read pid fd count)) (read-few (shows f) (min held count) limits pid fd count
         (λ x is.
-        let ends : ◌≡◌ {A = Result (End Queue) Errno} (Ok (end_of_rows f d e.pipe)) (Ok x) = sym e.is ∙ is in
+        let ends : ◌≡◌ {A = Result (End Segment ℕ) Errno} (Ok (end_of_rows f d e.pipe)) (Ok x) = sym e.is ∙ is in
         let end : end_of_rows f d e.pipe ≡ x = cc in
-        let bytes : length (bytes_of (queue_of f r.ring)) ≡ length (bytes_of x.pipe.queue) = ap (λ (q : Pipe). length (bytes_of (queue_of f q.ring))) (sym same) ∙ ap (λ (y : End Queue). length (bytes_of y.pipe.queue)) end in
+        let bytes : length (bytes_of (queue_of f r.ring)) ≡ length (bytes_of x.pipe.queue) = ap (λ (q : Pipe). length (bytes_of (queue_of f q.ring))) (sym same) ∙ ap (λ (y : End Segment ℕ). length (bytes_of y.pipe.queue)) end in
         omega (arith, read_bytes (shows f) x count, bytes, number))))
 
 -- A list
@@ -118,7 +119,7 @@ module _ {files : Files} {files_made : ℕ} (limits : Limits) (ps : ProcessRows)
       (λ p ready. carries Short (target files p.cred path) _
       (λ t. passes Short (refuse_if (not (is_directory t.file)) ENOTDIR) _ (passes Short (refuse_if (not (allows p.cred t.file.meta Access.Read)) EACCES) _ (h t.path))))))
     where
-      s : State Queue
+      s : State Segment ℕ
       s = meaning f (state_of ps ds pipes files files_made)
 
       Short : List ℕ → Type 0
@@ -127,41 +128,41 @@ module _ {files : Files} {files_made : ℕ} (limits : Limits) (ps : ProcessRows)
 -- A call that is tried again
 
 -- the pipe of an end that reads stands
-abbrev Standing : State Queue → End Queue → Type 0
+abbrev Standing : State Segment ℕ → End Segment ℕ → Type 0
 Standing s e = at s.pipes e.description.pipe ≡ Some e.pipe
 
-end_at-stands : (s : State Queue) (m : ℕ) → Holds (Standing s) (or_refuse EBADF (end_at s m))
+end_at-stands : (s : State Segment ℕ) (m : ℕ) → Holds (Standing s) (or_refuse EBADF (end_at itself s m))
 end_at-stands s m = by_description (at s.descriptions m)
   where
-    by_pipe : (d : machine.Description) (o : Option (machine.Pipe Queue)) → at s.pipes d.pipe ≡ o → Holds (Standing s) (or_refuse EBADF (option_map (λ (pipe : machine.Pipe Queue). record { description = d; pipe = pipe }) o))
+    by_pipe : (d : machine.Description ℕ) (o : Option (machine.Pipe Segment)) → at s.pipes d.pipe ≡ o → Holds (Standing s) (or_refuse EBADF (option_map (λ (pipe : machine.Pipe Segment). record { description = d; pipe = pipe }) o))
     by_pipe d None e = tt
     by_pipe d (Some p) e = e
 
-    by_description : (o : Option machine.Description) → Holds (Standing s) (or_refuse EBADF (option_and_then (λ d. option_map (λ (pipe : machine.Pipe Queue). record { description = d; pipe = pipe }) (at s.pipes d.pipe)) o))
+    by_description : (o : Option (machine.Description ℕ)) → Holds (Standing s) (or_refuse EBADF (option_and_then (λ d. option_map (λ (pipe : machine.Pipe Segment). record { description = d; pipe = pipe }) (at s.pipes d.pipe)) o))
     by_description None = tt
     by_description (Some d) = by_pipe d (at s.pipes d.pipe) refl
 
-reading_end-stands : (s : State Queue) (p : machine.Process) (fd : ℕ) → Holds (Standing s) (reading_end s p fd)
-reading_end-stands s p fd = goes (Standing s) (Standing s) (end_of s p fd) _ (by_number (at p.descriptors fd)) (λ e h. passes (Standing s) (refuse_if (not e.description.reads) EBADF) (Ok e) h)
+reading_end-stands : (s : State Segment ℕ) (p : machine.Process ℕ) (fd : ℕ) → Holds (Standing s) (reading_end itself s p fd)
+reading_end-stands s p fd = goes (Standing s) (Standing s) (end_of itself s p fd) _ (by_number (at p.descriptors fd)) (λ e h. passes (Standing s) (refuse_if (not e.description.reads) EBADF) (Ok e) h)
   where
-    by_number : (o : Option ℕ) → Holds (Standing s) (or_refuse EBADF (option_and_then (end_at s) o))
+    by_number : (o : Option ℕ) → Holds (Standing s) (or_refuse EBADF (option_and_then (end_at itself s) o))
     by_number None = tt
     by_number (Some m) = end_at-stands s m
 
-reading_there : (s : State Queue) (p : machine.Process) (fd : ℕ) (e : End Queue) → reading_end s p fd ≡ Ok e → Standing s e
+reading_there : (s : State Segment ℕ) (p : machine.Process ℕ) (fd : ℕ) (e : End Segment ℕ) → reading_end itself s p fd ≡ Ok e → Standing s e
 reading_there s p fd e is = subst (Holds (Standing s)) is (reading_end-stands s p fd)
 
 -- the machine's call is the one that the tables keep
 call_shown : (f : Live) (ps : ProcessRows) (ds : DescriptionRows) (pipes : PipeRows) (files : Files) (files_made pid : ℕ) → machine_call_of (meaning f (state_of ps ds pipes files files_made)) pid ≡ option_map call_of (call_in ps pid)
 call_shown f ps ds pipes files files_made pid = by_pid pid
   where
-    by_row : (x : Option Process) → option_and_then (λ (p : machine.Process). p.parked) (option_map process_of x) ≡ option_map call_of (option_and_then (λ (p : Process). p.parked) x)
+    by_row : (x : Option Process) → option_and_then (λ (p : machine.Process ℕ). p.parked) (option_map process_of x) ≡ option_map call_of (option_and_then (λ (p : Process). p.parked) x)
     by_row None = refl
     by_row (Some p) = refl
 
     by_pid : (m : ℕ) → machine_call_of (meaning f (state_of ps ds pipes files files_made)) m ≡ option_map call_of (call_in ps m)
     by_pid zero = refl
-    by_pid (suc i) = ap (option_and_then (λ (p : machine.Process). p.parked)) (at-map process_of ps i) ∙ by_row (at ps i)
+    by_pid (suc i) = ap (option_and_then (λ (p : machine.Process ℕ). p.parked)) (at-map process_of ps i) ∙ by_row (at ps i)
 
 -- what a call asks for, as far as it hands anything out
 abbrev pub asked : Option (Call Key) → ℕ
@@ -182,7 +183,7 @@ module _ {files : Files} {files_made : ℕ} (limits : Limits) (ps : ProcessRows)
       m : Namespace
       m = record { limits = limits; state = state_of ps ds pipes files files_made }
 
-      s : State Queue
+      s : State Segment ℕ
       s = meaning f (state_of ps ds pipes files files_made)
 
       by_call : (x : Option (Call Key)) (fd count : ℕ) → option_map call_of x ≡ Some (calls.Moving (calls.Reading fd count)) → asked x ≡ count

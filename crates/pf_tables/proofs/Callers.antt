@@ -1,6 +1,6 @@
 -- Who makes a step, as the tables find it and as the machine does.
 
-use Rattle.std.proofs.Common.{◌≡◌, ℕ, zero, suc, ◌-◌, Bool, true, false, Option, Some, None, is_some, Result, Ok, Err, refl, sym, ap, ◌∙◌, arith}
+use Rattle.std.proofs.Common.{◌≡◌, ℕ, zero, suc, ◌-◌, Bool, true, false, Option, Some, None, is_some, IsOk, Result, Ok, Err, refl, sym, ap, ◌∙◌, arith}
 use Rattle.std.specs.Option.{option_map}
 use Rattle.pf_machine.specs.FileMap.{Files}
 use Rattle.pf_machine.specs.Refusals.{◌>>=◌, ◌>>◌, refuse_if, or_refuse}
@@ -10,17 +10,21 @@ use Rattle.pf_machine.specs.State as machine
 use Rattle.pf_machine.specs.State.{living, ready}
 use Rattle.pf_base.specs.declared.errno.Errno.{Errno}
 use Rattle.pf_base.specs.declared.errno.Errno.TheVariants.{ESRCH, EBUSY}
-use Rattle.pf_machine.specs.Queue.{Queue}
+use Rattle.pf_machine.specs.Queue.{Segment}
 use Rattle.pf_frame.specs.Live.{Live}
 use Rattle.pf_tables.specs.Meaning.{meaning}
 use Rattle.pf_tables.specs.Rows.{ProcessRows, DescriptionRows, PipeRows, Key, Process, Call, call_of, process_of, state_of, process_in, awake, ready_in}
 
 -- a process with what the machine sees of it
-abbrev pub shown_in : Result Process Errno → Result machine.Process Errno
+abbrev pub shown_in : Result Process Errno → Result (machine.Process ℕ) Errno
 shown_in (Ok p) = Ok (process_of p)
 shown_in (Err e) = Err e
 
-abbrev machine_awake : machine.Process → Result machine.Process Errno
+pub found_in : (r : Result Process Errno) → IsOk (shown_in r) → (p : Process) × (r ≡ Ok p)
+found_in (Ok p) h = (p, refl)
+found_in (Err e) h = absurd (cc)
+
+abbrev machine_awake : machine.Process ℕ → Result (machine.Process ℕ) Errno
 machine_awake p = refuse_if (is_some p.parked) EBUSY >> Ok p
 
 pub awake_shown : (p : Process) → machine_awake (process_of p) ≡ shown_in (awake p)
@@ -31,7 +35,7 @@ awake_shown p = by_call p.parked
     by_call (Some call) = refl
 
 module _ (f : Live) (ps : ProcessRows) (ds : DescriptionRows) (pipes : PipeRows) (files : Files) (files_made : ℕ) (pid : ℕ) where
-  abbrev s : machine.State Queue
+  abbrev s : machine.State Segment ℕ
   s = meaning f (state_of ps ds pipes files files_made)
 
   -- the machine's process is the one that the tables show

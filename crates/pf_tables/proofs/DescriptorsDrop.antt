@@ -11,7 +11,7 @@ use Rattle.pf_machine.specs.Numbered.{at, clear_at}
 use Rattle.pf_machine.proofs.NumberedLaws.{at-map}
 use Rattle.pf_machine.specs.Machine.{call_of}
 use Rattle.pf_machine.specs.State as machine
-use Rattle.pf_machine.specs.State.{Pipe, with_process, without_process}
+use Rattle.pf_machine.specs.State.{itself, Pipe, with_process, without_process}
 use Rattle.pf_machine.specs.Descriptors.{named, without_descriptor}
 use Rattle.pf_base.specs.declared.errno.Errno.{Errno}
 use Rattle.pf_base.specs.declared.errno.Errno.TheVariants.{EBADF}
@@ -19,7 +19,7 @@ use Rattle.pf_machine.specs.Sweep.{sweep}
 use Rattle.pf_machine.proofs.SweepLaws.{with_processes}
 use Rattle.pf_base.specs.declared.TheConstants.{MAX_PROCESSES}
 use Rattle.pf_frame.specs.Live.{Live}
-use Rattle.pf_ring.specs.Ring.{Ring}
+use Rattle.pf_ring.specs.declared.ring.Window.{Window}
 use Rattle.pf_ring.specs.Windows.{Keeps, Stands}
 use Rattle.pf_ring.proofs.TableLaws.{no_source}
 use Rattle.pf_ring.specs.Table.{Joined}
@@ -31,7 +31,7 @@ use Rattle.pf_tables.proofs.MeaningLaws.{sweep-meaning, pipes-without}
 use Rattle.pf_tables.specs.Owns.{Owns}
 use Rattle.pf_tables.proofs.OwnsLaws.{stands_at, joined_gone, others_written}
 use Rattle.pf_tables.specs.Rows as rows
-use Rattle.pf_tables.specs.Rows.{pipe_of, ProcessRows, DescriptionRows, PipeRows, Key, Process, process_in, ready_in, Lives, key_at, keys_of, process_of, processes_of, descriptions_of, pipes_of, state_of, Tied, Kept}
+use Rattle.pf_tables.specs.Rows.{pipe_of, ProcessRows, DescriptionRows, PipeRows, Key, Process, process_in, ready_in, key_at, keys_of, process_of, processes_of, descriptions_of, pipes_of, state_of, Tied, Kept}
 use Rattle.pf_tables.specs.Tables.{closed, exited, descriptor, emptied, without_place, Left}
 use Rattle.pf_tables.specs.Told.{Becomes}
 use Rattle.pf_tables.proofs.Callers.{lives, lives_not, readies, place_is}
@@ -66,34 +66,34 @@ module _ {files : Files} {files_made : ℕ} (f : Live) (limits : Limits) (charge
 
   -- A pipe went, and its ring was cleared
   module _ (m : ℕ) (p : rows.Pipe) (there : at (pipes_of pipes) m ≡ Some (pipe_of (0, p))) (left : pipes_of pipes' ≡ clear_at (pipes_of pipes) m) where
-    pub gone_stands : Stands f p.ring.windows
+    pub gone_stands : Stands f p.ring.segments
     gone_stands = stands_at f (state_of ps ds pipes files files_made) m _ owned.joined there
 
     -- its pages are among its owner's
     pub gone_covered : (owner pages : ℕ) → owner ≡ p.owner → pages ≡ p.ring.capacity → pages ≤ charged_to charges owner
     gone_covered owner pages o e =
-        omega (arith, covers (λ (q : machine.Pipe Ring). q.owner) (λ (q : machine.Pipe Ring). q.queue.capacity) charges (pipes_of pipes) m _ k.charged there, e, ap (charged_to charges) o)
+        omega (arith, covers (λ (q : machine.Pipe Window). q.owner) (λ (q : machine.Pipe Window). q.queue.capacity) charges (pipes_of pipes) m _ k.charged there, e, ap (charged_to charges) o)
 
     pub gone_kept : (charges' : UserPages) (owner pages : ℕ) → owner ≡ p.owner → pages ≡ p.ring.capacity → Charges charges' charges owner pages → Kept charges' ps' ds' pipes'
     gone_kept charges' owner pages o e refunds =
         let back : Charges charges' charges p.owner p.ring.capacity = subst (λ (n : ℕ). Charges charges' charges p.owner n) e (subst (λ (u : ℕ). Charges charges' charges u pages) o refunds) in
         record {
           tied = l.tied;
-          charged = subst (λ (xs : List (Option (machine.Pipe Ring))). AreSumsOf (λ (q : machine.Pipe Ring). q.owner) (λ (q : machine.Pipe Ring). q.queue.capacity) charges' xs) (sym left)
-              (refunded (λ (q : machine.Pipe Ring). q.owner) (λ (q : machine.Pipe Ring). q.queue.capacity) charges charges' (pipes_of pipes) k.charged m _ there back);
+          charged = subst (λ (xs : List (Option (machine.Pipe Window))). AreSumsOf (λ (q : machine.Pipe Window). q.owner) (λ (q : machine.Pipe Window). q.queue.capacity) charges' xs) (sym left)
+              (refunded (λ (q : machine.Pipe Window). q.owner) (λ (q : machine.Pipe Window). q.queue.capacity) charges charges' (pipes_of pipes) k.charged m _ there back);
         }
 
-    module _ (g : Live) (keeps : Keeps [] p.ring.windows [] f g) where
+    module _ (g : Live) (keeps : Keeps [] p.ring.segments [] f g) where
       same_meaning : map (option_map (pipe_meaning g)) (clear_at (pipes_of pipes) m) ≡ map (option_map (pipe_meaning f)) (clear_at (pipes_of pipes) m)
       same_meaning =
-          pipes-without f g (pipes_of pipes) m (others_written f g (state_of ps ds pipes files files_made) m _ (record { capacity = p.ring.capacity; windows = [] }) [] (no_source (rings_of (state_of ps ds pipes files files_made))) owned.joined there keeps)
+          pipes-without f g (pipes_of pipes) m (others_written f g (state_of ps ds pipes files files_made) m _ (record { capacity = p.ring.capacity; segments = [] }) [] (no_source (rings_of (state_of ps ds pipes files files_made))) owned.joined there keeps)
           ∙ sym (map-set (option_map (pipe_meaning f)) (pipes_of pipes) m None)
 
       pub gone_becomes : Becomes f g n new (emptied (meaning f n.state) i fd)
       gone_becomes =
           away g
           (record {
-            joined = subst (λ xs. Joined g (map ring_or xs)) (sym left) (joined_gone f g (state_of ps ds pipes files files_made) m _ (record { capacity = p.ring.capacity; windows = [] }) [] (no_source (rings_of (state_of ps ds pipes files files_made))) owned.joined there keeps refl);
+            joined = subst (λ xs. Joined g (map ring_or xs)) (sym left) (joined_gone f g (state_of ps ds pipes files files_made) m _ (record { capacity = p.ring.capacity; segments = [] }) [] (no_source (rings_of (state_of ps ds pipes files files_made))) owned.joined there keeps refl);
             reserve = owned.reserve ∙ sym keeps.reservation;
           })
           (subst (λ xs. map (option_map (pipe_meaning g)) xs ≡ map (option_map (pipe_meaning f)) xs) (sym left) same_meaning)
@@ -110,7 +110,7 @@ module _ {files : Files} {files_made : ℕ} (f : Live) (limits : Limits) (charge
   vacated = subst (λ x. Tied x ds pipes) (sym is) (by_place (at ps i) refl)
     where
       bare_all : (p : Process) → at ps i ≡ Some p → (m : ℕ) → at (keys_of p) m ≡ None
-      bare_all p e zero = let same : suc i ≡ i + 1 = omega arith in no_key p.parked (none_was rows.call_of p.parked (sym (ap (λ (o : Option machine.Process). option_and_then (λ (q : machine.Process). q.parked) o) (shown process_of ps i p e)) ∙ ap (λ (m : Namespace). option_and_then (λ (q : machine.Process). q.parked) (at m.state.processes i)) view ∙ ap (call_of n.state) same ∙ awake))
+      bare_all p e zero = let same : suc i ≡ i + 1 = omega arith in no_key p.parked (none_was rows.call_of p.parked (sym (ap (λ (o : Option (machine.Process ℕ)). option_and_then (λ (q : machine.Process ℕ). q.parked) o) (shown process_of ps i p e)) ∙ ap (λ (m : Namespace). option_and_then (λ (q : machine.Process ℕ). q.parked) (at m.state.processes i)) view ∙ ap (call_of n.state) same ∙ awake))
         where
           no_key : (o : Option (rows.Call Key)) → o ≡ None → rows.made_by o ≡ None
           no_key None h = refl
@@ -132,7 +132,7 @@ module _ {files : Files} {files_made : ℕ} (f : Live) (limits : Limits) (charge
         limits = refl;
         state = ap (meaning f)
             (changed-swept ps' ds pipes files files_made vacated (state_of ps ds pipes files files_made) (within_same (descriptions_of ds)) (within_same (pipes_of pipes))
-            ∙ ap (λ qs. sweep (with_processes (state_of ps ds pipes files files_made) qs)) (ap processes_of is ∙ map-set (option_map process_of) ps i None))
+            ∙ ap (λ qs. sweep itself (with_processes (state_of ps ds pipes files files_made) qs)) (ap processes_of is ∙ map-set (option_map process_of) ps i None))
             ∙ sym (sweep-meaning f (without_place (state_of ps ds pipes files files_made) i));
       }) owns
 
@@ -149,10 +149,10 @@ module _ {files : Files} {files_made : ℕ} (f : Live) (ps : ProcessRows) (ds : 
 
 module _ {files : Files} {files_made : ℕ} (f : Live) (ps : ProcessRows) (ds : DescriptionRows) (pipes : PipeRows) (limits : Limits) (n : Namespace) (view : record { limits = limits; state = state_of ps ds pipes files files_made } ≡ n)
     (pid : ℕ) where
-  pub exited_is : Lives ps pid → exited (meaning f n.state) pid ≡ Ok (without_place (meaning f n.state) (pid - 1))
-  exited_is who =
+  pub exited_is : {p : Process} → process_in ps pid ≡ Ok p → exited (meaning f n.state) pid ≡ Ok (without_place (meaning f n.state) (pid - 1))
+  exited_is {p} h =
       subst (λ (m : Namespace). exited (meaning f m.state) pid ≡ Ok (without_place (meaning f m.state) (pid - 1))) view
-      (ap (λ r. r >>= (λ _. Ok (without_process (meaning f (state_of ps ds pipes files files_made)) pid))) (lives f ps ds pipes files files_made pid who.p who.is))
+      (ap (λ r. r >>= (λ _. Ok (without_process (meaning f (state_of ps ds pipes files files_made)) pid))) (lives f ps ds pipes files files_made pid p h))
 
   pub exited_not : (e : Errno) → process_in ps pid ≡ Err e → exited (meaning f n.state) pid ≡ Err e
   exited_not e h =

@@ -9,7 +9,7 @@ use Rattle.pf_base.specs.Limits.{Limits}
 use Rattle.pf_machine.specs.Numbered.{at, put_at, change_at, first_free}
 use Rattle.pf_machine.proofs.NumberedLaws.{at-first_free, first_free-map}
 use Rattle.pf_machine.specs.Refusals.{◌>>◌, refuse_if}
-use Rattle.pf_machine.specs.Queue.{Queue}
+use Rattle.pf_machine.specs.Queue.{Segment}
 use Rattle.pf_machine.specs.State.{State, Outcome, with_process, with_descriptor, done}
 use Rattle.pf_base.specs.declared.TheConstants.{MAX_DESCRIPTORS}
 use Rattle.pf_base.specs.declared.errno.Errno.{Errno}
@@ -44,11 +44,11 @@ module _ (f : Live) {charges : UserPages} {limits : Limits} {ps : ProcessRows} {
   pub has_few : names_of (find ds k.slot k.serial) < 2 ^ 32 - 1
   has_few = let few = few_names [] ps ds pipes kept.tied k.serial (k.slot, row.0) row.1 in omega (arith, few, names_are ds k row.0 row.1)
 
-  abbrev s : State Queue
+  abbrev s : State Segment ℕ
   s = meaning f n.state
 
   -- what the machine says, by the test of the lowest free number
-  abbrev tested : Bool → Result Outcome Errno
+  abbrev tested : Bool → Result (Outcome Segment ℕ) Errno
   tested full = refuse_if full EMFILE >> Ok (done (with_process s pid (with_descriptor to k.serial (process_of p))) to)
 
   duped_is : duped s pid fd ≡ tested (nat_le MAX_DESCRIPTORS to)

@@ -4,6 +4,7 @@
 use Rattle.std.proofs.Common.{◌≡◌, ℕ, ◌-◌, ◌<◌, ◌≤◌, Bool, true, false, [], ◌∷◌, set, Option, Some, None, IsSome, is_some, IfSome, refl, sym, ap, subst, ◌∙◌, arith, if◌then◌else◌}
 use Rattle.std.specs.Option.{option_map, option_and_then}
 use Rattle.std.proofs.lemmas.List.{map-set}
+use Rattle.pf_machine.specs.State.{itself}
 use Rattle.pf_machine.specs.FileMap.{Files}
 use Rattle.pf_machine.specs.Numbered.{at, put_at, clear_at, change_at, one_if}
 use Rattle.pf_machine.proofs.NumberedLaws.{at-map, at_within}
@@ -23,9 +24,9 @@ use Rattle.pf_tables.proofs.TablesSettled.{Within, within_row, within_same, chan
 
 -- what the tables show of a descriptor
 pub descriptor_shown : (ps : ProcessRows) (ds : DescriptionRows) (pipes : PipeRows) (files : Files) (files_made : ℕ) (i fd : ℕ) → descriptor (state_of ps ds pipes files files_made) i fd ≡ option_map (λ k. k.serial) (key_at fd (at ps i))
-descriptor_shown ps ds pipes files files_made i fd = ap (option_and_then (λ (p : machine.Process). at p.descriptors fd)) (at-map process_of ps i) ∙ by_place (at ps i)
+descriptor_shown ps ds pipes files files_made i fd = ap (option_and_then (λ (p : machine.Process ℕ). at p.descriptors fd)) (at-map process_of ps i) ∙ by_place (at ps i)
   where
-    by_place : (o : Option Process) → option_and_then (λ (p : machine.Process). at p.descriptors fd) (option_map process_of o) ≡ option_map (λ k. k.serial) (key_at fd o)
+    by_place : (o : Option Process) → option_and_then (λ (p : machine.Process ℕ). at p.descriptors fd) (option_map process_of o) ≡ option_map (λ k. k.serial) (key_at fd o)
     by_place None = refl
     by_place (Some p) = at-map (λ (k : Key). k.serial) p.descriptors fd
 
@@ -41,7 +42,7 @@ module _ (ps : ProcessRows) (ds : DescriptionRows) (pipes : PipeRows) (t : Tied 
   leaves : (ds' : DescriptionRows) (pipes' : PipeRows) → Tied ps' ds' pipes' → Within (descriptions_of ds') (descriptions_of ds) → Within (pipes_of pipes') (pipes_of pipes) → Left ps ds pipes ps' ds' pipes' i fd
   leaves ds' pipes' u d p = record {
     tied = u;
-    state = λ files files_made. changed-swept ps' ds' pipes' files files_made u (state_of ps ds pipes files files_made) d p ∙ ap (λ qs. sweep (with_processes (state_of ps ds pipes files files_made) qs)) (ap processes_of is ∙ emptied_shown ps i fd);
+    state = λ files files_made. changed-swept ps' ds' pipes' files files_made u (state_of ps ds pipes files files_made) d p ∙ ap (λ qs. sweep itself (with_processes (state_of ps ds pipes files files_made) qs)) (ap processes_of is ∙ emptied_shown ps i fd);
   }
 
   -- there was none

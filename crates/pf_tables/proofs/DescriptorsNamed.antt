@@ -38,8 +38,8 @@ has ps pid fd {k} is = by_row (ready_in ps pid) refl is
     by_row (Ok p) c h = record { p = p; caller = c; names = some (at p.descriptors fd) h }
 
 -- a call that goes on with who has the descriptor and what it names
-module _ {A : Type 0} (go : machine.Process → ℕ → Result A Errno) (fd : ℕ) where
-  abbrev goes_on : machine.Process → Result A Errno
+module _ {A : Type 0} (go : machine.Process ℕ → ℕ → Result A Errno) (fd : ℕ) where
+  abbrev goes_on : machine.Process ℕ → Result A Errno
   goes_on p = named p fd >>= go p
 
   goes : (p : Process) → goes_on (process_of p) ≡ (or_refuse EBADF (option_map (λ (k : Key). k.serial) (at p.descriptors fd)) >>= go (process_of p))
@@ -65,7 +65,7 @@ module _ (f : Live) {limits : Limits} {ps : ProcessRows} {ds : DescriptionRows} 
   pub key_stands : {k : Key} → Has ps pid fd k → IsSome (find ds k.slot k.serial)
   key_stands {k} w = let row = key_row w in ap is_some (find_at ds k.slot k.serial row.0 row.1)
 
-  module _ {A : Type 0} (go : machine.Process → ℕ → Result A Errno) where
+  module _ {A : Type 0} (go : machine.Process ℕ → ℕ → Result A Errno) where
     -- the machine finds what the tables find
     pub named_is : {k : Key} (w : Has ps pid fd k) → (ready (meaning f n.state) pid >>= goes_on go fd) ≡ go (process_of w.p) k.serial
     named_is {k} w =

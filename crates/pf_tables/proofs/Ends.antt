@@ -4,11 +4,11 @@ use Rattle.std.proofs.Common.{◌≡◌, ℕ, suc, ◌+◌, ◌-◌, Bool, true,
 use Rattle.std.specs.Option.{option_map, option_and_then}
 use Rattle.pf_machine.specs.FileMap.{Files}
 use Rattle.pf_machine.specs.Refusals.{◌>>=◌, ◌>>◌, refuse_if, or_refuse}
-use Rattle.pf_machine.specs.Queue.{Queue}
+use Rattle.pf_machine.specs.Queue.{Segment}
 use Rattle.pf_machine.specs.Numbered.{at}
 use Rattle.pf_machine.proofs.NumberedLaws.{at-map}
 use Rattle.pf_machine.specs.State as machine
-use Rattle.pf_machine.specs.State.{State, End, ready, end_at, end_of, reading_end, writing_end}
+use Rattle.pf_machine.specs.State.{itself, State, End, ready, end_at, end_of, reading_end, writing_end}
 use Rattle.pf_machine.specs.Counts.{readers, writers}
 use Rattle.pf_base.specs.declared.errno.Errno.{Errno}
 use Rattle.pf_base.specs.declared.errno.Errno.TheVariants.{EBADF}
@@ -23,13 +23,13 @@ use Rattle.pf_tables.proofs.RowsShown.{shown, find_at}
 use Rattle.pf_tables.proofs.TablesSettled.{readers_shown, writers_shown}
 
 -- the machine's end of a side, or any where none is asked for
-abbrev pub side_end : Option Side → State Queue → machine.Process → ℕ → Result (End Queue) Errno
-side_end None s p fd = end_of s p fd
-side_end (Some sides.Read) s p fd = reading_end s p fd
-side_end (Some sides.Write) s p fd = writing_end s p fd
+abbrev pub side_end : Option Side → State Segment ℕ → machine.Process ℕ → ℕ → Result (End Segment ℕ) Errno
+side_end None s p fd = end_of itself s p fd
+side_end (Some sides.Read) s p fd = reading_end itself s p fd
+side_end (Some sides.Write) s p fd = writing_end itself s p fd
 
 -- the machine's end that two rows show
-abbrev pub end_of_rows : Live → Description → Pipe → End Queue
+abbrev pub end_of_rows : Live → Description → Pipe → End Segment ℕ
 end_of_rows f d r = record {
   description = description_of (0, record { value = d; names = 0 });
   pipe = pipe_meaning f (pipe_of (0, r));
@@ -43,15 +43,15 @@ pub record Found (f : Live) (side : Option Side) (ps : ProcessRows) (ds : Descri
   pub caller : IsOk (ready_in ps pid)
 
 module _ (f : Live) (side : Option Side) (ps : ProcessRows) (ds : DescriptionRows) (pipes : PipeRows) (files : Files) (files_made : ℕ) (t : Tied ps ds pipes) (pid fd : ℕ) where
-  abbrev s : State Queue
+  abbrev s : State Segment ℕ
   s = meaning f (state_of ps ds pipes files files_made)
 
   -- whether an end is of the side
-  abbrev sided : Bool → End Queue → Result (End Queue) Errno
+  abbrev sided : Bool → End Segment ℕ → Result (End Segment ℕ) Errno
   sided b e = refuse_if (not b) EBADF >> Ok e
 
   -- the machine's test of the side is that of the rows
-  by_side : (p : machine.Process) (d : Description) (r : Pipe) → option_and_then (end_at s) (at p.descriptors fd) ≡ Some (end_of_rows f d r) → side_end side s p fd ≡ sided (has side d) (end_of_rows f d r)
+  by_side : (p : machine.Process ℕ) (d : Description) (r : Pipe) → option_and_then (end_at itself s) (at p.descriptors fd) ≡ Some (end_of_rows f d r) → side_end side s p fd ≡ sided (has side d) (end_of_rows f d r)
   by_side p d r h = of_side side
     where
       of_side : (x : Option Side) → side_end x s p fd ≡ sided (has x d) (end_of_rows f d r)
@@ -59,26 +59,26 @@ module _ (f : Live) (side : Option Side) (ps : ProcessRows) (ds : DescriptionRow
       of_side (Some sides.Read) = ap (λ o. or_refuse EBADF o >>= (λ e. refuse_if (not e.description.reads) EBADF >> Ok e)) h
       of_side (Some sides.Write) = ap (λ o. or_refuse EBADF o >>= (λ e. refuse_if (not e.description.writes) EBADF >> Ok e)) h
 
-  no_side : (p : machine.Process) → at p.descriptors fd ≡ None → side_end side s p fd ≡ Err EBADF
+  no_side : (p : machine.Process ℕ) → at p.descriptors fd ≡ None → side_end side s p fd ≡ Err EBADF
   no_side p h = of_side side
     where
       of_side : (x : Option Side) → side_end x s p fd ≡ Err EBADF
-      of_side None = ap (λ o. or_refuse EBADF (option_and_then (end_at s) o)) h
-      of_side (Some sides.Read) = ap (λ o. or_refuse EBADF (option_and_then (end_at s) o) >>= (λ e. refuse_if (not e.description.reads) EBADF >> Ok e)) h
-      of_side (Some sides.Write) = ap (λ o. or_refuse EBADF (option_and_then (end_at s) o) >>= (λ e. refuse_if (not e.description.writes) EBADF >> Ok e)) h
+      of_side None = ap (λ o. or_refuse EBADF (option_and_then (end_at itself s) o)) h
+      of_side (Some sides.Read) = ap (λ o. or_refuse EBADF (option_and_then (end_at itself s) o) >>= (λ e. refuse_if (not e.description.reads) EBADF >> Ok e)) h
+      of_side (Some sides.Write) = ap (λ o. or_refuse EBADF (option_and_then (end_at itself s) o) >>= (λ e. refuse_if (not e.description.writes) EBADF >> Ok e)) h
 
   shown_key : (p : Process) (o : Option Key) → at p.descriptors fd ≡ o → at (process_of p).descriptors fd ≡ option_map (λ k. k.serial) o
   shown_key p o g = at-map (λ (k : Key). k.serial) p.descriptors fd ∙ ap (option_map (λ (k : Key). k.serial)) g
 
   -- a description's end of its pipe
-  pub end_shown : (k : Key) (e : Named Description) (r : Pipe) → at ds k.serial ≡ Some (k.slot, e) → at pipes e.value.pipe.serial ≡ Some (e.value.pipe.slot, r) → end_at s k.serial ≡ Some (end_of_rows f e.value r)
+  pub end_shown : (k : Key) (e : Named Description) (r : Pipe) → at ds k.serial ≡ Some (k.slot, e) → at pipes e.value.pipe.serial ≡ Some (e.value.pipe.slot, r) → end_at itself s k.serial ≡ Some (end_of_rows f e.value r)
   end_shown k e r h g =
-      ap (option_and_then (λ (d : machine.Description). option_map (λ (pipe : machine.Pipe Queue). record { description = d; pipe = pipe }) (at s.pipes d.pipe))) (shown description_of ds k.serial (k.slot, e) h)
-      ∙ ap (option_map (λ (pipe : machine.Pipe Queue). record { description = description_of (k.slot, e); pipe = pipe }))
+      ap (option_and_then (λ (d : machine.Description ℕ). option_map (λ (pipe : machine.Pipe Segment). record { description = d; pipe = pipe }) (at s.pipes d.pipe))) (shown description_of ds k.serial (k.slot, e) h)
+      ∙ ap (option_map (λ (pipe : machine.Pipe Segment). record { description = description_of (k.slot, e); pipe = pipe }))
       (at-map (pipe_meaning f) (pipes_of pipes) e.value.pipe.serial ∙ ap (option_map (pipe_meaning f)) (shown pipe_of pipes e.value.pipe.serial (e.value.pipe.slot, r) g))
 
   -- what the tables find and what the machine finds: one refusal, or the end that the rows show
-  abbrev Agrees : Result Description Errno → Result (End Queue) Errno → Type 0
+  abbrev Agrees : Result Description Errno → Result (End Segment ℕ) Errno → Type 0
   Agrees (Err e) machine = machine ≡ Err e
   Agrees (Ok d) machine = (r : Pipe) × (at pipes d.pipe.serial ≡ Some (d.pipe.slot, r)) × (machine ≡ Ok (end_of_rows f d r))
 
@@ -98,7 +98,7 @@ module _ (f : Live) (side : Option Side) (ps : ProcessRows) (ds : DescriptionRow
       let e = finds ds k (t.finds i (suc fd) p k h g) in
       let r = finds pipes e.0.value.pipe (t.is_end k.serial (k.slot, e.0) e.1).0 in
       let row = ap (option_map (λ (n : Named Description). n.value)) (find_at ds k.slot k.serial e.0 e.1) in
-      let machine = by_side (process_of p) e.0.value r.0 (ap (option_and_then (end_at s)) (shown_key p (Some k) g) ∙ end_shown k e.0 r.0 e.1 r.1) in
+      let machine = by_side (process_of p) e.0.value r.0 (ap (option_and_then (end_at itself s)) (shown_key p (Some k) g) ∙ end_shown k e.0 r.0 e.1 r.1) in
       subst (λ o. Agrees (or_refuse EBADF o >>= if_sided) (side_end side s (process_of p) fd)) (sym row) (subst (Agrees (if_sided e.0.value)) (sym machine) (by_sides (has side e.0.value) e.0.value r.0 r.1))
 
   by_caller : (r : Result Process Errno) → ready_in ps pid ≡ r → Agrees (r >>= (λ p. of_key (at p.descriptors fd))) (shown_in r >>= (λ p. side_end side s p fd))
@@ -123,7 +123,7 @@ module _ (f : Live) (side : Option Side) (ps : ProcessRows) (ds : DescriptionRow
       by_row (Ok p) c g = ap is_ok c
 
   -- the counts of a pipe are the machine's
-  pub counted : (n place : ℕ) (r : Pipe) → at pipes n ≡ Some (place, r) → (readers s n ≡ r.readers) × (writers s n ≡ r.writers)
+  pub counted : (n place : ℕ) (r : Pipe) → at pipes n ≡ Some (place, r) → (readers itself s n ≡ r.readers) × (writers itself s n ≡ r.writers)
   counted n place r h =
       let row = subst (UsedRow (read_by ds n + 0) (written_by ds n + 0)) h (t.uses n) in
       (omega (arith, row.0, readers_shown ps ds pipes files files_made n), omega (arith, row.1, writers_shown ps ds pipes files files_made n))

@@ -4,10 +4,10 @@ use Rattle.std.proofs.Common.{◌≡◌, ℕ, Result, Ok, Err, refl, sym, ap, su
 use Rattle.pf_machine.specs.FileMap.{Files}
 use Rattle.pf_base.specs.Limits.{Limits}
 use Rattle.pf_machine.specs.Machine.{swept}
-use Rattle.pf_machine.specs.Queue.{Queue}
+use Rattle.pf_machine.specs.Queue.{Segment}
 use Rattle.pf_machine.specs.Refusals.{◌>>=◌}
 use Rattle.pf_machine.specs.State as machine
-use Rattle.pf_machine.specs.State.{State, Outcome, ready, done, told}
+use Rattle.pf_machine.specs.State.{itself, State, Outcome, ready, done, told}
 use Rattle.pf_machine.specs.Sweep.{sweep}
 use Rattle.pf_base.specs.declared.errno.Errno.{Errno}
 use Rattle.pf_base.specs.declared.fault.Fault.{Fault}
@@ -27,11 +27,11 @@ use Rattle.pf_walk.specs.Told.{Changed, Told as Answered}
 
 -- a call on files, as a step of the machine's
 abbrev pub Step : Type 0 → Type 0
-Step X = State Queue → machine.Process → Result X Errno
+Step X = State Segment ℕ → machine.Process ℕ → Result X Errno
 
 module _ (f : Live) {limits : Limits} {ps : ProcessRows} {ds : DescriptionRows} {pipes : PipeRows} {files : Files} {files_made : ℕ} (tied : Tied ps ds pipes)
     {n : Namespace} (view : record { limits = limits; state = state_of ps ds pipes files files_made } ≡ n) (pid : ℕ) {p : Process} (is : ready_in ps pid ≡ Ok p) where
-  abbrev s : State Queue
+  abbrev s : State Segment ℕ
   s = meaning f (state_of ps ds pipes files files_made)
 
   -- a process that lives is told what its call says
@@ -41,14 +41,14 @@ module _ (f : Live) {limits : Limits} {ps : ProcessRows} {ds : DescriptionRows} 
       (ap (λ x. x >>= (λ q. step s q)) (readies f ps ds pipes files files_made pid p is) ∙ said)
 
   -- a change that was refused
-  pub refused-filed : (files' : Files) (m : Namespace) (step : Step Outcome) (answer : Result Files Errno) (fault : Fault) → Changed (Err fault) files files' answer → ((e : Errno) → answer ≡ Err e → step s (process_of p) ≡ Err e)
+  pub refused-filed : (files' : Files) (m : Namespace) (step : Step (Outcome Segment ℕ)) (answer : Result Files Errno) (fault : Fault) → Changed (Err fault) files files' answer → ((e : Errno) → answer ≡ Err e → step s (process_of p) ≡ Err e)
       → HasFiled f n m (Err fault) (ready (meaning f n.state) pid >>= (λ q. step (meaning f n.state) q))
   refused-filed files' m step answer (faults.Errno e) c stops = caller_told step (Err e) (stops e c.0)
   refused-filed files' m step answer faults.NoMemory c stops = tt
 
   -- the namespace with other files
   module _ (files' : Files) (made' : ℕ) (owns : Owns f n) where
-    abbrev filed : State Queue → State Queue
+    abbrev filed : State Segment ℕ → State Segment ℕ
     filed t = record t { files = files'; files_made = made' }
 
     pub filed-becomes : Becomes f f n (record { limits = limits; state = state_of ps ds pipes files' made' }) (filed (meaning f n.state))
@@ -60,7 +60,7 @@ module _ (f : Live) {limits : Limits} {ps : ProcessRows} {ds : DescriptionRows} 
           state = settled-meaning f (state_of ps ds pipes files' made') (settled ps ds pipes files' made' tied);
         }) owns
 
-    pub filed-done : (step : Step Outcome) → step s (process_of p) ≡ Ok (done (filed s) 0)
+    pub filed-done : (step : Step (Outcome Segment ℕ)) → step s (process_of p) ≡ Ok (done (filed s) 0)
         → Tells f n (record { limits = limits; state = state_of ps ds pipes files' made' }) (ready (meaning f n.state) pid >>= (λ q. step (meaning f n.state) q)) (Num 0)
     filed-done step said = record {
       state = filed (meaning f n.state);
@@ -69,7 +69,7 @@ module _ (f : Live) {limits : Limits} {ps : ProcessRows} {ds : DescriptionRows} 
     }
 
     -- what a change of the files tells, where the machine's call goes by the same change
-    pub changed-filed : (step : Step Outcome) (answer : Result Files Errno) (result : Result (Unit {0}) Fault) → Changed result files files' answer
+    pub changed-filed : (step : Step (Outcome Segment ℕ)) (answer : Result Files Errno) (result : Result (Unit {0}) Fault) → Changed result files files' answer
         → (answer ≡ Ok files' → step s (process_of p) ≡ Ok (done (filed s) 0)) → ((e : Errno) → answer ≡ Err e → step s (process_of p) ≡ Err e)
         → HasFiled f n (record { limits = limits; state = state_of ps ds pipes files' made' }) result (ready (meaning f n.state) pid >>= (λ q. step (meaning f n.state) q))
     changed-filed step answer (Ok x) c goes stops = filed-done step (goes c)
@@ -82,7 +82,7 @@ refusal before after (faults.Errno e) answer is = is
 refusal before after faults.NoMemory answer is = tt
 
 -- a call that changes nothing tells what it found
-pub tells : (f : Live) (n : Namespace) (pid : ℕ) {X : Type 0} (h : machine.Process → Result X Errno) (reply : X → Reply) (x : X) → Owns f n → n.state ≡ sweep n.state → (ready (meaning f n.state) pid >>= h) ≡ Ok x
+pub tells : (f : Live) (n : Namespace) (pid : ℕ) {X : Type 0} (h : machine.Process ℕ → Result X Errno) (reply : X → Reply) (x : X) → Owns f n → n.state ≡ sweep itself n.state → (ready (meaning f n.state) pid >>= h) ≡ Ok x
     → Told f f n n (Ok (reply x)) (ready (meaning f n.state) pid >>= (λ p. h p >>= (λ y. Ok (told (meaning f n.state) (reply y)))))
 tells f n pid {X} h reply x owns still found = record {
   owns = owns;
@@ -90,6 +90,6 @@ tells f n pid {X} h reply x owns still found = record {
   says = by_caller (ready (meaning f n.state) pid) found ∙ (λ j. Ok (record { state = sym (settled-meaning f n.state still) j; reply = reply x }));
 }
   where
-    by_caller : (a : Result machine.Process Errno) → (a >>= h) ≡ Ok x → all_settled (a >>= (λ p. h p >>= (λ y. Ok (told (meaning f n.state) (reply y))))) ≡ Ok (swept (told (meaning f n.state) (reply x)))
+    by_caller : (a : Result (machine.Process ℕ) Errno) → (a >>= h) ≡ Ok x → all_settled (a >>= (λ p. h p >>= (λ y. Ok (told (meaning f n.state) (reply y))))) ≡ Ok (swept (told (meaning f n.state) (reply x)))
     by_caller (Ok p) e = ap (λ r. all_settled (r >>= (λ y. Ok (told (meaning f n.state) (reply y))))) e
     by_caller (Err e') e = absurd (cc)

@@ -1,69 +1,62 @@
 -- How the meaning of a state goes through looking up, changing and sweeping.
 
-use Rattle.std.proofs.Common.{◌≡◌, ◌≢◌, ℕ, zero, suc, Bool, true, false, List, [], ◌∷◌, length, map, refl, ap, sym, ◌∙◌, arith, cond}
+use Rattle.std.proofs.Common.{◌≡◌, ◌≢◌, ℕ, zero, suc, List, [], ◌∷◌, length, map, refl, ap, sym, ◌∙◌, arith}
 use Rattle.std.specs.Prelude.{Option, Some, None, nat_lt, slice_index_or, slice_set, unwrap_or}
 use Rattle.std.proofs.lemmas.List.{length-map}
 use Rattle.std.proofs.Common.{subst}
 use Rattle.std.specs.Option.{option_map}
-use Rattle.pf_machine.specs.Queue.{Queue, bytes_of}
-use Rattle.pf_machine.specs.Numbered.{at, change_at, keep_from, sum_of}
+use Rattle.pf_ring.specs.declared.ring.Window.{Window}
+use Rattle.pf_machine.specs.Queue.{Segment, bytes_of}
+use Rattle.pf_machine.specs.Numbered.{at, change_at, sum_of}
 use Rattle.pf_machine.proofs.NumberedLaws.{at-map, sum_of-map}
+use Rattle.pf_machine.proofs.MapLaws.{keep_from-map}
 use Rattle.pf_machine.specs.Counts.{total, ends}
-use Rattle.pf_machine.specs.State.{State, Pipe, process, with_queue, holding}
+use Rattle.pf_machine.specs.State.{itself, State, Pipe, process, with_queue, holding}
 use Rattle.pf_machine.specs.Sweep.{sweep, live_descriptions}
 use Rattle.pf_frame.specs.Live.{Live}
 use Rattle.pf_ring.specs.Ring.{Ring, queue_of, no_ring, segment_of}
 use Rattle.pf_tables.specs.Meaning.{meaning, pipe_meaning, ring_or, occupied, AreEmpty}
 
-module _ {X Y : Type 0} (f : X → Y) where
-  pub keep_from-map : (test : ℕ → Bool) (n : ℕ) (xs : List (Option X)) → keep_from test n (map (option_map f) xs) ≡ map (option_map f) (keep_from test n xs)
-  keep_from-map test n [] = refl
-  keep_from-map test n (x ∷ xs) = λ i. kept (test n) i ∷ keep_from-map test (suc n) xs i
-    where
-      kept : (b : Bool) → cond b (option_map f x) None ≡ option_map f (cond b x None)
-      kept true = refl
-      kept false = refl
-
 module _ (f : Live) where
-  pub process-meaning : (s : State Ring) (pid : ℕ) → process (meaning f s) pid ≡ process s pid
+  pub process-meaning : (s : State Window ℕ) (pid : ℕ) → process (meaning f s) pid ≡ process s pid
   process-meaning s zero = refl
   process-meaning s (suc i) = refl
 
   -- the segments of all queues are the slots in use of all rings
-  pub occupied-meaning : (s : State Ring) → sum_of (λ p. length p.queue.segments) (meaning f s).pipes ≡ occupied s
+  pub occupied-meaning : (s : State Window ℕ) → sum_of (λ p. length p.queue.segments) (meaning f s).pipes ≡ occupied s
   occupied-meaning s = segments s.pipes
     where
-      segments : (ps : List (Option (Pipe Ring))) → sum_of (λ p. length p.queue.segments) (map (option_map (pipe_meaning f)) ps) ≡ sum_of (λ p. length p.queue.windows) ps
+      segments : (ps : List (Option (Pipe Window))) → sum_of (λ p. length p.queue.segments) (map (option_map (pipe_meaning f)) ps) ≡ sum_of (λ p. length p.queue.segments) ps
       segments [] = refl
       segments (None ∷ ps) = omega (arith, segments ps)
-      segments (Some p ∷ ps) = omega (arith, length-map p.queue.windows (segment_of f), segments ps)
+      segments (Some p ∷ ps) = omega (arith, length-map p.queue.segments (segment_of f), segments ps)
 
   -- where no ring shows a byte, no queue has one
-  pub empty-meaning : (s : State Ring) → AreEmpty f s → (n : ℕ) (p : Pipe Queue) → at (meaning f s).pipes n ≡ Some p → bytes_of p.queue ≡ []
+  pub empty-meaning : (s : State Window ℕ) → AreEmpty f s → (n : ℕ) (p : Pipe Segment) → at (meaning f s).pipes n ≡ Some p → bytes_of p.queue ≡ []
   empty-meaning s empty n p there = found (at s.pipes n) refl (sym (at-map (pipe_meaning f) s.pipes n) ∙ there)
     where
-      found : (o : Option (Pipe Ring)) → at s.pipes n ≡ o → option_map (pipe_meaning f) o ≡ Some p → bytes_of p.queue ≡ []
+      found : (o : Option (Pipe Window)) → at s.pipes n ≡ o → option_map (pipe_meaning f) o ≡ Some p → bytes_of p.queue ≡ []
       found None is none = absurd (cc)
-      found (Some q) is some = ap (λ (o : Option (Pipe Queue)). bytes_of (unwrap_or o p).queue) (sym some) ∙ empty n q is
+      found (Some q) is some = ap (λ (o : Option (Pipe Segment)). bytes_of (unwrap_or o p).queue) (sym some) ∙ empty n q is
 
-  pub total-meaning : (s : State Ring) → total (meaning f s) ≡ sum_of (λ p. p.queue.capacity) s.pipes
+  pub total-meaning : (s : State Window ℕ) → total (meaning f s) ≡ sum_of (λ p. p.queue.capacity) s.pipes
   total-meaning s = sum_of-map (pipe_meaning f) (λ p. p.queue.capacity) s.pipes
 
-  pub sweep-meaning : (s : State Ring) → sweep (meaning f s) ≡ meaning f (sweep s)
+  pub sweep-meaning : (s : State Window ℕ) → sweep itself (meaning f s) ≡ meaning f (sweep itself s)
   sweep-meaning s = λ i. record {
     processes = s.processes;
-    descriptions = live_descriptions s.processes s.descriptions;
-    pipes = keep_from-map (pipe_meaning f) (λ p. nat_lt 0 (ends (live_descriptions s.processes s.descriptions) p)) 0 s.pipes i;
+    descriptions = live_descriptions itself s.processes s.descriptions;
+    pipes = keep_from-map (pipe_meaning f) (λ p. nat_lt 0 (ends itself (live_descriptions itself s.processes s.descriptions) p)) 0 s.pipes i;
     files = s.files;
     files_made = s.files_made;
   }
 
-  pub settled-meaning : (s : State Ring) → s ≡ sweep s → meaning f s ≡ sweep (meaning f s)
+  pub settled-meaning : (s : State Window ℕ) → s ≡ sweep itself s → meaning f s ≡ sweep itself (meaning f s)
   settled-meaning s e = ap (meaning f) e ∙ sym (sweep-meaning s)
 
 -- rings by number
 
-pub ring_at-rings : (pipes : List (Option (Pipe Ring))) (k : ℕ) → slice_index_or (map ring_or pipes) k no_ring ≡ ring_or (at pipes k)
+pub ring_at-rings : (pipes : List (Option (Pipe Window))) (k : ℕ) → slice_index_or (map ring_or pipes) k no_ring ≡ ring_or (at pipes k)
 ring_at-rings [] k = refl
 ring_at-rings (p ∷ ps) zero = refl
 ring_at-rings (p ∷ ps) (suc k) = ring_at-rings ps k
@@ -72,44 +65,44 @@ ring_at-rings (p ∷ ps) (suc k) = ring_at-rings ps k
 
 module _ (f g : Live) where
   -- what stands at the other numbers means the same
-  pub record Others (pipes : List (Option (Pipe Ring))) (n : ℕ) : Type 0 where
+  pub record Others (pipes : List (Option (Pipe Window))) (n : ℕ) : Type 0 where
     pub stay : (k : ℕ) → k ≢ n → option_map (pipe_meaning g) (at pipes k) ≡ option_map (pipe_meaning f) (at pipes k)
 
-  pub pipe_stays : (pipes : List (Option (Pipe Ring))) (k : ℕ) → queue_of g (ring_or (at pipes k)) ≡ queue_of f (ring_or (at pipes k))
+  pub pipe_stays : (pipes : List (Option (Pipe Window))) (k : ℕ) → queue_of g (ring_or (at pipes k)) ≡ queue_of f (ring_or (at pipes k))
       → option_map (pipe_meaning g) (at pipes k) ≡ option_map (pipe_meaning f) (at pipes k)
   pipe_stays pipes k = stays (at pipes k)
     where
-      stays : (o : Option (Pipe Ring)) → queue_of g (ring_or o) ≡ queue_of f (ring_or o) → option_map (pipe_meaning g) o ≡ option_map (pipe_meaning f) o
+      stays : (o : Option (Pipe Window)) → queue_of g (ring_or o) ≡ queue_of f (ring_or o) → option_map (pipe_meaning g) o ≡ option_map (pipe_meaning f) o
       stays None e = refl
       stays (Some p) e = λ i. Some (record { queue = e i; owner = p.owner; file = p.file; read_opens = p.read_opens; write_opens = p.write_opens })
 
-  pub others_stay : (pipes : List (Option (Pipe Ring))) (n : ℕ)
+  pub others_stay : (pipes : List (Option (Pipe Window))) (n : ℕ)
       → ((k : ℕ) → k ≢ n → queue_of g (slice_index_or (map ring_or pipes) k no_ring) ≡ queue_of f (slice_index_or (map ring_or pipes) k no_ring)) → Others pipes n
   others_stay pipes n h = record { stay = λ k ne. pipe_stays pipes k (subst (λ (r : Ring). queue_of g r ≡ queue_of f r) (ring_at-rings pipes k) (h k ne)) }
 
   -- the numbers that change nothing mean the same
-  pub all_stay : (pipes : List (Option (Pipe Ring))) → ((k : ℕ) → option_map (pipe_meaning g) (at pipes k) ≡ option_map (pipe_meaning f) (at pipes k))
+  pub all_stay : (pipes : List (Option (Pipe Window))) → ((k : ℕ) → option_map (pipe_meaning g) (at pipes k) ≡ option_map (pipe_meaning f) (at pipes k))
       → map (option_map (pipe_meaning g)) pipes ≡ map (option_map (pipe_meaning f)) pipes
   all_stay [] h = refl
   all_stay (p ∷ ps) h = λ i. h 0 i ∷ all_stay ps (λ k. h (suc k)) i
 
   -- a pipe's ring changes
-  pub pipes-with_queue : (pipes : List (Option (Pipe Ring))) (n : ℕ) (r : Ring) → Others pipes n
+  pub pipes-with_queue : (pipes : List (Option (Pipe Window))) (n : ℕ) (r : Ring) → Others pipes n
       → map (option_map (pipe_meaning g)) (change_at (holding r) pipes n) ≡ change_at (holding (queue_of g r)) (map (option_map (pipe_meaning f)) pipes) n
   pipes-with_queue [] n r o = refl
   pipes-with_queue (p ∷ ps) zero r o = λ i. here p i ∷ all_stay ps (λ k. o.stay (suc k) (λ (e : suc k ≡ 0). omega arith)) i
     where
-      here : (p : Option (Pipe Ring)) → option_map (pipe_meaning g) (option_map (holding r) p) ≡ option_map (holding (queue_of g r)) (option_map (pipe_meaning f) p)
+      here : (p : Option (Pipe Window)) → option_map (pipe_meaning g) (option_map (holding r) p) ≡ option_map (holding (queue_of g r)) (option_map (pipe_meaning f) p)
       here None = refl
       here (Some p) = refl
   pipes-with_queue (p ∷ ps) (suc n) r o =
       λ i. o.stay 0 (λ (e : 0 ≡ suc n). omega arith) i ∷ pipes-with_queue ps n r (record { stay = λ k ne. o.stay (suc k) (λ (e : suc k ≡ suc n). ne (omega arith)) }) i
 
-  pub meaning-with_queue : (s : State Ring) (n : ℕ) (r : Ring) → Others s.pipes n → meaning g (with_queue s n r) ≡ with_queue (meaning f s) n (queue_of g r)
+  pub meaning-with_queue : (s : State Window ℕ) (n : ℕ) (r : Ring) → Others s.pipes n → meaning g (with_queue s n r) ≡ with_queue (meaning f s) n (queue_of g r)
   meaning-with_queue s n r o = λ i. record { processes = s.processes; descriptions = s.descriptions; pipes = pipes-with_queue s.pipes n r o i; files = s.files; files_made = s.files_made }
 
   -- a pipe goes
-  pub pipes-without : (pipes : List (Option (Pipe Ring))) (n : ℕ) → Others pipes n
+  pub pipes-without : (pipes : List (Option (Pipe Window))) (n : ℕ) → Others pipes n
       → map (option_map (pipe_meaning g)) (slice_set pipes n None) ≡ slice_set (map (option_map (pipe_meaning f)) pipes) n None
   pipes-without [] n o = refl
   pipes-without (p ∷ ps) zero o = λ i. None ∷ all_stay ps (λ k. o.stay (suc k) (λ (e : suc k ≡ 0). omega arith)) i

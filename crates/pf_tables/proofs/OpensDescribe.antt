@@ -4,6 +4,7 @@ use Rattle.std.proofs.Common.{◌≡◌, ◌≢◌, ℕ, ◌+◌, ◌-◌, ◌<�
 use Rattle.std.specs.Option.{option_map}
 use Rattle.std.specs.Map.{lookup}
 use Rattle.std.proofs.lemmas.List.{map-set}
+use Rattle.pf_ring.specs.declared.ring.Window.{Window}
 use Rattle.pf_machine.specs.Numbered.{at, put_at, first_free, one_if}
 use Rattle.pf_machine.proofs.NumberedLaws.{at_within, at-first_free}
 use Rattle.pf_machine.specs.State as machine
@@ -13,7 +14,7 @@ use Rattle.pf_limits.proofs.SumLaws.{kept}
 use Rattle.pf_tables.specs.declared.tables.opens.Access.{Access as Stored}
 use Rattle.pf_tables.specs.Meaning.{AreCharged}
 use Rattle.pf_tables.specs.Opened.{counted, end_of, taking, Describes}
-use Rattle.pf_tables.specs.Rows.{ProcessRows, DescriptionRows, PipeRows, Key, Description, Pipe, Ring, Opens, made_by, reads_it, writes_it, holding, opens_at, opens_of, pipe_of, pipes_of, NoMore, AreFifos, TiedWith, Tied}
+use Rattle.pf_tables.specs.Rows.{ProcessRows, DescriptionRows, PipeRows, Key, Description, Pipe, Opens, made_by, reads_it, writes_it, holding, opens_at, opens_of, pipe_of, pipes_of, NoMore, AreFifos, TiedWith, Tied}
 use Rattle.pf_tables.proofs.Callers.{place_of}
 use Rattle.pf_tables.proofs.Fifos.{same_file, same_place}
 use Rattle.pf_tables.proofs.CountersTied.{by_set, found, finds-new, miss, sides, once, repiped, described, piped, moved}
@@ -78,7 +79,7 @@ module _ {ps ps' : ProcessRows} {ds ds' : DescriptionRows} (pipes : PipeRows) {p
 pub entered-charged : (charges : UserPages) (a : Stored) (pipes : PipeRows) (k : Key) (p : Pipe) → at pipes k.serial ≡ Some (k.slot, p) → AreCharged charges (pipes_of pipes) → AreCharged charges (pipes_of (put_at pipes k.serial (k.slot, counted a p)))
 entered-charged charges a pipes k p stands is =
     subst (AreCharged charges) (sym (map-set (option_map pipe_of) pipes k.serial (Some (k.slot, counted a p))))
-    (kept (λ (q : machine.Pipe Ring). q.owner) (λ (q : machine.Pipe Ring). q.queue.capacity) charges (pipes_of pipes) k.serial (pipe_of (k.slot, p)) (pipe_of (k.slot, counted a p)) is (shown pipe_of pipes k.serial (k.slot, p) stands) refl refl)
+    (kept (λ (q : machine.Pipe Window). q.owner) (λ (q : machine.Pipe Window). q.queue.capacity) charges (pipes_of pipes) k.serial (pipe_of (k.slot, p)) (pipe_of (k.slot, counted a p)) is (shown pipe_of pipes k.serial (k.slot, p) stands) refl refl)
 
 -- There are no more opens than descriptions, as one more is drawn
 pub entered-fifos : (es : List (ℕ × Key)) {drawn more : ℕ} (a : Stored) (pipes : PipeRows) (k : Key) (p : Pipe) → at pipes k.serial ≡ Some (k.slot, p) → more ≡ drawn + 1 → AreFifos es drawn (opens_of pipes) → AreFifos es more (opens_of (put_at pipes k.serial (k.slot, counted a p)))

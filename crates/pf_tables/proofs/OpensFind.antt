@@ -4,6 +4,7 @@ use Rattle.std.proofs.Common.{◌≡◌, ◌≢◌, ℕ, zero, suc, Bool, true, 
 use Rattle.std.specs.Option.{option_map}
 use Rattle.std.specs.Map.{lookup}
 use Rattle.std.proofs.lemmas.Bool.{eq-eqb, eqb-true}
+use Rattle.pf_machine.specs.State.{itself}
 use Rattle.pf_machine.specs.FileMap.{Files}
 use Rattle.pf_base.specs.Limits.{Limits}
 use Rattle.pf_machine.specs.Numbered.{at}
@@ -109,16 +110,16 @@ module _ (f : Live) {limits : Limits} {charges : UserPages} {es : List (ℕ × K
       by_key None h = sym (ap is_some (fifo_shown None h))
       by_key (Some k) h = sym (ap is_some (fifo_shown (Some k) h))
 
-  pub no_readers : lookup (nat_eq file) es ≡ None → fifo_readers (meaning f n.state) (fifo_pipe (meaning f n.state) file) ≡ 0
-  no_readers h = ap (fifo_readers (meaning f n.state)) (fifo_shown None h)
+  pub no_readers : lookup (nat_eq file) es ≡ None → fifo_readers itself (meaning f n.state) (fifo_pipe (meaning f n.state) file) ≡ 0
+  no_readers h = ap (fifo_readers itself (meaning f n.state)) (fifo_shown None h)
 
-  pub readers_are : (k : Key) (p : Pipe) → lookup (nat_eq file) es ≡ Some k → find pipes k.slot k.serial ≡ Some p → fifo_readers (meaning f n.state) (fifo_pipe (meaning f n.state) file) ≡ p.readers
+  pub readers_are : (k : Key) (p : Pipe) → lookup (nat_eq file) es ≡ Some k → find pipes k.slot k.serial ≡ Some p → fifo_readers itself (meaning f n.state) (fifo_pipe (meaning f n.state) file) ≡ p.readers
   readers_are k p h g =
       let x = key_finds es pipes w.filed file k h in
       let same : ◌≡◌ {A = Option Pipe} (Some x.0) (Some p) = sym (find_at pipes k.slot k.serial x.0 x.1) ∙ g in
       let it : x.0 ≡ p = cc in
-      ap (fifo_readers (meaning f n.state)) (fifo_shown (Some k) h)
-      ∙ subst (λ (m : Namespace). fifo_readers (meaning f m.state) (Some k.serial) ≡ x.0.readers) view (counted f None ps ds pipes files files_made w.kept.tied 0 0 k.serial k.slot x.0 x.1).0
+      ap (fifo_readers itself (meaning f n.state)) (fifo_shown (Some k) h)
+      ∙ subst (λ (m : Namespace). fifo_readers itself (meaning f m.state) (Some k.serial) ≡ x.0.readers) view (counted f None ps ds pipes files files_made w.kept.tied 0 0 k.serial k.slot x.0 x.1).0
       ∙ ap (λ (q : Pipe). q.readers) it
 
   pub not_lost : (k : Key) → lookup (nat_eq file) es ≡ Some k → find pipes k.slot k.serial ≢ None

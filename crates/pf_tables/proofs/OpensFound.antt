@@ -5,14 +5,15 @@ use Rattle.std.specs.Option.{option_map}
 use Rattle.std.specs.Map.{lookup}
 use Rattle.std.proofs.lemmas.Bool.{leb-false, ltb-false}
 use Rattle.std.proofs.lemmas.List.{map-set, length_push, length-map}
+use Rattle.pf_ring.specs.declared.ring.Window.{Window}
 use Rattle.pf_machine.specs.Refusals.{◌>>=◌, ◌>>◌, refuse_if}
 use Rattle.pf_machine.specs.FileMap.{Files}
 use Rattle.pf_base.specs.Limits.{Limits}
-use Rattle.pf_machine.specs.Queue.{Queue}
+use Rattle.pf_machine.specs.Queue.{Segment}
 use Rattle.pf_machine.specs.Numbered.{at, put_at, first_free, sum_of, one_if}
 use Rattle.pf_machine.proofs.NumberedLaws.{first_free-map}
 use Rattle.pf_machine.specs.State as machine
-use Rattle.pf_machine.specs.State.{State, ready, told}
+use Rattle.pf_machine.specs.State.{itself, State, ready, told}
 use Rattle.pf_machine.specs.Attempts.{first}
 use Rattle.pf_base.specs.declared.step.Reply.{Reply}
 use Rattle.pf_base.specs.declared.step.Reply.TheVariants.{Num, Parked}
@@ -30,7 +31,7 @@ use Rattle.pf_tables.specs.declared.tables.opens.Access.{Access as Stored}
 use Rattle.pf_tables.specs.Meaning.{Namespace, meaning, ring_or}
 use Rattle.pf_tables.specs.Opened.{access_seen, before, counted, end_of, told_at, lacks_readers, may_open, opening, waits, HasFree, HasOpened, Describes}
 use Rattle.pf_tables.specs.Owns.{Owns}
-use Rattle.pf_tables.specs.Rows.{ProcessRows, DescriptionRows, PipeRows, Key, Process, Pipe, Ring, process_in, ready_in, process_of, description_of, pipe_of, pipes_of, opens_at, state_of, reads_it, writes_it, Whole, Tied}
+use Rattle.pf_tables.specs.Rows.{ProcessRows, DescriptionRows, PipeRows, Key, Process, Pipe, process_in, ready_in, process_of, description_of, pipe_of, pipes_of, opens_at, state_of, reads_it, writes_it, Whole, Tied}
 use Rattle.pf_tables.specs.Told.{Becomes}
 use Rattle.pf_tables.proofs.Callers.{shown_in, readies, ready_shown, is_living, is_awake, place_of}
 use Rattle.pf_tables.proofs.Ends.{counted as ends_counted}
@@ -53,17 +54,17 @@ at_most_one true = omega arith
 at_most_one false = omega arith
 
 -- a pipe keeps its ring
-ring_stays : (xs : List (Option (machine.Pipe Ring))) (n : ℕ) (x y : machine.Pipe Ring) → at xs n ≡ Some x → y.queue ≡ x.queue → map ring_or (put_at xs n y) ≡ map ring_or xs
+ring_stays : (xs : List (Option (machine.Pipe Window))) (n : ℕ) (x y : machine.Pipe Window) → at xs n ≡ Some x → y.queue ≡ x.queue → map ring_or (put_at xs n y) ≡ map ring_or xs
 ring_stays [] n x y h e = refl
 ring_stays (z ∷ zs) zero x y h e = ap (λ r. r ∷ map ring_or zs) (e ∙ sym (ap ring_or h))
 ring_stays (z ∷ zs) (suc n) x y h e = ap (λ rs. ring_or z ∷ rs) (ring_stays zs n x y h e)
 
 -- what the refusals say where there is none
-module _ (s : State Queue) (pid : ℕ) (a : opens.Access) (file : ℕ) (may : may_open s pid a file ≡ Ok tt) where
-  abbrev judge : machine.Process → Result (Unit {0}) Errno
+module _ (s : State Segment ℕ) (pid : ℕ) (a : opens.Access) (file : ℕ) (may : may_open s pid a file ≡ Ok tt) where
+  abbrev judge : machine.Process ℕ → Result (Unit {0}) Errno
   judge q = refuse_if (nat_le MAX_DESCRIPTORS (first_free q.descriptors)) EMFILE >> (refuse_if (lacks_readers s a file) ENXIO >> refuse_if (is_spent s.descriptions 1) ENFILE)
 
-  pub ready_is : (q : machine.Process) × (ready s pid ≡ Ok q) × (nat_le MAX_DESCRIPTORS (first_free q.descriptors) ≡ false) × (is_spent s.descriptions 1 ≡ false)
+  pub ready_is : (q : machine.Process ℕ) × (ready s pid ≡ Ok q) × (nat_le MAX_DESCRIPTORS (first_free q.descriptors) ≡ false) × (is_spent s.descriptions 1 ≡ false)
   ready_is = by_caller (ready s pid) refl may
     where
       by_tests : (x y z : Bool) → (refuse_if x EMFILE >> (refuse_if y ENXIO >> refuse_if z ENFILE)) ≡ Ok tt → (x ≡ false) × (z ≡ false)
@@ -72,7 +73,7 @@ module _ (s : State Queue) (pid : ℕ) (a : opens.Access) (file : ℕ) (may : ma
       by_tests false false true h = absurd (cc)
       by_tests false false false h = (refl, refl)
 
-      by_caller : (r : Result machine.Process Errno) → ready s pid ≡ r → (r >>= judge) ≡ Ok tt → (q : machine.Process) × (ready s pid ≡ Ok q) × (nat_le MAX_DESCRIPTORS (first_free q.descriptors) ≡ false) × (is_spent s.descriptions 1 ≡ false)
+      by_caller : (r : Result (machine.Process ℕ) Errno) → ready s pid ≡ r → (r >>= judge) ≡ Ok tt → (q : machine.Process ℕ) × (ready s pid ≡ Ok q) × (nat_le MAX_DESCRIPTORS (first_free q.descriptors) ≡ false) × (is_spent s.descriptions 1 ≡ false)
       by_caller (Err e) h g = absurd (cc)
       by_caller (Ok q) h g = let w = by_tests (nat_le MAX_DESCRIPTORS (first_free q.descriptors)) (lacks_readers s a file) (is_spent s.descriptions 1) g in (q, h, w.0, w.1)
 
@@ -91,15 +92,15 @@ module _ {files : Files} {files_made : ℕ} (f : Live) (limits : Limits) (charge
   pub caller : (q : Process) × (ready_in ps pid ≡ Ok q) × (first_free q.descriptors < MAX_DESCRIPTORS)
   caller = by_row (ready_in ps pid) refl
     where
-      machine_caller : (q : machine.Process) × (ready (meaning f old.state) pid ≡ Ok q) × (nat_le MAX_DESCRIPTORS (first_free q.descriptors) ≡ false) × (is_spent (meaning f old.state).descriptions 1 ≡ false)
+      machine_caller : (q : machine.Process ℕ) × (ready (meaning f old.state) pid ≡ Ok q) × (nat_le MAX_DESCRIPTORS (first_free q.descriptors) ≡ false) × (is_spent (meaning f old.state).descriptions 1 ≡ false)
       machine_caller = ready_is (meaning f old.state) pid (access_seen a) file may_here
 
       by_row : (r : Result Process Errno) → ready_in ps pid ≡ r → (q : Process) × (ready_in ps pid ≡ Ok q) × (first_free q.descriptors < MAX_DESCRIPTORS)
       by_row (Err e) h = let shows = sym machine_caller.1 ∙ ready_shown f ps ds pipes files files_made pid ∙ ap shown_in h in absurd (cc)
       by_row (Ok q) h =
-          let shows : ◌≡◌ {A = Result machine.Process Errno} (Ok machine_caller.0) (Ok (process_of q)) = sym machine_caller.1 ∙ ready_shown f ps ds pipes files files_made pid ∙ ap shown_in h in
+          let shows : ◌≡◌ {A = Result (machine.Process ℕ) Errno} (Ok machine_caller.0) (Ok (process_of q)) = sym machine_caller.1 ∙ ready_shown f ps ds pipes files files_made pid ∙ ap shown_in h in
           let same : machine_caller.0 ≡ process_of q = cc in
-          let free = ap (λ (x : machine.Process). first_free x.descriptors) same ∙ first_free-map (λ (k : Key). k.serial) q.descriptors in
+          let free = ap (λ (x : machine.Process ℕ). first_free x.descriptors) same ∙ first_free-map (λ (k : Key). k.serial) q.descriptors in
           let under = leb-false _ _ machine_caller.2 in
           (q, h, omega (arith, free, under))
 
@@ -164,7 +165,7 @@ module _ {files : Files} {files_made : ℕ} (f : Live) (limits : Limits) (charge
         opener : at ps (pid - 1) ≡ Some z.p
         opener = place_of ps pid z.p z.is
 
-        abbrev outcome : Option ℕ → State Queue
+        abbrev outcome : Option ℕ → State Segment ℕ
         outcome o = entered.outcome files files_made f a k p ps ds pipes stands pid z.p opener z.k z.k_is o
 
         abbrev reply : Option ℕ → Reply
@@ -191,7 +192,7 @@ module _ {files : Files} {files_made : ℕ} (f : Live) (limits : Limits) (charge
             let numbers = ends_counted f None ps ds pipes files files_made w.kept.tied pid 0 k.serial k.slot p stands in
             let others = ap (opens.kept_by (access_seen a)) (entered.there files files_made f a k p ps ds pipes stands pid z.p opener z.k z.k_is) in
             entered.goes limits s pid (process_of z.p) (access_seen a) file (readies f ps ds pipes files files_made pid z.p (caller.1 ∙ ap Ok (same_caller z.p z.is))) may_here
-            ∙ ap (λ o. opens.pipe_of limits s (process_of z.p) file o >>= (λ at_pipe. first pid false (opens.open_pipe at_pipe.state pid (process_of z.p) (access_seen a) at_pipe.pipe))) (fifo_is es pipes w.filed file f ps ds files files_made (Some k) found)
+            ∙ ap (λ o. opens.pipe_of limits s (process_of z.p) file o >>= (λ at_pipe. first pid false (opens.open_pipe itself (length s.descriptions) at_pipe.pipe at_pipe.state pid (process_of z.p) (access_seen a) at_pipe.pipe))) (fifo_is es pipes w.filed file f ps ds files files_made (Some k) found)
             ∙ entered.waits_or_not files files_made f a k p ps ds pipes stands pid z.p opener z.k z.k_is (waits a p.readers p.writers) (λ i. is_waiting (access_seen a) (numbers.0 i) (numbers.1 i))
             ∙ ap (λ m. Ok (told (outcome (if waits a p.readers p.writers then Some m else None)) (reply (if waits a p.readers p.writers then Some m else None)))) others
 

@@ -7,6 +7,7 @@ use Rattle.std.proofs.Math.Seq.{set-append_seam}
 use Rattle.std.proofs.lemmas.Bool.{cases_eq, eq-eqb, ne_eqb, ltb-false}
 use Rattle.std.proofs.lemmas.List.{map_push, length_push, length-map}
 use Rattle.pf_base.specs.Capacities.{told_as}
+use Rattle.pf_ring.specs.declared.ring.Window.{Window}
 use Rattle.pf_machine.specs.FileMap.{Files}
 use Rattle.pf_base.specs.Limits.{Limits}
 use Rattle.pf_machine.specs.Numbered.{at, put_at, first_free}
@@ -16,10 +17,10 @@ use Rattle.pf_machine.specs.Counts.{readers, writers, total}
 use Rattle.pf_machine.specs.Opens as opens
 use Rattle.pf_machine.specs.Opens.{fifo_pipe, is_waiting}
 use Rattle.pf_machine.specs.Pipes.{capacity_for, is_spent, new_pipe}
-use Rattle.pf_machine.specs.Queue.{Queue, empty}
+use Rattle.pf_machine.specs.Queue.{Segment, empty}
 use Rattle.pf_machine.specs.Refusals.{◌>>=◌, ◌>>◌, refuse_if}
 use Rattle.pf_machine.specs.State as machine
-use Rattle.pf_machine.specs.State.{State, Outcome, ready, told}
+use Rattle.pf_machine.specs.State.{itself, State, Outcome, ready, told}
 use Rattle.pf_base.specs.declared.TheConstants.{MAX_DESCRIPTORS}
 use Rattle.pf_base.specs.declared.errno.Errno.{Errno}
 use Rattle.pf_base.specs.declared.errno.Errno.TheVariants.{ENFILE, ENOMEM}
@@ -37,7 +38,7 @@ use Rattle.pf_tables.proofs.MeaningLaws.{total-meaning}
 use Rattle.pf_tables.specs.Opened.{access_seen, before, counted, end_of, fifo_capacity, may_open, opening, told_at, waits, HasOpened, Describes, MakesFifo, SameKeys}
 use Rattle.pf_tables.specs.Owns.{Owns}
 use Rattle.pf_tables.proofs.OwnsLaws.{slots-rings}
-use Rattle.pf_tables.specs.Rows.{ProcessRows, DescriptionRows, PipeRows, Key, Process, Pipe, Ring, Opens, ready_in, process_of, pipe_of, pipes_of, opens_at, opens_of, state_of, UsedRow, NoMore, AreFifos, Whole, Tied, read_by, written_by}
+use Rattle.pf_tables.specs.Rows.{ProcessRows, DescriptionRows, PipeRows, Key, Process, Pipe, Opens, ready_in, process_of, pipe_of, pipes_of, opens_at, opens_of, state_of, UsedRow, NoMore, AreFifos, Whole, Tied, read_by, written_by}
 use Rattle.pf_tables.specs.Told.{Becomes}
 use Rattle.pf_tables.proofs.Callers.{readies, is_living, is_awake, place_of}
 use Rattle.pf_tables.proofs.OpensOutcome as entered
@@ -103,9 +104,9 @@ fifos-founded es fs {drawn} opens k file k_is none keys a = record {
 
 -- The machine makes its pipe
 
-module _ (c : Limits) (s : State Queue) (pid : ℕ) (slots : ℕ) (q : machine.Process) (lives : ready s pid ≡ Ok q) (given : fifo_capacity c s pid ≡ Ok slots) where
+module _ (c : Limits) (s : State Segment ℕ) (pid : ℕ) (slots : ℕ) (q : machine.Process ℕ) (lives : ready s pid ≡ Ok q) (given : fifo_capacity c s pid ≡ Ok slots) where
   given_here : (refuse_if (is_spent s.pipes 1) ENFILE >> told_as ENOMEM (capacity_for c s q.cred)) ≡ Ok slots
-  given_here = sym (ap (λ r. r >>= (λ (p : machine.Process). refuse_if (is_spent s.pipes 1) ENFILE >> told_as ENOMEM (capacity_for c s p.cred))) lives) ∙ given
+  given_here = sym (ap (λ r. r >>= (λ (p : machine.Process ℕ). refuse_if (is_spent s.pipes 1) ENFILE >> told_as ENOMEM (capacity_for c s p.cred))) lives) ∙ given
 
   pub unspent_in : is_spent s.pipes 1 ≡ false
   unspent_in = by_test (is_spent s.pipes 1) (told_as ENOMEM (capacity_for c s q.cred)) given_here
@@ -114,13 +115,13 @@ module _ (c : Limits) (s : State Queue) (pid : ℕ) (slots : ℕ) (q : machine.P
       by_test true r h = absurd (cc)
       by_test false r h = refl
 
-  abbrev pub with_pipe : ℕ → State Queue
+  abbrev pub with_pipe : ℕ → State Segment ℕ
   with_pipe file = record s { pipes = s.pipes ++ Some (new_pipe (empty slots) q.cred.uid (Some file)) ∷ [] }
 
   pub made_for : (file : ℕ) → opens.pipe_of c s q file None ≡ Ok (record { state = with_pipe file; pipe = length s.pipes })
   made_for file = by_test (is_spent s.pipes 1) (told_as ENOMEM (capacity_for c s q.cred)) (λ n. record { state = record s { pipes = s.pipes ++ Some (new_pipe (empty n) q.cred.uid (Some file)) ∷ [] }; pipe = length s.pipes }) given_here
     where
-      by_test : (b : Bool) (r : Result ℕ Errno) (f : ℕ → opens.Found) → (refuse_if b ENFILE >> r) ≡ Ok slots → (refuse_if b ENFILE >> (r >>= (λ n. Ok (f n)))) ≡ Ok (f slots)
+      by_test : (b : Bool) (r : Result ℕ Errno) (f : ℕ → opens.Found Segment ℕ) → (refuse_if b ENFILE >> r) ≡ Ok slots → (refuse_if b ENFILE >> (r >>= (λ n. Ok (f n)))) ≡ Ok (f slots)
       by_test true r f h = absurd (cc)
       by_test false (Err e) f h = absurd (cc)
       by_test false (Ok n) f h = let same : n ≡ slots = cc in ap (λ m. Ok (f m)) same
@@ -130,23 +131,23 @@ none_is None h = refl
 none_is (Some x) h = absurd (cc)
 
 -- or refuses it
-pub unpiped : (c : Limits) (s : State Queue) (pid : ℕ) (a : opens.Access) (file : ℕ) (e : Errno) → may_open s pid a file ≡ Ok tt → fifo_pipe s file ≡ None → fifo_capacity c s pid ≡ Err e → opening c s pid a file ≡ Err e
+pub unpiped : (c : Limits) (s : State Segment ℕ) (pid : ℕ) (a : opens.Access) (file : ℕ) (e : Errno) → may_open s pid a file ≡ Ok tt → fifo_pipe s file ≡ None → fifo_capacity c s pid ≡ Err e → opening c s pid a file ≡ Err e
 unpiped c s pid a file e may none refused =
     entered.goes c s pid q a file lives may
-    ∙ ap (λ o. opens.pipe_of c s q file o >>= (λ x. first pid false (opens.open_pipe x.state pid q a x.pipe))) none
-    ∙ by_test (is_spent s.pipes 1) (told_as ENOMEM (capacity_for c s q.cred)) (λ n. record { state = record s { pipes = s.pipes ++ Some (new_pipe (empty n) q.cred.uid (Some file)) ∷ [] }; pipe = length s.pipes }) (λ x. first pid false (opens.open_pipe x.state pid q a x.pipe))
-    (sym (ap (λ r. r >>= (λ (p : machine.Process). refuse_if (is_spent s.pipes 1) ENFILE >> told_as ENOMEM (capacity_for c s p.cred))) lives) ∙ refused)
+    ∙ ap (λ o. opens.pipe_of c s q file o >>= (λ x. first pid false (opens.open_pipe itself (length s.descriptions) x.pipe x.state pid q a x.pipe))) none
+    ∙ by_test (is_spent s.pipes 1) (told_as ENOMEM (capacity_for c s q.cred)) (λ n. record { state = record s { pipes = s.pipes ++ Some (new_pipe (empty n) q.cred.uid (Some file)) ∷ [] }; pipe = length s.pipes }) (λ x. first pid false (opens.open_pipe itself (length s.descriptions) x.pipe x.state pid q a x.pipe))
+    (sym (ap (λ r. r >>= (λ (p : machine.Process ℕ). refuse_if (is_spent s.pipes 1) ENFILE >> told_as ENOMEM (capacity_for c s p.cred))) lives) ∙ refused)
   where
-    opener : (p : machine.Process) × (ready s pid ≡ Ok p) × (nat_le MAX_DESCRIPTORS (first_free p.descriptors) ≡ false) × (is_spent s.descriptions 1 ≡ false)
+    opener : (p : machine.Process ℕ) × (ready s pid ≡ Ok p) × (nat_le MAX_DESCRIPTORS (first_free p.descriptors) ≡ false) × (is_spent s.descriptions 1 ≡ false)
     opener = ready_is s pid a file may
 
-    q : machine.Process
+    q : machine.Process ℕ
     q = opener.0
 
     lives : ready s pid ≡ Ok q
     lives = opener.1
 
-    by_test : (b : Bool) (r : Result ℕ Errno) (f : ℕ → opens.Found) (g : opens.Found → Result Outcome Errno) → (refuse_if b ENFILE >> r) ≡ Err e → ((refuse_if b ENFILE >> (r >>= (λ n. Ok (f n)))) >>= g) ≡ Err e
+    by_test : (b : Bool) (r : Result ℕ Errno) (f : ℕ → opens.Found Segment ℕ) (g : opens.Found Segment ℕ → Result (Outcome Segment ℕ) Errno) → (refuse_if b ENFILE >> r) ≡ Err e → ((refuse_if b ENFILE >> (r >>= (λ n. Ok (f n)))) >>= g) ≡ Err e
     by_test true r f g h = let same : ◌≡◌ {A = Result ℕ Errno} (Err ENFILE) (Err e) = h in let it : ENFILE ≡ e = cc in ap Err it
     by_test false (Err x) f g h = let it : x ≡ e = cc in ap Err it
     by_test false (Ok n) f g h = absurd (cc)
@@ -173,7 +174,7 @@ module _ {files : Files} {files_made : ℕ} (f : Live) (limits : Limits) (charge
   module _ (q : Process) (is : ready_in ps pid ≡ Ok q) where
     -- the pipe as it is made
     abbrev pub fresh : Pipe
-    fresh = record { ring = record { capacity = slots; windows = [] }; owner = q.cred.uid; readers = 0; writers = 0; opens = unopened (Some file) }
+    fresh = record { ring = record { capacity = slots; segments = [] }; owner = q.cred.uid; readers = 0; writers = 0; opens = unopened (Some file) }
 
     module _ (k : Key) (k_is : k.serial ≡ length pipes) where
       abbrev with_fresh : PipeRows
@@ -218,7 +219,7 @@ module _ {files : Files} {files_made : ℕ} (f : Live) (limits : Limits) (charge
           now_charged : AreCharged charges' (pipes_of with_counted)
           now_charged =
               subst (AreCharged charges') (sym (map_push (option_map pipe_of) pipes (Some (k.slot, counted a fresh))))
-              (made (λ (x : machine.Pipe Ring). x.owner) (λ (x : machine.Pipe Ring). x.queue.capacity) charges charges' (pipes_of pipes) w.kept.charged (pipe_of (k.slot, counted a fresh)) more)
+              (made (λ (x : machine.Pipe Window). x.owner) (λ (x : machine.Pipe Window). x.queue.capacity) charges charges' (pipes_of pipes) w.kept.charged (pipe_of (k.slot, counted a fresh)) more)
 
           now_filed : AreFifos es' (length ds') (opens_of with_counted)
           now_filed =
@@ -236,7 +237,7 @@ module _ {files : Files} {files_made : ℕ} (f : Live) (limits : Limits) (charge
           seat : at ps (pid - 1) ≡ Some z.p
           seat = place_of ps pid z.p z.is
 
-          abbrev outcome : Option ℕ → State Queue
+          abbrev outcome : Option ℕ → State Segment ℕ
           outcome o = entered.outcome files files_made f a k fresh ps ds with_fresh stands pid z.p seat z.k z.k_is o
 
           abbrev reply : Option ℕ → Reply
@@ -261,10 +262,10 @@ module _ {files : Files} {files_made : ℕ} (f : Live) (limits : Limits) (charge
               (settled ps' ds' with_counted files files_made now_tied)
 
           -- the machine's pipe is this one, under the same number
-          abbrev s : State Queue
+          abbrev s : State Segment ℕ
           s = meaning f old.state
 
-          abbrev found : opens.Found
+          abbrev found : opens.Found Segment ℕ
           found = record { state = meaning f (state_of ps ds with_fresh files files_made); pipe = k.serial }
 
           lives : ready s pid ≡ Ok (process_of z.p)
@@ -284,12 +285,12 @@ module _ {files : Files} {files_made : ℕ} (f : Live) (limits : Limits) (charge
           machine_is : opening limits s pid (access_seen a) file ≡ Ok (told (outcome (before a fresh)) (reply (before a fresh)))
           machine_is =
               let no_pipe : fifo_pipe s file ≡ None = subst (λ (x : Namespace). fifo_pipe (meaning f x.state) file ≡ None) (sym view) closed in
-              let reads : readers found.state k.serial ≡ 0 = readers_shown ps ds with_fresh files files_made k.serial ∙ nobody.0 in
-              let writes : writers found.state k.serial ≡ 0 = writers_shown ps ds with_fresh files files_made k.serial ∙ nobody.1 in
+              let reads : readers itself found.state k.serial ≡ 0 = readers_shown ps ds with_fresh files files_made k.serial ∙ nobody.0 in
+              let writes : writers itself found.state k.serial ≡ 0 = writers_shown ps ds with_fresh files files_made k.serial ∙ nobody.1 in
               let others = ap (opens.kept_by (access_seen a)) (entered.there files files_made f a k fresh ps ds with_fresh stands pid z.p seat z.k z.k_is) in
               entered.goes limits s pid (process_of z.p) (access_seen a) file lives (may_here f limits charges es ps ds pipes w n view pid a file may)
-              ∙ ap (λ o. opens.pipe_of limits s (process_of z.p) file o >>= (λ x. first pid false (opens.open_pipe x.state pid (process_of z.p) (access_seen a) x.pipe))) no_pipe
-              ∙ ap (λ r. r >>= (λ x. first pid false (opens.open_pipe x.state pid (process_of z.p) (access_seen a) x.pipe))) (made_for limits s pid slots (process_of z.p) lives given_now file ∙ ap Ok found_is)
+              ∙ ap (λ o. opens.pipe_of limits s (process_of z.p) file o >>= (λ x. first pid false (opens.open_pipe itself (length s.descriptions) x.pipe x.state pid (process_of z.p) (access_seen a) x.pipe))) no_pipe
+              ∙ ap (λ r. r >>= (λ x. first pid false (opens.open_pipe itself (length s.descriptions) x.pipe x.state pid (process_of z.p) (access_seen a) x.pipe))) (made_for limits s pid slots (process_of z.p) lives given_now file ∙ ap Ok found_is)
               ∙ entered.waits_or_not files files_made f a k fresh ps ds with_fresh stands pid z.p seat z.k z.k_is (waits a 0 0) (λ i. is_waiting (access_seen a) (reads i) (writes i))
               ∙ ap (λ m. Ok (told (outcome (if waits a 0 0 then Some m else None)) (reply (if waits a 0 0 then Some m else None)))) others
 

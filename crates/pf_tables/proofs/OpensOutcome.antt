@@ -6,12 +6,12 @@ use Rattle.std.proofs.lemmas.List.{map-set, map_push, length-map}
 use Rattle.pf_machine.specs.Refusals.{◌>>=◌, ◌>>◌, refuse_if}
 use Rattle.pf_machine.specs.FileMap.{Files}
 use Rattle.pf_base.specs.Limits.{Limits}
-use Rattle.pf_machine.specs.Queue.{Queue}
+use Rattle.pf_machine.specs.Queue.{Segment}
 use Rattle.pf_machine.specs.Calls.{Opening}
 use Rattle.pf_machine.specs.Numbered.{at, put_at, first_free, one_if}
 use Rattle.pf_machine.proofs.NumberedLaws.{at-map, first_free-map}
 use Rattle.pf_machine.specs.State as machine
-use Rattle.pf_machine.specs.State.{State, Outcome, ready, with_process, change_process, change_pipe, with_descriptor, waiting, told}
+use Rattle.pf_machine.specs.State.{itself, State, Outcome, ready, with_process, change_process, change_pipe, with_descriptor, waiting, told}
 use Rattle.pf_machine.specs.Counts.{readers, writers}
 use Rattle.pf_machine.specs.Pipes.{is_spent}
 use Rattle.pf_machine.specs.Attempts.{Waits, given, first}
@@ -31,14 +31,14 @@ use Rattle.pf_tables.proofs.CountersTied.{once}
 use Rattle.pf_tables.proofs.RowsShown.{shown}
 
 -- The machine's open, where nothing refuses it
-pub goes : (c : Limits) (s : State Queue) (pid : ℕ) (p : machine.Process) (a : Access) (file : ℕ) → ready s pid ≡ Ok p → may_open s pid a file ≡ Ok tt
-    → opening c s pid a file ≡ (pipe_for c s p file (fifo_pipe s file) >>= (λ found. first pid false (open_pipe found.state pid p a found.pipe)))
+pub goes : (c : Limits) (s : State Segment ℕ) (pid : ℕ) (p : machine.Process ℕ) (a : Access) (file : ℕ) → ready s pid ≡ Ok p → may_open s pid a file ≡ Ok tt
+    → opening c s pid a file ≡ (pipe_for c s p file (fifo_pipe s file) >>= (λ found. first pid false (open_pipe itself (length s.descriptions) found.pipe found.state pid p a found.pipe)))
 goes c s pid p a file lives may =
-    ap (λ r. r >>= (λ q. opens.open_fifo c s pid q a file)) lives
+    ap (λ r. r >>= (λ q. opens.open_fifo itself (length s.descriptions) itself c s pid q a file)) lives
     ∙ by_tests (nat_le MAX_DESCRIPTORS (first_free p.descriptors)) (lacks_readers s a file) (is_spent s.descriptions 1) _
     (sym (ap (λ r. r >>= (λ q. refuse_if (nat_le MAX_DESCRIPTORS (first_free q.descriptors)) EMFILE >> (refuse_if (lacks_readers s a file) ENXIO >> refuse_if (is_spent s.descriptions 1) ENFILE))) lives) ∙ may)
   where
-    by_tests : (x y z : Bool) (rest : Result Outcome Errno) → (refuse_if x EMFILE >> (refuse_if y ENXIO >> refuse_if z ENFILE)) ≡ Ok tt → (refuse_if x EMFILE >> (refuse_if y ENXIO >> (refuse_if z ENFILE >> rest))) ≡ rest
+    by_tests : (x y z : Bool) (rest : Result (Outcome Segment ℕ) Errno) → (refuse_if x EMFILE >> (refuse_if y ENXIO >> refuse_if z ENFILE)) ≡ Ok tt → (refuse_if x EMFILE >> (refuse_if y ENXIO >> (refuse_if z ENFILE >> rest))) ≡ rest
     by_tests true y z rest h = absurd (cc)
     by_tests false true z rest h = absurd (cc)
     by_tests false false true rest h = absurd (cc)
@@ -46,14 +46,14 @@ goes c s pid p a file lives may =
 
 module _ (files : Files) (files_made : ℕ) (f : Live) (a : Stored) (k : Key) (p : Pipe) (ps : ProcessRows) (ds : DescriptionRows) (pipes : PipeRows) (stands : at pipes k.serial ≡ Some (k.slot, p))
     (pid : ℕ) (q : Process) (opener : at ps (pid - 1) ≡ Some q) (j : Key) (j_is : j.serial ≡ length ds) where
-  abbrev s : State Queue
+  abbrev s : State Segment ℕ
   s = meaning f (state_of ps ds pipes files files_made)
 
   -- its pipe is counted, and its description made
-  abbrev pub made : State Queue
+  abbrev pub made : State Segment ℕ
   made = change_pipe (opens.counted (access_seen a)) (record s { descriptions = s.descriptions ++ Some (record { pipe = k.serial; reads = a.reads; writes = a.writes; nonblocking = a.nonblock }) ∷ [] }) k.serial
 
-  abbrev pub outcome : Option ℕ → State Queue
+  abbrev pub outcome : Option ℕ → State Segment ℕ
   outcome None = with_process made pid (with_descriptor (first_free (process_of q).descriptors) (length s.descriptions) (process_of q))
   outcome (Some n) = change_process (waiting (Some (Opening (length s.descriptions) n))) made pid
 
@@ -102,7 +102,7 @@ module _ (files : Files) (files_made : ℕ) (f : Live) (a : Stored) (k : Key) (p
   abbrev pub before_if : Bool → Option ℕ
   before_if b = if b then Some (opens.kept_by (access_seen a) (at s.pipes k.serial)) else None
 
-  pub waits_or_not : (b : Bool) → is_waiting (access_seen a) (readers s k.serial) (writers s k.serial) ≡ b
-      → first pid false (open_pipe s pid (process_of q) (access_seen a) k.serial) ≡ Ok (told (outcome (before_if b)) (reply (before_if b)))
+  pub waits_or_not : (b : Bool) → is_waiting (access_seen a) (readers itself s k.serial) (writers itself s k.serial) ≡ b
+      → first pid false (open_pipe itself (length s.descriptions) k.serial s pid (process_of q) (access_seen a) k.serial) ≡ Ok (told (outcome (before_if b)) (reply (before_if b)))
   waits_or_not true h = ap (λ x. first pid false (if x then Waits made (Opening (length s.descriptions) (opens.kept_by (access_seen a) (at s.pipes k.serial))) else given made pid (process_of q) (length s.descriptions))) h
   waits_or_not false h = ap (λ x. first pid false (if x then Waits made (Opening (length s.descriptions) (opens.kept_by (access_seen a) (at s.pipes k.serial))) else given made pid (process_of q) (length s.descriptions))) h

@@ -1,12 +1,12 @@
 -- A path is resolved to a FIFO, and what its open is told.
 
-use Rattle.std.proofs.Common.{◌≡◌, ℕ, ◌+◌, ◌<◌, Bool, true, false, not, ◌&&◌, List, Option, Some, None, Result, Ok, Err, refl, sym, ap, subst, ◌∙◌, arith}
+use Rattle.std.proofs.Common.{◌≡◌, ℕ, ◌+◌, ◌<◌, Bool, true, false, not, ◌&&◌, List, length, Option, Some, None, Result, Ok, Err, refl, sym, ap, subst, ◌∙◌, arith}
 use Rattle.pf_machine.specs.FileMap.{Files}
 use Rattle.pf_machine.specs.Numbered.{one_if}
 use Rattle.pf_machine.specs.Opens.{Access, access_of, openable, open_fifo, open_path}
-use Rattle.pf_machine.specs.Queue.{Queue}
+use Rattle.pf_machine.specs.Queue.{Segment}
 use Rattle.pf_machine.specs.Refusals.{◌>>=◌, ◌>>◌, refuse_if}
-use Rattle.pf_machine.specs.State.{State, Process, Outcome, ready}
+use Rattle.pf_machine.specs.State.{itself, State, Process, Outcome, ready}
 use Rattle.pf_base.specs.declared.cred.Cred.{Cred}
 use Rattle.pf_base.specs.declared.errno.Errno.{Errno}
 use Rattle.pf_base.specs.declared.errno.Errno.TheVariants.{EINVAL}
@@ -34,21 +34,21 @@ sided files c path a x h = by_sides a.reads a.writes _ h
     by_sides false true rest h = omega arith
 
 module _ (f : Live) (old : Namespace) (pid : ℕ) (path : List ℕ) (bits : ℕ) (a : Stored) (asked : access_seen a ≡ access_of bits) where
-  abbrev s : State Queue
+  abbrev s : State Segment ℕ
   s = meaning f old.state
 
-  abbrev machine : Access → Result Outcome Errno
-  machine b = ready s pid >>= (λ p. open_path old.limits s pid p path b)
+  abbrev machine : Access → Result (Outcome Segment ℕ) Errno
+  machine b = ready s pid >>= (λ p. open_path itself (length s.descriptions) itself old.limits s pid p path b)
 
   refused_here : (e : Errno) → fifo_named s pid path (access_seen a) ≡ Err e → machine (access_of bits) ≡ Err e
   refused_here e h = ap machine (sym asked) ∙ by_caller (ready s pid) h
     where
-      by_file : (r : Result File Errno) (go : File → Result Outcome Errno) → (r >>= (λ x. Ok x.number)) ≡ Err e → (r >>= go) ≡ Err e
+      by_file : (r : Result File Errno) (go : File → Result (Outcome Segment ℕ) Errno) → (r >>= (λ x. Ok x.number)) ≡ Err e → (r >>= go) ≡ Err e
       by_file (Ok x) go g = absurd (cc)
       by_file (Err y) go g = let same : y ≡ e = cc in ap Err same
 
-      by_caller : (r : Result Process Errno) → (r >>= (λ p. openable s.files p.cred path (access_seen a) >>= (λ x. Ok x.number))) ≡ Err e → (r >>= (λ p. open_path old.limits s pid p path (access_seen a))) ≡ Err e
-      by_caller (Ok p) g = by_file (openable s.files p.cred path (access_seen a)) (λ x. open_fifo old.limits s pid p (access_seen a) x.number) g
+      by_caller : (r : Result (Process ℕ) Errno) → (r >>= (λ p. openable s.files p.cred path (access_seen a) >>= (λ x. Ok x.number))) ≡ Err e → (r >>= (λ p. open_path itself (length s.descriptions) itself old.limits s pid p path (access_seen a))) ≡ Err e
+      by_caller (Ok p) g = by_file (openable s.files p.cred path (access_seen a)) (λ x. open_fifo itself (length s.descriptions) itself old.limits s pid p (access_seen a) x.number) g
       by_caller (Err y) g = let same : y ≡ e = cc in ap Err same
 
   -- it was not found, or may not be opened
@@ -60,13 +60,13 @@ module _ (f : Live) (old : Namespace) (pid : ℕ) (path : List ℕ) (bits : ℕ)
     goes_on : machine (access_of bits) ≡ opening old.limits s pid (access_seen a) file
     goes_on = ap machine (sym asked) ∙ by_caller (ready s pid) named
       where
-        by_file : (r : Result File Errno) (go : ℕ → Result Outcome Errno) → (r >>= (λ x. Ok x.number)) ≡ Ok file → (r >>= (λ x. go x.number)) ≡ go file
+        by_file : (r : Result File Errno) (go : ℕ → Result (Outcome Segment ℕ) Errno) → (r >>= (λ x. Ok x.number)) ≡ Ok file → (r >>= (λ x. go x.number)) ≡ go file
         by_file (Ok x) go g = let same : x.number ≡ file = cc in ap go same
         by_file (Err y) go g = absurd (cc)
 
-        by_caller : (r : Result Process Errno) → (r >>= (λ p. openable s.files p.cred path (access_seen a) >>= (λ x. Ok x.number))) ≡ Ok file
-            → (r >>= (λ p. open_path old.limits s pid p path (access_seen a))) ≡ (r >>= (λ p. open_fifo old.limits s pid p (access_seen a) file))
-        by_caller (Ok p) g = by_file (openable s.files p.cred path (access_seen a)) (λ n. open_fifo old.limits s pid p (access_seen a) n) g
+        by_caller : (r : Result (Process ℕ) Errno) → (r >>= (λ p. openable s.files p.cred path (access_seen a) >>= (λ x. Ok x.number))) ≡ Ok file
+            → (r >>= (λ p. open_path itself (length s.descriptions) itself old.limits s pid p path (access_seen a))) ≡ (r >>= (λ p. open_fifo itself (length s.descriptions) itself old.limits s pid p (access_seen a) file))
+        by_caller (Ok p) g = by_file (openable s.files p.cred path (access_seen a)) (λ n. open_fifo itself (length s.descriptions) itself old.limits s pid p (access_seen a) n) g
         by_caller (Err y) g = absurd (cc)
 
     pub not_opened : (new : Namespace) (fault : Fault) → HasOpened f old new (Err fault) (opening old.limits s pid (access_seen a) file) → new ≡ old → Owns f old → Told f f old new (Err fault) (machine (access_of bits))
@@ -80,7 +80,7 @@ module _ (f : Live) (old : Namespace) (pid : ℕ) (path : List ℕ) (bits : ℕ)
     tells new reply t = record {
       owns = t.becomes.owns;
       limits = t.becomes.limits;
-      says = ap settled (goes_on ∙ t.is) ∙ ap (λ (z : State Queue). Ok (record { state = z; reply = reply })) (sym t.becomes.state);
+      says = ap settled (goes_on ∙ t.is) ∙ ap (λ (z : State Segment ℕ). Ok (record { state = z; reply = reply })) (sym t.becomes.state);
     }
 
     abbrev pub answer : Option ℕ → Reply

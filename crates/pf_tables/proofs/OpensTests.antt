@@ -14,7 +14,7 @@ use Rattle.pf_machine.specs.Opens.{Access}
 use Rattle.pf_machine.specs.Attempts.{open_told}
 use Rattle.pf_base.specs.Permissions.{is_privileged}
 use Rattle.pf_machine.specs.Pipes.{capacity_for, is_spent}
-use Rattle.pf_machine.specs.Queue.{Queue}
+use Rattle.pf_machine.specs.Queue.{Segment}
 use Rattle.pf_machine.specs.State.{State, ready}
 use Rattle.pf_base.specs.declared.TheConstants.{MAX_DESCRIPTORS}
 use Rattle.pf_base.specs.declared.errno.Errno.{Errno}
@@ -45,7 +45,7 @@ module _ {files : Files} {files_made : ℕ} (f : Live) {charges : UserPages} {li
     {n : Namespace} (view : record { limits = limits; state = state_of ps ds pipes files files_made } ≡ n) (pid : ℕ) where
   -- The refusals
   module _ {p : Process} (is : ready_in ps pid ≡ Ok p) where
-    abbrev s : State Queue
+    abbrev s : State Segment ℕ
     s = meaning f n.state
 
     opener : ready s pid ≡ Ok (process_of p)

@@ -1,6 +1,6 @@
 -- A call is over, or begins: what the tables keep and show of it.
 
-use Rattle.std.proofs.Common.{◌≡◌, ℕ, zero, suc, ◌-◌, Bool, true, false, [], ◌∷◌, set, map, Option, Some, None, IsOk, Result, Ok, Err, refl, sym, ap, subst, ◌∙◌, arith}
+use Rattle.std.proofs.Common.{◌≡◌, ℕ, zero, suc, ◌-◌, [], ◌∷◌, set, map, Option, Some, None, IsOk, Result, Ok, Err, refl, sym, ap, subst, ◌∙◌, arith}
 use Rattle.std.specs.Option.{option_map, option_and_then}
 use Rattle.std.proofs.lemmas.List.{map-set, set-set}
 use Rattle.pf_machine.specs.FileMap.{Files}
@@ -9,11 +9,9 @@ use Rattle.pf_machine.specs.Numbered.{at, put_at, change_at, first_free}
 use Rattle.pf_machine.proofs.NumberedLaws.{at-map, at_within, at-put_same, at-first_free, first_free-map}
 use Rattle.pf_machine.specs.State as machine
 use Rattle.pf_machine.specs.Machine.{call_of as machine_call_of}
-use Rattle.pf_machine.specs.Refusals.{◌>>=◌, or_refuse}
 use Rattle.pf_machine.specs.State.{State, living, ready, waiting}
-use Rattle.pf_ring.specs.Ring.{Ring}
+use Rattle.pf_ring.specs.declared.ring.Window.{Window}
 use Rattle.pf_base.specs.declared.errno.Errno.{Errno}
-use Rattle.pf_base.specs.declared.errno.Errno.TheVariants.{ESRCH, EINVAL}
 use Rattle.pf_frame.specs.Live.{Live}
 use Rattle.pf_limits.specs.UserPages.{UserPages}
 use Rattle.pf_parked.specs.declared.call.Call.TheVariants.{Open, Read, Write, Cross}
@@ -21,9 +19,9 @@ use Rattle.pf_tables.specs.Meaning.{Namespace, meaning}
 use Rattle.pf_tables.specs.Owns.{Owns}
 use Rattle.pf_tables.specs.Rows as rows
 use Rattle.pf_tables.specs.Rows.{ProcessRows, DescriptionRows, PipeRows, Key, Process, Call, call_of, made_by, keys_of, keys_to, names_it, IsSpare, Finds, process_in, ready_in, process_of, processes_of, descriptions_of, pipes_of, state_of, TiedWith, Tied, Kept}
-use Rattle.pf_tables.specs.Tables.{over, woken, awoken, is_open, waits_in_open, HasLowest}
+use Rattle.pf_tables.specs.Tables.{over, woken, awoken, HasLowest}
 use Rattle.pf_tables.specs.Told.{Becomes, waits_in}
-use Rattle.pf_tables.proofs.Callers.{shown_in, living_shown, ready_shown, place_of, place_is, is_awake}
+use Rattle.pf_tables.proofs.Callers.{shown_in, found_in, living_shown, ready_shown, place_of, place_is, is_awake}
 use Rattle.pf_tables.proofs.CountersTied.{moved}
 use Rattle.pf_tables.proofs.Arrivals.{becomes}
 use Rattle.pf_tables.proofs.RowsShown.{shown}
@@ -32,30 +30,20 @@ use Rattle.pf_tables.proofs.TablesSettled.{settled}
 
 -- Who lives for the machine lives in the tables
 pub who : (f : Live) (limits : Limits) (ps : ProcessRows) (ds : DescriptionRows) (pipes : PipeRows) (files : Files) (files_made : ℕ) (n : Namespace) → record { limits = limits; state = state_of ps ds pipes files files_made } ≡ n → (pid : ℕ)
-    → IsOk (living (meaning f n.state) pid) → rows.Lives ps pid
-who f limits ps ds pipes files files_made n view pid lives = found (process_in ps pid) refl (subst (λ r. IsOk r) (living_shown f ps ds pipes files files_made pid) (subst (λ (m : Namespace). IsOk (living (meaning f m.state) pid)) (sym view) lives))
-  where
-    found : (r : Result Process Errno) → process_in ps pid ≡ r → IsOk (shown_in r) → rows.Lives ps pid
-    found (Ok p) h g = record { p = p; is = h }
-    found (Err e) h g = absurd (cc)
-
-pub lives_in : (f : Live) (limits : Limits) (ps : ProcessRows) (ds : DescriptionRows) (pipes : PipeRows) (files : Files) (files_made : ℕ) (n : Namespace) → record { limits = limits; state = state_of ps ds pipes files files_made } ≡ n → (pid : ℕ)
-    → IsOk (living (meaning f n.state) pid) → IsOk (process_in ps pid)
-lives_in f limits ps ds pipes files files_made n view pid lives = let w = who f limits ps ds pipes files files_made n view pid lives in ap ok w.is
-  where
-    ok : Result Process Errno → Bool
-    ok (Ok p) = true
-    ok (Err e) = false
+    → IsOk (living (meaning f n.state) pid) → (p : Process) × (process_in ps pid ≡ Ok p)
+who f limits ps ds pipes files files_made n view pid lives =
+    found_in (process_in ps pid)
+    (subst (λ r. IsOk r) (living_shown f ps ds pipes files files_made pid)
+    (subst (λ (m : Namespace). IsOk (living (meaning f m.state) pid)) (sym view) lives))
 
 -- its lowest free descriptor
 pub lowest_shown : (f : Live) (limits : Limits) (ps : ProcessRows) (ds : DescriptionRows) (pipes : PipeRows) (files : Files) (files_made : ℕ) (n : Namespace) → record { limits = limits; state = state_of ps ds pipes files files_made } ≡ n → (pid : ℕ)
-    → IsOk (living (meaning f n.state) pid) → (fd : ℕ) → rows.HasLowest ps pid fd → HasLowest (meaning f n.state) pid fd
-lowest_shown f limits ps ds pipes files files_made n view pid lives fd lowest q h =
-    let w = who f limits ps ds pipes files files_made n view pid lives in
-    let one : ◌≡◌ {A = Result machine.Process Errno} (Ok (process_of w.p)) (Ok q) =
-    sym (subst (λ (m : Namespace). living (meaning f m.state) pid ≡ Ok (process_of w.p)) view (living_shown f ps ds pipes files files_made pid ∙ ap shown_in w.is)) ∙ h in
-    let same : process_of w.p ≡ q = cc in
-    lowest w.p w.is ∙ sym (first_free-map (λ (k : Key). k.serial) w.p.descriptors) ∙ ap (λ (x : machine.Process). first_free x.descriptors) same
+    → (p : Process) → process_in ps pid ≡ Ok p → HasLowest (meaning f n.state) pid (first_free p.descriptors)
+lowest_shown f limits ps ds pipes files files_made n view pid p lives q h =
+    let one : ◌≡◌ {A = Result (machine.Process ℕ) Errno} (Ok (process_of p)) (Ok q) =
+    sym (subst (λ (m : Namespace). living (meaning f m.state) pid ≡ Ok (process_of p)) view (living_shown f ps ds pipes files files_made pid ∙ ap shown_in lives)) ∙ h in
+    let same : process_of p ≡ q = cc in
+    sym (first_free-map (λ (k : Key). k.serial) p.descriptors) ∙ ap (λ (x : machine.Process ℕ). first_free x.descriptors) same
 
 -- what the machine sees of a process whose call is over
 woken_shown : (p : Process) → process_of (rows.woken p) ≡ woken (process_of p)
@@ -93,40 +81,40 @@ module _ (ps : ProcessRows) (ds : DescriptionRows) (pipes : PipeRows) (t : Tied 
 module _ {files : Files} {files_made : ℕ} (f : Live) (limits : Limits) (charges : UserPages) (ps : ProcessRows) (ds : DescriptionRows) (pipes : PipeRows) (k : Kept charges ps ds pipes)
     (n : Namespace) (view : record { limits = limits; state = state_of ps ds pipes files files_made } ≡ n) (pid : ℕ) (lives : IsOk (living (meaning f n.state) pid))
     (spare : (p : Process) → process_in ps pid ≡ Ok p → IsSpare p) (qs : ProcessRows) (are : qs ≡ change_at rows.woken ps (pid - 1)) where
-  w : rows.Lives ps pid
+  w : (p : Process) × (process_in ps pid ≡ Ok p)
   w = who f limits ps ds pipes files files_made n view pid lives
 
-  stands : at ps (pid - 1) ≡ Some w.p
-  stands = place_of ps pid w.p w.is
+  stands : at ps (pid - 1) ≡ Some w.0
+  stands = place_of ps pid w.0 w.1
 
-  put_is : qs ≡ put_at ps (pid - 1) (rows.woken w.p)
+  put_is : qs ≡ put_at ps (pid - 1) (rows.woken w.0)
   put_is = are ∙ ap (λ o. set ps (pid - 1) (option_map rows.woken o)) stands
 
   pub awoken-kept : Kept charges qs ds pipes
-  awoken-kept = record { tied = subst (λ x. Tied x ds pipes) (sym put_is) (woken-tied ps ds pipes k.tied (pid - 1) w.p stands (spare w.p w.is)); charged = k.charged }
+  awoken-kept = record { tied = subst (λ x. Tied x ds pipes) (sym put_is) (woken-tied ps ds pipes k.tied (pid - 1) w.0 stands (spare w.0 w.1)); charged = k.charged }
 
   now_shown : state_of qs ds pipes files files_made ≡ awoken (state_of ps ds pipes files files_made) pid
   now_shown =
       ap (λ x. state_of x ds pipes files files_made) put_is
       ∙ ap (λ xs. record { processes = xs; descriptions = descriptions_of ds; pipes = pipes_of pipes; files = files; files_made = files_made })
-      (map-set (option_map process_of) ps (pid - 1) (Some (rows.woken w.p))
-      ∙ ap (λ x. put_at (processes_of ps) (pid - 1) x) (woken_shown w.p)
-      ∙ ap (λ o. set (processes_of ps) (pid - 1) (option_map woken o)) (sym (shown process_of ps (pid - 1) w.p stands)))
+      (map-set (option_map process_of) ps (pid - 1) (Some (rows.woken w.0))
+      ∙ ap (λ x. put_at (processes_of ps) (pid - 1) x) (woken_shown w.0)
+      ∙ ap (λ o. set (processes_of ps) (pid - 1) (option_map woken o)) (sym (shown process_of ps (pid - 1) w.0 stands)))
 
   pub awoken-namespace : record { limits = limits; state = state_of qs ds pipes files files_made } ≡ record n { state = awoken n.state pid }
-  awoken-namespace = ap (λ (s : State Ring). record { limits = limits; state = s }) now_shown ∙ ap (λ (m : Namespace). record m { state = awoken m.state pid }) view
+  awoken-namespace = ap (λ (s : State Window ℕ). record { limits = limits; state = s }) now_shown ∙ ap (λ (m : Namespace). record m { state = awoken m.state pid }) view
 
   -- what the machine sees of the call
   pub call-shown : (o : Option (Call Key)) → o ≡ rows.call_in ps pid → option_map call_of o ≡ machine_call_of (meaning f n.state) pid
   call-shown o is = ap (option_map call_of) is ∙ by_pid pid ∙ ap (λ (m : Namespace). machine_call_of (meaning f m.state) pid) view
     where
-      by_row : (x : Option Process) → option_map call_of (option_and_then (λ (p : Process). p.parked) x) ≡ option_and_then (λ (p : machine.Process). p.parked) (option_map process_of x)
+      by_row : (x : Option Process) → option_map call_of (option_and_then (λ (p : Process). p.parked) x) ≡ option_and_then (λ (p : machine.Process ℕ). p.parked) (option_map process_of x)
       by_row None = refl
       by_row (Some p) = refl
 
       by_pid : (m : ℕ) → option_map call_of (rows.call_in ps m) ≡ machine_call_of (meaning f (state_of ps ds pipes files files_made)) m
       by_pid zero = refl
-      by_pid (suc i) = by_row (at ps i) ∙ ap (option_and_then (λ (p : machine.Process). p.parked)) (sym (at-map process_of ps i))
+      by_pid (suc i) = by_row (at ps i) ∙ ap (option_and_then (λ (p : machine.Process ℕ). p.parked)) (sym (at-map process_of ps i))
 
   pub awoken-becomes : Owns f n → Becomes f f n (record { limits = limits; state = state_of qs ds pipes files files_made }) (awoken (meaning f n.state) pid)
   awoken-becomes owns =
@@ -140,24 +128,10 @@ module _ {files : Files} {files_made : ℕ} (f : Live) (limits : Limits) (charge
     (n : Namespace) (view : record { limits = limits; state = state_of ps ds pipes files files_made } ≡ n) (pid : ℕ) (is_ready : IsOk (ready (meaning f n.state) pid)) where
   -- who is ready for the machine is ready in the tables
   pub ready_row : (p : Process) × (ready_in ps pid ≡ Ok p)
-  ready_row = found (ready_in ps pid) refl (subst (λ r. IsOk r) (ready_shown f ps ds pipes files files_made pid) (subst (λ (m : Namespace). IsOk (ready (meaning f m.state) pid)) (sym view) is_ready))
-    where
-      found : (r : Result Process Errno) → ready_in ps pid ≡ r → IsOk (shown_in r) → (p : Process) × (ready_in ps pid ≡ Ok p)
-      found (Ok p) h g = (p, h)
-      found (Err e) h g = absurd (cc)
-
-  pub is_ok : IsOk (ready_in ps pid)
-  is_ok = ap ok ready_row.1
-    where
-      ok : Result Process Errno → Bool
-      ok (Ok p) = true
-      ok (Err e) = false
-
-  pub may_wait : (call : Call Key) → made_by (Some call) ≡ None → rows.MayWait call (rows.process_at ps pid)
-  may_wait (Open key kept) none = absurd (cc)
-  may_wait (Read fd m) none = tt
-  may_wait (Write fd write) none = tt
-  may_wait (Cross crossing source sink m) none = tt
+  ready_row =
+      found_in (ready_in ps pid)
+      (subst (λ r. IsOk r) (ready_shown f ps ds pipes files files_made pid)
+      (subst (λ (m : Namespace). IsOk (ready (meaning f m.state) pid)) (sym view) is_ready))
 
   module _ (call : Call Key) (moving : made_by (Some call) ≡ None) (qs : ProcessRows) (are : qs ≡ change_at (rows.with_call (Some call)) ps (pid - 1)) where
     abbrev q : Process
@@ -188,21 +162,3 @@ module _ {files : Files} {files_made : ℕ} (f : Live) (limits : Limits) (charge
         ∙ ap (λ xs. record { limits = limits; state = record { processes = xs; descriptions = descriptions_of ds; pipes = pipes_of pipes; files = files; files_made = files_made } })
         (map-set (option_map process_of) ps (pid - 1) (Some q) ∙ ap (λ o. set (processes_of ps) (pid - 1) (option_map (waiting (Some (call_of call))) o)) (sym (shown process_of ps (pid - 1) ready_row.0 there)))
         ∙ ap (λ (m : Namespace). waits_in (Some (call_of call)) m pid) view
-
--- Whether it is an open's
-
-module _ (f : Live) (limits : Limits) (ps : ProcessRows) (ds : DescriptionRows) (pipes : PipeRows) (files : Files) (files_made : ℕ) (n : Namespace) (view : record { limits = limits; state = state_of ps ds pipes files files_made } ≡ n) (pid : ℕ) where
-  pub nobody_waits : (e : Errno) → process_in ps pid ≡ Err e → waits_in_open (meaning f n.state) pid ≡ Err e
-  nobody_waits e h =
-      subst (λ (m : Namespace). waits_in_open (meaning f m.state) pid ≡ Err e) view
-      (ap (λ r. r >>= (λ p. or_refuse EINVAL p.parked >>= (λ call. Ok (is_open call)))) (living_shown f ps ds pipes files files_made pid ∙ ap shown_in h))
-
-  pub some_wait : (w : rows.Lives ps pid) (o : Option (Call Key)) → rows.call_in ps pid ≡ o → waits_in_open (meaning f n.state) pid ≡ (or_refuse EINVAL (option_map call_of o) >>= (λ call. Ok (is_open call)))
-  some_wait w o h =
-      subst (λ (m : Namespace). waits_in_open (meaning f m.state) pid ≡ (or_refuse EINVAL (option_map call_of o) >>= (λ call. Ok (is_open call)))) view
-      (ap (λ r. r >>= (λ p. or_refuse EINVAL p.parked >>= (λ call. Ok (is_open call)))) (living_shown f ps ds pipes files files_made pid ∙ ap shown_in w.is)
-      ∙ ap (λ x. or_refuse EINVAL (option_map call_of x) >>= (λ call. Ok (is_open call))) (sym (parked_is (rows.process_at ps pid) w.is) ∙ h))
-    where
-      parked_is : (x : Option Process) → or_refuse ESRCH x ≡ Ok w.p → option_and_then (λ (p : Process). p.parked) x ≡ w.p.parked
-      parked_is None g = absurd (cc)
-      parked_is (Some p) g = let same : p ≡ w.p = cc in ap (λ (y : Process). y.parked) same

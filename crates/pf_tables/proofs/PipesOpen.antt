@@ -1,24 +1,26 @@
 -- A pipe is made: two descriptions and a pipe under the next numbers, and two keys at the lowest free descriptors.
 
-use Rattle.std.proofs.Common.{◌≡◌, ℕ, zero, suc, ◌+◌, ◌-◌, ◌<◌, ◌≤◌, Bool, true, false, List, [], ◌∷◌, ◌++◌, length, set, Option, Some, None, Result, Ok, Err, nat_lt, refl, sym, ap, subst, ◌∙◌, inl, inr, arith, append_assoc, nat_eq, nat_le, if◌then◌else◌}
+use Rattle.std.proofs.Common.{◌≡◌, ℕ, suc, ◌+◌, ◌-◌, ◌<◌, ◌≤◌, Bool, true, false, List, [], ◌∷◌, ◌++◌, length, set, Option, Some, None, Result, Ok, Err, nat_lt, refl, sym, ap, subst, ◌∙◌, inl, inr, arith, append_assoc, nat_eq, nat_le, if◌then◌else◌}
 use Rattle.std.specs.Option.{option_map}
 use Rattle.std.proofs.lemmas.Bool.{cases_lt, ltb-false}
 use Rattle.std.proofs.lemmas.Bool.Decides.{nat_tests}
 use Rattle.std.proofs.lemmas.List.{map-set, length-map, map_push, length_push, set_past, set-set}
 use Rattle.std.proofs.Math.Seq.{set-append_seam}
+use Rattle.pf_ring.specs.declared.ring.Window.{Window}
 use Rattle.pf_machine.specs.Refusals.{◌>>=◌, refuse_if}
 use Rattle.pf_machine.specs.FileMap.{Files}
 use Rattle.pf_base.specs.Limits.{Limits}
 use Rattle.pf_machine.specs.Numbered.{at, put_at, change_at, first_free}
 use Rattle.pf_machine.proofs.NumberedLaws.{at-push_new, at_within, at-put_same, at-first_free, first_free-map, sum_of-map}
+use Rattle.pf_machine.proofs.MapLaws.{second_free-map}
 use Rattle.pf_machine.specs.Counts.{charged, total}
 use Rattle.pf_base.specs.Capacities.{new_capacity, slots_for, told_as}
 use Rattle.pf_base.specs.declared.capacity.LimitFault.TheVariants.{Hard, Reserve}
 use Rattle.pf_base.specs.Permissions.{is_privileged}
-use Rattle.pf_machine.specs.Queue.{Queue}
+use Rattle.pf_machine.specs.Queue.{Segment}
 use Rattle.pf_machine.specs.State as machine
 use Rattle.pf_machine.specs.State.{State, ready}
-use Rattle.pf_machine.specs.Pipes.{first_descriptor, second_descriptor, capacity_for, reading as machine_reading, writing as machine_writing, with_two, opened}
+use Rattle.pf_machine.specs.Pipes.{first_descriptor, second_descriptor, second_free, capacity_for, reading as machine_reading, writing as machine_writing, with_two}
 use Rattle.pf_base.specs.declared.TheConstants.{MAX_DESCRIPTORS}
 use Rattle.pf_base.specs.declared.errno.Errno.{Errno}
 use Rattle.pf_base.specs.declared.errno.Errno.TheVariants.{EMFILE, ENFILE}
@@ -33,8 +35,8 @@ use Rattle.pf_tables.specs.Meaning.{Namespace, meaning, pipe_meaning, rings_of}
 use Rattle.pf_tables.proofs.MeaningLaws.{total-meaning}
 use Rattle.pf_tables.specs.Owns.{Owns}
 use Rattle.pf_tables.proofs.OwnsLaws.{joined_opened, meaning-opened}
-use Rattle.pf_tables.specs.Rows.{ProcessRows, DescriptionRows, PipeRows, Key, Process, Description, Pipe, Ring, ready_in, with_keys, process_of, description_of, pipe_of, processes_of, descriptions_of, pipes_of, state_of, Tied, Kept, Named}
-use Rattle.pf_tables.specs.Tables.{HasTwo, FindsTwo, Opens, capacity_of_caller}
+use Rattle.pf_tables.specs.Rows.{ProcessRows, DescriptionRows, PipeRows, Key, Process, Description, Pipe, ready_in, with_keys, process_of, description_of, pipe_of, processes_of, descriptions_of, pipes_of, state_of, Tied, Kept, Named}
+use Rattle.pf_tables.specs.Tables.{HasTwo, FindsTwo, Opens, opened_next, capacity_of_caller}
 use Rattle.pf_tables.proofs.Callers.{readies, readies_not, place_is}
 use Rattle.pf_tables.proofs.CountersTied.{finds-new, miss, once, sides, described, piped, swapped}
 use Rattle.pf_tables.proofs.Arrivals.{becomes}
@@ -46,18 +48,15 @@ use Rattle.pf_tables.proofs.TablesSettled.{settled}
 abbrev serial_of : Key → ℕ
 serial_of k = k.serial
 
--- which key is put somewhere makes no difference to what is free
-same_free : {X : Type 0} (xs : List (Option X)) (n : ℕ) (x y : X) → first_free (put_at xs n x) ≡ first_free (put_at xs n y)
-same_free [] n x y = refl
-same_free (z ∷ xs) zero x y = refl
-same_free (None ∷ xs) (suc n) x y = refl
-same_free (Some z ∷ xs) (suc n) x y = ap suc (same_free xs n x y)
+-- the second one is the first that is left, whatever stands at the first
+second_left : {X : Type 0} (xs : List (Option X)) (x : X) → second_free xs ≡ first_free (put_at xs (first_free xs) x)
+second_left [] x = refl
+second_left (None ∷ xs) x = refl
+second_left (Some y ∷ xs) x = ap suc (second_left xs x)
 
--- the second one, as the keys show it
+-- and the keys show it
 second_shown : (p : Process) (k : Key) → second_descriptor (process_of p) ≡ first_free (put_at p.descriptors (first_free p.descriptors) k)
-second_shown p k =
-    ap (λ n. first_free (put_at (process_of p).descriptors n 0)) (first_free-map serial_of p.descriptors) ∙ same_free (process_of p).descriptors (first_free p.descriptors) 0 k.serial
-    ∙ ap first_free (sym (map-set (option_map serial_of) p.descriptors (first_free p.descriptors) (Some k))) ∙ first_free-map serial_of (put_at p.descriptors (first_free p.descriptors) k)
+second_shown p k = second_free-map serial_of p.descriptors ∙ second_left p.descriptors k
 
 -- The calls that make a pipe
 
@@ -75,7 +74,7 @@ abbrev pub writing : Key → Bool → Description
 writing r nonblocking = record { pipe = r; reads = false; writes = true; nonblocking = nonblocking }
 
 abbrev pub two_ended : ℕ → ℕ → Pipe
-two_ended slots owner = record { ring = record { capacity = slots; windows = [] }; owner = owner; readers = 1; writers = 1; opens = unopened None }
+two_ended slots owner = record { ring = record { capacity = slots; segments = [] }; owner = owner; readers = 1; writers = 1; opens = unopened None }
 
 -- a list with one more at its end
 pub pushed : {X : Type 0} {xs ys zs : List X} {x y : X} → zs ≡ ys ++ x ∷ [] → ys ≡ xs → x ≡ y → zs ≡ xs ++ y ∷ []
@@ -115,7 +114,7 @@ module _ {files : Files} {files_made : ℕ} (f : Live) {charges : UserPages} {li
   pub charged_is : (uid : ℕ) → charged_to charges uid ≡ charged (meaning f n.state) uid
   charged_is uid =
       subst (λ (m : Namespace). charged_to charges uid ≡ charged (meaning f m.state) uid) view
-      (kept.charged.users uid ∙ sym (sum_of-map (pipe_meaning f) (λ (q : machine.Pipe Queue). if nat_eq q.owner uid then q.queue.capacity else 0) (pipes_of pipes)))
+      (kept.charged.users uid ∙ sym (sum_of-map (pipe_meaning f) (λ (q : machine.Pipe Segment). if nat_eq q.owner uid then q.queue.capacity else 0) (pipes_of pipes)))
 
   -- how many slots a new pipe gets
   pub capacity_is : (pid : ℕ) (p : Process) → ready_in ps pid ≡ Ok p → limits ≡ charges.limits
@@ -164,7 +163,7 @@ module _ {files : Files} {files_made : ℕ} (f : Live) {charges : UserPages} {li
 
     module _ {free : ℕ × ℕ} (two : HasTwo (meaning f n.state) pid free) where
       same : two.p ≡ process_of p
-      same = let e : ◌≡◌ {A = Result machine.Process Errno} (Ok two.p) (Ok (process_of p)) = sym two.lives ∙ opener in cc
+      same = let e : ◌≡◌ {A = Result (machine.Process ℕ) Errno} (Ok two.p) (Ok (process_of p)) = sym two.lives ∙ opener in cc
 
       first_is : free.0 ≡ first_free p.descriptors
       first_is = two.first ∙ ap first_descriptor same ∙ first_free-map serial_of p.descriptors
@@ -215,9 +214,9 @@ module _ {files : Files} {files_made : ℕ} (f : Live) {charges : UserPages} {li
 
         pub opened-kept : (charges' : UserPages) → Charges charges charges' p.cred.uid slots → Kept charges' ps' ds' pipes'
         opened-kept charges' more =
-            let now_charged : AreSumsOf (λ (q : machine.Pipe Ring). q.owner) (λ (q : machine.Pipe Ring). q.queue.capacity) charges' (pipes_of pipes1) =
-            subst (λ xs. AreSumsOf (λ (q : machine.Pipe Ring). q.owner) (λ (q : machine.Pipe Ring). q.queue.capacity) charges' xs) (sym (map_push (option_map pipe_of) pipes (Some (m.r.slot, two_ended slots p.cred.uid))))
-            (made (λ (q : machine.Pipe Ring). q.owner) (λ (q : machine.Pipe Ring). q.queue.capacity) charges charges' (pipes_of pipes) kept.charged (pipe_of (m.r.slot, two_ended slots p.cred.uid)) more) in
+            let now_charged : AreSumsOf (λ (q : machine.Pipe Window). q.owner) (λ (q : machine.Pipe Window). q.queue.capacity) charges' (pipes_of pipes1) =
+            subst (λ xs. AreSumsOf (λ (q : machine.Pipe Window). q.owner) (λ (q : machine.Pipe Window). q.queue.capacity) charges' xs) (sym (map_push (option_map pipe_of) pipes (Some (m.r.slot, two_ended slots p.cred.uid))))
+            (made (λ (q : machine.Pipe Window). q.owner) (λ (q : machine.Pipe Window). q.queue.capacity) charges charges' (pipes_of pipes) kept.charged (pipe_of (m.r.slot, two_ended slots p.cred.uid)) more) in
             subst (λ x. Kept charges' x ds' pipes') (sym processes_are) (subst (λ y. Kept charges' (put_at ps (pid - 1) both) y pipes') (sym m.named_to)
             (subst (λ z. Kept charges' (put_at ps (pid - 1) both) ds2 z) (sym m.piped_to) (record { tied = now_tied; charged = now_charged })))
 
@@ -227,7 +226,7 @@ module _ {files : Files} {files_made : ℕ} (f : Live) {charges : UserPages} {li
             (subst (λ z. Tied (put_at ps (pid - 1) both) ds2 z) (sym m.piped_to) now_tied))
 
         -- what it means
-        keys_shown : process_of both ≡ with_two (length (descriptions_of ds)) (process_of p)
+        keys_shown : process_of both ≡ with_two (length (descriptions_of ds)) (length (descriptions_of ds) + 1) (process_of p)
         keys_shown =
             let drawn : length (descriptions_of ds) ≡ length ds = length-map ds (option_map description_of) in
             let first = map-set (option_map serial_of) p.descriptors free.0 (Some m.j) in
@@ -238,7 +237,7 @@ module _ {files : Files} {files_made : ℕ} (f : Live) {charges : UserPages} {li
             let next : m.k.serial ≡ length (descriptions_of ds) + 1 = omega (arith, m.k_is, length_push ds (Some (m.j.slot, once (reading m.r nonblocking))), drawn) in
             cc
 
-        now_shown : state_of (put_at ps (pid - 1) both) ds2 pipes1 files files_made ≡ opened (state_of ps ds pipes files files_made) pid nonblocking (record { capacity = slots; windows = [] }) (process_of p)
+        now_shown : state_of (put_at ps (pid - 1) both) ds2 pipes1 files files_made ≡ opened_next (state_of ps ds pipes files files_made) pid nonblocking (record { capacity = slots; segments = [] }) (process_of p)
         now_shown =
             let two_more =
             map_push (option_map description_of) ds1 (Some (m.k.slot, once (writing m.r nonblocking)))
@@ -254,10 +253,10 @@ module _ {files : Files} {files_made : ℕ} (f : Live) {charges : UserPages} {li
               files_made = files_made;
             }
 
-        shown : state_of ps' ds' pipes' files files_made ≡ opened n.state pid nonblocking (record { capacity = slots; windows = [] }) (process_of p)
+        shown : state_of ps' ds' pipes' files files_made ≡ opened_next n.state pid nonblocking (record { capacity = slots; segments = [] }) (process_of p)
         shown =
             (λ x. state_of (processes_are x) (m.named_to x) (m.piped_to x) files files_made) ∙ now_shown
-            ∙ ap (λ (o : Namespace). opened o.state pid nonblocking (record { capacity = slots; windows = [] }) (process_of p)) view
+            ∙ ap (λ (o : Namespace). opened_next o.state pid nonblocking (record { capacity = slots; segments = [] }) (process_of p)) view
 
         pub opens : Owns f n → total (meaning f n.state) + slots ≤ n.limits.reserve → Opens f n (record { limits = limits; state = state_of ps' ds' pipes' files files_made }) pid nonblocking slots
         opens owns fits =

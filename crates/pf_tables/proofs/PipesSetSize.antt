@@ -5,11 +5,12 @@ use Rattle.std.specs.Option.{option_map}
 use Rattle.std.proofs.lemmas.Bool.{lt-ltb, le-ltb, ltb-false, cases_lt}
 use Rattle.std.proofs.lemmas.List.{map-set, length-map}
 use Rattle.std.specs.List.{sum_by}
+use Rattle.pf_ring.specs.declared.ring.Window.{Window}
 use Rattle.pf_machine.specs.FileMap.{Files}
 use Rattle.pf_base.specs.Limits.{Limits}
 use Rattle.pf_base.specs.Permissions.{is_privileged}
 use Rattle.pf_machine.specs.Refusals.{◌>>=◌, ◌>>◌, refuse_if}
-use Rattle.pf_machine.specs.Queue.{Queue, with_capacity}
+use Rattle.pf_machine.specs.Queue.{Segment, with_capacity}
 use Rattle.pf_base.specs.Capacities.{pages_for, may_grow, told_as}
 use Rattle.pf_machine.specs.Numbered.{at, put_at}
 use Rattle.pf_base.specs.declared.capacity.LimitFault.TheVariants.{Hard, Reserve, Soft}
@@ -17,7 +18,7 @@ use Rattle.pf_machine.proofs.NumberedLaws.{at_within}
 use Rattle.pf_machine.specs.Sweep.{sweep}
 use Rattle.pf_machine.specs.Pipes.{may_resize, get_size}
 use Rattle.pf_machine.specs.State as machine
-use Rattle.pf_machine.specs.State.{State, End, Outcome, ready, end_of, with_queue, holding, done}
+use Rattle.pf_machine.specs.State.{itself, State, End, Outcome, ready, end_of, with_queue, holding, done}
 use Rattle.pf_base.specs.declared.TheConstants.{PAGE_SIZE, MAX_SIZE}
 use Rattle.pf_base.specs.declared.errno.Errno.{Errno}
 use Rattle.pf_base.specs.declared.errno.Errno.TheVariants.{EINVAL, EPERM, EBUSY}
@@ -69,19 +70,19 @@ refuses u v p q privileged to faults.NoMemory z = z
 -- what is known before
 module _ {files : Files} {files_made : ℕ} (f : Live) (limits : Limits) (charges : UserPages) (ps : ProcessRows) (ds : DescriptionRows) (pipes : PipeRows) (k : Kept charges ps ds pipes)
     (n : Namespace) (view : record { limits = limits; state = state_of ps ds pipes files files_made } ≡ n) where
-  abbrev s : State Queue
+  abbrev s : State Segment ℕ
   s = meaning f (state_of ps ds pipes files files_made)
 
   module _ (pid fd : ℕ) where
     pub no_size : (e : Errno) → end_in None ps ds pid fd ≡ Err e → size_of_end (meaning f n.state) pid fd ≡ Err e
     no_size e h =
         subst (λ (v : Namespace). size_of_end (meaning f v.state) pid fd ≡ Err e) view
-        (stops (λ p. end_of s p fd) (λ p x. Ok (PAGE_SIZE * x.pipe.queue.capacity)) (ready s pid) e (refused f None ps ds pipes files files_made k.tied pid fd e h))
+        (stops (λ p. end_of itself s p fd) (λ p x. Ok (PAGE_SIZE * x.pipe.queue.capacity)) (ready s pid) e (refused f None ps ds pipes files files_made k.tied pid fd e h))
 
     pub not_sized : (bytes : ℕ) (e : Errno) → end_in None ps ds pid fd ≡ Err e → sized n.limits (meaning f n.state) pid fd bytes ≡ Err e
     not_sized bytes e h =
         subst (λ (v : Namespace). sized v.limits (meaning f v.state) pid fd bytes ≡ Err e) view
-        (stops (λ p. end_of s p fd) (λ p x. refuse_if (nat_lt MAX_SIZE bytes) EINVAL >> (refuse_if (not (is_privileged p.cred) && nat_lt limits.max (PAGE_SIZE * pages_for bytes)) EPERM
+        (stops (λ p. end_of itself s p fd) (λ p x. refuse_if (nat_lt MAX_SIZE bytes) EINVAL >> (refuse_if (not (is_privileged p.cred) && nat_lt limits.max (PAGE_SIZE * pages_for bytes)) EPERM
         >> (may_resize limits s p.cred x.pipe (pages_for bytes) >> Ok (done (with_queue s x.description.pipe (with_capacity (pages_for bytes) x.pipe.queue)) (PAGE_SIZE * pages_for bytes)))))
         (ready s pid) e (refused f None ps ds pipes files files_made k.tied pid fd e h))
 
@@ -95,7 +96,7 @@ module _ {files : Files} {files_made : ℕ} (f : Live) (limits : Limits) (charge
       -- its pages are among its owner's
       pub covered : (r : Pipe) → find pipes d.pipe.slot d.pipe.serial ≡ Some r → r.ring.capacity ≤ charged_to charges r.owner
       covered r handed =
-          covers (λ (q : machine.Pipe Ring). q.owner) (λ (q : machine.Pipe Ring). q.queue.capacity) charges (pipes_of pipes) d.pipe.serial (pipe_of (d.pipe.slot, r)) k.charged
+          covers (λ (q : machine.Pipe Window). q.owner) (λ (q : machine.Pipe Window). q.queue.capacity) charges (pipes_of pipes) d.pipe.serial (pipe_of (d.pipe.slot, r)) k.charged
           (shown pipe_of pipes d.pipe.serial (d.pipe.slot, r) (find_was pipes d.pipe.slot d.pipe.serial r handed))
 
       -- where it is as it was, and nobody is charged otherwise
@@ -116,20 +117,20 @@ module _ {files : Files} {files_made : ℕ} (f : Live) (limits : Limits) (charge
             let pair : ◌≡◌ {A = ℕ × Pipe} (d.pipe.slot, at_end.pipe) (d.pipe.slot, r) = cc in
             ap (λ (x : ℕ × Pipe). x.1) pair
 
-        end_is : (ready s pid >>= (λ q. end_of s q fd)) ≡ Ok (end_of_rows f d r)
+        end_is : (ready s pid >>= (λ q. end_of itself s q fd)) ≡ Ok (end_of_rows f d r)
         end_is = at_end.is ∙ ap (λ x. Ok (end_of_rows f d x)) same_row
 
         pub size_is : size_of_end (meaning f n.state) pid fd ≡ Ok (PAGE_SIZE * r.ring.capacity)
         size_is =
             subst (λ (v : Namespace). size_of_end (meaning f v.state) pid fd ≡ Ok (PAGE_SIZE * r.ring.capacity)) view
-            (after (λ q. end_of s q fd) (λ x. Ok (PAGE_SIZE * x.pipe.queue.capacity)) (ready s pid) (end_of_rows f d r) end_is)
+            (after (λ q. end_of itself s q fd) (λ x. Ok (PAGE_SIZE * x.pipe.queue.capacity)) (ready s pid) (end_of_rows f d r) end_is)
 
       module _ (p : Process) (is : ready_in ps pid ≡ Ok p) (r : Pipe) (handed : find pipes d.pipe.slot d.pipe.serial ≡ Some r) where
         caller_is : ready s pid ≡ Ok (process_of p)
         caller_is = readies f ps ds pipes files files_made pid p is
 
         -- what the machine says, test by test
-        abbrev tests : Bool → Bool → Result (Unit {0}) Errno → ℕ → Result Outcome Errno
+        abbrev tests : Bool → Bool → Result (Unit {0}) Errno → ℕ → Result (Outcome Segment ℕ) Errno
         tests long over may bytes =
             refuse_if long EINVAL >> (refuse_if over EPERM >> (may >> Ok (done (with_queue s d.pipe.serial (with_capacity (pages_for bytes) (queue_of f r.ring))) (PAGE_SIZE * pages_for bytes))))
 
@@ -138,7 +139,7 @@ module _ {files : Files} {files_made : ℕ} (f : Live) (limits : Limits) (charge
         sized_is bytes =
             subst (λ (v : Namespace). sized v.limits (meaning f v.state) pid fd bytes
             ≡ tests (nat_lt MAX_SIZE bytes) (not (is_privileged p.cred) && nat_lt limits.max (PAGE_SIZE * pages_for bytes)) (may_resize limits s p.cred (end_of_rows f d r).pipe (pages_for bytes)) bytes) view
-            (goes (λ q. end_of s q fd) (λ q x. refuse_if (nat_lt MAX_SIZE bytes) EINVAL >> (refuse_if (not (is_privileged q.cred) && nat_lt limits.max (PAGE_SIZE * pages_for bytes)) EPERM
+            (goes (λ q. end_of itself s q fd) (λ q x. refuse_if (nat_lt MAX_SIZE bytes) EINVAL >> (refuse_if (not (is_privileged q.cred) && nat_lt limits.max (PAGE_SIZE * pages_for bytes)) EPERM
             >> (may_resize limits s q.cred x.pipe (pages_for bytes) >> Ok (done (with_queue s x.description.pipe (with_capacity (pages_for bytes) x.pipe.queue)) (PAGE_SIZE * pages_for bytes)))))
             (ready s pid) (process_of p) (end_of_rows f d r) caller_is (end_is r handed))
 
@@ -150,7 +151,7 @@ module _ {files : Files} {files_made : ℕ} (f : Live) (limits : Limits) (charge
         -- its test of growth and shrinking is that of the counters
         pub verdict_is : (to : ℕ) → limits ≡ charges.limits → may_resize limits s p.cred (end_of_rows f d r).pipe to ≡ verdict charges (is_privileged p.cred) r to
         verdict_is to same =
-            let used : length (queue_of f r.ring).segments ≡ length r.ring.windows = length-map r.ring.windows (segment_of f) in
+            let used : length (queue_of f r.ring).segments ≡ length r.ring.segments = length-map r.ring.segments (segment_of f) in
             λ j. if nat_lt r.ring.capacity to
             then told_as EPERM (may_grow (same j) (is_privileged p.cred) (sym (charged_is {files = files} {files_made = files_made} f {limits = limits} k refl r.owner) j) (sym (total_is {files = files} {files_made = files_made} f {limits = limits} k refl) j) r.ring.capacity to)
             else refuse_if (nat_lt to (used j)) EBUSY
@@ -175,7 +176,7 @@ module _ {files : Files} {files_made : ℕ} (f : Live) (limits : Limits) (charge
           pipes' = put_at pipes d.pipe.serial (d.pipe.slot, r')
 
           abbrev ring' : Ring
-          ring' = record { capacity = to; windows = r.ring.windows }
+          ring' = record { capacity = to; segments = r.ring.segments }
 
           there : at (pipes_of pipes) d.pipe.serial ≡ Some (pipe_of (d.pipe.slot, r))
           there = shown pipe_of pipes d.pipe.serial (d.pipe.slot, r) (find_was pipes d.pipe.slot d.pipe.serial r handed)
@@ -209,7 +210,7 @@ module _ {files : Files} {files_made : ℕ} (f : Live) (limits : Limits) (charge
           grown : r.ring.capacity < to → charges.total - r.ring.capacity + to ≤ limits.reserve
           grown more =
               let asked : told_as EPERM (may_grow charges.limits (is_privileged p.cred) (charged_to charges r.owner) charges.total r.ring.capacity to) ≡ Ok tt =
-              sym (ap (λ b. if b then told_as EPERM (may_grow charges.limits (is_privileged p.cred) (charged_to charges r.owner) charges.total r.ring.capacity to) else refuse_if (nat_lt to (length r.ring.windows)) EBUSY) (lt-ltb r.ring.capacity to more)) ∙ z.may in
+              sym (ap (λ b. if b then told_as EPERM (may_grow charges.limits (is_privileged p.cred) (charged_to charges r.owner) charges.total r.ring.capacity to) else refuse_if (nat_lt to (length r.ring.segments)) EBUSY) (lt-ltb r.ring.capacity to more)) ∙ z.may in
               let none : nat_lt charges.limits.reserve (charges.total - r.ring.capacity + to) ≡ false = by_tests _ _ _ asked in
               omega (arith, ltb-false _ _ none, ap (λ (l : Limits). l.reserve) same)
 
@@ -227,10 +228,10 @@ module _ {files : Files} {files_made : ℕ} (f : Live) (limits : Limits) (charge
               let here : ring_at (rings_of (state_of ps ds pipes files files_made)) d.pipe.serial ≡ r.ring = ring_at-pipe (pipes_of pipes) d.pipe.serial (pipe_of (d.pipe.slot, r)) there in
               let within : d.pipe.serial < length (rings_of (state_of ps ds pipes files files_made)) = subst (λ m. d.pipe.serial < m) (sym (length-map (pipes_of pipes) ring_or)) (at_within (pipes_of pipes) d.pipe.serial (pipe_of (d.pipe.slot, r)) there) in
               let joined : Joined f (set (rings_of (state_of ps ds pipes files files_made)) d.pipe.serial ring') =
-              subst (λ (x : Ring). Joined f (set (rings_of (state_of ps ds pipes files files_made)) d.pipe.serial (record { capacity = to; windows = x.windows }))) here
+              subst (λ (x : Ring). Joined f (set (rings_of (state_of ps ds pipes files files_made)) d.pipe.serial (record { capacity = to; segments = x.segments }))) here
               (joined_resized f (rings_of (state_of ps ds pipes files files_made)) d.pipe.serial to within owned.joined (subst (λ (x : Ring). slots_used x ≤ to) (sym here) z.fits) (omega (arith, reserve_kept, ap slots_of here))) in
-              subst (λ (x : State Ring). Joined f (rings_of x)) (sym shows)
-              (subst (Joined f) (sym (map-set ring_or (pipes_of pipes) d.pipe.serial (option_map (holding ring') (at (pipes_of pipes) d.pipe.serial)) ∙ ap (λ (o : Option (machine.Pipe Ring)). set (rings_of (state_of ps ds pipes files files_made)) d.pipe.serial (ring_or (option_map (holding ring') o))) there)) joined)
+              subst (λ (x : State Window ℕ). Joined f (rings_of x)) (sym shows)
+              (subst (Joined f) (sym (map-set ring_or (pipes_of pipes) d.pipe.serial (option_map (holding ring') (at (pipes_of pipes) d.pipe.serial)) ∙ ap (λ (o : Option (machine.Pipe Window)). set (rings_of (state_of ps ds pipes files files_made)) d.pipe.serial (ring_or (option_map (holding ring') o))) there)) joined)
 
           pub resized-becomes : Becomes f f n (record { limits = limits; state = state_of ps ds pipes' files files_made }) (with_queue (meaning f n.state) d.pipe.serial (with_capacity to (queue_of f r.ring)))
           resized-becomes =
@@ -239,7 +240,7 @@ module _ {files : Files} {files_made : ℕ} (f : Live) (limits : Limits) (charge
                 owns = record { joined = resized-joined; reserve = owned.reserve };
                 limits = refl;
                 state = settled-meaning f (state_of ps ds pipes' files files_made) (settled ps ds pipes' files files_made tied')
-                    ∙ ap sweep (ap (meaning f) shows ∙ meaning-with_queue f f (state_of ps ds pipes files files_made) d.pipe.serial ring' (record { stay = λ q ne. refl }));
+                    ∙ ap (sweep itself) (ap (meaning f) shows ∙ meaning-with_queue f f (state_of ps ds pipes files files_made) d.pipe.serial ring' (record { stay = λ q ne. refl }));
               })
 
           pub sized_done : (bytes size : ℕ) → to ≡ pages_for bytes → size ≡ PAGE_SIZE * pages_for bytes → bytes ≤ MAX_SIZE → (not (is_privileged p.cred) && nat_lt limits.max (PAGE_SIZE * pages_for bytes)) ≡ false
@@ -268,7 +269,7 @@ module _ {files : Files} {files_made : ℕ} (f : Live) (limits : Limits) (charge
 
 -- A capacity that is asked for
 
-module _ {A B : Type 0} (now : State Queue) (h : A → Result B Errno) (k : B → ℕ) (size : ℕ) where
+module _ {A B : Type 0} (now : State Segment ℕ) (h : A → Result B Errno) (k : B → ℕ) (size : ℕ) where
   asked_end : (r : Result B Errno) → (r >>= (λ b. Ok (k b))) ≡ Ok size → (r >>= (λ b. Ok (done now (k b)))) ≡ Ok (done now size)
   asked_end (Ok b) is = let same : k b ≡ size = cc in ap (λ n. Ok (done now n)) same
   asked_end (Err e) is = absurd (cc)
@@ -277,14 +278,14 @@ module _ {A B : Type 0} (now : State Queue) (h : A → Result B Errno) (k : B �
   asked (Ok a) is = asked_end (h a) is
   asked (Err e) is = absurd (cc)
 
-pub tells_size : (f : Live) (n : Namespace) (pid fd size : ℕ) → Owns f n → n.state ≡ sweep n.state → size_of_end (meaning f n.state) pid fd ≡ Ok size
-    → Told f f n n (Ok (replies.Num size)) (ready (meaning f n.state) pid >>= (λ p. get_size (meaning f n.state) p fd))
+pub tells_size : (f : Live) (n : Namespace) (pid fd size : ℕ) → Owns f n → n.state ≡ sweep itself n.state → size_of_end (meaning f n.state) pid fd ≡ Ok size
+    → Told f f n n (Ok (replies.Num size)) (ready (meaning f n.state) pid >>= (λ p. get_size itself (meaning f n.state) p fd))
 tells_size f n pid fd size owned still is =
     let now = meaning f n.state in
     record {
       owns = owned;
       limits = refl;
       says =
-          ap told_by (asked now (λ p. end_of now p fd) (λ e. PAGE_SIZE * e.pipe.queue.capacity) size (ready now pid) is)
+          ap told_by (asked now (λ p. end_of itself now p fd) (λ e. PAGE_SIZE * e.pipe.queue.capacity) size (ready now pid) is)
           ∙ (λ j. Ok (record { state = (sym (settled-meaning f n.state still)) j; reply = replies.Num size }));
     }

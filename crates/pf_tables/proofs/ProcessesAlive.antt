@@ -1,16 +1,14 @@
 -- How many processes live, and that nothing is left where none does.
 
-use Rattle.std.proofs.Common.{◌≡◌, ℕ, suc, ◌+◌, ◌<◌, ◌≤◌, Bool, true, false, List, [], ◌∷◌, length, take, Option, Some, None, is_some, nat_lt, if◌then◌else◌, refl, sym, ap, subst, ◌∙◌, arith}
-use Rattle.pf_machine.specs.Numbered.{at, weight, sum_of, keep_from, keep}
+use Rattle.std.proofs.Common.{◌≡◌, ℕ, suc, Bool, false, List, [], ◌∷◌, length, Option, Some, None, nat_lt, if◌then◌else◌, refl, ap, ◌∙◌, arith}
+use Rattle.pf_machine.specs.Numbered.{weight, sum_of, keep_from, keep}
 use Rattle.pf_machine.proofs.NumberedLaws.{sum_of-map}
-use Rattle.pf_machine.specs.State.{State, Pipe}
+use Rattle.pf_machine.specs.State.{itself, State, Pipe}
 use Rattle.pf_machine.specs.Counts.{names, ends}
 use Rattle.pf_machine.specs.Processes.{alive}
-use Rattle.pf_machine.specs.Sweep.{live_descriptions, live_pipes, sweep}
-use Rattle.pf_frame.specs.Live.{Live, IsSound}
+use Rattle.pf_machine.specs.Sweep.{live_descriptions, sweep}
 use Rattle.pf_tables.specs.Meaning.{Namespace, occupied}
 use Rattle.pf_tables.specs.Held.{HoldsNone}
-use Rattle.pf_tables.specs.Owns.{Owns}
 use Rattle.pf_tables.specs.Rows.{Process, ProcessRows, process_of, processes_of}
 use Rattle.pf_tables.proofs.OwnsLaws.{held_occupied}
 
@@ -37,19 +35,19 @@ module _ {X : Type 0} where
   none_kept : (h : X → ℕ) (count : ℕ → ℕ) (xs : List (Option X)) → ((k : ℕ) → count k ≡ 0) → sum_of h (keep (λ n. nat_lt 0 (count n)) xs) ≡ 0
   none_kept h count xs zeros = none_kept_from h (λ n. nat_lt 0 (count n)) 0 xs (λ k. ap (λ (n : ℕ). nat_lt 0 n) (zeros k))
 
-module _ {Q : Type 0} (s : State Q) (nobody : alive s ≡ 0) where
-  unnamed : (n : ℕ) → names s.processes n ≡ 0
+module _ {X : Type 0} (s : State X ℕ) (nobody : alive s ≡ 0) where
+  unnamed : (n : ℕ) → names itself s.processes n ≡ 0
   unnamed n = none_summed _ s.processes nobody
 
-  unused : (p : ℕ) → ends (live_descriptions s.processes s.descriptions) p ≡ 0
-  unused p = none_kept _ (names s.processes) s.descriptions unnamed
+  unused : (p : ℕ) → ends itself (live_descriptions itself s.processes s.descriptions) p ≡ 0
+  unused p = none_kept _ (names itself s.processes) s.descriptions unnamed
 
   -- the sweep leaves no pipe
-  no_pipes : (h : Pipe Q → ℕ) → sum_of h (sweep s).pipes ≡ 0
-  no_pipes h = none_kept h (ends (live_descriptions s.processes s.descriptions)) s.pipes unused
+  no_pipes : (h : Pipe X → ℕ) → sum_of h (sweep itself s).pipes ≡ 0
+  no_pipes h = none_kept h (ends itself (live_descriptions itself s.processes s.descriptions)) s.pipes unused
 
 -- so a namespace that is swept has no frame
-pub holds_none : (n : Namespace) → n.state ≡ sweep n.state → alive n.state ≡ 0 → HoldsNone n
+pub holds_none : (n : Namespace) → n.state ≡ sweep itself n.state → alive n.state ≡ 0 → HoldsNone n
 holds_none n swept nobody f sound owns =
-    let slots : occupied n.state ≡ 0 = ap occupied swept ∙ no_pipes n.state nobody (λ p. length p.queue.windows) in
+    let slots : occupied n.state ≡ 0 = ap occupied swept ∙ no_pipes n.state nobody (λ p. length p.queue.segments) in
     omega (arith, slots, held_occupied f n sound owns)

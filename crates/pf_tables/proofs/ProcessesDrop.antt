@@ -1,13 +1,13 @@
 -- Exit as a loop over descriptors: what the state is on the way.
 
-use Rattle.std.proofs.Common.{◌≡◌, ℕ, ◌+◌, ◌-◌, ◌<◌, ◌≤◌, List, length, set, Option, Some, None, refl, sym, ap, ◌∙◌, inl, inr, arith, nat_le, nat_eq, length-set, if◌then◌else◌, zero, suc, [], ◌∷◌}
+use Rattle.std.proofs.Common.{◌≡◌, ℕ, ◌+◌, ◌-◌, ◌<◌, ◌≤◌, List, length, set, Option, Some, None, Ok, refl, sym, ap, ◌∙◌, inl, inr, arith, nat_le, nat_eq, length-set, if◌then◌else◌, zero, suc, [], ◌∷◌}
 use Rattle.std.specs.Option.{option_map, option_and_then}
 use Rattle.std.proofs.lemmas.Bool.{cases_eq, cases_lt, le-leb, lt-leb, leb-true, leb-false}
 use Rattle.std.proofs.lemmas.List.{length-map, set_past, set-set}
 use Rattle.pf_machine.specs.Numbered.{at, clear_at, change_at, first_free, sum_of, weight, keep, one_if}
 use Rattle.pf_machine.proofs.NumberedLaws.{at_past, at_within, at-put_same, at-put_other, same_at, length-keep, at-keep, is_kept, sum_of-set}
 use Rattle.pf_machine.specs.Machine.{call_of}
-use Rattle.pf_machine.specs.State.{State, Process}
+use Rattle.pf_machine.specs.State.{itself, State, Process}
 use Rattle.pf_machine.specs.Counts.{named_in, names_of, names}
 use Rattle.pf_machine.specs.Descriptors.{without_descriptor}
 use Rattle.pf_machine.specs.Sweep.{sweep}
@@ -18,11 +18,12 @@ use Rattle.pf_base.specs.declared.TheConstants.{MAX_DESCRIPTORS}
 use Rattle.pf_frame.specs.Live.{Live}
 use Rattle.pf_limits.specs.UserPages.{UserPages}
 use Rattle.pf_tables.specs.Meaning.{Namespace, meaning}
-use Rattle.pf_tables.specs.Rows.{ProcessRows, DescriptionRows, PipeRows, Key, process_of, state_of, Kept, Lives}
+use Rattle.pf_tables.specs.Rows as rows
+use Rattle.pf_tables.specs.Rows.{ProcessRows, DescriptionRows, PipeRows, Key, process_of, state_of, Kept, process_in}
 use Rattle.pf_tables.specs.Told.{Becomes}
 use Rattle.pf_tables.proofs.Callers.{place_of}
 use Rattle.pf_machine.specs.Calls.{Call, Opening, Moving}
-use Rattle.pf_machine.specs.Queue.{Queue}
+use Rattle.pf_machine.specs.Queue.{Segment}
 use Rattle.pf_tables.specs.Tables.{over, woken, awoken, descriptor, emptied, without_place, empty_first, without_first}
 use Rattle.pf_tables.proofs.RowsShown.{shown, set_same}
 
@@ -56,10 +57,10 @@ sum_of-falls h xs i y less =
     elim (cases_lt i (length xs)) [ inl l ↦ omega (arith, less, sum_of-set h xs i y l) | inr past ↦ omega (arith, ap (sum_of h) (set_past xs i y past)) ]
 
 -- a process that loses names keeps no more
-names-change : (f : Process → Process) (ps : List (Option Process)) (i k : ℕ) → ((p : Process) → named_in k (names_of (f p)) ≤ named_in k (names_of p)) → names (change_at f ps i) k ≤ names ps k
-names-change f ps i k fewer = sum_of-falls (λ p. named_in k (names_of p)) ps i (option_map f (at ps i)) (less (at ps i))
+names-change : (f : Process ℕ → Process ℕ) (ps : List (Option (Process ℕ))) (i k : ℕ) → ((p : Process ℕ) → named_in itself k (names_of (f p)) ≤ named_in itself k (names_of p)) → names itself (change_at f ps i) k ≤ names itself ps k
+names-change f ps i k fewer = sum_of-falls (λ p. named_in itself k (names_of p)) ps i (option_map f (at ps i)) (less (at ps i))
   where
-    less : (o : Option Process) → weight (λ p. named_in k (names_of p)) (option_map f o) ≤ weight (λ p. named_in k (names_of p)) o
+    less : (o : Option (Process ℕ)) → weight (λ p. named_in itself k (names_of p)) (option_map f o) ≤ weight (λ p. named_in itself k (names_of p)) o
     less None = omega arith
     less (Some p) = fewer p
 
@@ -74,33 +75,33 @@ change-change {X = X} f g h xs i l same =
     both None = refl
     both (Some x) = ap Some (same x)
 
-module _ {Q : Type 0} where
-  pub first_start : (s t : State Q) (i : ℕ) → t ≡ sweep s → t ≡ sweep (without_first s i 0)
-  first_start s t i e = e ∙ ap (λ ps. sweep (with_processes s ps)) (sym (set_same s.processes i _ (all (at s.processes i))))
+module _ {X : Type 0} where
+  pub first_start : (s t : State X ℕ) (i : ℕ) → t ≡ sweep itself s → t ≡ sweep itself (without_first s i 0)
+  first_start s t i e = e ∙ ap (λ ps. sweep itself (with_processes s ps)) (sym (set_same s.processes i _ (all (at s.processes i))))
     where
-      all : (o : Option Process) → option_map (empty_first 0) o ≡ o
+      all : (o : Option (Process ℕ)) → option_map (empty_first 0) o ≡ o
       all None = refl
       all (Some p) = ap (λ ds. Some (record p { descriptors = ds })) (keep_all p.descriptors)
 
-  pub first_next : (s t : State Q) (i n : ℕ) → i < length s.processes → t ≡ sweep (without_first s i n) → sweep (emptied t i n) ≡ sweep (without_first s i (n + 1))
+  pub first_next : (s t : State X ℕ) (i n : ℕ) → i < length s.processes → t ≡ sweep itself (without_first s i n) → sweep itself (emptied t i n) ≡ sweep itself (without_first s i (n + 1))
   first_next s t i n l e =
-      ap (λ u. sweep (emptied u i n)) e
-      ∙ sweep-sweep s (change_at (empty_first n) s.processes i) (change_at (without_descriptor n) (change_at (empty_first n) s.processes i) i)
+      ap (λ u. sweep itself (emptied u i n)) e
+      ∙ sweep-sweep itself s (change_at (empty_first n) s.processes i) (change_at (without_descriptor n) (change_at (empty_first n) s.processes i) i)
       (λ k. names-change (without_descriptor n) (change_at (empty_first n) s.processes i) i k (λ p. sum_of-falls (λ m. one_if (nat_eq m k)) (names_of p) (suc n) None (omega arith)))
-      ∙ ap (λ ps. sweep (with_processes s ps)) (change-change (without_descriptor n) (empty_first n) (empty_first (n + 1)) s.processes i l (λ p. ap (λ ds. record p { descriptors = ds }) (keep_more n p.descriptors)))
+      ∙ ap (λ ps. sweep itself (with_processes s ps)) (change-change (without_descriptor n) (empty_first n) (empty_first (n + 1)) s.processes i l (λ p. ap (λ ds. record p { descriptors = ds }) (keep_more n p.descriptors)))
 
-  pub first_end : (s t : State Q) (i n : ℕ) → i < length s.processes → t ≡ sweep (without_first s i n) → sweep (without_place t i) ≡ sweep (without_place s i)
+  pub first_end : (s t : State X ℕ) (i n : ℕ) → i < length s.processes → t ≡ sweep itself (without_first s i n) → sweep itself (without_place t i) ≡ sweep itself (without_place s i)
   first_end s t i n l e =
-      ap (λ u. sweep (without_place u i)) e
-      ∙ sweep-sweep s (change_at (empty_first n) s.processes i) (clear_at (change_at (empty_first n) s.processes i) i) (λ k. sum_of-falls (λ p. named_in k (names_of p)) (change_at (empty_first n) s.processes i) i None (omega arith))
-      ∙ ap (λ ps. sweep (with_processes s ps)) (set-set s.processes i (option_map (empty_first n) (at s.processes i)) None)
+      ap (λ u. sweep itself (without_place u i)) e
+      ∙ sweep-sweep itself s (change_at (empty_first n) s.processes i) (clear_at (change_at (empty_first n) s.processes i) i) (λ k. sum_of-falls (λ p. named_in itself k (names_of p)) (change_at (empty_first n) s.processes i) i None (omega arith))
+      ∙ ap (λ ps. sweep itself (with_processes s ps)) (set-set s.processes i (option_map (empty_first n) (at s.processes i)) None)
 
   -- once the loop has come past its last descriptor, the process has none
-  pub bare : (s t : State Q) (i n : ℕ) → i < length s.processes → ((p : Process) → at s.processes i ≡ Some p → length p.descriptors ≤ n) → t ≡ sweep (without_first s i n) → (fd : ℕ) → descriptor t i fd ≡ None
+  pub bare : (s t : State X ℕ) (i n : ℕ) → i < length s.processes → ((p : Process ℕ) → at s.processes i ≡ Some p → length p.descriptors ≤ n) → t ≡ sweep itself (without_first s i n) → (fd : ℕ) → descriptor t i fd ≡ None
   bare s t i n l short e fd =
-      ap (λ (u : State Q). descriptor u i fd) e ∙ ap (option_and_then (λ (p : Process). at p.descriptors fd)) (at-put_same s.processes i (option_map (empty_first n) (at s.processes i)) l) ∙ none (at s.processes i) refl
+      ap (λ (u : State X ℕ). descriptor u i fd) e ∙ ap (option_and_then (λ (p : Process ℕ). at p.descriptors fd)) (at-put_same s.processes i (option_map (empty_first n) (at s.processes i)) l) ∙ none (at s.processes i) refl
     where
-      none : (o : Option Process) → at s.processes i ≡ o → option_and_then (λ (p : Process). at p.descriptors fd) (option_map (empty_first n) o) ≡ None
+      none : (o : Option (Process ℕ)) → at s.processes i ≡ o → option_and_then (λ (p : Process ℕ). at p.descriptors fd) (option_map (empty_first n) o) ≡ None
       none None h = refl
       none (Some p) h =
           elim (cases_lt fd n) [
@@ -111,30 +112,30 @@ module _ {Q : Type 0} where
 -- The same of a namespace, from what the tables find: its process waits in no call any more
 
 module _ {files : Files} {files_made : ℕ} (f : Live) (limits : Limits) (charges : UserPages) (ps : ProcessRows) (ds : DescriptionRows) (pipes : PipeRows) (k : Kept charges ps ds pipes)
-    (n : Namespace) (view : record { limits = limits; state = state_of ps ds pipes files files_made } ≡ n) (pid : ℕ) (who : Lives ps pid) where
-  abbrev base : State Queue
+    (n : Namespace) (view : record { limits = limits; state = state_of ps ds pipes files files_made } ≡ n) (pid : ℕ) {who : rows.Process} (lives : process_in ps pid ≡ Ok who) where
+  abbrev base : State Segment ℕ
   base = awoken (meaning f n.state) pid
 
-  stands : at n.state.processes (pid - 1) ≡ Some (process_of who.p)
-  stands = ap (λ (m : Namespace). at m.state.processes (pid - 1)) (sym view) ∙ shown process_of ps (pid - 1) who.p (place_of ps pid who.p who.is)
+  stands : at n.state.processes (pid - 1) ≡ Some (process_of who)
+  stands = ap (λ (m : Namespace). at m.state.processes (pid - 1)) (sym view) ∙ shown process_of ps (pid - 1) who (place_of ps pid who lives)
 
   within : pid - 1 < length n.state.processes
-  within = at_within n.state.processes (pid - 1) (process_of who.p) stands
+  within = at_within n.state.processes (pid - 1) (process_of who) stands
 
   i_in : pid - 1 < length base.processes
   i_in = omega (arith, within, length-set n.state.processes (pid - 1) (option_map woken (at n.state.processes (pid - 1))))
 
   -- ending a call adds no descriptor
-  as_wide : (o : Option Call) (p : Process) → length (over o p).descriptors ≡ length p.descriptors
+  as_wide : (o : Option (Call ℕ)) (p : Process ℕ) → length (over o p).descriptors ≡ length p.descriptors
   as_wide None p = refl
   as_wide (Some (Opening m kept)) p = length-set p.descriptors (first_free p.descriptors) (Some m)
   as_wide (Some (Moving call)) p = refl
 
-  short : (q : Process) → at base.processes (pid - 1) ≡ Some q → length q.descriptors ≤ MAX_DESCRIPTORS
+  short : (q : Process ℕ) → at base.processes (pid - 1) ≡ Some q → length q.descriptors ≤ MAX_DESCRIPTORS
   short q h =
-      let here : ◌≡◌ {A = Option Process} (Some (woken (process_of who.p))) (Some q) = ap (option_map woken) (sym stands) ∙ sym (at-put_same n.state.processes (pid - 1) (option_map woken (at n.state.processes (pid - 1))) within) ∙ h in
-      let same : woken (process_of who.p) ≡ q = cc in
-      omega (arith, ap (λ (x : Process). length x.descriptors) same, as_wide (process_of who.p).parked (process_of who.p), length-map who.p.descriptors (option_map (λ (k : Key). k.serial)), k.tied.wide (pid - 1) who.p (place_of ps pid who.p who.is))
+      let here : ◌≡◌ {A = Option (Process ℕ)} (Some (woken (process_of who))) (Some q) = ap (option_map woken) (sym stands) ∙ sym (at-put_same n.state.processes (pid - 1) (option_map woken (at n.state.processes (pid - 1))) within) ∙ h in
+      let same : woken (process_of who) ≡ q = cc in
+      omega (arith, ap (λ (x : Process ℕ). length x.descriptors) same, as_wide (process_of who).parked (process_of who), length-map who.descriptors (option_map (λ (k : Key). k.serial)), k.tied.wide (pid - 1) who (place_of ps pid who lives))
 
   pub none_first : (g : Live) (m : Namespace) → Becomes f g n m base → Becomes f g n m (without_first base (pid - 1) 0)
   none_first g m b = record { owns = b.owns; limits = b.limits; state = first_start base (meaning g m.state) (pid - 1) b.state }
@@ -147,7 +148,7 @@ module _ {files : Files} {files_made : ℕ} (f : Live) (limits : Limits) (charge
     all_gone e = record {
       owns = e.owns;
       limits = e.limits ∙ b.limits;
-      state = e.state ∙ first_end base (meaning g m.state) (pid - 1) fd i_in b.state ∙ ap (λ ps. sweep (with_processes (meaning f n.state) ps)) (set-set n.state.processes (pid - 1) (option_map woken (at n.state.processes (pid - 1))) None);
+      state = e.state ∙ first_end base (meaning g m.state) (pid - 1) fd i_in b.state ∙ ap (λ ps. sweep itself (with_processes (meaning f n.state) ps)) (set-set n.state.processes (pid - 1) (option_map woken (at n.state.processes (pid - 1))) None);
     }
 
   pub all_bare : (g : Live) (m : Namespace) (fd : ℕ) → MAX_DESCRIPTORS ≤ fd → Becomes f g n m (without_first base (pid - 1) fd) → (d : ℕ) → descriptor m.state (pid - 1) d ≡ None
@@ -156,13 +157,13 @@ module _ {files : Files} {files_made : ℕ} (f : Live) (limits : Limits) (charge
   pub all_awake : (g : Live) (m : Namespace) (fd : ℕ) → Becomes f g n m (without_first base (pid - 1) fd) → call_of m.state (pid - 1 + 1) ≡ None
   all_awake g m fd b =
       let same : pid - 1 + 1 ≡ suc (pid - 1) = omega arith in
-      ap (call_of m.state) same ∙ ap (λ (u : State Queue). option_and_then (λ (p : Process). p.parked) (at u.processes (pid - 1))) b.state
-      ∙ ap (option_and_then (λ (p : Process). p.parked))
+      ap (call_of m.state) same ∙ ap (λ (u : State Segment ℕ). option_and_then (λ (p : Process ℕ). p.parked) (at u.processes (pid - 1))) b.state
+      ∙ ap (option_and_then (λ (p : Process ℕ). p.parked))
       (at-put_same base.processes (pid - 1) (option_map (empty_first fd) (at base.processes (pid - 1))) i_in
       ∙ ap (option_map (empty_first fd)) (at-put_same n.state.processes (pid - 1) (option_map woken (at n.state.processes (pid - 1))) within ∙ ap (option_map woken) stands))
-      ∙ over_none (process_of who.p).parked (process_of who.p)
+      ∙ over_none (process_of who).parked (process_of who)
     where
-      over_none : (o : Option Call) (p : Process) → (over o p).parked ≡ None
+      over_none : (o : Option (Call ℕ)) (p : Process ℕ) → (over o p).parked ≡ None
       over_none None p = refl
       over_none (Some (Opening m kept)) p = refl
       over_none (Some (Moving call)) p = refl

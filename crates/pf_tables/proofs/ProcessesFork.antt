@@ -10,7 +10,7 @@ use Rattle.pf_base.specs.Limits.{Limits}
 use Rattle.pf_machine.specs.Numbered.{at, put_at, change_at, first_free, sum_of, weight}
 use Rattle.pf_machine.proofs.NumberedLaws.{at-map, at_within, at-first_free, first_free-map}
 use Rattle.pf_machine.specs.Refusals.{◌>>=◌, ◌>>◌, refuse_if}
-use Rattle.pf_machine.specs.Queue.{Queue}
+use Rattle.pf_machine.specs.Queue.{Segment}
 use Rattle.pf_machine.specs.Processes.{fork}
 use Rattle.pf_machine.specs.State.{State, Outcome, with_process, told}
 use Rattle.pf_base.specs.declared.TheConstants.{MAX_PROCESSES, MAX_DESCRIPTORS}
@@ -146,7 +146,7 @@ as_many (suc n) ks ds = named_length (at ks n) (with_first_names n ks ds) ∙ as
 
 module _ (f : Live) {charges : UserPages} {limits : Limits} {ps : ProcessRows} {ds : DescriptionRows} {pipes : PipeRows} {files : Files} {files_made : ℕ} (kept : Kept charges ps ds pipes)
     {n : Namespace} (view : record { limits = limits; state = state_of ps ds pipes files files_made } ≡ n) (pid : ℕ) where
-  abbrev s : State Queue
+  abbrev s : State Segment ℕ
   s = meaning f n.state
 
   pub has_no_parent : (e : Errno) → ready_in ps pid ≡ Err e → forked s pid ≡ Err e
@@ -168,7 +168,7 @@ module _ (f : Live) {charges : UserPages} {limits : Limits} {ps : ProcessRows} {
 
     module _ (i : ℕ) (lowest : i ≡ first_free ps) where
       -- by the test of the lowest free pid
-      abbrev tested : State Queue → Bool → Result Outcome Errno
+      abbrev tested : State Segment ℕ → Bool → Result (Outcome Segment ℕ) Errno
       tested z full = refuse_if full EAGAIN >> Ok (told (with_process z (i + 1) (process_of p)) (Pid (i + 1)))
 
       forked_is : forked s pid ≡ tested s (nat_le MAX_PROCESSES i)

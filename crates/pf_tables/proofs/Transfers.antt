@@ -4,14 +4,15 @@ use Rattle.std.proofs.Common.{◌≡◌, ℕ, ◌+◌, ◌-◌, ◌<◌, ◌≤�
 use Rattle.std.specs.Option.{option_map}
 use Rattle.std.proofs.lemmas.Bool.{lt-ltb, le-ltb}
 use Rattle.std.proofs.lemmas.List.{map-set, take_all, length-drop}
+use Rattle.pf_ring.specs.declared.ring.Window.{Window}
 use Rattle.pf_machine.specs.FileMap.{Files}
 use Rattle.pf_base.specs.Limits.{Limits}
 use Rattle.pf_machine.specs.Refusals.{◌>>=◌, ◌>>◌, refuse_if}
-use Rattle.pf_machine.specs.Queue.{Queue, taken}
+use Rattle.pf_machine.specs.Queue.{Segment, taken}
 use Rattle.pf_machine.specs.Numbered.{at, put_at}
 use Rattle.pf_machine.specs.Calls.{Reading, Writing}
 use Rattle.pf_machine.specs.Progress.{Passed, moved, read_now, write_now}
-use Rattle.pf_machine.specs.State.{State, End, ready, reading_end, writing_end, with_queue, holding}
+use Rattle.pf_machine.specs.State.{itself, State, End, ready, reading_end, writing_end, with_queue, holding}
 use Rattle.pf_machine.specs.Counts.{readers, writers}
 use Rattle.pf_machine.specs.Transfers.{Tried, try_read, try_write}
 use Rattle.pf_machine.specs.Sweep.{sweep}
@@ -64,10 +65,10 @@ module _ {files : Files} {files_made : ℕ} (f : Live) (limits : Limits) (charge
     pub there : at (pipes_of pipes) d.pipe.serial ≡ Some (pipe_of (d.pipe.slot, r))
     there = shown pipe_of pipes d.pipe.serial (d.pipe.slot, r) stands
 
-    pub stands_in : Stands f r.ring.windows
+    pub stands_in : Stands f r.ring.segments
     stands_in = stands_at f (state_of ps ds pipes files files_made) d.pipe.serial (pipe_of (d.pipe.slot, r)) owned.joined there
 
-    pub credits : IsSound f → f.held + (r.ring.capacity - length r.ring.windows) ≤ f.reserved
+    pub credits : IsSound f → f.held + (r.ring.capacity - length r.ring.segments) ≤ f.reserved
     credits sound = credits_at f (state_of ps ds pipes files files_made) d.pipe.serial (pipe_of (d.pipe.slot, r)) sound owned.joined there
 
     pub same_pipes : (r' : Pipe) → r' ≡ r → put_at pipes d.pipe.serial (d.pipe.slot, r') ≡ pipes
@@ -84,7 +85,7 @@ module _ {files : Files} {files_made : ℕ} (f : Live) (limits : Limits) (charge
       abbrev pipes' : PipeRows
       pipes' = put_at pipes d.pipe.serial (d.pipe.slot, r')
 
-      fits : length r'.ring.windows ≤ r'.ring.capacity
+      fits : length r'.ring.segments ≤ r'.ring.capacity
       fits = passes.fits (subst (λ (x : Ring). slots_used x ≤ slots_of x) (ring_at-pipe (pipes_of pipes) d.pipe.serial (pipe_of (d.pipe.slot, r)) there) (owned.joined.fits d.pipe.serial))
 
       shows : state_of ps ds pipes' files files_made ≡ with_queue (state_of ps ds pipes files files_made) d.pipe.serial r'.ring
@@ -102,14 +103,14 @@ module _ {files : Files} {files_made : ℕ} (f : Live) (limits : Limits) (charge
 
       pub passed-owns : Owns g (record { limits = limits; state = state_of ps ds pipes' files files_made })
       passed-owns = record {
-        joined = subst (λ (s : State Ring). Joined g (rings_of s)) (sym shows) (joined_written f g (state_of ps ds pipes files files_made) d.pipe.serial (pipe_of (d.pipe.slot, r)) r'.ring [] (no_source (rings_of (state_of ps ds pipes files files_made))) owned.joined there passes.keeps passes.capacity fits);
+        joined = subst (λ (s : State Window ℕ). Joined g (rings_of s)) (sym shows) (joined_written f g (state_of ps ds pipes files files_made) d.pipe.serial (pipe_of (d.pipe.slot, r)) r'.ring [] (no_source (rings_of (state_of ps ds pipes files files_made))) owned.joined there passes.keeps passes.capacity fits);
         reserve = owned.reserve ∙ sym passes.keeps.reservation;
       }
 
-      pub passed-state : meaning g (state_of ps ds pipes' files files_made) ≡ sweep (with_queue (meaning f (state_of ps ds pipes files files_made)) d.pipe.serial m.queue)
+      pub passed-state : meaning g (state_of ps ds pipes' files files_made) ≡ sweep itself (with_queue (meaning f (state_of ps ds pipes files files_made)) d.pipe.serial m.queue)
       passed-state =
           settled-meaning g (state_of ps ds pipes' files files_made) (settled ps ds pipes' files files_made passed-kept.tied)
-          ∙ ap sweep
+          ∙ ap (sweep itself)
           (ap (meaning g) shows
           ∙ meaning-with_queue f g (state_of ps ds pipes files files_made) d.pipe.serial r'.ring (others_written f g (state_of ps ds pipes files files_made) d.pipe.serial (pipe_of (d.pipe.slot, r)) r'.ring [] (no_source (rings_of (state_of ps ds pipes files files_made))) owned.joined there passes.keeps)
           ∙ ap (with_queue (meaning f (state_of ps ds pipes files files_made)) d.pipe.serial) (sym (ap (λ (p : Passed). p.queue) passes.told)))
@@ -117,18 +118,18 @@ module _ {files : Files} {files_made : ℕ} (f : Live) (limits : Limits) (charge
   -- What the machine does, from what the tables find
 
   module _ (pid fd : ℕ) where
-    abbrev s : State Queue
+    abbrev s : State Segment ℕ
     s = meaning f (state_of ps ds pipes files files_made)
 
     pub no_write : (x : List ℕ) (written : ℕ) (e : Errno) → end_in (Some sides.Write) ps ds pid fd ≡ Err e → attempted (meaning f n.state) pid (Writing fd x written) ≡ Err e
     no_write x written e h =
         subst (λ (v : Namespace). attempted (meaning f v.state) pid (Writing fd x written) ≡ Err e) view
-        (bind-bind (ready s pid) (λ p. writing_end s p fd) _ ∙ ap (λ r. r >>= (λ e. refuse_if (nat_lt MAX_WRITE (length x)) EINVAL >> Ok (try_write s e x written))) (refused f (Some sides.Write) ps ds pipes files files_made k.tied pid fd e h))
+        (bind-bind (ready s pid) (λ p. writing_end itself s p fd) _ ∙ ap (λ r. r >>= (λ e. refuse_if (nat_lt MAX_WRITE (length x)) EINVAL >> Ok (try_write s e x written))) (refused f (Some sides.Write) ps ds pipes files files_made k.tied pid fd e h))
 
     pub no_read : (m : ℕ) (e : Errno) → end_in (Some sides.Read) ps ds pid fd ≡ Err e → attempted (meaning f n.state) pid (Reading fd m) ≡ Err e
     no_read m e h =
         subst (λ (v : Namespace). attempted (meaning f v.state) pid (Reading fd m) ≡ Err e) view
-        (bind-bind (ready s pid) (λ p. reading_end s p fd) _ ∙ ap (λ r. r >>= (λ e. Ok (try_read s e m))) (refused f (Some sides.Read) ps ds pipes files files_made k.tied pid fd e h))
+        (bind-bind (ready s pid) (λ p. reading_end itself s p fd) _ ∙ ap (λ r. r >>= (λ e. Ok (try_read s e m))) (refused f (Some sides.Read) ps ds pipes files files_made k.tied pid fd e h))
 
     module _ (d : Description) where
       pub pipe_there : (side : Option Side) → end_in side ps ds pid fd ≡ Ok d → IsSome (find pipes d.pipe.slot d.pipe.serial)
@@ -144,7 +145,7 @@ module _ {files : Files} {files_made : ℕ} (f : Live) (limits : Limits) (charge
           shown_ok (Err e) g = g
 
       -- how a transfer through the pipe that was found goes on
-      through : (side : Option Side) {B : Type 0} (go : End Queue → Result B Errno) (r : Pipe) → end_in side ps ds pid fd ≡ Ok d → find pipes d.pipe.slot d.pipe.serial ≡ Some r
+      through : (side : Option Side) {B : Type 0} (go : End Segment ℕ → Result B Errno) (r : Pipe) → end_in side ps ds pid fd ≡ Ok d → find pipes d.pipe.slot d.pipe.serial ≡ Some r
           → (ready s pid >>= (λ p. side_end side s p fd >>= go)) ≡ go (end_of_rows f d r)
       through side go r h handed =
           let w = found f side ps ds pipes files files_made k.tied pid fd d h in
@@ -163,7 +164,7 @@ module _ {files : Files} {files_made : ℕ} (f : Live) (limits : Limits) (charge
 
       -- what a transfer through the pipe that was found left
       module _ (r : Pipe) (handed : find pipes d.pipe.slot d.pipe.serial ≡ Some r) (g : Live) (r' : Pipe) (progress : Progress) where
-        counts : (readers s d.pipe.serial ≡ r.readers) × (writers s d.pipe.serial ≡ r.writers)
+        counts : (readers itself s d.pipe.serial ≡ r.readers) × (writers itself s d.pipe.serial ≡ r.writers)
         counts = counted f (Some sides.Read) ps ds pipes files files_made k.tied pid fd d.pipe.serial d.pipe.slot r (find_was pipes d.pipe.slot d.pipe.serial r handed)
 
         abbrev after : Namespace
@@ -172,7 +173,7 @@ module _ {files : Files} {files_made : ℕ} (f : Live) (limits : Limits) (charge
         pub wrote : (x : List ℕ) (written : ℕ) (whole : Bool) → end_in (Some sides.Write) ps ds pid fd ≡ Ok d → length x ≤ MAX_WRITE → whole ≡ nat_le (length x) PIPE_BUF
             → Passes r r' f g progress (write_now (queue_of f r.ring) r.readers whole (drop written x)) → Came g after (attempted (meaning f n.state) pid (Writing fd x written)) progress (take (moved progress) (drop written x))
         wrote x written whole h short is_whole passes =
-            let machine : Passed = write_now (queue_of f r.ring) (readers s d.pipe.serial) (nat_le (length x) PIPE_BUF) (drop written x) in
+            let machine : Passed = write_now (queue_of f r.ring) (readers itself s d.pipe.serial) (nat_le (length x) PIPE_BUF) (drop written x) in
             let same : write_now (queue_of f r.ring) r.readers whole (drop written x) ≡ machine = (λ i. write_now (queue_of f r.ring) (sym counts.0 i) (is_whole i) (drop written x)) in
             let told : machine.progress ≡ progress = ap (λ (m : Passed). m.progress) (sym same ∙ passes.told) in
             let go : Bool → Result Tried Errno = λ b. refuse_if b EINVAL >> Ok (try_write s (end_of_rows f d r) x written) in
@@ -188,7 +189,7 @@ module _ {files : Files} {files_made : ℕ} (f : Live) (limits : Limits) (charge
         pub was_read : (m : ℕ) (bytes : List ℕ) → end_in (Some sides.Read) ps ds pid fd ≡ Ok d → bytes ≡ taken (queue_of f r.ring) (moved progress)
             → Passes r r' f g progress (read_now (queue_of f r.ring) r.writers m) → Came g after (attempted (meaning f n.state) pid (Reading fd m)) progress bytes
         was_read m bytes h are passes =
-            let machine : Passed = read_now (queue_of f r.ring) (writers s d.pipe.serial) m in
+            let machine : Passed = read_now (queue_of f r.ring) (writers itself s d.pipe.serial) m in
             let same : read_now (queue_of f r.ring) r.writers m ≡ machine = ap (λ w. read_now (queue_of f r.ring) w m) (sym counts.1) in
             let told : machine.progress ≡ progress = ap (λ (p : Passed). p.progress) (sym same ∙ passes.told) in
             subst (λ (v : Namespace). Came g after (attempted (meaning f v.state) pid (Reading fd m)) progress bytes) view

@@ -5,15 +5,16 @@ use Rattle.std.specs.Option.{option_map}
 use Rattle.std.specs.List.{sum_by}
 use Rattle.std.proofs.lemmas.Bool.{eq-eqb, ne_eqb}
 use Rattle.std.proofs.lemmas.List.{map-set, set-set, get_or-set_other}
+use Rattle.pf_ring.specs.declared.ring.Window.{Window}
 use Rattle.pf_machine.specs.FileMap.{Files}
 use Rattle.pf_base.specs.Limits.{Limits}
 use Rattle.pf_machine.specs.Refusals.{◌>>=◌, ◌>>◌, refuse_if}
-use Rattle.pf_machine.specs.Queue.{Queue}
+use Rattle.pf_machine.specs.Queue.{Segment}
 use Rattle.pf_machine.specs.Numbered.{at, put_at, clear_at, sum_of}
 use Rattle.pf_machine.specs.Calls.{Bringing}
 use Rattle.pf_machine.specs.Progress.{Crossed, cross_now}
 use Rattle.pf_machine.specs.State as machine
-use Rattle.pf_machine.specs.State.{State, End, ready, reading_end, writing_end, with_queue, holding}
+use Rattle.pf_machine.specs.State.{itself, State, End, ready, reading_end, writing_end, with_queue, holding}
 use Rattle.pf_machine.specs.Counts.{readers, writers}
 use Rattle.pf_machine.specs.Transfers.{Tried, Ends, two_ends, try_cross}
 use Rattle.pf_machine.specs.Sweep.{sweep}
@@ -94,10 +95,10 @@ module _ {files : Files} {files_made : ℕ} (f : Live) (limits : Limits) (charge
       sink_ring : ring_at (rings_of (state_of ps ds pipes files files_made)) o.pipe.serial ≡ s.ring
       sink_ring = ring_at-pipe (pipes_of pipes) o.pipe.serial (pipe_of (o.pipe.slot, s)) sink_there
 
-      pub stand_together : Stands f (r.ring.windows ++ s.ring.windows)
+      pub stand_together : Stands f (r.ring.segments ++ s.ring.segments)
       stand_together =
-          subst (λ (x : Ring). Stands f (r.ring.windows ++ x.windows)) sink_ring
-          (subst (λ (x : Ring). Stands f (x.windows ++ (ring_at (rings_of (state_of ps ds pipes files files_made)) o.pipe.serial).windows)) source_ring
+          subst (λ (x : Ring). Stands f (r.ring.segments ++ x.segments)) sink_ring
+          (subst (λ (x : Ring). Stands f (x.segments ++ (ring_at (rings_of (state_of ps ds pipes files files_made)) o.pipe.serial).segments)) source_ring
           (rings_stand f (rings_of (state_of ps ds pipes files files_made)) i.pipe.serial o.pipe.serial (λ e. differ (sym e)) own.joined))
 
       -- what was found is put back as it was, or with other windows
@@ -168,23 +169,23 @@ module _ {files : Files} {files_made : ℕ} (f : Live) (limits : Limits) (charge
           abbrev between : Live
           between = c.moves.between
 
-          source_bound : (q j : ℕ) → reach q r.ring.windows ≤ limit q (ring_at (rings_of (state_of ps ds pipes files files_made)) j).windows
-          source_bound = subst (λ (x : Ring). (q j : ℕ) → reach q x.windows ≤ limit q (ring_at (rings_of (state_of ps ds pipes files files_made)) j).windows) source_ring (source_at f (rings_of (state_of ps ds pipes files files_made)) i.pipe.serial own.joined)
+          source_bound : (q j : ℕ) → reach q r.ring.segments ≤ limit q (ring_at (rings_of (state_of ps ds pipes files files_made)) j).segments
+          source_bound = subst (λ (x : Ring). (q j : ℕ) → reach q x.segments ≤ limit q (ring_at (rings_of (state_of ps ds pipes files files_made)) j).segments) source_ring (source_at f (rings_of (state_of ps ds pipes files files_made)) i.pipe.serial own.joined)
 
-          sink_fits : length s'.ring.windows ≤ s'.ring.capacity
+          sink_fits : length s'.ring.segments ≤ s'.ring.capacity
           sink_fits = c.sink_is.fits (subst (λ (x : Ring). slots_used x ≤ slots_of x) sink_ring (own.joined.fits o.pipe.serial))
 
-          source_fits : length r'.ring.windows ≤ r'.ring.capacity
+          source_fits : length r'.ring.segments ≤ r'.ring.capacity
           source_fits = c.source_is.fits (subst (λ (x : Ring). slots_used x ≤ slots_of x) source_ring (own.joined.fits i.pipe.serial))
 
           joined_between : Joined between (rings_of (state_of ps ds mid files files_made))
           joined_between =
-              subst (λ (x : State Ring). Joined between (rings_of x)) (sym sink_written)
-              (joined_written f between (state_of ps ds pipes files files_made) o.pipe.serial (pipe_of (o.pipe.slot, s)) s'.ring r.ring.windows source_bound own.joined sink_there c.moves.copied c.sink_is.capacity sink_fits)
+              subst (λ (x : State Window ℕ). Joined between (rings_of x)) (sym sink_written)
+              (joined_written f between (state_of ps ds pipes files files_made) o.pipe.serial (pipe_of (o.pipe.slot, s)) s'.ring r.ring.segments source_bound own.joined sink_there c.moves.copied c.sink_is.capacity sink_fits)
 
           joined_in_turn : Joined g (rings_of (state_of ps ds pipes' files files_made))
           joined_in_turn =
-              subst (λ (x : State Ring). Joined g (rings_of x)) (sym source_written)
+              subst (λ (x : State Window ℕ). Joined g (rings_of x)) (sym source_written)
               (joined_written between g (state_of ps ds mid files files_made) i.pipe.serial (pipe_of (i.pipe.slot, r)) r'.ring [] (no_source (rings_of (state_of ps ds mid files files_made))) joined_between source_shown c.moves.dropped c.source_is.capacity source_fits)
 
           pub crossed-owns : Owns g (record { limits = limits; state = state_of ps ds back files files_made })
@@ -211,40 +212,40 @@ module _ {files : Files} {files_made : ℕ} (f : Live) (limits : Limits) (charge
           sink_stays =
               sym (subst (λ (x : Ring). queue_of g x ≡ queue_of between x) sink_at_mid
               (queue_stays between g (rings_of (state_of ps ds mid files files_made)) i.pipe.serial o.pipe.serial r'.ring [] joined_between
-              (subst (λ (x : Ring). Keeps [] x.windows r'.ring.windows between g) (sym source_at_mid) c.moves.dropped) (λ e. differ (sym e))))
+              (subst (λ (x : Ring). Keeps [] x.segments r'.ring.segments between g) (sym source_at_mid) c.moves.dropped) (λ e. differ (sym e))))
 
-          pub crossed-state : meaning g (state_of ps ds back files files_made) ≡ sweep (with_queue (with_queue (meaning f (state_of ps ds pipes files files_made)) o.pipe.serial m.sink) i.pipe.serial m.source)
+          pub crossed-state : meaning g (state_of ps ds back files files_made) ≡ sweep itself (with_queue (with_queue (meaning f (state_of ps ds pipes files files_made)) o.pipe.serial m.sink) i.pipe.serial m.source)
           crossed-state =
               ap (λ (rows : PipeRows). meaning g (state_of ps ds rows files files_made)) in_turn
               ∙ settled-meaning g (state_of ps ds pipes' files files_made) (settled ps ds pipes' files files_made crossed-tied)
-              ∙ ap sweep
+              ∙ ap (sweep itself)
               (ap (meaning g) source_written
               ∙ meaning-with_queue between g (state_of ps ds mid files files_made) i.pipe.serial r'.ring (others_written between g (state_of ps ds mid files files_made) i.pipe.serial (pipe_of (i.pipe.slot, r)) r'.ring [] (no_source (rings_of (state_of ps ds mid files files_made))) joined_between source_shown c.moves.dropped)
               ∙ ap (λ x. with_queue x i.pipe.serial (queue_of g r'.ring))
               (ap (meaning between) sink_written
-              ∙ meaning-with_queue f between (state_of ps ds pipes files files_made) o.pipe.serial s'.ring (others_written f between (state_of ps ds pipes files files_made) o.pipe.serial (pipe_of (o.pipe.slot, s)) s'.ring r.ring.windows source_bound own.joined sink_there c.moves.copied)
+              ∙ meaning-with_queue f between (state_of ps ds pipes files files_made) o.pipe.serial s'.ring (others_written f between (state_of ps ds pipes files files_made) o.pipe.serial (pipe_of (o.pipe.slot, s)) s'.ring r.ring.segments source_bound own.joined sink_there c.moves.copied)
               ∙ ap (with_queue (meaning f (state_of ps ds pipes files files_made)) o.pipe.serial) sink_stays)
               ∙ ap (λ (x : Crossed). with_queue (with_queue (meaning f (state_of ps ds pipes files files_made)) o.pipe.serial x.sink) i.pipe.serial x.source) (sym c.told))
 
   -- No count comes near the end of its type: all slots together are within the reservation
   pub few : (o : Description) (s : Pipe) → find pipes o.pipe.slot o.pipe.serial ≡ Some s → limits.reserve ≤ MAX_RESERVE → f.shares + s.ring.capacity < 2 ^ 32
   few o s to most =
-      let st : State Ring = state_of ps ds pipes files files_made in
+      let st : State Window ℕ = state_of ps ds pipes files files_made in
       let one : s.ring.capacity ≤ pages st = pages_at (pipes_of pipes) o.pipe.serial (pipe_of (o.pipe.slot, s)) (there f limits charges ps ds pipes k n view owns o s to) in
       let all : sum_by slots_used (rings_of st) ≡ occupied st = used-rings (pipes_of pipes) in
       omega (arith, own.joined.total, all, one, most, occupied_pages f (record { limits = limits; state = st }) own, pages_within f (record { limits = limits; state = st }) own)
     where
-      pages_at : (xs : List (Option (machine.Pipe Ring))) (j : ℕ) (p : machine.Pipe Ring) → at xs j ≡ Some p → p.queue.capacity ≤ sum_of (λ (q : machine.Pipe Ring). q.queue.capacity) xs
+      pages_at : (xs : List (Option (machine.Pipe Window))) (j : ℕ) (p : machine.Pipe Window) → at xs j ≡ Some p → p.queue.capacity ≤ sum_of (λ (q : machine.Pipe Window). q.queue.capacity) xs
       pages_at xs j p h = omega (arith, pages-without xs j p h)
 
   -- What the machine does, from what the tables find
 
   module _ (c : Crossing) (pid source sink m : ℕ) where
-    abbrev s : State Queue
+    abbrev s : State Segment ℕ
     s = meaning f (state_of ps ds pipes files files_made)
 
     -- the machine's test of two ends, and what goes on from there
-    abbrev test : End Queue → End Queue → Result Ends Errno
+    abbrev test : End Segment ℕ → End Segment ℕ → Result Ends Errno
     test i o = refuse_if (nat_eq i.description.pipe o.description.pipe) EINVAL >> Ok (record { source = i; sink = o })
 
     abbrev tries : Result Tried Errno → Type 0
@@ -257,7 +258,7 @@ module _ {files : Files} {files_made : ℕ} (f : Live) (limits : Limits) (charge
     in_view r h = subst (λ (v : Namespace). attempted (meaning f v.state) pid (Bringing c source sink m) ≡ r) view h
 
     pub no_source_end : (e : Errno) → end_in (Some sides.Read) ps ds pid source ≡ Err e → attempted (meaning f n.state) pid (Bringing c source sink m) ≡ Err e
-    no_source_end e h = in_view (Err e) (goes_on (Err e) (first_err (λ p. reading_end s p source) (λ p. writing_end s p sink) test (ready s pid) e (refused f (Some sides.Read) ps ds pipes files files_made k.tied pid source e h)))
+    no_source_end e h = in_view (Err e) (goes_on (Err e) (first_err (λ p. reading_end itself s p source) (λ p. writing_end itself s p sink) test (ready s pid) e (refused f (Some sides.Read) ps ds pipes files files_made k.tied pid source e h)))
 
     module _ (i : Description) (reads : end_in (Some sides.Read) ps ds pid source ≡ Ok i) where
       at_source : Found f (Some sides.Read) ps ds pipes files files_made pid source i
@@ -265,7 +266,7 @@ module _ {files : Files} {files_made : ℕ} (f : Live) (limits : Limits) (charge
 
       pub no_sink_end : (e : Errno) → end_in (Some sides.Write) ps ds pid sink ≡ Err e → attempted (meaning f n.state) pid (Bringing c source sink m) ≡ Err e
       no_sink_end e h =
-          in_view (Err e) (goes_on (Err e) (second_err (λ p. reading_end s p source) (λ p. writing_end s p sink) test (ready s pid) (end_of_rows f i at_source.pipe) e at_source.is (refused f (Some sides.Write) ps ds pipes files files_made k.tied pid sink e h)))
+          in_view (Err e) (goes_on (Err e) (second_err (λ p. reading_end itself s p source) (λ p. writing_end itself s p sink) test (ready s pid) (end_of_rows f i at_source.pipe) e at_source.is (refused f (Some sides.Write) ps ds pipes files files_made k.tied pid sink e h)))
 
       pub source_stands : IsSome (find pipes i.pipe.slot i.pipe.serial)
       source_stands = ap is_some (find_at pipes i.pipe.slot i.pipe.serial at_source.pipe at_source.stands)
@@ -279,7 +280,7 @@ module _ {files : Files} {files_made : ℕ} (f : Live) (limits : Limits) (charge
 
         two_found : (b : Bool) → nat_eq i.pipe.serial o.pipe.serial ≡ b → (ready s pid >>= (λ p. two_ends s p source sink)) ≡ (refuse_if b EINVAL >> Ok (record { source = end_of_rows f i at_source.pipe; sink = end_of_rows f o at_sink.pipe }))
         two_found b h =
-            both_ok (λ p. reading_end s p source) (λ p. writing_end s p sink) test (ready s pid) (end_of_rows f i at_source.pipe) (end_of_rows f o at_sink.pipe) at_source.is at_sink.is
+            both_ok (λ p. reading_end itself s p source) (λ p. writing_end itself s p sink) test (ready s pid) (end_of_rows f i at_source.pipe) (end_of_rows f o at_sink.pipe) at_source.is at_sink.is
             ∙ ap (λ x. refuse_if x EINVAL >> Ok (record { source = end_of_rows f i at_source.pipe; sink = end_of_rows f o at_sink.pipe })) h
 
         pub one_pipe : i.pipe.serial ≡ o.pipe.serial → attempted (meaning f n.state) pid (Bringing c source sink m) ≡ Err EINVAL
@@ -301,14 +302,14 @@ module _ {files : Files} {files_made : ℕ} (f : Live) (limits : Limits) (charge
               in_view _ (goes_on _ (two_found false (ne_eqb i.pipe.serial o.pipe.serial differ))
               ∙ (λ j. Ok (try_cross c s (record { source = end_of_rows f i (same_row i at_source.pipe r at_source.stands from j); sink = end_of_rows f o (same_row o at_sink.pipe t at_sink.stands to j) }) m)))
 
-          source_counts : (readers s i.pipe.serial ≡ r.readers) × (writers s i.pipe.serial ≡ r.writers)
+          source_counts : (readers itself s i.pipe.serial ≡ r.readers) × (writers itself s i.pipe.serial ≡ r.writers)
           source_counts = counted f (Some sides.Read) ps ds pipes files files_made k.tied pid source i.pipe.serial i.pipe.slot r (find_was pipes i.pipe.slot i.pipe.serial r from)
 
-          sink_counts : (readers s o.pipe.serial ≡ t.readers) × (writers s o.pipe.serial ≡ t.writers)
+          sink_counts : (readers itself s o.pipe.serial ≡ t.readers) × (writers itself s o.pipe.serial ≡ t.writers)
           sink_counts = counted f (Some sides.Write) ps ds pipes files files_made k.tied pid sink o.pipe.serial o.pipe.slot t (find_was pipes o.pipe.slot o.pipe.serial t to)
 
           abbrev result : Crossed
-          result = cross_now c (queue_of f r.ring) (queue_of f t.ring) (writers s i.pipe.serial) (readers s o.pipe.serial) m
+          result = cross_now c (queue_of f r.ring) (queue_of f t.ring) (writers itself s i.pipe.serial) (readers itself s o.pipe.serial) m
 
           same_result : cross_now c (queue_of f r.ring) (queue_of f t.ring) r.writers t.readers m ≡ result
           same_result = λ j. cross_now c (queue_of f r.ring) (queue_of f t.ring) (sym source_counts.1 j) (sym sink_counts.0 j) m

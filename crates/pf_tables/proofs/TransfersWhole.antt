@@ -5,10 +5,10 @@ use Rattle.std.proofs.lemmas.Bool.{eqb-true, eqb-false, le-ltb, le-leb, lt-leb}
 use Rattle.pf_machine.specs.FileMap.{Files}
 use Rattle.pf_base.specs.Limits.{Limits}
 use Rattle.pf_machine.specs.Refusals.{◌>>=◌, ◌>>◌, refuse_if}
-use Rattle.pf_machine.specs.Queue.{Queue, room_of}
+use Rattle.pf_machine.specs.Queue.{Segment, Queue, room_of}
 use Rattle.pf_machine.specs.Calls.{Writing}
 use Rattle.pf_machine.specs.Progress.{Passed, portion, put_some, write_now}
-use Rattle.pf_machine.specs.State.{State, Process, End, ready, end_of, writing_end}
+use Rattle.pf_machine.specs.State.{itself, State, Process, End, ready, end_of, writing_end}
 use Rattle.pf_machine.specs.Counts.{readers}
 use Rattle.pf_machine.specs.Transfers.{Tried, try_write}
 use Rattle.pf_base.specs.declared.TheConstants.{PIPE_BUF, MAX_WRITE}
@@ -76,17 +76,17 @@ module _ (q : Queue) (whole : Bool) (x : List ℕ) where
 -- What the machine does
 
 -- whether an end has O_NONBLOCK; none where there is no end
-abbrev flagged : Result (End Queue) Errno → Bool
+abbrev flagged : Result (End Segment ℕ) Errno → Bool
 flagged (Ok e) = e.description.nonblocking
 flagged (Err e) = false
 
-flag_found : (s : State Queue) (fd : ℕ) (r : Result Process Errno) → flag_of s fd r ≡ flagged (r >>= (λ p. end_of s p fd))
+flag_found : (s : State Segment ℕ) (fd : ℕ) (r : Result (Process ℕ) Errno) → flag_of s fd r ≡ flagged (r >>= (λ p. end_of itself s p fd))
 flag_found s fd (Ok p) = refl
 flag_found s fd (Err e) = refl
 
 module _ {files : Files} {files_made : ℕ} (f : Live) (limits : Limits) (charges : UserPages) (ps : ProcessRows) (ds : DescriptionRows) (pipes : PipeRows) (kept : Kept charges ps ds pipes)
     (n : Namespace) (view : record { limits = limits; state = state_of ps ds pipes files files_made } ≡ n) (pid fd : ℕ) where
-  abbrev s : State Queue
+  abbrev s : State Segment ℕ
   s = meaning f (state_of ps ds pipes files files_made)
 
   -- the flag that the tables find is the machine's
@@ -113,7 +113,7 @@ module _ {files : Files} {files_made : ℕ} (f : Live) (limits : Limits) (charge
       subst (λ (v : Namespace). Stops (attempted (meaning f v.state) pid (Writing fd x 0)) (length x)) view
       (record {
         tried = try_write s (end_of_rows f d w.pipe) x 0;
-        is = bind-bind (ready s pid) (λ p. writing_end s p fd) _ ∙ ap (λ m. m >>= (λ e. refuse_if (nat_lt MAX_WRITE (length x)) EINVAL >> Ok (try_write s e x 0))) w.is ∙ ap go (le-ltb MAX_WRITE (length x) fits);
-        short = stops (queue_of f w.pipe.ring) (nat_le (length x) PIPE_BUF) x (readers s d.pipe.serial)
+        is = bind-bind (ready s pid) (λ p. writing_end itself s p fd) _ ∙ ap (λ m. m >>= (λ e. refuse_if (nat_lt MAX_WRITE (length x)) EINVAL >> Ok (try_write s e x 0))) w.is ∙ ap go (le-ltb MAX_WRITE (length x) fits);
+        short = stops (queue_of f w.pipe.ring) (nat_le (length x) PIPE_BUF) x (readers itself s d.pipe.serial)
             (subst (λ k. 0 < k) (ap (λ (p : Pipe). p.readers) (sym same) ∙ sym counts.0) some) (subst (λ (p : Pipe). room_of (queue_of f p.ring) < length x) (sym same) short);
       })

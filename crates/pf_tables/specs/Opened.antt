@@ -4,12 +4,12 @@ use Rattle.std.specs.Prelude.{◌≡◌, ℕ, ◌+◌, ◌-◌, ◌<◌, ⊤, Bo
 use Rattle.std.specs.Map.{lookup}
 use Rattle.pf_machine.specs.Refusals.{◌>>=◌, ◌>>◌, refuse_if}
 use Rattle.pf_base.specs.Limits.{Limits}
-use Rattle.pf_machine.specs.Queue.{Queue}
+use Rattle.pf_machine.specs.Queue.{Segment}
 use Rattle.pf_machine.specs.Calls.{Opening}
 use Rattle.pf_base.specs.Capacities.{told_as}
 use Rattle.pf_machine.specs.Numbered.{put_at, change_at, first_free, one_if}
 use Rattle.pf_machine.specs.State as machine
-use Rattle.pf_machine.specs.State.{State, Outcome, ready, living}
+use Rattle.pf_machine.specs.State.{itself, State, Outcome, ready, living}
 use Rattle.pf_machine.specs.Pipes.{is_spent, capacity_for}
 use Rattle.pf_machine.specs.Attempts.{Waits, attempt, given}
 use Rattle.pf_machine.specs.Opens.{Access, openable, is_waiting, fifo_pipe, fifo_readers, open_fifo}
@@ -57,18 +57,18 @@ end_of a k = record { pipe = k; reads = a.reads; writes = a.writes; nonblocking 
 -- What the machine says of it
 
 -- the number of the FIFO at a path
-abbrev pub fifo_named : State Queue → ℕ → List ℕ → Access → Result ℕ Errno
+abbrev pub fifo_named : State Segment ℕ → ℕ → List ℕ → Access → Result ℕ Errno
 fifo_named s pid path a = do
   p ← ready s pid
   f ← openable s.files p.cred path a
   Ok f.number
 
 -- nobody reads it, and it is opened for writing alone, with O_NONBLOCK
-abbrev pub lacks_readers : State Queue → Access → ℕ → Bool
-lacks_readers s a file = a.writes && not a.reads && a.nonblock && nat_eq (fifo_readers s (fifo_pipe s file)) 0
+abbrev pub lacks_readers : State Segment ℕ → Access → ℕ → Bool
+lacks_readers s a file = a.writes && not a.reads && a.nonblock && nat_eq (fifo_readers itself s (fifo_pipe s file)) 0
 
 -- why a process may not open it, whoever has it open
-abbrev pub may_open : State Queue → ℕ → Access → ℕ → Result (Unit {0}) Errno
+abbrev pub may_open : State Segment ℕ → ℕ → Access → ℕ → Result (Unit {0}) Errno
 may_open s pid a file = do
   p ← ready s pid
   refuse_if (nat_le MAX_DESCRIPTORS (first_free p.descriptors)) EMFILE
@@ -76,17 +76,18 @@ may_open s pid a file = do
   refuse_if (is_spent s.descriptions 1) ENFILE
 
 -- how many slots its pipe gets, where it has none
-abbrev pub fifo_capacity : Limits → State Queue → ℕ → Result ℕ Errno
+abbrev pub fifo_capacity : Limits → State Segment ℕ → ℕ → Result ℕ Errno
 fifo_capacity c s pid = do
   p ← ready s pid
   refuse_if (is_spent s.pipes 1) ENFILE
   told_as ENOMEM (capacity_for c s p.cred)
 
-abbrev pub opening : Limits → State Queue → ℕ → Access → ℕ → Result Outcome Errno
-opening c s pid a file = ready s pid >>= (λ p. open_fifo c s pid p a file)
+abbrev pub opening : Limits → State Segment ℕ → ℕ → Access → ℕ → Result (Outcome Segment ℕ) Errno
+opening c s pid a file = ready s pid >>= (λ p. open_fifo itself (length s.descriptions) itself c s pid p a file)
 
 -- it was opened at a descriptor, or its process waits; or its refusal is the machine's; or memory was wanted
-abbrev pub HasOpened : Live → Namespace → Namespace → Result (Option ℕ) Fault → Result Outcome Errno → Type 0
+abbrev pub HasOpened :
+    Live → Namespace → Namespace → Result (Option ℕ) Fault → Result (Outcome Segment ℕ) Errno → Type 0
 HasOpened f old new (Ok (Some fd)) machine = Tells f old new machine (Num fd)
 HasOpened f old new (Ok None) machine = Tells f old new machine Parked
 HasOpened f old new (Err (faults.Errno e)) machine = machine ≡ Err e
@@ -130,8 +131,8 @@ pub record MakesFifo (pipes pipes' : PipeRows) (es fs : List (ℕ × Key)) (pipe
 
 -- Whether the open in which a process waits is over: the other side was opened after it parked
 
-pub record IsOver (s : State Queue) (pid : ℕ) (over : Bool) : Type 0 where
-  pub p : machine.Process
+pub record IsOver (s : State Segment ℕ) (pid : ℕ) (over : Bool) : Type 0 where
+  pub p : machine.Process ℕ
   pub n : ℕ
   pub before : ℕ
   pub lives : living s pid ≡ Ok p

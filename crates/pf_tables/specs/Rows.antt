@@ -3,6 +3,7 @@
 use Rattle.std.specs.Prelude.{◌≡◌, ℕ, zero, suc, ◌+◌, ◌-◌, ◌*◌, ◌<◌, ◌≤◌, Bool, true, not, ◌&&◌, List, [], ◌∷◌, length, map, Option, Some, None, is_some, nat_lt, nat_eq, ⊤, if◌then◌else◌, Result, Ok}
 use Rattle.std.specs.Option.{option_map, option_and_then}
 use Rattle.std.specs.Map.{lookup}
+use Rattle.pf_ring.specs.declared.ring.Window.{Window}
 use Rattle.pf_machine.specs.Refusals.{◌>>=◌, ◌>>◌, refuse_if, or_refuse}
 use Rattle.pf_machine.specs.FileMap.{Files}
 use Rattle.pf_machine.specs.Numbered.{at, put_at, clear_at, change_at, first_free, sum_of, one_if}
@@ -20,28 +21,13 @@ use Rattle.pf_fds.specs.Registry.{find}
 pub use Rattle.pf_ring.specs.Ring.{Ring}
 pub use Rattle.pf_pipe.specs.Pipe.{Opens}
 pub use Rattle.pf_pipe.specs.Pipe.{CountedPipe as Pipe}
-use Rattle.pf_base.specs.declared.cred.Cred.{Cred}
 use Rattle.pf_machine.specs.Calls as calls
 pub use Rattle.pf_parked.specs.declared.call.Call.{Call}
 use Rattle.pf_parked.specs.declared.call.Call.TheVariants.{Open, Read, Write, Cross}
-use Rattle.pf_tables.specs.declared.process_table.Process.{Process as Stored}
+pub use Rattle.pf_tables.specs.declared.process_table.Process.{Process}
 pub use Rattle.pf_tables.specs.declared.tables.Description.{Description}
 use Rattle.pf_limits.specs.UserPages.{UserPages}
 use Rattle.pf_tables.specs.Meaning.{AreCharged}
-
--- A process of the tables, with the call in which it waits
-
-pub record Process : Type 0 where
-  pub cred : Cred
-  pub descriptors : List (Option Key)
-  pub parked : Option (Call Key)
-
-abbrev pub seated : Stored → Option (Call Key) → Process
-seated p call = record { cred = p.cred; descriptors = p.descriptors; parked = call }
-
--- one that waits in no call
-abbrev pub idle : Stored → Process
-idle p = seated p None
 
 -- The rows of the tables: what stands at each number, with the place that a registry keeps it in
 abbrev pub ProcessRows : Type 0
@@ -52,21 +38,6 @@ DescriptionRows = List (Option (ℕ × Named Description))
 
 abbrev pub PipeRows : Type 0
 PipeRows = List (Option (ℕ × Pipe))
-
--- the processes that stand, each with what is parked at its place
-abbrev pub seated_rows : List (Option Stored) → List (Option (Call Key)) → ProcessRows
-seated_rows [] calls = []
-seated_rows (p ∷ ps) [] = option_map idle p ∷ seated_rows ps []
-seated_rows (p ∷ ps) (call ∷ calls) = option_map (λ q. seated q call) p ∷ seated_rows ps calls
-
--- nothing is parked where no process stands
-pub record IsSeated (ps : List (Option Stored)) (calls : List (Option (Call Key))) : Type 0 where
-  pub places : length ps ≡ MAX_PROCESSES
-  pub calls_too : length calls ≡ MAX_PROCESSES
-  pub beside : (i : ℕ) → at ps i ≡ None → at calls i ≡ None
-  -- a parked open has a descriptor to come
-  pub spare : (i : ℕ) (p : Stored) (description : Key) (kept : ℕ) → at ps i ≡ Some p → at calls i ≡ Some (Open description kept)
-      → first_free p.descriptors < MAX_DESCRIPTORS
 
 -- One row
 
@@ -87,20 +58,9 @@ awake p = do
 abbrev pub ready_in : ProcessRows → ℕ → Result Process Errno
 ready_in ps pid = process_in ps pid >>= awake
 
--- who lives, or why there is nobody
-pub record Lives (ps : ProcessRows) (pid : ℕ) : Type 0 where
-  pub p : Process
-  pub is : process_in ps pid ≡ Ok p
-
 -- the call in which the process of a pid waits
 abbrev pub call_in : ProcessRows → ℕ → Option (Call Key)
 call_in ps pid = option_and_then (λ p. p.parked) (process_at ps pid)
-
--- a process stands, and waits in no call
-pub record IsAwake (o : Option Process) : Type 0 where
-  pub p : Process
-  pub is : o ≡ Some p
-  pub awake : p.parked ≡ None
 
 -- a process whose call is over: the description that an open made gets the lowest free descriptor
 abbrev pub over : Option (Call Key) → Process → Process
@@ -113,14 +73,16 @@ woken p = over p.parked p
 
 -- a process that waits in an open has a descriptor to come
 abbrev pub IsSpare : Process → Type 0
-IsSpare p = (description : Key) (kept : ℕ) → p.parked ≡ Some (Open description kept) → first_free p.descriptors < MAX_DESCRIPTORS
+IsSpare p = (description : Key) (kept : ℕ) → p.parked ≡ Some (Open description kept)
+    → first_free p.descriptors < MAX_DESCRIPTORS
+
+-- the places of the table
+pub record IsSeated (ps : ProcessRows) : Type 0 where
+  pub places : length ps ≡ MAX_PROCESSES
+  pub spare : (i : ℕ) (p : Process) → at ps i ≡ Some p → IsSpare p
 
 abbrev pub HasSpare : ProcessRows → ℕ → Type 0
 HasSpare ps pid = (p : Process) → process_in ps pid ≡ Ok p → IsSpare p
-
--- which descriptor that is
-abbrev pub HasLowest : ProcessRows → ℕ → ℕ → Type 0
-HasLowest ps pid fd = (p : Process) → process_in ps pid ≡ Ok p → fd ≡ first_free p.descriptors
 
 -- an open may wait where it has a descriptor to come
 abbrev pub MayWait : Call Key → Option Process → Type 0
@@ -189,20 +151,20 @@ gone d p = if is_used (with_fewer d p) then None else Some (with_fewer d p)
 -- All rows
 
 -- the lone machine's call, which knows a description by its number
-abbrev pub call_of : Call Key → calls.Call
+abbrev pub call_of : Call Key → calls.Call ℕ
 call_of (Open description kept) = calls.Opening description.serial kept
 call_of (Read fd n) = calls.Moving (calls.Reading fd n)
 call_of (Write fd write) = calls.Moving (calls.Writing fd write.bytes write.written)
 call_of (Cross crossing source sink n) = calls.Moving (calls.Bringing crossing source sink n)
 
-abbrev pub process_of : Process → machine.Process
+abbrev pub process_of : Process → machine.Process ℕ
 process_of p = record {
   cred = p.cred;
   descriptors = map (option_map (λ k. k.serial)) p.descriptors;
   parked = option_map call_of p.parked;
 }
 
-abbrev pub description_of : ℕ × Named Description → machine.Description
+abbrev pub description_of : ℕ × Named Description → machine.Description ℕ
 description_of e = record {
   pipe = e.1.value.pipe.serial;
   reads = e.1.value.reads;
@@ -210,7 +172,7 @@ description_of e = record {
   nonblocking = e.1.value.nonblocking;
 }
 
-abbrev pub pipe_with : Ring → ℕ → Opens → machine.Pipe Ring
+abbrev pub pipe_with : Ring → ℕ → Opens → machine.Pipe Window
 pipe_with ring owner opens = record {
   queue = ring;
   owner = owner;
@@ -219,22 +181,22 @@ pipe_with ring owner opens = record {
   write_opens = opens.write;
 }
 
-abbrev pub pipe_shown : Pipe → machine.Pipe Ring
+abbrev pub pipe_shown : Pipe → machine.Pipe Window
 pipe_shown p = pipe_with p.ring p.owner p.opens
 
-abbrev pub pipe_of : ℕ × Pipe → machine.Pipe Ring
+abbrev pub pipe_of : ℕ × Pipe → machine.Pipe Window
 pipe_of e = pipe_shown e.1
 
-abbrev pub processes_of : ProcessRows → List (Option machine.Process)
+abbrev pub processes_of : ProcessRows → List (Option (machine.Process ℕ))
 processes_of ps = map (option_map process_of) ps
 
-abbrev pub descriptions_of : DescriptionRows → List (Option machine.Description)
+abbrev pub descriptions_of : DescriptionRows → List (Option (machine.Description ℕ))
 descriptions_of ds = map (option_map description_of) ds
 
-abbrev pub pipes_of : PipeRows → List (Option (machine.Pipe Ring))
+abbrev pub pipes_of : PipeRows → List (Option (machine.Pipe Window))
 pipes_of ps = map (option_map pipe_of) ps
 
-abbrev pub state_of : ProcessRows → DescriptionRows → PipeRows → Files → ℕ → State Ring
+abbrev pub state_of : ProcessRows → DescriptionRows → PipeRows → Files → ℕ → State Window ℕ
 state_of ps ds pipes files files_made = record {
   processes = processes_of ps;
   descriptions = descriptions_of ds;

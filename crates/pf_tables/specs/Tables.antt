@@ -1,14 +1,14 @@
 -- What the calls of the tables do, in terms of the lone machine's state.
 
-use Rattle.std.specs.Prelude.{◌≡◌, ℕ, ◌*◌, ◌<◌, ◌≤◌, ⊤, ◌||◌, length, nat_lt, if◌then◌else◌, Bool, true, false, List, Option, Some, None, Result, Ok, Err, nat_le, nat_eq}
+use Rattle.std.specs.Prelude.{◌≡◌, ℕ, ◌+◌, ◌*◌, ◌<◌, ◌≤◌, ⊤, ◌||◌, length, nat_lt, if◌then◌else◌, Bool, true, false, List, Option, Some, None, Result, Ok, Err, nat_le, nat_eq}
 use Rattle.std.specs.Map.{lookup}
 use Rattle.std.specs.Option.{option_and_then}
 use Rattle.pf_machine.specs.Refusals.{◌>>=◌, refuse_if, or_refuse}
 use Rattle.pf_machine.specs.FileMap.{Files}
-use Rattle.pf_machine.specs.Queue.{Queue, empty}
+use Rattle.pf_machine.specs.Queue.{Segment, Slots, empty}
 use Rattle.pf_machine.specs.Numbered.{at, clear_at, change_at, first_free, keep}
 use Rattle.pf_machine.specs.Calls.{Call, Opening, Moving}
-use Rattle.pf_machine.specs.State.{State, Process, Pipe, Outcome, living, ready, end_of, told, with_process, change_process, without_process, with_descriptor, waiting}
+use Rattle.pf_machine.specs.State.{itself, State, Process, Pipe, Outcome, living, ready, end_of, told, with_process, change_process, without_process, with_descriptor, waiting}
 use Rattle.pf_machine.specs.Processes.{fork}
 use Rattle.pf_machine.specs.Descriptors.{named, dup, without_descriptor, with_flag}
 use Rattle.pf_machine.specs.Sweep.{sweep}
@@ -28,7 +28,7 @@ use Rattle.pf_base.specs.declared.step.Reply.{Reply}
 use Rattle.pf_base.specs.declared.step.Reply.TheVariants.{Num, Pid}
 use Rattle.pf_limits.specs.UserPages.{UserPages, charged_to}
 use Rattle.pf_frame.specs.Live.{Live}
-use Rattle.pf_ring.specs.Ring.{Ring}
+use Rattle.pf_ring.specs.declared.ring.Window.{Window}
 use Rattle.pf_tables.specs.Meaning.{Namespace, meaning}
 use Rattle.pf_tables.specs.Rows as rows
 use Rattle.pf_tables.specs.Rows.{ProcessRows, DescriptionRows, PipeRows, state_of, Tied}
@@ -36,158 +36,158 @@ use Rattle.pf_tables.specs.Recharging.{Recharges}
 use Rattle.pf_tables.specs.Told.{Becomes}
 
 -- a process without its first n descriptors
-abbrev pub empty_first : ℕ → Process → Process
+abbrev pub empty_first : ℕ → Process ℕ → Process ℕ
 empty_first n p = record p { descriptors = keep (λ fd. nat_le n fd) p.descriptors }
 
-module _ {Q : Type 0} where
+module _ {X : Type 0} where
   -- the description's number at a descriptor of the process in place i
-  abbrev pub descriptor : State Q → ℕ → ℕ → Option ℕ
+  abbrev pub descriptor : State X ℕ → ℕ → ℕ → Option ℕ
   descriptor s i fd = option_and_then (λ p. at p.descriptors fd) (at s.processes i)
 
   -- the process in place i has no descriptor fd
-  abbrev pub emptied : State Q → ℕ → ℕ → State Q
+  abbrev pub emptied : State X ℕ → ℕ → ℕ → State X ℕ
   emptied s i fd = record s { processes = change_at (without_descriptor fd) s.processes i }
 
   -- no process is in place i
-  abbrev pub without_place : State Q → ℕ → State Q
+  abbrev pub without_place : State X ℕ → ℕ → State X ℕ
   without_place s i = record s { processes = clear_at s.processes i }
 
   -- the process in place i has none of its first n descriptors
-  abbrev pub without_first : State Q → ℕ → ℕ → State Q
+  abbrev pub without_first : State X ℕ → ℕ → ℕ → State X ℕ
   without_first s i n = record s { processes = change_at (empty_first n) s.processes i }
 
 -- a process whose call is over: the description that an open made gets the lowest free descriptor
-abbrev pub over : Option Call → Process → Process
+abbrev pub over : Option (Call ℕ) → Process ℕ → Process ℕ
 over (Some (Opening n kept)) p = waiting None (with_descriptor (first_free p.descriptors) n p)
 over _ p = waiting None p
 
-abbrev pub woken : Process → Process
+abbrev pub woken : Process ℕ → Process ℕ
 woken p = over p.parked p
 
-abbrev pub awoken : {Q : Type 0} → State Q → ℕ → State Q
+abbrev pub awoken : {X : Type 0} → State X ℕ → ℕ → State X ℕ
 awoken s pid = change_process woken s pid
 
 -- the lowest free descriptor of a process
-abbrev pub HasLowest : State Queue → ℕ → ℕ → Type 0
-HasLowest s pid fd = (p : Process) → living s pid ≡ Ok p → fd ≡ first_free p.descriptors
+abbrev pub HasLowest : State Segment ℕ → ℕ → ℕ → Type 0
+HasLowest s pid fd = (p : Process ℕ) → living s pid ≡ Ok p → fd ≡ first_free p.descriptors
 
 -- whether the call in which a process waits is an open; or why it waits in none
-abbrev pub is_open : Call → Bool
+abbrev pub is_open : Call ℕ → Bool
 is_open (Opening n kept) = true
 is_open (Moving call) = false
 
-abbrev pub waits_in_open : State Queue → ℕ → Result Bool Errno
+abbrev pub waits_in_open : State Segment ℕ → ℕ → Result Bool Errno
 waits_in_open s pid = do
   p ← living s pid
   call ← or_refuse EINVAL p.parked
   Ok (is_open call)
 
 -- a process that waits in no call loses a descriptor; one that lives goes
-abbrev pub closed : State Queue → ℕ → ℕ → Result (State Queue) Errno
+abbrev pub closed : State Segment ℕ → ℕ → ℕ → Result (State Segment ℕ) Errno
 closed s pid fd = do
   p ← ready s pid
   n ← named p fd
   Ok (with_process s pid (without_descriptor fd p))
 
-abbrev pub exited : State Queue → ℕ → Result (State Queue) Errno
+abbrev pub exited : State Segment ℕ → ℕ → Result (State Segment ℕ) Errno
 exited s pid = do
   p ← living s pid
   Ok (without_process s pid)
 
 -- such a process gets a child
-abbrev pub forked : State Queue → ℕ → Result Outcome Errno
+abbrev pub forked : State Segment ℕ → ℕ → Result (Outcome Segment ℕ) Errno
 forked s pid = ready s pid >>= (λ p. fork s p)
 
 -- its lowest free descriptor names what another one names
-abbrev pub duped : State Queue → ℕ → ℕ → Result Outcome Errno
+abbrev pub duped : State Segment ℕ → ℕ → ℕ → Result (Outcome Segment ℕ) Errno
 duped s pid fd = ready s pid >>= (λ p. dup s pid p fd)
 
 -- the description that its descriptor names gets O_NONBLOCK, or loses it
-abbrev pub flagged : State Queue → ℕ → ℕ → Bool → Result (State Queue) Errno
+abbrev pub flagged : State Segment ℕ → ℕ → ℕ → Bool → Result (State Segment ℕ) Errno
 flagged s pid fd on = do
   p ← ready s pid
   n ← named p fd
   Ok (with_flag s n on)
 
 -- a process lives and waits in no call, and these are its two lowest free descriptors
-pub record HasTwo (s : State Queue) (pid : ℕ) (free : ℕ × ℕ) : Type 0 where
-  pub p : Process
+pub record HasTwo (s : State Segment ℕ) (pid : ℕ) (free : ℕ × ℕ) : Type 0 where
+  pub p : Process ℕ
   pub lives : ready s pid ≡ Ok p
   pub first : free.0 ≡ first_descriptor p
   pub second : free.1 ≡ second_descriptor p
   pub within : free.1 < MAX_DESCRIPTORS
 
 -- or this is why it has not two
-abbrev pub FindsTwo : State Queue → ℕ → Result (ℕ × ℕ) Errno → Type 0
+abbrev pub FindsTwo : State Segment ℕ → ℕ → Result (ℕ × ℕ) Errno → Type 0
 FindsTwo s pid (Ok free) = HasTwo s pid free
 FindsTwo s pid (Err e) = (ready s pid >>= (λ p. refuse_if (nat_le MAX_DESCRIPTORS (second_descriptor p)) EMFILE)) ≡ Err e
 
 -- with two more descriptions, or one more pipe, more than 2 ^ 64 - 1 would have been drawn
-abbrev pub is_spent_for_pipe : {Q : Type 0} → State Q → Bool
+abbrev pub is_spent_for_pipe : {X : Type 0} → State X ℕ → Bool
 is_spent_for_pipe s = is_spent s.descriptions 2 || is_spent s.pipes 1
 
 -- how many slots a new pipe of the process of a pid gets, or why it gets none
-abbrev pub capacity_of_caller : Limits → State Queue → ℕ → Result ℕ Errno
+abbrev pub capacity_of_caller : Limits → State Segment ℕ → ℕ → Result ℕ Errno
 capacity_of_caller c s pid = do
   p ← ready s pid
   told_as ENFILE (capacity_for c s p.cred)
 
 -- the capacity in bytes of the pipe that a process's descriptor names
-abbrev pub size_of_end : State Queue → ℕ → ℕ → Result ℕ Errno
+abbrev pub size_of_end : State Segment ℕ → ℕ → ℕ → Result ℕ Errno
 size_of_end s pid fd = do
   p ← ready s pid
-  e ← end_of s p fd
+  e ← end_of itself s p fd
   Ok (PAGE_SIZE * e.pipe.queue.capacity)
 
 -- a call that gives it another one
-abbrev pub sized : Limits → State Queue → ℕ → ℕ → ℕ → Result Outcome Errno
-sized c s pid fd bytes = ready s pid >>= (λ p. set_size c s p fd bytes)
+abbrev pub sized : Limits → State Segment ℕ → ℕ → ℕ → ℕ → Result (Outcome Segment ℕ) Errno
+sized c s pid fd bytes = ready s pid >>= (λ p. set_size itself c s p fd bytes)
 
 -- it was made, and this is told
-pub record Tells (f : Live) (old new : Namespace) (machine : Result Outcome Errno) (reply : Reply) : Type 0 where
-  pub state : State Queue
+pub record Tells (f : Live) (old new : Namespace) (machine : Result (Outcome Segment ℕ) Errno) (reply : Reply) : Type 0 where
+  pub state : State Segment ℕ
   pub is : machine ≡ Ok (told state reply)
   pub becomes : Becomes f f old new state
 
 -- or its refusal is the machine's
-abbrev pub HasDuped : Live → Namespace → Namespace → Result ℕ Errno → Result Outcome Errno → Type 0
+abbrev pub HasDuped : Live → Namespace → Namespace → Result ℕ Errno → Result (Outcome Segment ℕ) Errno → Type 0
 HasDuped f old new (Ok to) machine = Tells f old new machine (Num to)
 HasDuped f old new (Err e) machine = machine ≡ Err e
 
 -- or memory was wanted
-abbrev pub HasResized : Live → Namespace → Namespace → Result ℕ Fault → Result Outcome Errno → Type 0
+abbrev pub HasResized : Live → Namespace → Namespace → Result ℕ Fault → Result (Outcome Segment ℕ) Errno → Type 0
 HasResized f old new (Ok size) machine = Tells f old new machine (Num size)
 HasResized f old new (Err (faults.Errno e)) machine = machine ≡ Err e
 HasResized f old new (Err faults.NoMemory) machine = ⊤
 
-abbrev pub HasForked : Live → Namespace → Namespace → Result ℕ Fault → Result Outcome Errno → Type 0
+abbrev pub HasForked : Live → Namespace → Namespace → Result ℕ Fault → Result (Outcome Segment ℕ) Errno → Type 0
 HasForked f old new (Ok pid) machine = Tells f old new machine (Pid pid)
 HasForked f old new (Err (faults.Errno e)) machine = machine ≡ Err e
 HasForked f old new (Err faults.NoMemory) machine = ⊤
 
 -- a call on files that is told nothing but that it was made; or its refusal is the machine's; or memory was wanted
-abbrev pub HasFiled : Live → Namespace → Namespace → Result (Unit {0}) Fault → Result Outcome Errno → Type 0
+abbrev pub HasFiled : Live → Namespace → Namespace → Result (Unit {0}) Fault → Result (Outcome Segment ℕ) Errno → Type 0
 HasFiled f old new (Ok made) machine = Tells f old new machine (Num 0)
 HasFiled f old new (Err (faults.Errno e)) machine = machine ≡ Err e
 HasFiled f old new (Err faults.NoMemory) machine = ⊤
 
-abbrev pub making : Kind → State Queue → ℕ → List ℕ → ℕ → Result Outcome Errno
+abbrev pub making : Kind → State Segment ℕ → ℕ → List ℕ → ℕ → Result (Outcome Segment ℕ) Errno
 making kind s pid path bits = ready s pid >>= (λ p. make kind s p path bits)
 
-abbrev pub unlinking : State Queue → ℕ → List ℕ → Result Outcome Errno
+abbrev pub unlinking : State Segment ℕ → ℕ → List ℕ → Result (Outcome Segment ℕ) Errno
 unlinking s pid path = ready s pid >>= (λ p. unlink s p path)
 
-abbrev pub removing : State Queue → ℕ → List ℕ → Result Outcome Errno
+abbrev pub removing : State Segment ℕ → ℕ → List ℕ → Result (Outcome Segment ℕ) Errno
 removing s pid path = ready s pid >>= (λ p. rmdir s p path)
 
-abbrev pub remoding : State Queue → ℕ → List ℕ → ℕ → Result Outcome Errno
+abbrev pub remoding : State Segment ℕ → ℕ → List ℕ → ℕ → Result (Outcome Segment ℕ) Errno
 remoding s pid path bits = ready s pid >>= (λ p. chmod s p path bits)
 
 -- what is known of a file, and the names in a directory, as a process is told them
-abbrev pub known : State Queue → ℕ → List ℕ → Result Meta Errno
+abbrev pub known : State Segment ℕ → ℕ → List ℕ → Result Meta Errno
 known s pid path = ready s pid >>= (λ p. calls.stat s.files p.cred path)
 
-abbrev pub names_in : State Queue → ℕ → List ℕ → Result (List ℕ) Errno
+abbrev pub names_in : State Segment ℕ → ℕ → List ℕ → Result (List ℕ) Errno
 names_in s pid path = ready s pid >>= (λ p. calls.list s.files p.cred path)
 
 -- whether a pipe of an owner with so many pages may have so many slots
@@ -195,13 +195,13 @@ abbrev pub verdict : UserPages → Bool → rows.Pipe → ℕ → Result (Unit {
 verdict u privileged p to =
     if nat_lt p.ring.capacity to
     then told_as EPERM (may_grow u.limits privileged (charged_to u p.owner) u.total p.ring.capacity to)
-    else refuse_if (nat_lt to (length p.ring.windows)) EBUSY
+    else refuse_if (nat_lt to (length p.ring.segments)) EBUSY
 
 -- a pipe has so many slots, and its owner is charged with them; or it has not, and nobody is charged otherwise
 pub record Resizes (u v : UserPages) (p q : rows.Pipe) (privileged : Bool) (to : ℕ) : Type 0 where
   pub may : verdict u privileged p to ≡ Ok tt
-  pub pipe : q ≡ record p { ring = record { capacity = to; windows = p.ring.windows } }
-  pub fits : length p.ring.windows ≤ to
+  pub pipe : q ≡ record p { ring = record { capacity = to; segments = p.ring.segments } }
+  pub fits : length p.ring.segments ≤ to
   pub charges : Recharges u v p.owner p.ring.capacity to
 
 pub record Refuses (u v : UserPages) (p q : rows.Pipe) : Type 0 where
@@ -213,20 +213,24 @@ Resizing u v p q privileged to (Ok done) = Resizes u v p q privileged to
 Resizing u v p q privileged to (Err (faults.Errno e)) = (verdict u privileged p to ≡ Err e) × Refuses u v p q
 Resizing u v p q privileged to (Err faults.NoMemory) = Refuses u v p q
 
+-- one more pipe, under the next numbers
+abbrev pub opened_next : {X : Type 0} → State X ℕ → ℕ → Bool → Slots X → Process ℕ → State X ℕ
+opened_next s = opened (length s.descriptions) (length s.descriptions + 1) (length s.pipes) s
+
 -- one more pipe, of so many slots, owned by a process that has its two ends
 pub record Opens (f : Live) (old new : Namespace) (pid : ℕ) (nonblocking : Bool) (slots : ℕ) : Type 0 where
-  pub p : Process
+  pub p : Process ℕ
   pub lives : ready (meaning f old.state) pid ≡ Ok p
-  pub becomes : Becomes f f old new (opened (meaning f old.state) pid nonblocking (empty slots) p)
+  pub becomes : Becomes f f old new (opened_next (meaning f old.state) pid nonblocking (empty slots) p)
 
 -- the rows that are left are tied, and show the state without a descriptor and without what nobody can reach any more
 pub record Left (ps : ProcessRows) (ds : DescriptionRows) (pipes : PipeRows) (ps' : ProcessRows) (ds' : DescriptionRows) (pipes' : PipeRows) (i fd : ℕ) : Type 0 where
   pub tied : Tied ps' ds' pipes'
   pub state : (files : Files) (files_made : ℕ)
-      → state_of ps' ds' pipes' files files_made ≡ sweep (emptied (state_of ps ds pipes files files_made) i fd)
+      → state_of ps' ds' pipes' files files_made ≡ sweep itself (emptied (state_of ps ds pipes files files_made) i fd)
 
 -- which pipe went, if one did
-abbrev pub LetsGo : List (Option (Pipe Ring)) → List (Option (Pipe Ring)) → Option rows.Pipe → Type 0
+abbrev pub LetsGo : List (Option (Pipe Window)) → List (Option (Pipe Window)) → Option rows.Pipe → Type 0
 LetsGo old new None = new ≡ old
 LetsGo old new (Some pipe) = (n : ℕ) × (at old n ≡ Some (rows.pipe_shown pipe)) × (new ≡ clear_at old n)
 

@@ -2,10 +2,10 @@
 
 use Rattle.std.specs.Prelude.{◌≡◌, ℕ, ◌<◌, ◌⊎◌, Bool, false, List, length, Option, Some, None, take, ⊤, Result, Ok, Err}
 use Rattle.pf_machine.specs.Refusals.{◌>>=◌}
-use Rattle.pf_machine.specs.Queue.{Queue}
+use Rattle.pf_machine.specs.Queue.{Segment}
 use Rattle.pf_machine.specs.Progress.{moved}
 use Rattle.pf_machine.specs.Calls.{Transfer, Call, Moving}
-use Rattle.pf_machine.specs.State.{State, Process, Outcome, told, ready, change_process, waiting}
+use Rattle.pf_machine.specs.State.{itself, State, Process, Outcome, told, ready, change_process, waiting}
 use Rattle.pf_machine.specs.Transfers.{Tried, tried}
 use Rattle.pf_machine.specs.Attempts.{attempt, first, is_nonblocking, transfer}
 use Rattle.pf_machine.specs.Machine.{swept}
@@ -27,10 +27,10 @@ use Rattle.pf_tables.specs.Owns.{Owns}
 -- Changes
 
 -- the live frames are the namespace's own again, and its state is this one, without what nobody can reach any more
-pub record Becomes (f g : Live) (old new : Namespace) (s : State Queue) : Type 0 where
+pub record Becomes (f g : Live) (old new : Namespace) (s : State Segment ℕ) : Type 0 where
   pub owns : Owns g new
   pub limits : new.limits ≡ old.limits
-  pub state : meaning g new.state ≡ sweep s
+  pub state : meaning g new.state ≡ sweep itself s
 
 -- the state is as it was
 pub record Stays (f g : Live) (old new : Namespace) : Type 0 where
@@ -39,30 +39,30 @@ pub record Stays (f g : Live) (old new : Namespace) : Type 0 where
   pub state : meaning g new.state ≡ meaning f old.state
 
 -- a change is the machine's, or its refusal is, and then the state is as it was
-abbrev pub Leaves : {X : Type 0} → Live → Live → Namespace → Namespace → Result X Errno → Result (State Queue) Errno → Type 0
-Leaves f g old new (Ok x) machine = (s : State Queue) × (machine ≡ Ok s) × Becomes f g old new s
+abbrev pub Leaves : {X : Type 0} → Live → Live → Namespace → Namespace → Result X Errno → Result (State Segment ℕ) Errno → Type 0
+Leaves f g old new (Ok x) machine = (s : State Segment ℕ) × (machine ≡ Ok s) × Becomes f g old new s
 Leaves f g old new (Err e) machine = (machine ≡ Err e) × Stays f g old new
 
 -- Transfers
 
 -- a transfer that a process tries
-abbrev pub attempted : State Queue → ℕ → Transfer → Result Tried Errno
+abbrev pub attempted : State Segment ℕ → ℕ → Transfer → Result Tried Errno
 attempted s pid call = ready s pid >>= (λ p. tried s p call)
 
 -- a call that tries it, where this says whether it is nonblocking
-abbrev pub tried_call : State Queue → ℕ → Bool → Transfer → Result Outcome Errno
+abbrev pub tried_call : State Segment ℕ → ℕ → Bool → Transfer → Result (Outcome Segment ℕ) Errno
 tried_call s pid nonblock call = ready s pid >>= (λ p. attempt s pid p (Moving call) >>= first pid nonblock)
 
 -- whether the description at a descriptor of a process has O_NONBLOCK
-abbrev pub flag_of : State Queue → ℕ → Result Process Errno → Bool
+abbrev pub flag_of : State Segment ℕ → ℕ → Result (Process ℕ) Errno → Bool
 flag_of s fd (Ok p) = is_nonblocking s p fd
 flag_of s fd (Err e) = false
 
-abbrev pub is_nonblocking_at : State Queue → ℕ → ℕ → Bool
+abbrev pub is_nonblocking_at : State Segment ℕ → ℕ → ℕ → Bool
 is_nonblocking_at s pid fd = flag_of s fd (ready s pid)
 
 -- and its call whole, where this is the step's own flag
-abbrev pub transferred : State Queue → ℕ → Bool → Transfer → Result Outcome Errno
+abbrev pub transferred : State Segment ℕ → ℕ → Bool → Transfer → Result (Outcome Segment ℕ) Errno
 transferred s pid flag call = ready s pid >>= (λ p. transfer s pid p flag call)
 
 -- it came so far, moved these bytes, and left this state, without what nobody can reach any more
@@ -71,14 +71,14 @@ pub record Came (g : Live) (new : Namespace) (machine : Result Tried Errno) (pro
   pub is : machine ≡ Ok tried
   pub progress_is : tried.progress ≡ progress
   pub bytes_are : tried.bytes ≡ bytes
-  pub state : meaning g new.state ≡ sweep tried.state
+  pub state : meaning g new.state ≡ sweep itself tried.state
 
 -- the same where the bytes stay in the pipes
 pub record Arrived (g : Live) (new : Namespace) (machine : Result Tried Errno) (progress : Progress) : Type 0 where
   pub tried : Tried
   pub is : machine ≡ Ok tried
   pub progress_is : tried.progress ≡ progress
-  pub state : meaning g new.state ≡ sweep tried.state
+  pub state : meaning g new.state ≡ sweep itself tried.state
 
 -- a transfer came as far as the machine's, or its refusal is the machine's
 abbrev pub Wrote : Live → Namespace → List ℕ → Result Progress Errno → Result Tried Errno → Type 0
@@ -124,30 +124,30 @@ write_ended NoReader = Err (faults.Errno EPIPE)
 -- Waiting
 
 -- a process waits in a call, or in none, and nothing else has changed
-abbrev pub waits_in : Option Call → Namespace → ℕ → Namespace
+abbrev pub waits_in : Option (Call ℕ) → Namespace → ℕ → Namespace
 waits_in call n pid = record n { state = change_process (waiting call) n.state pid }
 
 -- Steps
 
-abbrev pub settled : Result Outcome Errno → Result Outcome Errno
+abbrev pub settled : Result (Outcome Segment ℕ) Errno → Result (Outcome Segment ℕ) Errno
 settled (Ok o) = Ok (swept o)
 settled (Err e) = Err e
 
 -- the reply and the state after are the machine's; or the refusal is, and the state is as it was; or memory was wanted,
 -- and nothing has changed
-abbrev pub Says : Live → Live → Namespace → Namespace → Result Reply Fault → Result Outcome Errno → Type 0
+abbrev pub Says : Live → Live → Namespace → Namespace → Result Reply Fault → Result (Outcome Segment ℕ) Errno → Type 0
 Says f g old new (Ok reply) machine = settled machine ≡ Ok (record { state = meaning g new.state; reply = reply })
 Says f g old new (Err (faults.Errno e)) machine = (machine ≡ Err e) × (meaning g new.state ≡ meaning f old.state)
 Says f g old new (Err faults.NoMemory) machine = (new ≡ old) × (g ≡ f)
 
-pub record Told (f g : Live) (old new : Namespace) (result : Result Reply Fault) (machine : Result Outcome Errno) : Type 0 where
+pub record Told (f g : Live) (old new : Namespace) (result : Result Reply Fault) (machine : Result (Outcome Segment ℕ) Errno) : Type 0 where
   pub owns : Owns g new
   pub limits : new.limits ≡ old.limits
   pub says : Says f g old new result machine
 
 -- the machine's call leaves its process waiting
-pub record Parks (machine : Result Outcome Errno) : Type 0 where
-  pub state : State Queue
+pub record Parks (machine : Result (Outcome Segment ℕ) Errno) : Type 0 where
+  pub state : State Segment ℕ
   pub is : machine ≡ Ok (told state Parked)
 
 -- the answer to a call that was resumed: a refusal ends it too, and is its reply

@@ -145,7 +145,7 @@ fn writing_end(
 
 impl<A: Allocator> Tables<A> {
     ghost use Rattle.std.specs.Prelude.{◌≡◌, IfOk};
-    ghost use Rattle.pf_machine.specs.State.{opening};
+    ghost use Rattle.pf_machine.specs.State.{itself, opening};
     ghost use Rattle.pf_machine.specs.Sweep.{sweep};
 
     /// Nothing in them but the root directory.
@@ -166,7 +166,7 @@ impl<A: Allocator> Tables<A> {
 
     /// What nobody can reach is gone already.
     pub fn settled(&self)
-        ensures { self.now.state ≡ sweep self.now.state }
+        ensures { self.now.state ≡ sweep itself self.now.state }
     {
         // Whoever looks at a field knows the invariant.
         let _ = &self.pages;

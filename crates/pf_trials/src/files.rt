@@ -6,9 +6,9 @@ ghost use Rattle.pf_tables.specs.Owns.{Owns};
 
 use crate::scripts::{has_text, script_of};
 use bumpalo::Bump;
-use pf_base::{Answer, Config, Step};
+use pf_base::{Answer, Config, EventAnswer, Step};
 use pf_frame::OwnFrames;
-use pf_script::Script;
+use pf_script::{Line, Script};
 use pf_space::Space;
 use std::alloc::{AllocError, Allocator, Global};
 use std::process::Abort;
@@ -69,8 +69,10 @@ fn seen<A: Allocator + Clone>(
     ensures owns { Owns (own_live frames.new) space.new }
 {
     let mut answers = Vec::new(alloc);
-    for (_, step) in probes.steps() {
-        answers.push(space.step(frames, step))?;
+    for (_, line) in probes.steps() {
+        if let Line::Step(step) = line {
+            answers.push(space.step(frames, step))?;
+        }
     }
     Ok(answers)
 }
@@ -125,10 +127,12 @@ fn play_steps<A: Allocator + Clone>(
 {
     let mut answers = Vec::new(alloc);
     let mut refusals: u32 = 0;
-    for (_, step) in script.steps() {
-        let (answer, is_refused) = answered(rt, alloc, arena, probes, space, frames, step)?;
-        answers.push(answer)?;
-        refusals = refusals.saturating_add(u32::from(is_refused));
+    for (_, line) in script.steps() {
+        if let Line::Step(step) = line {
+            let (answer, is_refused) = answered(rt, alloc, arena, probes, space, frames, step)?;
+            answers.push(EventAnswer::Answer(answer))?;
+            refusals = refusals.saturating_add(u32::from(is_refused));
+        }
     }
     assert!(rt; has_text(alloc, script, &answers, TEXT));
     Ok(refusals)

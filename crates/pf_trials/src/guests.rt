@@ -91,7 +91,7 @@ fn writes(alloc: Global, count: usize) -> Result<Vec<Row>, AllocError> {
         payload,
     };
     let rows = vec![in alloc;
-        (spawn(alloc), done(Reply::Pid(1))),
+        (spawn(), done(Reply::Pid(1))),
         (pipe, done(Reply::Fds(0, 1))),
         (write, done(Reply::Num(count as u64))),
     ]?;
@@ -130,16 +130,16 @@ fn exits() -> [Row; 1] {
 fn comings(alloc: Global) -> Result<Vec<Event<Global>>, Fail> {
     let (one, two, sixteen) = (reserving(1)?, reserving(2)?, reserving(16)?);
     let events = vec![in alloc;
-        Event::Step(0, spawn(alloc)),
+        Event::Step(0, spawn()),
         Event::Admit(two, alloc),
         Event::Admit(one, alloc),
         Event::Step(0, Step::Exit { pid: 1 }),
         Event::Retire(0),
         Event::Admit(sixteen, alloc),
-        Event::Step(1, spawn(alloc)),
+        Event::Step(1, spawn()),
         Event::Retire(1),
-        Event::Step(0, spawn(alloc)),
-        Event::Step(3, spawn(alloc)),
+        Event::Step(0, spawn()),
+        Event::Step(3, spawn()),
     ]?;
     Ok(events)
 }
@@ -208,7 +208,7 @@ fn admits(alloc: Global, hub: &mut Hub<Global>, limits: Config) -> bool {
 fn faults_of_those_who_come_and_go_are_told_in_order(rt: HostRuntime) -> Result<(), Fail> {
     let alloc = rt.alloc();
     let fork = (Step::Fork { pid: 1 }, done(Reply::Pid(2)));
-    let two_live = vec![in alloc; (spawn(alloc), done(Reply::Pid(1))), fork]?;
+    let two_live = vec![in alloc; (spawn(), done(Reply::Pid(1))), fork]?;
     let (none, one) = (reserving(0)?, reserving(1)?);
     let (two, three) = (reserving(2)?, reserving(3)?);
     let mut hub = opened(alloc, 3, 1, one)?;

@@ -1,10 +1,10 @@
 //! How a hub is opened, and how it runs events.
 
 use crate::scripts::{has_text, script_of, spawn};
-use pf_base::Config;
+use pf_base::{Config, EventAnswer, Step};
 use pf_frame::{Frame, PoolFault};
 use pf_hub::{Hub, RunFault};
-use pf_script::Script;
+use pf_script::{Line, Script};
 use std::alloc::{AllocError, Global};
 use std::test::Fail;
 
@@ -71,11 +71,14 @@ fn plays(
     text: &str,
 ) -> Result<bool, AllocError> {
     let mut answers = Vec::new(alloc);
-    for (ns, step) in script.steps() {
+    for (ns, line) in script.steps() {
+        let Line::Step(step) = line else {
+            return Ok(false);
+        };
         if !hub.lives(*ns) {
             return Ok(false);
         }
-        answers.push(hub.step(*ns, step))?;
+        answers.push(EventAnswer::Answer(hub.step(*ns, step)))?;
         if held(hub) != (0, 0, 32) {
             return Ok(false);
         }
@@ -83,12 +86,42 @@ fn plays(
     Ok(has_text(alloc, script, &answers, text))
 }
 
-// Runs a script's steps, and says whether it has this text.
-fn runs(alloc: Global, hub: &mut Hub<Global>, script: &Script, text: &str) -> bool {
-    match hub.run(script.steps()) {
-        Ok(answers) => has_text(alloc, script, &answers, text),
-        Err(_) => false,
+// Copies of a script's steps.
+fn steps_of(alloc: Global, script: &Script) -> Result<Vec<(u32, Step)>, AllocError> {
+    let mut steps = Vec::new(alloc);
+    for (ns, line) in script.steps() {
+        if let Line::Step(step) = line {
+            steps.push((*ns, step.copy(alloc)?))?;
+        }
     }
+    Ok(steps)
+}
+
+// What a hub tells of these steps as it runs them, or nothing where it stops.
+fn told(
+    alloc: Global,
+    hub: &mut Hub<Global>,
+    steps: &[(u32, Step)],
+) -> Result<Vec<EventAnswer>, AllocError> {
+    let mut told = Vec::new(alloc);
+    if let Ok(answers) = hub.run(steps) {
+        for answer in answers {
+            told.push(EventAnswer::Answer(answer))?;
+        }
+    }
+    Ok(told)
+}
+
+// Runs a script's steps, and says whether it has this text.
+fn runs(
+    alloc: Global,
+    hub: &mut Hub<Global>,
+    script: &Script,
+    text: &str,
+) -> Result<bool, AllocError> {
+    let steps = steps_of(alloc, script)?;
+    let answers = told(alloc, hub, &steps)?;
+    Ok(has_text(alloc, script, &answers, text))
 }
 
 // How many frames, which reservations, and why there is no hub of both.
@@ -136,14 +169,14 @@ const RUN_TEXT: &str = "== red
 fn runs_answer_in_order(rt: HostRuntime) -> Result<(), Fail> {
     let script = script_of(rt.alloc(), RUN)?;
     let mut hub = open(rt.alloc(), frames(rt.alloc(), 32)?, &[16, 16])?;
-    assert!(rt; runs(rt.alloc(), &mut hub, &script, RUN_TEXT));
+    assert!(rt; runs(rt.alloc(), &mut hub, &script, RUN_TEXT) == Ok(true));
     assert!(rt; held(&hub) == (1, 0, 31));
     Ok(())
 }
 
 // Which of two events names no namespace, where the second one does.
 fn stray(alloc: Global, hub: &mut Hub<Global>) -> Result<Option<usize>, AllocError> {
-    let events = vec![in alloc; (RED, spawn(alloc)), (2, spawn(alloc))]?;
+    let events = vec![in alloc; (RED, spawn()), (2, spawn())]?;
     match hub.run(&events) {
         Err(RunFault::NoSuchNamespace { at }) => Ok(Some(at)),
         _ => Ok(None),

@@ -67,7 +67,7 @@ fn first_otherwise(
     hub: &mut Hub<Global>,
     plain: &mut Plain<Global>,
 ) -> Result<Option<(usize, u8)>, Fail> {
-    if !is_answered(hub, plain, &spawn(alloc), &Answer::Done(Reply::Pid(1))) {
+    if !is_answered(hub, plain, &spawn(), &Answer::Done(Reply::Pid(1))) {
         return Ok(Some((0, 0)));
     }
     for (count, byte, error) in PATHS {

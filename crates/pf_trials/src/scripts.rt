@@ -1,6 +1,6 @@
 //! Steps as the lines of a script, and their answers as its text.
 
-use pf_base::{Answer, Groups, Step};
+use pf_base::{EventAnswer, Groups, Step};
 use pf_script::{Collected, MemoryBytes, Script, print, read_script};
 use std::alloc::Global;
 use std::test::Fail;
@@ -11,8 +11,13 @@ pub(crate) fn script_of(alloc: Global, lines: &str) -> Result<Script, Fail> {
     Ok(read_script(alloc, &mut reader)?)
 }
 
-// Whether a script's steps have these answers, printed.
-pub(crate) fn has_text(alloc: Global, script: &Script, answers: &[Answer], text: &str) -> bool {
+// Whether a script's lines have these answers, printed.
+pub(crate) fn has_text(
+    alloc: Global,
+    script: &Script,
+    answers: &[EventAnswer],
+    text: &str,
+) -> bool {
     let mut writer = Collected::new(alloc);
     script.steps().len() == answers.len()
         && print(&mut writer, script, answers, None).is_ok()
@@ -20,11 +25,11 @@ pub(crate) fn has_text(alloc: Global, script: &Script, answers: &[Answer], text:
 }
 
 // What makes the first process.
-pub(crate) fn spawn(alloc: Global) -> Step {
+pub(crate) fn spawn() -> Step {
     Step::Spawn {
         uid: 5,
         gid: 5,
-        groups: Groups::new(Vec::new(alloc)),
         umask: 0o022,
+        groups: Groups::none(),
     }
 }

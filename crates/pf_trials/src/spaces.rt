@@ -6,9 +6,9 @@ ghost use Rattle.pf_frame.specs.Own.{own_live};
 ghost use Rattle.pf_tables.specs.Owns.{Owns};
 
 use crate::scripts::{has_text, script_of};
-use pf_base::{Answer, BYTES_IN_PLACE, ByteString, Config, Reply, Step};
+use pf_base::{Answer, BYTES_IN_PLACE, ByteString, Config, EventAnswer, Reply, Step};
 use pf_frame::{Frame, Frames, OwnFrames};
-use pf_script::Script;
+use pf_script::{Line, Script};
 use pf_space::{Space, laws};
 use std::alloc::{AllocError, Global};
 use std::process::Abort;
@@ -181,8 +181,11 @@ fn play_steps(
 {
     let all = frames.credits();
     let mut answers = Vec::new(alloc);
-    for ((_, step), held) in script.steps().iter().zip(example.held) {
-        answers.push(answered(rt, alloc, space, frames, step))?;
+    for ((_, line), held) in script.steps().iter().zip(example.held) {
+        if let Line::Step(step) = line {
+            let answer = answered(rt, alloc, space, frames, step);
+            answers.push(EventAnswer::Answer(answer))?;
+        }
         assert!(rt; frames.credits() == all.saturating_sub(*held));
     }
     assert!(rt; has_text(alloc, script, &answers, example.text));

@@ -33,7 +33,7 @@ verb_is_word c cs inner = record { some = omega arith; inner = inner }
 
 are_words : (step : Step) → HasWords step → AllByRecursion IsWord (spell step)
 unfolding spell HasWords
-are_words (Spawn uid gid groups umask) h = (
+are_words (Spawn uid gid umask groups) h = (
   verb_is_word _ _ refl,
   (small_is_word uid h.0, (small_is_word gid h.1, (mode_is_word umask, groups_are_words groups h.2))),
 )
@@ -78,8 +78,8 @@ are_words (Open pid path flags) h =
 
 is_read : (step : Step) → HasWords step → step_words (spell step) ≡ Ok step
 unfolding spell HasWords step_words call_of crossing_call process_call file_call spawn_of spawn_with pipe_of pipe_with nonblock_of nonblock_with write_of write_with open_of open_with pid_of descriptor_of descriptor_with sized_of sized_with crossing_of crossing_with named_of named_with moded_of moded_with
-is_read (Spawn uid gid [] umask) h = rw (u32_again uid h.0, u32_again gid h.1, octal_again umask h.3) refl
-is_read (Spawn uid gid (group ∷ groups) umask) h =
+is_read (Spawn uid gid umask []) h = rw (u32_again uid h.0, u32_again gid h.1, octal_again umask h.3) refl
+is_read (Spawn uid gid umask (group ∷ groups)) h =
     rw (u32_again uid h.0, u32_again gid h.1, octal_again umask h.3, groups_again group groups h.2) refl
 is_read (Fork pid) h = rw (u32_again pid h) refl
 is_read (Exit pid) h = rw (u32_again pid h) refl

@@ -53,7 +53,7 @@ bytes_word (b ∷ bs) = encode_lower (b ∷ bs)
 
 -- a verb, and the words behind it
 unfoldable pub spell : Step → List (List ℕ)
-spell (Spawn uid gid groups umask) = codes "spawn" ∷ decimal uid ∷ decimal gid ∷ octal_word umask ∷ groups_words groups
+spell (Spawn uid gid umask groups) = codes "spawn" ∷ decimal uid ∷ decimal gid ∷ octal_word umask ∷ groups_words groups
 spell (Fork pid) = codes "fork" ∷ decimal pid ∷ []
 spell (Exit pid) = codes "exit" ∷ decimal pid ∷ []
 spell (Resume pid) = codes "resume" ∷ decimal pid ∷ []
@@ -107,7 +107,7 @@ IsAccess flags = (flags.0 < 8) × (0 < flags.0 % 4)
 
 -- the fields are in the ranges of the grammar's words
 unfoldable pub HasWords : Step → Type 0
-HasWords (Spawn uid gid groups umask) = Is32 uid × Is32 gid × AllByRecursion Is32 groups × IsMode umask
+HasWords (Spawn uid gid umask groups) = Is32 uid × Is32 gid × AllByRecursion Is32 groups × IsMode umask
 HasWords (Fork pid) = Is32 pid
 HasWords (Exit pid) = Is32 pid
 HasWords (Resume pid) = Is32 pid

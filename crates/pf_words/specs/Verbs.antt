@@ -18,7 +18,7 @@ spawn_with uid gid umask groups = do
   g ← u32_at gid
   m ← octal_at umask
   gs ← groups_at groups
-  Ok (Spawn u g gs m)
+  Ok (Spawn u g m gs)
 
 -- spawn UID GID UMASK [GROUP,GROUP,..]
 unfoldable pub spawn_of : List (List ℕ) → Result Step Cause

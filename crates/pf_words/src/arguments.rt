@@ -1,7 +1,8 @@
-ghost use Rattle.std.specs.Prelude.{◌≡◌, map, option_copied};
+ghost use Rattle.std.specs.Prelude.{◌≡◌, ◌≢◌, map, option_copied, Err};
 ghost use Rattle.pf_words.specs.Arguments as shapes;
 ghost use Rattle.pf_words.specs.Arguments.{number_at, u32_at, u64_at, octal_at, groups_at, flag_at, switch_at, flags_at};
 ghost use Rattle.pf_words.specs.Faults.{Gives};
+ghost use Rattle.pf_words.specs.declared.fault.LineFault.TheVariants as faults;
 
 use crate::cause::Cause;
 use crate::fault::LineFault;
@@ -12,7 +13,8 @@ use std::alloc::Global;
 
 /// A number of 32 bits, at most `most`.
 pub fn small_number(most: u32, word: &[u8]) -> Result<u32, LineFault>
-    ensures { Gives result (number_at most word.now) }
+    ensures read { Gives result (number_at most word.now) }
+    ensures none { result ≢ Err faults.NoMemory }
 {
     match number_of(u64::from(most), word) {
         Some(n) => Ok(n as u32),
@@ -22,14 +24,16 @@ pub fn small_number(most: u32, word: &[u8]) -> Result<u32, LineFault>
 
 /// A number of 32 bits.
 pub fn number_32(word: &[u8]) -> Result<u32, LineFault>
-    ensures { Gives result (u32_at word.now) }
+    ensures read { Gives result (u32_at word.now) }
+    ensures none { result ≢ Err faults.NoMemory }
 {
     small_number(0xffff_ffff, word)
 }
 
 /// A number of 64 bits.
 pub fn number_64(word: &[u8]) -> Result<u64, LineFault>
-    ensures { Gives result (u64_at word.now) }
+    ensures read { Gives result (u64_at word.now) }
+    ensures none { result ≢ Err faults.NoMemory }
 {
     match number_of(u64::MAX, word) {
         Some(n) => Ok(n),
@@ -39,7 +43,8 @@ pub fn number_64(word: &[u8]) -> Result<u64, LineFault>
 
 /// A mode or a umask.
 pub fn bits(word: &[u8]) -> Result<u32, LineFault>
-    ensures { Gives result (octal_at word.now) }
+    ensures read { Gives result (octal_at word.now) }
+    ensures none { result ≢ Err faults.NoMemory }
 {
     match octal_of(word) {
         Some(n) => Ok(n as u32),
@@ -52,14 +57,15 @@ pub fn groups(alloc: Global, word: Option<&[u8]>) -> Result<Groups, LineFault>
     ensures { Gives result (groups_at (option_copied word.entry)) }
 {
     match word {
-        None => Ok(Groups::new(Vec::new(alloc))),
+        None => Ok(Groups::none()),
         Some(word) => groups_of(alloc, word),
     }
 }
 
 /// Whether the last word, `n`, is there.
 pub fn flag(word: Option<&[u8]>) -> Result<bool, LineFault>
-    ensures { Gives result (flag_at (option_copied word.entry)) }
+    ensures read { Gives result (flag_at (option_copied word.entry)) }
+    ensures none { result ≢ Err faults.NoMemory }
 {
     match word {
         None => Ok(false),
@@ -75,7 +81,8 @@ pub fn flag(word: Option<&[u8]>) -> Result<bool, LineFault>
 
 /// `on` or `off`.
 pub fn switch(word: &[u8]) -> Result<bool, LineFault>
-    ensures { Gives result (switch_at word.now) }
+    ensures read { Gives result (switch_at word.now) }
+    ensures none { result ≢ Err faults.NoMemory }
 {
     if word == b"on".as_slice() {
         Ok(true)
@@ -88,7 +95,8 @@ pub fn switch(word: &[u8]) -> Result<bool, LineFault>
 
 /// How a FIFO is opened: `r`, `w` or `rw`, and `n` behind these for O_NONBLOCK.
 pub fn open_flags(word: &[u8]) -> Result<OpenFlags, LineFault>
-    ensures { Gives result (flags_at word.now) }
+    ensures read { Gives result (flags_at word.now) }
+    ensures none { result ≢ Err faults.NoMemory }
 {
     if word == b"r".as_slice() {
         Ok(OpenFlags::READ)
@@ -161,7 +169,8 @@ pub struct Moded {
 /// PID.
 #[tactic(auto, unfolding(crate::specs::Arguments::pid_of))]
 pub fn pid_of(words: &[&[u8]]) -> Result<u32, LineFault>
-    ensures { Gives result (shapes.pid_of (map (λ w. w.now) words.now)) }
+    ensures read { Gives result (shapes.pid_of (map (λ w. w.now) words.now)) }
+    ensures none { result ≢ Err faults.NoMemory }
 {
     match words {
         [pid] => number_32(pid),
@@ -171,7 +180,8 @@ pub fn pid_of(words: &[&[u8]]) -> Result<u32, LineFault>
 
 #[tactic(auto, unfolding(crate::specs::Arguments::descriptor_with))]
 fn descriptor_with(pid: &[u8], fd: &[u8]) -> Result<Descriptor, LineFault>
-    ensures { Gives result (shapes.descriptor_with pid.now fd.now) }
+    ensures read { Gives result (shapes.descriptor_with pid.now fd.now) }
+    ensures none { result ≢ Err faults.NoMemory }
 {
     let pid = number_32(pid)?;
     let fd = number_32(fd)?;
@@ -181,7 +191,8 @@ fn descriptor_with(pid: &[u8], fd: &[u8]) -> Result<Descriptor, LineFault>
 /// PID FD.
 #[tactic(auto, unfolding(crate::specs::Arguments::descriptor_of))]
 pub fn descriptor_of(words: &[&[u8]]) -> Result<Descriptor, LineFault>
-    ensures { Gives result (shapes.descriptor_of (map (λ w. w.now) words.now)) }
+    ensures read { Gives result (shapes.descriptor_of (map (λ w. w.now) words.now)) }
+    ensures none { result ≢ Err faults.NoMemory }
 {
     match words {
         [pid, fd] => descriptor_with(pid, fd),
@@ -191,7 +202,8 @@ pub fn descriptor_of(words: &[&[u8]]) -> Result<Descriptor, LineFault>
 
 #[tactic(auto, unfolding(crate::specs::Arguments::sized_with))]
 fn sized_with(pid: &[u8], fd: &[u8], len: &[u8]) -> Result<Sized, LineFault>
-    ensures { Gives result (shapes.sized_with pid.now fd.now len.now) }
+    ensures read { Gives result (shapes.sized_with pid.now fd.now len.now) }
+    ensures none { result ≢ Err faults.NoMemory }
 {
     let pid = number_32(pid)?;
     let fd = number_32(fd)?;
@@ -202,7 +214,8 @@ fn sized_with(pid: &[u8], fd: &[u8], len: &[u8]) -> Result<Sized, LineFault>
 /// PID FD LEN.
 #[tactic(auto, unfolding(crate::specs::Arguments::sized_of))]
 pub fn sized_of(words: &[&[u8]]) -> Result<Sized, LineFault>
-    ensures { Gives result (shapes.sized_of (map (λ w. w.now) words.now)) }
+    ensures read { Gives result (shapes.sized_of (map (λ w. w.now) words.now)) }
+    ensures none { result ≢ Err faults.NoMemory }
 {
     match words {
         [pid, fd, len] => sized_with(pid, fd, len),
@@ -218,8 +231,9 @@ fn crossing_with(
     len: &[u8],
     flag_word: Option<&[u8]>,
 ) -> Result<Crossing, LineFault>
-    ensures { Gives result
+    ensures read { Gives result
         (shapes.crossing_with pid.now source.now sink.now len.now (option_copied flag_word.entry)) }
+    ensures none { result ≢ Err faults.NoMemory }
 {
     let pid = number_32(pid)?;
     let source = number_32(source)?;
@@ -238,7 +252,8 @@ fn crossing_with(
 /// PID IN OUT LEN [n].
 #[tactic(auto, unfolding(crate::specs::Arguments::crossing_of))]
 pub fn crossing_of(words: &[&[u8]]) -> Result<Crossing, LineFault>
-    ensures { Gives result (shapes.crossing_of (map (λ w. w.now) words.now)) }
+    ensures read { Gives result (shapes.crossing_of (map (λ w. w.now) words.now)) }
+    ensures none { result ≢ Err faults.NoMemory }
 {
     match words {
         [pid, source, sink, len] => crossing_with(pid, source, sink, len, None),

@@ -31,8 +31,8 @@ fn spawn_with(
     Ok(Step::Spawn {
         uid,
         gid,
-        groups,
         umask,
+        groups,
     })
 }
 

@@ -100,7 +100,7 @@ pub fn groups_of(alloc: Global, word: &[u8]) -> Result<Groups, LineFault>
         return Err(LineFault::Refused(Cause::BadNumber));
     };
     numbers.push(number as u32)?;
-    Ok(Groups::new(numbers))
+    Ok(Groups::new(alloc, numbers)?)
 }
 
 /// A decimal number from 1 to `most`, without leading zeros.

@@ -10,12 +10,12 @@ pub(crate) struct Row {
     pub(crate) told: Reply,
 }
 
-fn spawn(alloc: Global) -> Row {
+fn spawn() -> Row {
     let step = Step::Spawn {
         uid: 5,
         gid: 5,
-        groups: Groups::new(Vec::new(alloc)),
         umask: 18,
+        groups: Groups::none(),
     };
     Row {
         step,
@@ -63,7 +63,7 @@ pub(crate) fn fills_and_exits(alloc: Global) -> Result<[Row; 6], AllocError> {
     let first = write(alloc, 1, 0x61, 65_536)?;
     let second = write(alloc, 3, 0x61, 65_536)?;
     Ok([
-        spawn(alloc),
+        spawn(),
         pipe(Reply::Fds(0, 1)),
         first,
         pipe(Reply::Fds(2, 3)),
@@ -84,28 +84,21 @@ pub(crate) fn works(alloc: Global) -> Result<[Row; 6], AllocError> {
     };
     let write = write(alloc, 1, 0x7A, 1)?;
     let read = read(alloc, 100, 0x7A, 1)?;
-    Ok([
-        spawn(alloc),
-        file,
-        pipe(Reply::Fds(0, 1)),
-        write,
-        read,
-        exit(),
-    ])
+    Ok([spawn(), file, pipe(Reply::Fds(0, 1)), write, read, exit()])
 }
 
 /// Another writes a byte 7a, and asks for a hundred.
 pub(crate) fn asks_for_more(alloc: Global) -> Result<[Row; 4], AllocError> {
     let write = write(alloc, 1, 0x7A, 1)?;
     let read = read(alloc, 100, 0x7A, 1)?;
-    Ok([spawn(alloc), pipe(Reply::Fds(0, 1)), write, read])
+    Ok([spawn(), pipe(Reply::Fds(0, 1)), write, read])
 }
 
 /// A process fills its pipe, all pages of its namespace, and is refused another pipe.
 pub(crate) fn fills_and_stays(alloc: Global) -> Result<[Row; 4], AllocError> {
     let write = write(alloc, 1, 0x61, 65_536)?;
     let refused = pipe(Reply::Err(Errno::ENFILE));
-    Ok([spawn(alloc), pipe(Reply::Fds(0, 1)), write, refused])
+    Ok([spawn(), pipe(Reply::Fds(0, 1)), write, refused])
 }
 
 /// Another, of a namespace with one page, fills it.
@@ -116,5 +109,5 @@ pub(crate) fn has_one_page(alloc: Global) -> Result<[Row; 5], AllocError> {
     };
     let write = write(alloc, 1, 0x62, 4096)?;
     let read = read(alloc, 2, 0x62, 2)?;
-    Ok([spawn(alloc), pipe(Reply::Fds(0, 1)), size, write, read])
+    Ok([spawn(), pipe(Reply::Fds(0, 1)), size, write, read])
 }

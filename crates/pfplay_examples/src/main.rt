@@ -6,13 +6,14 @@ use std::alloc::Global;
 use std::{fs, io};
 
 /// The names of the examples.
-const EXAMPLES: [&str; 6] = [
+const EXAMPLES: [&str; 7] = [
     "pipeline_with_tee",
     "fifo_between_users",
     "permissions",
     "full_pipe",
     "page_limits",
     "two_tenants",
+    "come_and_go",
 ];
 
 /// Whether a script prints this text.

@@ -18,6 +18,9 @@ pub(crate) enum Flaw {
     /// A script has a step of a namespace that isn't there.
     #[error("a step of no namespace")]
     NoNamespace,
+    /// A line of a script is no step.
+    #[error("a line that is no step")]
+    NoStep,
     /// A step that is played again on another hub, by its place from 0, is answered otherwise there.
     #[error("step {0} is answered otherwise on another hub")]
     Otherwise(usize),

@@ -1,8 +1,8 @@
 use crate::flaw::Flaw;
-use pf_base::{Answer, Step};
+use pf_base::EventAnswer;
 use pf_hub::Hub;
 use pf_play::frames_of;
-use pf_script::Script;
+use pf_script::{Line, Script};
 use std::alloc::Global;
 
 /// A hub of two namespaces, 0 and 1: a tenant, and a neighbour that makes the steps of a script of its own.
@@ -11,8 +11,8 @@ pub(crate) struct House<'a> {
     hub: Hub<Global>,
     tenant: u32,
     neighbour: u32,
-    /// The neighbour's steps.
-    load: &'a [(u32, Step)],
+    /// The neighbour's lines, which are steps.
+    load: &'a [(u32, Line)],
     /// How many of them were made.
     made: usize,
 }
@@ -64,19 +64,22 @@ impl<'a> House<'a> {
         })
     }
 
-    /// A step of the namespace with this number.
-    fn step(&mut self, ns: u32, step: &Step) -> Result<Answer, Flaw> {
+    /// A line's step, of the namespace with this number.
+    fn step(&mut self, ns: u32, line: &Line) -> Result<EventAnswer, Flaw> {
+        let Line::Step(step) = line else {
+            return Err(Flaw::NoStep);
+        };
         if !self.hub.lives(ns) {
             return Err(Flaw::NoNamespace);
         }
-        Ok(self.hub.step(ns, step))
+        Ok(EventAnswer::Answer(self.hub.step(ns, step)))
     }
 
     /// The neighbour's next step, if it has one left.
     fn step_of_neighbour(&mut self) -> Result<(), Flaw> {
         let (load, neighbour) = (self.load, self.neighbour);
-        if let Some((_, step)) = load.get(self.made) {
-            let _ = self.step(neighbour, step)?;
+        if let Some((_, line)) = load.get(self.made) {
+            let _ = self.step(neighbour, line)?;
             self.made = self.made.saturating_add(1);
         }
         Ok(())
@@ -92,9 +95,9 @@ impl<'a> House<'a> {
     }
 
     /// A step of the tenant, behind one of the neighbour's.
-    pub(crate) fn tell(&mut self, step: &Step) -> Result<Answer, Flaw> {
+    pub(crate) fn tell(&mut self, line: &Line) -> Result<EventAnswer, Flaw> {
         self.step_of_neighbour()?;
         let tenant = self.tenant;
-        self.step(tenant, step)
+        self.step(tenant, line)
     }
 }

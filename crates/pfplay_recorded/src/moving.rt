@@ -2,8 +2,8 @@
 
 use crate::flaw::Flaw;
 use crate::house::House;
-use pf_base::{Answer, Step};
-use pf_script::{Collected, MemoryBytes, Script, print, read_script};
+use pf_base::EventAnswer;
+use pf_script::{Collected, Line, MemoryBytes, Script, print, read_script};
 use std::alloc::Global;
 
 /// What the frames hold at the start where the tenant begins, and where it goes on.
@@ -15,17 +15,25 @@ fn script_of(alloc: Global, text: &str) -> Result<Script, Flaw> {
 }
 
 /// Makes these steps of the tenant, and pushes what it is told.
-fn make(house: &mut House<'_>, steps: &[(u32, Step)], told: &mut Vec<Answer>) -> Result<(), Flaw> {
-    for (_, step) in steps {
-        told.push(house.tell(step)?)?;
+fn make(
+    house: &mut House<'_>,
+    steps: &[(u32, Line)],
+    told: &mut Vec<EventAnswer>,
+) -> Result<(), Flaw> {
+    for (_, line) in steps {
+        told.push(house.tell(line)?)?;
     }
     Ok(())
 }
 
 /// Makes these steps of the tenant, which was told this elsewhere: it is told the same here.
-fn make_again(house: &mut House<'_>, steps: &[(u32, Step)], told: &[Answer]) -> Result<(), Flaw> {
-    for (place, ((_, step), answer)) in steps.iter().zip(told).enumerate() {
-        if house.tell(step)? != *answer {
+fn make_again(
+    house: &mut House<'_>,
+    steps: &[(u32, Line)],
+    told: &[EventAnswer],
+) -> Result<(), Flaw> {
+    for (place, ((_, line), answer)) in steps.iter().zip(told).enumerate() {
+        if house.tell(line)? != *answer {
             return Err(Flaw::Otherwise(place));
         }
     }
@@ -35,9 +43,9 @@ fn make_again(house: &mut House<'_>, steps: &[(u32, Step)], told: &[Answer]) -> 
 /// Goes on with the rest of the steps on a hub whose neighbour has left its bytes in the frames.
 fn go_on(
     house: &mut House<'_>,
-    first: &[(u32, Step)],
-    rest: &[(u32, Step)],
-    told: &mut Vec<Answer>,
+    first: &[(u32, Line)],
+    rest: &[(u32, Line)],
+    told: &mut Vec<EventAnswer>,
 ) -> Result<(), Flaw> {
     house.load_whole()?;
     make_again(house, first, told)?;
@@ -45,7 +53,7 @@ fn go_on(
 }
 
 /// The first half of a script's steps, and the rest.
-fn halves(script: &Script) -> (&[(u32, Step)], &[(u32, Step)]) {
+fn halves(script: &Script) -> (&[(u32, Line)], &[(u32, Line)]) {
     let steps = script.steps();
     steps.split_at(steps.len() / 2)
 }
@@ -56,7 +64,7 @@ fn make_here(
     alloc: Global,
     script: &Script,
     neighbour: &Script,
-    told: &mut Vec<Answer>,
+    told: &mut Vec<EventAnswer>,
 ) -> Result<(), Flaw> {
     let mut house = House::behind(alloc, script, neighbour, FILLS[0])?;
     make(&mut house, halves(script).0, told)
@@ -67,7 +75,7 @@ fn make_there(
     alloc: Global,
     script: &Script,
     neighbour: &Script,
-    told: &mut Vec<Answer>,
+    told: &mut Vec<EventAnswer>,
 ) -> Result<(), Flaw> {
     let mut house = House::before(alloc, script, neighbour, FILLS[1])?;
     let (first, rest) = halves(script);
@@ -75,7 +83,7 @@ fn make_there(
 }
 
 /// Whether these answers to a script's steps are printed as this text.
-fn is_printed(alloc: Global, script: &Script, told: &[Answer], text: &str) -> bool {
+fn is_printed(alloc: Global, script: &Script, told: &[EventAnswer], text: &str) -> bool {
     if script.steps().len() != told.len() {
         return false;
     }

@@ -30,7 +30,7 @@ const TABLES: [&str; 12] = [
 ];
 
 /// The files of scripts in a line each.
-const SCRIPTS: [&str; 2] = ["openings", "steps"];
+const SCRIPTS: [&str; 3] = ["openings", "steps", "guests"];
 
 fn main(rt: HostRuntime) -> io::Result<()> {
     let alloc = rt.alloc();

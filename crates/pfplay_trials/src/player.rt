@@ -4,11 +4,11 @@
 use crate::flaw::Flaw;
 use crate::hosts::{Host, frames};
 use crate::table::{Event, Table, name_of, tables_of};
-use pf_base::{Answer, Step};
+use pf_base::{Answer, EventAnswer};
 use pf_hub::Hub;
 use pf_plain::Plain;
 use pf_play::{Options, replay};
-use pf_script::{Collected, MemoryBytes, Reading, Script, Writing, print, read_script};
+use pf_script::{Collected, Line, MemoryBytes, Reading, Script, Writing, print, read_script};
 use std::alloc::{AllocError, Global};
 
 /// The bytes that all frames hold at the start, which no answer may depend on.
@@ -43,7 +43,7 @@ fn opened<H: Host>(
 
 /// The text of an answer to the one step of a script.
 fn text_of(alloc: Global, script: &Script, answer: Answer) -> Result<Vec<u8>, AllocError> {
-    let answers = vec![in alloc; answer]?;
+    let answers = vec![in alloc; EventAnswer::Answer(answer)]?;
     let mut writer = Collected::new(alloc);
     if script.steps().len() != answers.len()
         || print(&mut writer, script, &answers, None).is_err()
@@ -86,10 +86,12 @@ fn make_step<H: Host>(
     alloc: Global,
     one: &Script,
     host: &mut H,
-    step: &(u32, Step),
+    line: &(u32, Line),
     event: &Event,
 ) -> Result<(), Flaw> {
-    let (ns, step) = step;
+    let (ns, Line::Step(step)) = line else {
+        return Err(Flaw::NoRow(event.number));
+    };
     let Some(answer) = host.step_of(*ns, step) else {
         return Err(Flaw::NoRow(event.number));
     };
@@ -111,9 +113,9 @@ fn make_steps<H: Host>(
     host: &mut H,
 ) -> Result<(), Flaw> {
     let mut held = vec![in alloc; 0u32; script.count_spaces()]?;
-    for (step, event) in script.steps().iter().zip(&table.events) {
-        make_step(alloc, one, host, step, event)?;
-        if let Some(count) = held.get_mut(step.0 as usize) {
+    for (line, event) in script.steps().iter().zip(&table.events) {
+        make_step(alloc, one, host, line, event)?;
+        if let Some(count) = held.get_mut(line.0 as usize) {
             *count = event.held;
         }
         count_frames(host, event, script.frames(), &held)?;

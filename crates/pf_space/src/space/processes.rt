@@ -19,13 +19,13 @@ impl<A: Allocator + Clone> Space<A> {
         door: &F,
         uid: u32,
         gid: u32,
-        groups: &Groups,
         umask: u32,
+        groups: &Groups,
     ) -> Result<Reply, Fault>
         requires owns { Owns (F.live door.now) self.old }
         ensures told { Told (F.live door.now) (F.live door.now) self.old self.new result
             (call self.old.limits (meaning (F.live door.now) self.old.state)
-            (Step.Spawn uid gid groups.now umask)) }
+            (Step.Spawn uid gid umask groups.now)) }
         ensures unchanged { result ≡ Err Fault.NoMemory → self.new ≡ self.old }
     {
         if !Cred::may_have(groups, umask) {
@@ -34,11 +34,10 @@ impl<A: Allocator + Clone> Space<A> {
         let Some(pid) = self.tables.free_pid() else {
             return Err(Errno::EAGAIN.into());
         };
-        let ids = Vec::from_slice(self.alloc, groups.as_slice())?;
         let cred = Cred {
             uid,
             gid,
-            groups: Groups::new(ids),
+            groups: groups.copy(self.alloc)?,
             umask,
         };
         self.tables.put_process(door, self.alloc, pid, cred)?;

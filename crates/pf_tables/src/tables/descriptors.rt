@@ -124,7 +124,7 @@ impl<A: Allocator> Tables<A> {
             return Err(Errno::EMFILE);
         }
         self.descriptions.name(key);
-        self.processes.give_key(pid as usize - 1, to, key);
+        self.processes.give_key(pid, to, key);
         Ok(to as u32)
     }
 

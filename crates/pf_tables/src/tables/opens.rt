@@ -4,7 +4,7 @@
 ghost use Rattle.std.specs.Prelude.{◌≡◌, ◌+◌, ◌-◌, ◌^◌, ◌<◌, ◌≤◌, [], false, true, None, Some, Ok, Err, IsSome, is_some, IsOk, IfOk, OnOk, OnErr, length, nat_lt};
 ghost use Rattle.pf_machine.specs.Opens.{has_flag, access_of, fifo_pipe, fifo_readers};
 ghost use Rattle.pf_machine.specs.Numbered.{one_if};
-ghost use Rattle.pf_machine.specs.State.{ready};
+ghost use Rattle.pf_machine.specs.State.{itself, ready};
 ghost use Rattle.pf_machine.specs.Counts.{total};
 ghost use Rattle.pf_limits.specs.UserPages.{charged_to, Charges};
 ghost use Rattle.pf_pipe.specs.Pipe.{unopened};
@@ -142,7 +142,7 @@ fn describe(
         unreachable!()
     };
     let fd = process.descriptors.lowest();
-    processes.give_key(pid as usize - 1, fd, description);
+    processes.give_key(pid, fd, description);
     Some(fd as u32)
 }
 
@@ -240,7 +240,7 @@ impl<A: Allocator> Tables<A> {
     // How many ends read a FIFO's pipe, 0 where it has none.
     fn fifo_readers<F: Frames>(&self, door: &F, file: u64) -> u64
         ensures { let s = meaning (F.live door.now) self.now.state in
-            result ≡ fifo_readers s (fifo_pipe s file) }
+            result ≡ fifo_readers itself s (fifo_pipe s file) }
     {
         let _door = door;
         let Some(key) = self.fifos.get(&file) else {

@@ -23,8 +23,7 @@ impl<A: Allocator> Tables<A> {
         ensures { result ≡ waits_in_open (meaning (F.live door.now) self.now.state) pid }
     {
         let _door = door;
-        self.processes.lives(pid)?;
-        match self.processes.call(pid) {
+        match &self.processes.living(pid)?.parked {
             Some(Call::Open { .. }) => Ok(true),
             Some(_) => Ok(false),
             None => Err(Errno::EINVAL),
@@ -37,7 +36,10 @@ impl<A: Allocator> Tables<A> {
         ensures { HasLowest (meaning (F.live door.now) self.now.state) pid result }
     {
         let _door = door;
-        self.processes.lowest_descriptor(pid) as u32
+        let Ok(process) = self.processes.living(pid) else {
+            unreachable!()
+        };
+        process.descriptors.lowest() as u32
     }
 
     /// A process that waits in no call waits in this one, which is no open. It takes no memory.

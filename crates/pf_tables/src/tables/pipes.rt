@@ -38,7 +38,7 @@ pub(super) fn insert_named(descriptions: &mut Descriptions<Description>, end: De
 fn two_ended(alloc: Global, slots: usize, owner: u32) -> Result<Pipe, AllocError>
     requires { slots < 2 ^ 32 }
     ensures { IfOk result (λ p. p ≡ record {
-      ring = record { capacity = slots; windows = [] };
+      ring = record { capacity = slots; segments = [] };
       owner = owner;
       readers = 1;
       writers = 1;
@@ -172,9 +172,9 @@ impl<A: Allocator> Tables<A> {
         };
         let reading = insert_named(&mut self.descriptions, reader);
         let writing = insert_named(&mut self.descriptions, writer);
-        let i = pid as usize - 1;
         let (first, second) = (free.0 as usize, free.1 as usize);
-        self.processes.give_keys(i, first, reading, second, writing);
+        self.processes
+            .give_keys(pid, first, reading, second, writing);
         Ok(())
     }
 

@@ -75,8 +75,12 @@ impl<A: Allocator> Tables<A> {
     {
         let _door = door;
         let descriptors = FdTable::new(alloc)?;
-        self.processes
-            .put(pid as usize - 1, Process { cred, descriptors });
+        let process = Process {
+            cred,
+            descriptors,
+            parked: None,
+        };
+        self.processes.put(pid as usize - 1, process);
         Ok(())
     }
 
@@ -101,7 +105,12 @@ impl<A: Allocator> Tables<A> {
         let cred = parent.cred.copy(alloc)?;
         let descriptors = parent.descriptors.copy(alloc)?;
         name_all(&mut self.descriptions, &descriptors);
-        self.processes.put(i, Process { cred, descriptors });
+        let child = Process {
+            cred,
+            descriptors,
+            parked: None,
+        };
+        self.processes.put(i, child);
         Ok(i as u32 + 1)
     }
 
@@ -114,7 +123,7 @@ impl<A: Allocator> Tables<A> {
         ensures left { Leaves (F.live door.old) (F.live door.new) self.old self.new result
             (exited (meaning (F.live door.old) self.old.state) pid) }
     {
-        self.processes.lives(pid)?;
+        self.processes.living(pid)?;
         self.wake(door, pid);
         let i = pid as usize - 1;
         for fd in 0..MAX_DESCRIPTORS {

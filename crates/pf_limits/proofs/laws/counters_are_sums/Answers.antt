@@ -1,27 +1,27 @@
 use Rattle.std.proofs.Common.{ℕ, ◌+◌, List, nat_eq, refl, ap}
 use Rattle.std.specs.Map.{lookup}
 use Rattle.std.specs.Prelude.{unwrap_or}
-use Rattle.pf_machine.specs.Queue.{Queue, with_capacity}
+use Rattle.pf_machine.specs.Queue.{Segment, with_capacity}
 use Rattle.pf_machine.specs.State.{State, Pipe, holding}
 use Rattle.pf_limits.proofs.SumLaws as laws
 use Rattle.pf_limits.proofs.laws.counters_are_sums.Goals as goal
 use Rattle.pf_limits.specs.Sums.{AreSums, AreSumsOf}
 use Rattle.pf_limits.specs.UserPages.{UserPages}
 
-abbrev owner : Pipe Queue → ℕ
+abbrev owner : Pipe Segment → ℕ
 owner p = p.owner
 
-abbrev capacity : Pipe Queue → ℕ
+abbrev capacity : Pipe Segment → ℕ
 capacity p = p.queue.capacity
 
-abbrev with_slots : ℕ → Pipe Queue → Pipe Queue
+abbrev with_slots : ℕ → Pipe Segment → Pipe Segment
 with_slots slots p = holding (with_capacity slots p.queue) p
 
 -- sums over the state's pipes are sums of their capacities by owner
-of : (p : UserPages) (s : State Queue) → AreSums p s → AreSumsOf owner capacity p s.pipes
+of : (p : UserPages) (s : State Segment ℕ) → AreSums p s → AreSumsOf owner capacity p s.pipes
 of p s sums = record { users = sums.users; total = sums.total }
 
-back : (p : UserPages) (s : State Queue) → AreSumsOf owner capacity p s.pipes → AreSums p s
+back : (p : UserPages) (s : State Segment ℕ) → AreSumsOf owner capacity p s.pipes → AreSums p s
 back p s sums = record { users = sums.users; total = sums.total }
 
 pub returns : goal.returns

@@ -1,5 +1,5 @@
 use Rattle.std.proofs.Common.{◌≡◌, ◌+◌, ◌≤◌, drop}
-use Rattle.pf_play.specs.Played.{nomem_of}
+use Rattle.pf_play.specs.Plays.{nomem_of}
 use Rattle.pf_play.proofs.engine.count_nomem.Given as goal
 
 abbrev pub invariant-loop-answer : goal.invariant-loop-answer

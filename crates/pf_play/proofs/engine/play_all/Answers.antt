@@ -1,32 +1,112 @@
-use Rattle.std.proofs.Common.{◌≡◌, ℕ, List, length, None, Some, ap, sym, ◌∙◌}
-use Rattle.std.specs.Prelude.{Option}
-use Rattle.std.specs.List.{position_from}
-use Rattle.std.specs.Prelude.{nat_le}
-use Rattle.std.proofs.lemmas.List.{length-map}
+-- Each line is told by what its name's number is, and goes on with what happened by name.
+use Rattle.std.proofs.Common.{rules, ◌≡◌, ◌<◌, ◌+◌, ℕ, List, [], ◌∷◌, ◌++◌, length, take, drop, map, ap, sym, subst, ◌∙◌}
+use Rattle.std.proofs.Common.{arith}
+use Rattle.std.proofs.lemmas.List.{length-map, length-take}
+use Rattle.std.proofs.Math.ListN.{drop_of_length-le}
 use Rattle.pf_base.specs.Limits.{Limits}
-use Rattle.pf_hub.specs.Isolation.{first_missing}
-use Rattle.pf_hub.specs.Opening.{limits_of}
-use Rattle.pf_hub.proofs.RunLemmas.{missing_new}
-use Rattle.pf_play.proofs.EngineLaws.{played}
+use Rattle.pf_hub.specs.Opening.{new_hub}
+use Rattle.pf_hub.specs.Tenants.{house_of}
+use Rattle.pf_script.specs.Sound.{AreGiven}
+use Rattle.pf_script.specs.declared.line.Line.{Line}
+use Rattle.pf_play.specs.Houses.{limits_of_name, first_house}
+use Rattle.pf_play.proofs.EngineLaws.{take_all, next_of, taken_of}
+use Rattle.pf_play.proofs.PlayLaws.{Running, runs_first, runs_on, given_next, limits_there, first_limits, new_house}
+use Rattle.pf_play.proofs.PlayLaws.{housed}
+use Rattle.pf_play.proofs.StayLaws.{settled}
 use Rattle.pf_play.proofs.engine.play_all.Goals as goal
 
--- each step is of a namespace of the script, and each of them lives in a new hub
-pub unreachable-requires : goal.unreachable-requires
-unreachable-requires g c =
-    let steps = c.steps.result.now in
-    let limits = limits_of c.args.configs.items in
-    let many : length limits ≡ length c.args.script.now.spaces =
-    ap (λ (ls : List Limits). length ls) c.requires.limits
-    ∙ length-map c.args.script.now.spaces (λ (s : List ℕ × Limits). s.1) in
-    let none : first_missing c.in_ok-hub.hub.world steps ≡ None =
-    ap (λ h. first_missing h steps) c.in_ok-hub.ensures.opened ∙ missing_new limits (length c.args.frames.items) steps
-    ∙ ap (λ number. position_from (λ e. nat_le number e.0) 0 steps) many ∙ c.steps.ensures.exist in
-    let fault = rw c.in-Err-NoSuchNamespace.field-0-is at c.in-Err-NoSuchNamespace.ensures.fault in
-    let some : first_missing c.in_ok-hub.hub.world steps ≡ Some c.in-Err-NoSuchNamespace.field-0-0 = fault.0 in
-    let no : ◌≡◌ {A = Option ℕ} None (Some c.in-Err-NoSuchNamespace.field-0-0) = sym none ∙ some in
-    cc
+pub loop-event-init : goal.loop-event-init
+loop-event-init g c =
+    let script = c.args.script.now in
+    let ls : List Limits = map (λ s. s.1) (take script.opening script.spaces) in
+    let limits : c.as_slice.result.now ≡ ls = c.as_slice.ensures.value ∙ c.in_ok-limits.ensures.limits in
+    let opened : c.in_ok-hub.hub.world ≡ new_hub ls script.frames =
+    c.in_ok-hub.ensures.opened ∙ (λ i. new_hub ((c.in_ok-configs.ensures.limits ∙ limits) i) (c.requires.frames i)) in
+    let many : length ls ≡ script.opening =
+    length-map (take script.opening script.spaces) (λ (s : List ℕ × Limits). s.1)
+    ∙ omega (arith, length-take script.opening script.spaces, c.opening.ensures.opening, c.opening.ensures.most) in
+    let none : c.in_ok-answers.answers.items ≡ [] = search rules in
+    record {
+      running =
+          rw none (runs_first script.spaces script.frames ls c.steps-lines.result.now c.in_ok-numbers.numbers.items
+          (house_of c.in_ok-hub.hub.world) (first_limits script.spaces script.opening)
+          (search rules) (rw many c.steps-lines.ensures.known)
+          (ap house_of opened ∙ new_house ls script.frames));
+      many = search rules;
+      room = search rules;
+      numbers = search rules;
+    }
 
-pub returns-in-Ok : goal.returns-in-Ok
-returns-in-Ok g c =
-    played c.args.script.now _ _ _ _ _ c.requires.limits c.in_ok-hub.ensures.opened c.steps.ensures.steps c.in-Ok.ensures.ran.number
-    c.in-Ok.ensures.alone c.in-Ok.ensures.ran.needed
+pub bounds-trees-ns : goal.bounds-trees-ns
+bounds-trees-ns g c =
+    let e = c.event-item.result in
+    let lines = c.steps-lines.result.now in
+    let at = c.loop-event.event-index in
+    let left : drop at lines ≡ e ∷ drop (at + 1) lines = next_of lines at e c.loop-event-test.true c.event-item.is in
+    let known : AreGiven (length c.loop-event.numbers.items) (e ∷ drop (at + 1) lines) (length c.args.script.now.spaces) =
+    subst (λ rest. AreGiven (length c.loop-event.numbers.items) rest (length c.args.script.now.spaces)) left
+    c.loop-event.invariant.running.known in
+    omega (arith, (given_next _ e _ _ known).0, c.requires.trees)
+
+pub offset_bounds-trees-ns : goal.offset_bounds-trees-ns
+offset_bounds-trees-ns g c =
+    let e = c.event-item.result in
+    let lines = c.steps-lines.result.now in
+    let at = c.loop-event.event-index in
+    let left : drop at lines ≡ e ∷ drop (at + 1) lines = next_of lines at e c.loop-event-test.true c.event-item.is in
+    let known : AreGiven (length c.loop-event.numbers.items) (e ∷ drop (at + 1) lines) (length c.args.script.now.spaces) =
+    subst (λ rest. AreGiven (length c.loop-event.numbers.items) rest (length c.args.script.now.spaces)) left
+    c.loop-event.invariant.running.known in
+    omega (arith, (given_next _ e _ _ known).0, c.requires.trees)
+
+pub tell-answer-requires : goal.tell-answer-requires
+tell-answer-requires g c =
+    let e = c.event-item.result in
+    let lines = c.steps-lines.result.now in
+    let at = c.loop-event.event-index in
+    let left : drop at lines ≡ e ∷ drop (at + 1) lines = next_of lines at e c.loop-event-test.true c.event-item.is in
+    let known : AreGiven (length c.loop-event.numbers.items) (e ∷ drop (at + 1) lines) (length c.args.script.now.spaces) =
+    subst (λ rest. AreGiven (length c.loop-event.numbers.items) rest (length c.args.script.now.spaces)) left
+    c.loop-event.invariant.running.known in
+    let next = given_next _ e _ _ known in
+    record {
+      exists = next.0;
+      room = omega (arith, next.1, c.loop-event.invariant.numbers);
+      few = omega (arith, next.1, c.count_spaces.ensures.most);
+    }
+
+pub loop-event-preserved : goal.loop-event-preserved
+loop-event-preserved g c =
+    let script = c.args.script.now in
+    let e = c.event-item.result in
+    let lines = c.steps-lines.result.now in
+    let at = c.loop-event.event-index in
+    let old = c.loop-event.invariant.running in
+    let left : drop at lines ≡ e ∷ drop (at + 1) lines = next_of lines at e c.loop-event-test.true c.event-item.is in
+    let taken : take (at + 1) lines ≡ take at lines ++ e ∷ [] = taken_of lines at e c.loop-event-test.true c.event-item.is in
+    let running : Running script.spaces (first_house script) (take at lines) (e ∷ drop (at + 1) lines)
+    c.loop-event.numbers.items (house_of c.loop-event.hub.world) c.loop-event.answers.items = rw left at old in
+    let next = given_next _ e _ _ running.known in
+    let follows = c.tell-answer.ensures.follows (limits_of_name script.spaces e.0) running.house
+    (limits_there script.spaces e.0 next.0) running.named in
+    record {
+      running =
+          rw (taken, c.push_reserved.ensures.items)
+          (runs_on script.spaces (first_house script) (take at lines) (drop (at + 1) lines) e _ _ _ _ _ _ running
+          c.tell-answer.ensures.number follows);
+      many = search rules;
+      room = search rules;
+      numbers = search rules;
+    }
+
+pub returns : goal.returns
+returns g c =
+    let script = c.args.script.now in
+    let lines = c.steps-lines.result.now in
+    let all : take c.loop-event.event-index lines ≡ script.steps =
+    take_all lines c.loop-event-test.false ∙ c.steps-lines.ensures.steps in
+    let none : drop c.loop-event.event-index lines ≡ [] = drop_of_length-le lines c.loop-event-test.false in
+    let running = rw (all, none) at c.loop-event.invariant.running in
+    settled script c.loop-event.answers.items (housed script _ _ _ running)
+    (rw c.steps-lines.ensures.steps at c.steps-lines.ensures.known)
+    (omega (arith, c.opening.ensures.opening, c.opening.ensures.most))

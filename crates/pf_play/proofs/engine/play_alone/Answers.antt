@@ -1,45 +1,98 @@
-use Rattle.std.proofs.Common.{◌≡◌, ℕ, ◌+◌, [], ◌∷◌, ◌++◌, length, take, ap, sym, ◌∙◌}
-use Rattle.std.proofs.lemmas.List.{take_more}
-use Rattle.pf_base.specs.declared.step.Step.{Step}
-use Rattle.pf_hub.specs.Opening.{limits_of, new_hub}
-use Rattle.pf_play.proofs.EngineLaws.{went_on, went_by, opens, alone, take_all}
+-- The name's lines are told as those of the one name that there is, and the others are passed by.
+use Rattle.std.proofs.Common.{rules, ◌≡◌, ◌<◌, ◌≤◌, ◌+◌, ℕ, List, [], ◌∷◌, ◌++◌, length, take, drop, ap, sym, ◌∙◌, arith}
+use Rattle.std.proofs.lemmas.List.{length-map}
+use Rattle.std.proofs.Math.ListN.{drop_of_length-le}
+use Rattle.pf_base.specs.Limits.{Limits}
+use Rattle.pf_hub.specs.Opening.{new_hub, limits_of}
+use Rattle.pf_hub.specs.Tenants.{house_of}
+use Rattle.pf_script.specs.declared.line.Line.{Line}
+use Rattle.pf_play.specs.Houses.{alone, limits_of_name}
+use Rattle.pf_play.specs.Numbers.{numbers_from}
+use Rattle.pf_play.proofs.EngineLaws.{take_all, next_of, taken_of}
+use Rattle.pf_play.proofs.PlayLaws.{given_next, housed}
+use Rattle.pf_play.proofs.StayLaws.{settled_alone}
+use Rattle.pf_play.proofs.AloneLaws.{RunningAlone, alone_first, alone_next, alone_on, alone_by, alone_one, alone_limits}
 use Rattle.pf_play.proofs.engine.play_alone.Goals as goal
 use Rattle.pf_play.proofs.engine.play_alone.Goals.{then-event-ns+in_ok-push, else-event-ns}
 
 pub loop-event-init : goal.loop-event-init
 loop-event-init g c =
-    let one = c.push_reserved.ensures.items ∙ ap (λ xs. xs ++ (c.config.result, c.args.tree) ∷ []) c.in_ok-configs.ensures.items in
-    let opened = c.in_ok-hub.ensures.opened ∙ ap (λ xs. new_hub (limits_of xs) (length c.args.frames.items)) one in
-    (c.config.result, c.config.ensures.limits, opens _ _ _ _ _ opened c.in_ok-answers.ensures.items)
+    let script = c.args.script.now in
+    let ls : List Limits = limits_of c.in_ok-configs.configs.items in
+    let none : c.in_ok-answers.answers.items ≡ [] = search rules in
+    let count : c.len-count.result ≡ length c.in_ok-configs.configs.items = search rules in
+    let many : length ls ≡ length c.in_ok-configs.configs.items = length-map c.in_ok-configs.configs.items (λ e. e.0) in
+    let numbered : c.in_ok-numbers.numbers.items ≡ numbers_from 0 (length ls) =
+    c.in_ok-numbers.ensures.numbers ∙ ap (numbers_from 0) (count ∙ sym many) in
+    let opened : c.in_ok-hub.hub.world ≡ new_hub ls script.frames =
+    c.in_ok-hub.ensures.opened ∙ ap (new_hub ls) c.requires.frames in
+    record {
+      running =
+          rw (none, c.steps-lines.ensures.steps)
+          (alone_first script c.args.ns ls c.in_ok-numbers.numbers.items (house_of c.in_ok-hub.hub.world) c.requires.exists
+          (rw c.steps-lines.ensures.steps at c.steps-lines.ensures.known) c.in_ok-configs.ensures.limits numbered
+          (ap house_of opened));
+      room = search rules;
+    }
 
-pub step-requires : goal.step-requires
-step-requires g c = record { lives = c.loop-event.invariant.2.lives }
+pub tell-answer-requires : goal.tell-answer-requires
+tell-answer-requires g c =
+    let e = c.event-item.result in
+    let lines = c.steps-lines.result.now in
+    let at = c.loop-event.event-index in
+    let left : drop at lines ≡ e ∷ drop (at + 1) lines = next_of lines at e c.loop-event-test.true c.event-item.is in
+    let old : RunningAlone c.args.script.now c.args.ns (take at lines) (e ∷ drop (at + 1) lines) c.loop-event.numbers.items
+    (house_of c.loop-event.hub.world) c.loop-event.answers.items = rw left at c.loop-event.invariant.running in
+    let running = alone_next c.args.script.now c.args.ns (take at lines) (drop (at + 1) lines) e c.loop-event.numbers.items
+    (house_of c.loop-event.hub.world) c.loop-event.answers.items c.if-event-ns.true old in
+    let next = given_next _ (0, e.1) _ _ running.known in
+    let one = alone_one c.args.script.now c.args.ns c.requires.exists in
+    record {
+      exists = c.requires.exists;
+      room = omega (arith, next.1, one, c.loop-event.invariant.room);
+      few = omega (arith, next.1, one);
+    }
 
 pub loop-event-preserved : goal.loop-event-preserved
 loop-event-preserved g c =
+    let script = c.args.script.now in
+    let n = c.args.ns in
     let e = c.event-item.result in
-    let limits = c.loop-event.invariant.0 in
-    let went = c.loop-event.invariant.2 in
-    let taken : take (c.loop-event.event-index + 1) c.steps-event-items.result.now ≡ take c.loop-event.event-index c.steps-event-items.result.now ++ e ∷ [] =
-    take_more c.steps-event-items.result.now c.loop-event.event-index e c.loop-event-test.true ∙ ap (λ (x : ℕ × Step). take c.loop-event.event-index c.steps-event-items.result.now ++ x ∷ []) (sym c.event-item.is) in
+    let lines = c.steps-lines.result.now in
+    let at = c.loop-event.event-index in
+    let left : drop at lines ≡ e ∷ drop (at + 1) lines = next_of lines at e c.loop-event-test.true c.event-item.is in
+    let taken : take (at + 1) lines ≡ take at lines ++ e ∷ [] = taken_of lines at e c.loop-event-test.true c.event-item.is in
+    let old : RunningAlone script n (take at lines) (e ∷ drop (at + 1) lines) c.loop-event.numbers.items
+    (house_of c.loop-event.hub.world) c.loop-event.answers.items = rw left at c.loop-event.invariant.running in
     elim c.if-event-ns.branch [
-      | then-event-ns+in_ok-push w ↦ (
-        limits,
-        c.loop-event.invariant.1,
-        rw (w.hub-is, w.answers-is, w.in_ok-push.ensures.items, taken)
-            (went_on limits c.args.ns _ e _ w.step.result _ w.step.new.self.world went w.if-event-ns.true
-            w.step.ensures.lives w.step.ensures.limits w.step.ensures.answers w.step.ensures.succeeds),
-      )
-      | else-event-ns w ↦ (
-        limits,
-        c.loop-event.invariant.1,
-        rw (w.hub-is, w.answers-is, taken) (went_by limits c.args.ns _ e _ _ went w.if-event-ns.false),
-      )
+      | then-event-ns+in_ok-push w ↦
+          let running = alone_next script n (take at lines) (drop (at + 1) lines) e c.loop-event.numbers.items
+          (house_of c.loop-event.hub.world) c.loop-event.answers.items w.if-event-ns.true old in
+          let follows = w.tell-answer.ensures.follows (limits_of_name (alone script n).spaces 0) running.house
+          (alone_limits script.spaces n c.requires.exists) running.named in
+          record {
+            running =
+                rw (w.hub-is, w.numbers-is, w.answers-is, w.in_ok-push.ensures.items, taken)
+                (alone_on script n (take at lines) (drop (at + 1) lines) e c.loop-event.numbers.items
+                (house_of c.loop-event.hub.world) c.loop-event.answers.items _ _ _ w.if-event-ns.true running
+                w.tell-answer.ensures.number follows);
+            room = rw (w.numbers-is, w.tell-answer.ensures.room) c.loop-event.invariant.room;
+          }
+      | else-event-ns w ↦ record {
+        running = rw (w.hub-is, w.numbers-is, w.answers-is, taken)
+            (alone_by script n (take at lines) (drop (at + 1) lines) e c.loop-event.numbers.items
+            (house_of c.loop-event.hub.world) c.loop-event.answers.items w.if-event-ns.false old);
+        room = rw w.numbers-is c.loop-event.invariant.room;
+      }
     ]
 
 pub returns : goal.returns
 returns g c =
-    let all = take_all c.steps-event-items.result.now c.loop-event-test.false in
-    let went = rw (all, c.steps-event-items.ensures.steps) at c.loop-event.invariant.2 in
-    alone c.args.script.now c.loop-event.invariant.0 c.args.ns c.loop-event.answers.items c.loop-event.hub.world went
-    c.loop-event.invariant.1
+    let script = c.args.script.now in
+    let lines = c.steps-lines.result.now in
+    let all : take c.loop-event.event-index lines ≡ script.steps =
+    take_all lines c.loop-event-test.false ∙ c.steps-lines.ensures.steps in
+    let none : drop c.loop-event.event-index lines ≡ [] = drop_of_length-le lines c.loop-event-test.false in
+    let running = rw (all, none) at c.loop-event.invariant.running in
+    settled_alone script c.args.ns c.loop-event.answers.items (housed (alone script c.args.ns) _ _ _ running)
+    (rw c.steps-lines.ensures.steps at c.steps-lines.ensures.known) c.requires.exists

@@ -1,11 +1,13 @@
-use Rattle.std.proofs.Common.{◌≡◌, Some, map, take}
-use Rattle.std.specs.Prelude.{slice_get}
-use Rattle.pf_base.specs.Limits.{Limits}
-use Rattle.pf_play.proofs.EngineLaws.{Went}
+-- The name's lines so far have their answers.
+use Rattle.std.proofs.Common.{◌≤◌, take, drop}
+use Rattle.std.specs.Vec.{vec_capacity}
+use Rattle.pf_hub.specs.Tenants.{house_of}
+use Rattle.pf_play.proofs.AloneLaws.{RunningAlone}
 use Rattle.pf_play.proofs.engine.play_alone.Given as goal
 
 abbrev pub invariant-loop-event : goal.invariant-loop-event
-invariant-loop-event g l =
-    (limits : Limits)
-    × (slice_get (map (λ s. s.1) l.script.spaces) l.ns ≡ Some limits)
-    × Went limits l.ns (take l.event-index l.event-items) l.answers.items l.hub.world
+invariant-loop-event g l = record {
+  running : RunningAlone l.script l.ns (take l.event-index l.lines) (drop l.event-index l.lines) l.numbers.items
+      (house_of l.hub.world) l.answers.items;
+  room : 1 ≤ vec_capacity l.numbers;
+}

@@ -3,7 +3,13 @@ use Rattle.std.proofs.Common.{map, [], ◌∷◌, ◌++◌, subst, sym}
 use Rattle.std.proofs.lemmas.List.{map-append}
 use Rattle.std.proofs.lemmas.Slice.Zip.{all_zipped_more}
 use Rattle.pf_play.specs.Workers.{IsWorked, AreWorked}
+use Rattle.pf_play.proofs.WorkLaws.{opened_before}
 use Rattle.pf_play.proofs.threads.+work_each.Goals as goal
+
+pub work_each-before-requires-after_bounds : goal.work_each-before-requires-after_bounds
+work_each-before-requires-after_bounds g t c κs within =
+    opened_before c.args.script.now c.args.workers.items c.pop.new.self.items c.in-Some.worker c.requires
+    c.in-Some.ensures.items
 
 pub returns : goal.returns
 returns g t c =

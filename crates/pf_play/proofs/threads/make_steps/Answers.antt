@@ -1,10 +1,13 @@
 use Rattle.std.proofs.Common.{rules, ◌≡◌, ◌<◌, ◌≤◌, length, sym, ap, ◌∙◌, subst, arith, below_more, ℕ, List, get_or}
-use Rattle.std.specs.Prelude.{slice_index}
-use Rattle.pf_base.specs.declared.step.Step.{Step}
+use Rattle.std.specs.Prelude.{false, not, slice_index}
+use Rattle.std.specs.List.{list_any}
+use Rattle.pf_play.specs.Played.{is_step}
+use Rattle.pf_script.specs.declared.line.Line.{Line}
+use Rattle.pf_script.specs.declared.line.Line.TheVariants as lines
 use Rattle.pf_script.specs.Places.{places_of}
 use Rattle.pf_script.proofs.Places.{within}
 use Rattle.pf_play.specs.Workers.{ArePassed}
-use Rattle.pf_play.proofs.WorkLaws.{works_none, works_on, works_all}
+use Rattle.pf_play.proofs.WorkLaws.{all_steps, works_none, works_on, works_all}
 use Rattle.pf_play.proofs.threads.make_steps.Goals as goal
 
 pub loop-at-init : goal.loop-at-init
@@ -25,8 +28,26 @@ bounds-steps-at g c =
     let there : slice_index (places_of c.args.script.now.steps c.number-ns.result) c.loop-at.at-index < length
     c.steps-steps.result.now
     = within c.args.script.now.steps (length c.steps-steps.result.now) c.number-ns.result
-    (ap (λ (es : List (ℕ × Step)). length es) c.steps-steps.ensures.steps) c.loop-at.at-index 0 low in
+    (ap (λ (es : List (ℕ × Line)). length es) c.steps-steps.ensures.steps) c.loop-at.at-index 0 low in
     subst (λ (ps : List ℕ). slice_index ps c.loop-at.at-index < length c.steps-steps.result.now) (sym at_place) there
+
+pub unreachable-requires : goal.unreachable-requires
+unreachable-requires g c =
+    let at_place : c.places-places.result.now ≡ places_of c.args.script.now.steps c.number-ns.result
+    = c.places-places.ensures in
+    let low : c.loop-at.at-index < length (places_of c.args.script.now.steps c.number-ns.result)
+    = subst (λ (ps : List ℕ). c.loop-at.at-index < length ps) at_place c.loop-at-test.true in
+    let there : slice_index (places_of c.args.script.now.steps c.number-ns.result) c.loop-at.at-index < length
+    c.steps-steps.result.now
+    = within c.args.script.now.steps (length c.steps-steps.result.now) c.number-ns.result
+    (ap (λ (es : List (ℕ × Line)). length es) c.steps-steps.ensures.steps) c.loop-at.at-index 0 low in
+    let here : slice_index c.places-places.result.now c.loop-at.at-index < length c.steps-steps.result.now
+    = subst (λ (ps : List ℕ). slice_index ps c.loop-at.at-index < length c.steps-steps.result.now) (sym at_place) there in
+    let only : list_any (λ (e : ℕ × Line). not (is_step e.1)) c.steps-steps.result.now ≡ false =
+    ap (list_any (λ (e : ℕ × Line). not (is_step e.1))) c.steps-steps.ensures.steps ∙ c.requires.0 in
+    let made = all_steps c.steps-steps.result.now (slice_index c.places-places.result.now c.loop-at.at-index)
+    c.index-steps-at.result only here in
+    c.in_default.not-Step made.0 made.1
 
 pub loop-at-preserved : goal.loop-at-preserved
 loop-at-preserved g c =
@@ -39,9 +60,9 @@ loop-at-preserved g c =
     let same_at : at ≡ slice_index (places_of c.args.script.now.steps n) c.loop-at.at-index
     = ap (λ (ps : List ℕ). slice_index ps c.loop-at.at-index) at_place in
     let e = c.index-steps-at.result in
-    let step = (get_or c.steps-steps.result.now at e).1 in
-    let here : step ≡ (get_or c.args.script.now.steps at e).1
-    = ap (λ (es : List (ℕ × Step)). (get_or es at e).1) c.steps-steps.ensures.steps in
+    let step = c.in-Step.step in
+    let here : (get_or c.args.script.now.steps at e).1 ≡ lines.Step step
+    = ap (λ (es : List (ℕ × Line)). (get_or es at e).1) (sym c.steps-steps.ensures.steps) ∙ c.in-Step.is in
     let passed = g.G.Gate.passed c.args.gate.now in
     let placed : c.len-place.result ≡ c.loop-at.at-index = omega (arith, c.loop-at.answers.ok.0) in
     let told = subst (λ place. passed n place) placed
@@ -50,7 +71,7 @@ loop-at-preserved g c =
       passed = below_more _ _ c.loop-at.invariant.passed told;
       works = rw c.push_reserved.ensures.items
           (works_on c.args.script.now n c.loop-at.at-index e c.loop-at.answers.items c.step_told.result c.loop-at.worker
-          c.step_told.new.worker at step c.loop-at.invariant.works low same_at here
+          c.step_told.new.worker at step c.requires.0 c.loop-at.invariant.works low same_at here
           c.step_told.ensures.number c.step_told.ensures.limits c.step_told.ensures.answers
           c.step_told.ensures.succeeds);
       many = search rules;
@@ -62,7 +83,7 @@ returns g c =
     let at_place : c.places-places.result.now ≡ places_of c.args.script.now.steps c.args.worker.now.number
     = c.places-places.ensures ∙ ap (λ m. places_of c.args.script.now.steps m) c.number-ns.ensures in
     let all = works_all c.args.script.now c.args.worker.now.number c.loop-at.at-index c.loop-at.answers.items
-    c.loop-at.worker c.loop-at.invariant.works
+    c.loop-at.worker c.requires.0 c.loop-at.invariant.works
     (subst (λ (ps : List ℕ). length ps ≤ c.loop-at.at-index) at_place c.loop-at-test.false) in (
       all,
       subst (λ number. ArePassed (g.G.Gate.passed c.args.gate.now) c.args.worker.now.number number)

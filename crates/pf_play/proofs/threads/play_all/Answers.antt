@@ -1,27 +1,30 @@
 -- The workers are those of the script's namespaces, in their order.
-use Rattle.std.proofs.Common.{◌≡◌, List, [], map, get_or, ap, sym, ◌∙◌}
+use Rattle.std.proofs.Common.{ℕ, ◌≡◌, List, [], map, get_or, ap, sym, ◌∙◌}
 use Rattle.std.specs.declared.alloc.Global.{Global}
 use Rattle.std.specs.declared.vec.Vec.{Vec}
 use Rattle.std.proofs.lemmas.List.{length-map}
 use Rattle.pf_base.specs.Limits.{Limits}
 use Rattle.pf_base.specs.declared.step.Answer.{Answer}
 use Rattle.pf_worker.specs.Workers.{new_workers}
+use Rattle.pf_play.proofs.EngineLaws.{all_taken}
 use Rattle.pf_play.proofs.WorkLaws.{configs_of, all_opened, many_lists, each_worked, worked_passed}
 use Rattle.pf_play.proofs.threads.play_all.Goals as goal
 
 pub work_all-requires-after_bounds : goal.work_all-requires-after_bounds
 work_all-requires-after_bounds g c κs within =
     let limits : c.as_slice.result.now ≡ map (λ s. s.1) c.args.script.now.spaces = c.as_slice.ensures.value
-    ∙ c.in_ok-limits.ensures.limits in
+    ∙ c.in_ok-limits.ensures.limits
+    ∙ ap (λ (ss : List (List ℕ × Limits)). map (λ s. s.1) ss) (all_taken c.args.script.now.spaces c.args.script.now.opening c.requires.whole) in
     let workers : c.in-Ok.opened.1.items ≡ new_workers (configs_of c.args.alloc c.args.script.now.spaces)
     = c.in-Ok.ensures.2
     ∙ ap new_workers (c.in_ok-configs.ensures ∙ ap (λ (ls : List Limits). map (λ l. (l, c.args.alloc)) ls) limits) in
-    all_opened c.args.script.now c.args.alloc c.in-Ok.opened.1.items workers
+    all_opened c.args.script.now c.args.alloc c.in-Ok.opened.1.items c.requires.only workers
 
 pub merge-requires-clause-number : goal.merge-requires-clause-number
 merge-requires-clause-number g c =
     let limits : c.as_slice.result.now ≡ map (λ s. s.1) c.args.script.now.spaces = c.as_slice.ensures.value
-    ∙ c.in_ok-limits.ensures.limits in
+    ∙ c.in_ok-limits.ensures.limits
+    ∙ ap (λ (ss : List (List ℕ × Limits)). map (λ s. s.1) ss) (all_taken c.args.script.now.spaces c.args.script.now.opening c.requires.whole) in
     let workers : c.in-Ok.opened.1.items ≡ new_workers (configs_of c.args.alloc c.args.script.now.spaces)
     = c.in-Ok.ensures.2
     ∙ ap new_workers (c.in_ok-configs.ensures ∙ ap (λ (ls : List Limits). map (λ l. (l, c.args.alloc)) ls) limits) in
@@ -32,7 +35,8 @@ merge-requires-clause-number g c =
 pub merge-requires-clause-alone : goal.merge-requires-clause-alone
 merge-requires-clause-alone g c =
     let limits : c.as_slice.result.now ≡ map (λ s. s.1) c.args.script.now.spaces = c.as_slice.ensures.value
-    ∙ c.in_ok-limits.ensures.limits in
+    ∙ c.in_ok-limits.ensures.limits
+    ∙ ap (λ (ss : List (List ℕ × Limits)). map (λ s. s.1) ss) (all_taken c.args.script.now.spaces c.args.script.now.opening c.requires.whole) in
     let workers : c.in-Ok.opened.1.items ≡ new_workers (configs_of c.args.alloc c.args.script.now.spaces)
     = c.in-Ok.ensures.2
     ∙ ap new_workers (c.in_ok-configs.ensures ∙ ap (λ (ls : List Limits). map (λ l. (l, c.args.alloc)) ls) limits) in
@@ -43,7 +47,8 @@ merge-requires-clause-alone g c =
 pub returns-clause-passed : goal.returns-clause-passed
 returns-clause-passed g c =
     let limits : c.as_slice.result.now ≡ map (λ s. s.1) c.args.script.now.spaces = c.as_slice.ensures.value
-    ∙ c.in_ok-limits.ensures.limits in
+    ∙ c.in_ok-limits.ensures.limits
+    ∙ ap (λ (ss : List (List ℕ × Limits)). map (λ s. s.1) ss) (all_taken c.args.script.now.spaces c.args.script.now.opening c.requires.whole) in
     let workers : c.in-Ok.opened.1.items ≡ new_workers (configs_of c.args.alloc c.args.script.now.spaces)
     = c.in-Ok.ensures.2
     ∙ ap new_workers (c.in_ok-configs.ensures ∙ ap (λ (ls : List Limits). map (λ l. (l, c.args.alloc)) ls) limits) in

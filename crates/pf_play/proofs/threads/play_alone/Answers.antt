@@ -1,14 +1,20 @@
-use Rattle.std.proofs.Common.{rules, ◌≡◌, [], ◌∷◌}
+use Rattle.std.proofs.Common.{rules, arith, ◌≡◌, ◌<◌, [], ◌∷◌}
 use Rattle.pf_worker.specs.Workers.{new_worker}
 use Rattle.pf_play.proofs.WorkLaws.{one_opened, alone_worked}
 use Rattle.pf_play.proofs.threads.play_alone.Goals as goal
+
+pub lone_worker-requires-clause-fits : goal.lone_worker-requires-clause-fits
+lone_worker-requires-clause-fits g c =
+    let early : c.args.ns < c.args.script.now.opening = omega (arith, c.requires.whole, c.requires.exists) in
+    let fits = c.config-config.ensures.fits early in
+    omega (arith, fits, c.requires.frames)
 
 pub work_all-requires-after_bounds : goal.work_all-requires-after_bounds
 work_all-requires-after_bounds g c κs within =
     let workers : c.in_ok-workers.workers.items ≡ new_worker c.args.ns (c.config-config.result, c.args.alloc) ∷ []
     = search rules in
     one_opened c.args.script.now c.args.alloc c.args.ns c.config-config.result c.in_ok-workers.workers.items
-    c.config-config.ensures.limits workers
+    c.requires.only c.config-config.ensures.limits workers
 
 pub returns-clause-played : goal.returns-clause-played
 returns-clause-played g c =

@@ -1,5 +1,6 @@
 -- What the lone machine says after the entries that stood there.
 use Rattle.std.proofs.Common.{ℕ, sym, ap, ◌∙◌, subst}
+use Rattle.pf_machine.specs.Queue.{Segment}
 use Rattle.pf_machine.specs.State.{Outcome}
 use Rattle.pf_machine.specs.Machine.{step_of}
 use Rattle.pf_service.specs.Log.{Log}
@@ -14,5 +15,5 @@ returns-clause-told g c =
     let reply = c.in_ok-reply.reply in
     subst (λ (place : ℕ). Told step place reply) (sym c.in_ok-place.ensures.place)
     (told l.limits l.state l.transcript step reply c.in_ok-place.ensures.ran
-    (ap (λ (o : Outcome). o.reply) c.in_ok-reply.ensures.logged.told
+    (ap (λ (o : Outcome Segment ℕ). o.reply) c.in_ok-reply.ensures.logged.told
     ∙ ap (λ (m : Log g.row.A.Denot). (step_of m.limits m.state step).reply) (sym c.get_ref.ensures)))

@@ -2,5 +2,5 @@ use Rattle.pf_frame.specs.Own.{own_live}
 use Rattle.pf_tables.specs.Owns.{Owns}
 use Rattle.pf_trials.proofs.files.seen.Given as goal
 
-abbrev pub invariant-loop-step : goal.invariant-loop-step
-invariant-loop-step g l = record { owns : Owns (own_live l.frames) l.space }
+abbrev pub invariant-loop-line : goal.invariant-loop-line
+invariant-loop-line g l = record { owns : Owns (own_live l.frames) l.space }

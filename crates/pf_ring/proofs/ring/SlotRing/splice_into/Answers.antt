@@ -12,13 +12,13 @@ use Rattle.pf_ring.proofs.ring.SlotRing.splice_into.Goals as goal
 number : (g : Over) (c : After-shift-moved g) → c.shift-moved.result ≡ tee_number (queue_of (g.F.Frames.live c.args.door.now) c.args.self.now) (queue_of (g.F.Frames.live c.args.door.now) c.args.sink.now) c.args.n
 number g c =
     let f : Live = g.F.Frames.live c.args.door.now in
-    let source : Ring = record { capacity = c.self.inside.slots; windows = c.self.inside.windows.items } in
-    let sink : Ring = record { capacity = c.sink.inside.slots; windows = c.sink.inside.windows.items } in
-    let stands : Stands f (source.windows ++ sink.windows) =
-    subst (λ (r : Ring). Stands f (r.windows ++ sink.windows)) (sym c.self.view_is) (subst (λ (r : Ring). Stands f (c.args.self.now.windows ++ r.windows)) (sym c.sink.view_is) c.requires.stands) in
+    let source : Ring = record { capacity = c.self.inside.slots; segments = c.self.inside.windows.items } in
+    let sink : Ring = record { capacity = c.sink.inside.slots; segments = c.sink.inside.windows.items } in
+    let stands : Stands f (source.segments ++ sink.segments) =
+    subst (λ (r : Ring). Stands f (r.segments ++ sink.segments)) (sym c.self.view_is) (subst (λ (r : Ring). Stands f (c.args.self.now.segments ++ r.segments)) (sym c.sink.view_is) c.requires.stands) in
     let is : c.shift-moved.result ≡ tee_number (queue_of f source) (queue_of f sink) c.args.n =
-    tee_number_is f (g.F.Frames.live c.shift-moved.new.door) source sink c.shift-moved.new.sink.items _ c.args.n _ (g.met.F.Frames.sound _ c.requires.fact) (g.met.F.Frames.sound _ c.shift-moved.ensures.fact) (stands_second f source.windows sink.windows stands)
-    (moves_stand f _ source.windows _ sink.windows _ stands c.shift-moved.ensures.shifts.moves) (omega arith) c.shift-moved.ensures.shifts.bytes c.shift-moved.ensures.segments in
+    tee_number_is f (g.F.Frames.live c.shift-moved.new.door) source sink c.shift-moved.new.sink.items _ c.args.n _ (g.met.F.Frames.sound _ c.requires.fact) (g.met.F.Frames.sound _ c.shift-moved.ensures.fact) (stands_second f source.segments sink.segments stands)
+    (moves_stand f _ source.segments _ sink.segments _ stands c.shift-moved.ensures.shifts.moves) (omega arith) c.shift-moved.ensures.shifts.bytes c.shift-moved.ensures.segments in
     is ∙ (λ i. tee_number (queue_of f (c.self.view_is i)) (queue_of f (c.sink.view_is i)) c.args.n)
 
 pub overflow_add-sink : goal.overflow_add-sink

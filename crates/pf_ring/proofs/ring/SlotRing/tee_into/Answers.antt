@@ -14,16 +14,16 @@ overflow_add-sink g c =
 pub returns-clause-number : goal.returns-clause-number
 returns-clause-number g c =
     let f : Live = g.F.Frames.live c.args.door.now in
-    let source : Ring = record { capacity = c.self.inside.slots; windows = c.self.inside.windows.items } in
-    let sink : Ring = record { capacity = c.sink.inside.slots; windows = c.sink.inside.windows.items } in
-    let stands : Stands f (source.windows ++ sink.windows) =
-    subst (λ (r : Ring). Stands f (r.windows ++ sink.windows)) (sym c.self.view_is) (subst (λ (r : Ring). Stands f (c.args.self.now.windows ++ r.windows)) (sym c.sink.view_is) c.requires.stands) in
+    let source : Ring = record { capacity = c.self.inside.slots; segments = c.self.inside.windows.items } in
+    let sink : Ring = record { capacity = c.sink.inside.slots; segments = c.sink.inside.windows.items } in
+    let stands : Stands f (source.segments ++ sink.segments) =
+    subst (λ (r : Ring). Stands f (r.segments ++ sink.segments)) (sym c.self.view_is) (subst (λ (r : Ring). Stands f (c.args.self.now.segments ++ r.segments)) (sym c.sink.view_is) c.requires.stands) in
     let number : c.share-number.result ≡ tee_number (queue_of f source) (queue_of f sink) c.args.n =
-    tee_number_is f (g.F.Frames.live c.share-number.new.door) source sink c.share-number.new.sink.items _ c.args.n _ (g.met.F.Frames.sound _ c.requires.fact) (g.met.F.Frames.sound _ c.share-number.ensures.fact) (stands_second f source.windows sink.windows stands)
-    (keeps_stands f (g.F.Frames.live c.share-number.new.door) source.windows sink.windows c.share-number.new.sink.items (stands_second f source.windows sink.windows stands) c.share-number.ensures.copies.keeps) (omega arith) c.share-number.ensures.copies.bytes c.share-number.ensures.segments in
+    tee_number_is f (g.F.Frames.live c.share-number.new.door) source sink c.share-number.new.sink.items _ c.args.n _ (g.met.F.Frames.sound _ c.requires.fact) (g.met.F.Frames.sound _ c.share-number.ensures.fact) (stands_second f source.segments sink.segments stands)
+    (keeps_stands f (g.F.Frames.live c.share-number.new.door) source.segments sink.segments c.share-number.new.sink.items (stands_second f source.segments sink.segments stands) c.share-number.ensures.copies.keeps) (omega arith) c.share-number.ensures.copies.bytes c.share-number.ensures.segments in
     number ∙ (λ i. tee_number (queue_of f (c.self.view_is i)) (queue_of f (c.sink.view_is i)) c.args.n)
 
 pub returns-clause-source : goal.returns-clause-source
 returns-clause-source g c =
     let f : Live = g.F.Frames.live c.args.door.now in
-    source_shows f (g.F.Frames.live c.share-number.new.door) c.args.self.now (stands_first f c.args.self.now.windows c.args.sink.now.windows c.requires.stands) c.share-number.ensures.copies.same
+    source_shows f (g.F.Frames.live c.share-number.new.door) c.args.self.now (stands_first f c.args.self.now.segments c.args.sink.now.segments c.requires.stands) c.share-number.ensures.copies.same

@@ -12,6 +12,5 @@ returns-clause-limits c =
 
 pub returns-clause-fits : goal.returns-clause-fits
 returns-clause-fits c =
-    let low = rw (← c.self.view_is) at c.requires in
     rw (← c.self.view_is)
-    (one_fits _ c.args.ns c.unwrap.result.1.now c.self.invariant low (limits_at c.self.inside.spaces.entries c.args.ns c.unwrap.result.0.now c.unwrap.result.1.now (sym c.get_index.ensures.entry ∙ ap (option_map deref_pair) c.unwrap.ensures)))
+    (λ low. one_fits _ c.args.ns c.unwrap.result.1.now c.self.invariant low (limits_at c.self.inside.spaces.entries c.args.ns c.unwrap.result.0.now c.unwrap.result.1.now (sym c.get_index.ensures.entry ∙ ap (option_map deref_pair) c.unwrap.ensures)))

@@ -1,5 +1,5 @@
 -- One place more.
-use Rattle.std.proofs.Common.{rules, ◌≡◌, ◌+◌, ◌<◌, ◌≤◌, [], ◌∷◌, ◌++◌, ℕ, List, length, ap, arith, length-append}
+use Rattle.std.proofs.Common.{rules, ◌≡◌, ◌+◌, [], ◌∷◌, ◌++◌, ℕ, List, length, ap, arith, length-append}
 use Rattle.pf_service.proofs.PlaceLaws.{next_number}
 use Rattle.pf_service.proofs.guests.Guests.after.Goals as goal
 

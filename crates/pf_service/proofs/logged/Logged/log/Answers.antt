@@ -1,5 +1,6 @@
 -- The transcript has the event at its end, and where the event is refused, what it had.
-use Rattle.std.proofs.Common.{◌≡◌, ◌++◌, [], ◌∷◌, List, ap, refl, sym, subst, ◌∙◌, arith}
+use Rattle.std.proofs.Common.{◌≡◌, ℕ, ◌++◌, [], ◌∷◌, List, ap, refl, sym, subst, ◌∙◌, arith}
+use Rattle.pf_machine.specs.Queue.{Segment}
 use Rattle.pf_machine.specs.State.{Outcome}
 use Rattle.pf_machine.specs.Machine.{step_of}
 use Rattle.pf_machine.specs.Replies.{reply_length}
@@ -38,7 +39,7 @@ copy_into-told-requires g c =
     let log = subst (λ (i : Inside g.row.A.Denot). IsLog i.placed.space i.loans i.transcript) (sym c.self-inside.view_is) c.self.invariant in
     let answers = made c.self-inside.inside.0.1.0.space c.step_over.new.placed.space c.self-inside.inside.0.1.1.0 c.step_over.new.loans (record { limits = c.self-inside.inside.0.1.1.1.0.config; entries = c.self-inside.inside.0.1.1.1.0.entries.items }) step c.in-Done.reply log c.in-Done.ensures.moved.answers in
     let told : c.in-Done.reply ≡ (step_of c.args.self.now.limits c.args.self.now.state step).reply =
-    ap (λ (o : Outcome). o.reply) answers ∙ ap (λ (l : Log g.row.A.Denot). (step_of l.limits l.state step).reply) was in
+    ap (λ (o : Outcome Segment ℕ). o.reply) answers ∙ ap (λ (l : Log g.row.A.Denot). (step_of l.limits l.state step).reply) was in
     omega (arith, ap reply_length told, c.requires.covers, c.in_ok-room.ensures)
 
 pub invariant_of-self-2 : goal.invariant_of-self-2

@@ -6,8 +6,9 @@ use Rattle.pf_base.specs.declared.step.Reply.{Reply}
 use Rattle.pf_service.specs.Seats.{event_at}
 use Rattle.pf_service.specs.Told.{Told}
 use Rattle.pf_service.specs.Waited.{resume_of}
-use Rattle.pf_service.proofs.FaultLaws.{refused_event, on_ok}
-use Rattle.pf_service.proofs.WaitingLaws.{begun, gone_on, answered, left, tried_at}
+use Rattle.pf_service.proofs.FaultLaws.{refused_event, on_ok, on_err}
+use Rattle.std.proofs.lemmas.List.Elements.{All-push}
+use Rattle.pf_service.proofs.WaitingLaws.{begun, gone_on, answered, left, tried_at, IsParked}
 use Rattle.pf_service.proofs.place.Place.call_waiting.Goals as goal
 
 pub loop-init : goal.loop-init
@@ -19,7 +20,7 @@ pub returns-then-not-waits-clause-waited : goal.returns-then-not-waits-clause-wa
 returns-then-not-waits-clause-waited g c =
     let i = c.loop.invariant.1 in
     let no = c.if-not-waits.true in
-    (i.0 ++ i.1 ∷ [], i.2.waited, answered i.0 i.1 (λ parked. let yes = i.3.1 parked in absurd (cc)))
+    (i.0 ++ i.1 ∷ [], i.2.waited, answered i.0 i.1 (λ parked. let yes = i.3.1 parked in absurd (cc)), tt)
 
 pub loop-preserved : goal.loop-preserved
 loop-preserved g c =
@@ -39,7 +40,12 @@ returns-in_err-waits-2-clause-waited g c =
     let stays = left (λ (s : Step) (p : ℕ) (r : Reply). Told s p r × g.G.Gate.passed c.args.gate.now c.args.seat.now.ns p) c.args.step.now
     c.args.seat.now c.loop.seat c.try_once-in-loop.new.seat c.args.receipts.now.items c.loop.receipts.items c.try_once-in-loop.new.receipts.items (i.0 ++ i.1 ∷ [])
     i.2.waited c.in_err-waits-2.ensures.seat c.in_err-waits-2.ensures.receipts in
-    (i.0 ++ i.1 ∷ [], stays, on_ok _ c.from_residual-in_err-waits-2.result c.from_residual-in_err-waits-2.ensures.0)
+    let waits : IsTrue c.loop.waits = search rules in (
+      i.0 ++ i.1 ∷ [],
+      stays,
+      on_ok _ c.from_residual-in_err-waits-2.result c.from_residual-in_err-waits-2.ensures.0,
+      on_err _ c.from_residual-in_err-waits-2.result (All-push IsParked i.0 i.1 i.2.parked (i.3.0 waits)),
+    )
 
 pub returns-in_err-waits-2-clause-fault : goal.returns-in_err-waits-2-clause-fault
 returns-in_err-waits-2-clause-fault g c =

@@ -1,9 +1,9 @@
 -- Nothing was made where the namespace isn't there.
-use Rattle.std.proofs.Common.{ℕ, [], sym, refl, append-nil}
+use Rattle.std.proofs.Common.{ℕ, [], sym, refl, append-nil, arith}
 use Rattle.pf_base.specs.declared.step.Step.{Step}
 use Rattle.pf_base.specs.declared.step.Reply.{Reply}
 use Rattle.pf_service.specs.Told.{Told}
-use Rattle.pf_service.proofs.FaultLaws.{on_ok}
+use Rattle.pf_service.proofs.FaultLaws.{on_ok, on_err}
 use Rattle.pf_service.proofs.WaitingLaws.{nothing}
 use Rattle.pf_service.proofs.service.Service.call_waiting.Goals as goal
 
@@ -12,4 +12,4 @@ returns-in_err-place-clause-waited g c =
     let gate = c.self.inside.gate in
     let none = nothing (λ (s : Step) (p : ℕ) (r : Reply). Told s p r × g.G.Gate.passed gate c.args.seat.now.ns p) c.args.step.now c.args.seat.now c.args.seat.now
     c.args.receipts.now.items c.args.receipts.now.items (record { ns = refl; number = refl; events = sym (append-nil c.args.seat.now.events) }) refl in
-    (gate, [], none, on_ok _ c.from_residual.result c.from_residual.ensures.0)
+    (gate, [], none, on_ok _ c.from_residual.result c.from_residual.ensures.0, on_err _ c.from_residual.result (λ k d l. absurd (omega arith)))

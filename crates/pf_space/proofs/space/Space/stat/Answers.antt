@@ -2,6 +2,7 @@
 
 use Rattle.std.proofs.Common.{◌≡◌, Ok, subst}
 use Rattle.pf_machine.specs.FileCalls as calls
+use Rattle.pf_machine.specs.State.{itself}
 use Rattle.pf_machine.specs.Sweep.{sweep}
 use Rattle.pf_base.specs.declared.step.Reply.TheVariants as replies
 use Rattle.pf_tables.specs.Meaning.{Namespace, meaning}
@@ -13,6 +14,6 @@ use Rattle.pf_space.proofs.space.Space.stat.Goals as goal
 pub returns-clause-told : goal.returns-clause-told
 returns-clause-told g c =
     let f = g.F.Frames.live c.args.door.now in
-    let still = subst (λ (n : Namespace). n.state ≡ sweep n.state) c.self.view_is c.settled.ensures in
+    let still = subst (λ (n : Namespace). n.state ≡ sweep itself n.state) c.self.view_is c.settled.ensures in
     let found = subst (λ (n : Namespace). Told (λ meta. meta) (Ok c.in_ok-meta.meta) (known (meaning f n.state) c.args.pid c.args.path.now)) c.self.view_is c.in_ok-meta.ensures.told in
     tells f c.args.self.now c.args.pid (λ p. calls.stat c.args.self.now.state.files p.cred c.args.path.now) replies.Meta c.in_ok-meta.meta c.requires.owns still found

@@ -11,15 +11,19 @@ loop-i-preserved c =
     let less : c.loop-i.i < 256 = omega (arith, c.loop-i-test.true) in
     elim c.if-is_some.branch [
       | then-is_some w ↦
-          let one = one_alive _ _ c.self.invariant _ c.self.view_is c.loop-i.i c.get.result less c.get.ensures (search (w.if-is_some.true, c.is_some.ensures, rules)) in
+          let one =
+          one_alive _ c.self.invariant _ c.self.view_is c.loop-i.i c.get.result less c.get.ensures
+          (search (w.if-is_some.true, c.is_some.ensures, rules)) in
           (omega (arith, w.alive-is, one, c.loop-i.invariant.0), omega (arith, w.alive-is, c.loop-i.invariant.1))
       | else-is_some w ↦
-          let one = nobody_there _ _ c.self.invariant _ c.self.view_is c.loop-i.i c.get.result less c.get.ensures (search (w.if-is_some.false, c.is_some.ensures, rules)) in
+          let one =
+          nobody_there _ c.self.invariant _ c.self.view_is c.loop-i.i c.get.result less c.get.ensures
+          (search (w.if-is_some.false, c.is_some.ensures, rules)) in
           (omega (arith, w.alive-is, one, c.loop-i.invariant.0), omega (arith, w.alive-is, c.loop-i.invariant.1))
     ]
 
 pub returns : goal.returns
 returns c =
-    let all = all_alive _ _ c.self.invariant _ c.self.view_is in
+    let all = all_alive _ c.self.invariant _ c.self.view_is in
     let end : c.loop-i.i ≡ 256 = omega (arith, c.loop-i-test.false, c.loop-i.auto.i-end) in
     c.loop-i.invariant.0 ∙ ap (λ n. sum_of (λ (p : Process). 1) (take n c.args.self.now)) end ∙ all

@@ -7,27 +7,27 @@ pub loop-fd-init : goal.loop-fd-init
 loop-fd-init g c = record {
   fact = c.requires.fact;
   rest = refl;
-  first = lemmas.none_first (g.F.Frames.live c.args.door.now) _ _ _ _ _ c.self.invariant.kept _ c.self.view_is c.args.pid c.in_ok-lives.ensures _ _ c.wake.ensures.woken;
+  first = lemmas.none_first (g.F.Frames.live c.args.door.now) _ _ _ _ _ c.self.invariant.kept _ c.self.view_is c.args.pid c.in_ok-living.ensures _ _ c.wake.ensures.woken;
 }
 
 pub loop-fd-preserved : goal.loop-fd-preserved
 loop-fd-preserved g c = record {
   fact = c.empty.ensures.fact;
   rest = c.empty.ensures.rest ∙ c.loop-fd.invariant.rest;
-  first = lemmas.one_more (g.F.Frames.live c.args.door.now) _ _ _ _ _ c.self.invariant.kept _ c.self.view_is c.args.pid c.in_ok-lives.ensures _ _ _ c.loop-fd.invariant.first _ _ c.empty.ensures.emptied;
+  first = lemmas.one_more (g.F.Frames.live c.args.door.now) _ _ _ _ _ c.self.invariant.kept _ c.self.view_is c.args.pid c.in_ok-living.ensures _ _ _ c.loop-fd.invariant.first _ _ c.empty.ensures.emptied;
 }
 
 pub take_process-requires-clause-bare : goal.take_process-requires-clause-bare
 take_process-requires-clause-bare g c =
-    lemmas.all_bare (g.F.Frames.live c.args.door.now) _ _ _ _ _ c.self.invariant.kept _ c.self.view_is c.args.pid c.in_ok-lives.ensures _ _ _ c.loop-fd-test.false c.loop-fd.invariant.first
+    lemmas.all_bare (g.F.Frames.live c.args.door.now) _ _ _ _ _ c.self.invariant.kept _ c.self.view_is c.args.pid c.in_ok-living.ensures _ _ _ c.loop-fd-test.false c.loop-fd.invariant.first
 
 pub take_process-requires-clause-awake : goal.take_process-requires-clause-awake
 take_process-requires-clause-awake g c =
-    lemmas.all_awake (g.F.Frames.live c.args.door.now) _ _ _ _ _ c.self.invariant.kept _ c.self.view_is c.args.pid c.in_ok-lives.ensures _ _ _ c.loop-fd.invariant.first
+    lemmas.all_awake (g.F.Frames.live c.args.door.now) _ _ _ _ _ c.self.invariant.kept _ c.self.view_is c.args.pid c.in_ok-living.ensures _ _ _ c.loop-fd.invariant.first
 
 pub returns-clause-left : goal.returns-clause-left
 returns-clause-left g c = (
   _,
-  exited_is (g.F.Frames.live c.args.door.now) _ _ _ _ _ c.self.view_is c.args.pid c.in_ok-lives.ensures,
-  lemmas.all_gone (g.F.Frames.live c.args.door.now) _ _ _ _ _ c.self.invariant.kept _ c.self.view_is c.args.pid c.in_ok-lives.ensures _ _ _ c.loop-fd.invariant.first _ _ c.take_process.ensures.gone,
+  exited_is (g.F.Frames.live c.args.door.now) _ _ _ _ _ c.self.view_is c.args.pid c.in_ok-living.ensures,
+  lemmas.all_gone (g.F.Frames.live c.args.door.now) _ _ _ _ _ c.self.invariant.kept _ c.self.view_is c.args.pid c.in_ok-living.ensures _ _ _ c.loop-fd.invariant.first _ _ c.take_process.ensures.gone,
 )

@@ -1,7 +1,6 @@
 use Rattle.std.proofs.Common.{◌+◌, ◌≤◌, arith, sym, refl, ap, ◌∙◌, rules}
 use Rattle.pf_limits.specs.UserPages.{charged_to}
 use Rattle.pf_tables.specs.Meaning.{Namespace}
-use Rattle.pf_tables.specs.Rows.{idle}
 use Rattle.pf_tables.proofs.OpensTests as lemmas
 use Rattle.pf_tables.proofs.PipesOpen.{total_is, has_room}
 use Rattle.pf_tables.proofs.tables.Tables.fifo_capacity.Goals as goal
@@ -18,7 +17,7 @@ returns-in-Ok-clause-found g c =
 pub returns-in-Ok-clause-room : goal.returns-in-Ok-clause-room
 returns-in-Ok-clause-room g c =
     let all = total_is (g.F.Frames.live c.args.door.now) c.self.invariant.kept c.self.view_is in
-    let within : c.self.inside.pages.total + c.in-Ok.slots ≤ c.self.inside.pages.limits.reserve = has_room c.self.inside.pages.limits c.is_privileged.result (charged_to c.self.inside.pages (idle c.in_ok-cred.field-0.now).cred.uid) c.self.inside.pages.total c.in-Ok.slots (sym c.new_capacity.ensures ∙ c.in-Ok.is) in
+    let within : c.self.inside.pages.total + c.in-Ok.slots ≤ c.self.inside.pages.limits.reserve = has_room c.self.inside.pages.limits c.is_privileged.result (charged_to c.self.inside.pages c.in_ok-cred.field-0.now.cred.uid) c.self.inside.pages.total c.in-Ok.slots (sym c.new_capacity.ensures ∙ c.in-Ok.is) in
     let same = ap (λ (n : Namespace). n.limits.reserve) c.self.view_is in
     omega (arith, all, within, same)
 

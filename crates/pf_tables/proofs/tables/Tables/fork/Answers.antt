@@ -1,7 +1,8 @@
 use Rattle.std.proofs.Common.{◌≡◌, List, length, Option, None, sym, ap, ◌∙◌, subst, rules}
 use Rattle.pf_machine.specs.Numbered.{at}
 use Rattle.pf_machine.proofs.NumberedLaws.{at-first_free}
-use Rattle.pf_tables.specs.Rows.{Key, Process, idle, AllFind}
+use Rattle.pf_tables.specs.Rows.{Key, Process, AllFind}
+use Rattle.pf_tables.proofs.Callers.{is_awake}
 use Rattle.pf_tables.proofs.ProcessesFork as lemmas
 use Rattle.pf_tables.proofs.Fifos.{fifos-changed}
 use Rattle.pf_tables.proofs.tables.Tables.fork.Given.{Over}
@@ -21,8 +22,10 @@ name_all-requires-clause-stand g c =
 pub name_all-requires-clause-few : goal.name_all-requires-clause-few
 name_all-requires-clause-few g c = lemmas.are_few (g.F.Frames.live c.args.door.now) c.self.invariant.kept c.self.view_is c.args.pid c.in_ok-parent.ensures
 
-same : (g : Over) (c : After-put g) → ◌≡◌ {A = Process} (idle (record { cred = c.in_ok-cred.cred; descriptors = c.in_ok-descriptors.descriptors })) (idle c.in_ok-parent.parent.now)
-same g c = λ j. record { cred = c.in_ok-cred.ensures j; descriptors = c.in_ok-descriptors.ensures j; parked = None }
+same : (g : Over) (c : After-put g) → ◌≡◌ {A = Process} (record { cred = c.in_ok-cred.cred; descriptors = c.in_ok-descriptors.descriptors; parked = None }) c.in_ok-parent.parent.now
+same g c =
+    let awake = is_awake c.self.inside.processes c.args.pid c.in_ok-parent.parent.now c.in_ok-parent.ensures in
+    λ j. record { cred = c.in_ok-cred.ensures j; descriptors = c.in_ok-descriptors.ensures j; parked = sym awake j }
 
 pub put-requires-clause-free : goal.put-requires-clause-free
 put-requires-clause-free g c = ap (at c.self.inside.processes) c.lowest-i.ensures.lowest ∙ at-first_free c.self.inside.processes

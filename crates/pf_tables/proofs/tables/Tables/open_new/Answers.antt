@@ -2,7 +2,7 @@ use Rattle.std.proofs.Common.{◌∙◌, length, ap, arith}
 use Rattle.pf_fds.specs.Descriptions.{Descriptions}
 use Rattle.pf_tables.specs.Meaning.{Namespace}
 use Rattle.pf_tables.specs.Opened.{counted}
-use Rattle.pf_tables.specs.Rows.{Description, Pipe, idle}
+use Rattle.pf_tables.specs.Rows.{Description, Pipe}
 use Rattle.pf_tables.proofs.OpensNew as lemmas
 use Rattle.pf_tables.proofs.OpensFound as joining
 use Rattle.pf_tables.proofs.PipesOpen.{total_is}
@@ -38,11 +38,11 @@ invariant_of-self-2 g c =
     let pipe = c.count.ensures ∙ ap (counted c.args.access) c.in_ok-pipe.ensures in
     let made = rw (pipe) at c.in_ok-key.ensures.made in
     let charged = rw (pipe) at c.in_ok-key.ensures.charged in
-    lemmas.founded-whole (g.F.Frames.live c.args.door.now) _ _ _ _ _ _ c.self.invariant _ c.self.view_is c.args.pid c.args.access c.args.file c.requires.may c.args.slots c.requires.slots (idle c.in-Ok.process.now) c.in-Ok.ensures c.in_ok-key.key made.k_is c.requires.sided _ _ _ z _ _ _ made c.requires.closed charged
+    lemmas.founded-whole (g.F.Frames.live c.args.door.now) _ _ _ _ _ _ c.self.invariant _ c.self.view_is c.args.pid c.args.access c.args.file c.requires.may c.args.slots c.requires.slots c.in-Ok.process.now c.in-Ok.ensures c.in_ok-key.key made.k_is c.requires.sided _ _ _ z _ _ _ made c.requires.closed charged
 
 pub returns-clause-opened : goal.returns-clause-opened
 returns-clause-opened g c =
     let z = rw (ap (λ (x : Descriptions Description). x.items) c.in_ok-reserve.ensures.rest, c.end.ensures, c.before-kept.ensures, c.in_ok-pipe.ensures) at c.describe.ensures in
     let pipe = c.count.ensures ∙ ap (counted c.args.access) c.in_ok-pipe.ensures in
     let made = rw (pipe) at c.in_ok-key.ensures.made in
-    lemmas.founded-opened (g.F.Frames.live c.args.door.now) _ _ _ _ _ _ c.self.invariant _ c.self.view_is c.args.pid c.args.access c.args.file c.requires.may c.args.slots c.requires.slots (idle c.in-Ok.process.now) c.in-Ok.ensures c.in_ok-key.key made.k_is c.requires.sided _ _ _ z c.requires.owns c.requires.room c.requires.closed _ _ c.in_ok-key.ensures.charged.limits made.stored
+    lemmas.founded-opened (g.F.Frames.live c.args.door.now) _ _ _ _ _ _ c.self.invariant _ c.self.view_is c.args.pid c.args.access c.args.file c.requires.may c.args.slots c.requires.slots c.in-Ok.process.now c.in-Ok.ensures c.in_ok-key.key made.k_is c.requires.sided _ _ _ z c.requires.owns c.requires.room c.requires.closed _ _ c.in_ok-key.ensures.charged.limits made.stored

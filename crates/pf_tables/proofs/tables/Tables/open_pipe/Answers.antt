@@ -1,8 +1,7 @@
 use Rattle.std.proofs.Common.{◌∙◌, length, Some, refl, ap, sym, subst, arith}
 use Rattle.pf_base.specs.Limits.{Limits}
 use Rattle.pf_tables.specs.Meaning.{Namespace}
-use Rattle.pf_tables.specs.Rows.{idle, state_of, opens_of, AreFifos}
-use Rattle.pf_tables.proofs.Callers.{place_is}
+use Rattle.pf_tables.specs.Rows.{state_of, opens_of, AreFifos}
 use Rattle.pf_tables.specs.Tables.{Opens}
 use Rattle.pf_tables.proofs.Fifos as lemmas
 use Rattle.pf_tables.proofs.PipesOpen.{Makes, pushed, first_in, opened-kept, opens, total_is}
@@ -31,9 +30,6 @@ made_opens g c =
 
 pub give_keys-requires-clause-first_in : goal.give_keys-requires-clause-first_in
 give_keys-requires-clause-first_in g c = first_in (g.F.Frames.live c.args.door.now) c.self.invariant.kept c.self.view_is c.args.pid c.in-Ok.ensures c.requires.free
-
-pub give_keys-requires-clause-there : goal.give_keys-requires-clause-there
-give_keys-requires-clause-there g c = record { p = idle c.in-Ok.process.now; is = place_is c.self.inside.processes c.args.pid (idle c.in-Ok.process.now) c.in-Ok.ensures; awake = refl }
 
 pub invariant_of-self-2 : goal.invariant_of-self-2
 invariant_of-self-2 g c =

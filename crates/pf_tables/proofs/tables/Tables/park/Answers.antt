@@ -1,12 +1,6 @@
 use Rattle.pf_tables.proofs.Parked as lemmas
 use Rattle.pf_tables.proofs.tables.Tables.park.Goals as goal
 
-pub park-requires-clause-ready : goal.park-requires-clause-ready
-park-requires-clause-ready g c = lemmas.is_ok (g.F.Frames.live c.args.door.now) _ _ _ _ _ c.self.invariant.kept _ c.self.view_is c.args.pid c.requires.ready
-
-pub park-requires-clause-may : goal.park-requires-clause-may
-park-requires-clause-may g c = lemmas.may_wait (g.F.Frames.live c.args.door.now) _ _ _ _ _ c.self.invariant.kept _ c.self.view_is c.args.pid c.requires.ready c.args.call c.requires.moving
-
 pub invariant_of-self : goal.invariant_of-self
 invariant_of-self g c =
     record {

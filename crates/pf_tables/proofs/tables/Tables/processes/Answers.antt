@@ -1,5 +1,6 @@
 -- Those of the rows live for the machine; and the tables are swept, so where nobody lives nothing is left.
-use Rattle.std.proofs.Common.{◌≡◌, sym, ap, subst, ◌∙◌}
+use Rattle.std.proofs.Common.{◌≡◌, sym, ap, ◌∙◌}
+use Rattle.pf_machine.specs.State.{itself}
 use Rattle.pf_machine.specs.Processes.{alive}
 use Rattle.pf_machine.specs.Sweep.{sweep}
 use Rattle.pf_tables.specs.Meaning.{Namespace}
@@ -14,5 +15,5 @@ returns-clause-number g c =
 pub returns-clause-none : goal.returns-clause-none
 returns-clause-none g c zero =
     let counted = c.alive.ensures ∙ sym (shown_alive c.self.inside.processes) ∙ ap (λ (n : Namespace). alive n.state) c.self.view_is in
-    let swept : c.args.self.now.state ≡ sweep c.args.self.now.state = rw (← c.self.view_is) (settled _ _ _ _ _ c.self.invariant.kept.tied) in
+    let swept : c.args.self.now.state ≡ sweep itself c.args.self.now.state = rw (← c.self.view_is) (settled _ _ _ _ _ c.self.invariant.kept.tied) in
     holds_none c.args.self.now swept (sym counted ∙ zero)

@@ -3,7 +3,7 @@ use Rattle.pf_base.specs.Permissions.{is_privileged}
 use Rattle.pf_base.specs.Capacities.{pages_for}
 use Rattle.pf_base.specs.declared.TheConstants.{PAGE_SIZE}
 use Rattle.pf_tables.specs.Tables.{Refuses, Resizes, Resizing}
-use Rattle.pf_tables.specs.Rows.{Pipe, idle}
+use Rattle.pf_tables.specs.Rows.{Pipe}
 use Rattle.pf_tables.proofs.PipesSetSize as lemmas
 use Rattle.pf_tables.proofs.Fifos.{fifos-put}
 use Rattle.pf_tables.proofs.tables.Tables.set_size.Goals as goal
@@ -15,7 +15,7 @@ returns-in_err-end-clause-resized g c =
 
 pub returns-then-bytes-gt-MAX_SIZE-clause-resized : goal.returns-then-bytes-gt-MAX_SIZE-clause-resized
 returns-then-bytes-gt-MAX_SIZE-clause-resized g c =
-    let refused = lemmas.too_many (g.F.Frames.live c.args.door.now) _ _ _ _ _ c.self.invariant.kept _ c.self.view_is c.args.pid c.args.fd c.in_ok-end.end (sym c.in_ok-end.ensures) (idle c.in_ok-ready.field-0.now) c.in_ok-ready.ensures c.args.bytes c.if-bytes-gt-MAX_SIZE.true in
+    let refused = lemmas.too_many (g.F.Frames.live c.args.door.now) _ _ _ _ _ c.self.invariant.kept _ c.self.view_is c.args.pid c.args.fd c.in_ok-end.end (sym c.in_ok-end.ensures) c.in_ok-ready.field-0.now c.in_ok-ready.ensures c.args.bytes c.if-bytes-gt-MAX_SIZE.true in
     search rules
 
 pub value_mut-pipe-requires : goal.value_mut-pipe-requires
@@ -24,9 +24,9 @@ value_mut-pipe-requires g c = record { stands = lemmas.pipe_there (g.F.Frames.li
 pub returns-then-is_too_large-clause-resized : goal.returns-then-is_too_large-clause-resized
 returns-then-is_too_large-clause-resized g c =
     let size : c.pages_for-slots.result * 4096 ≡ PAGE_SIZE * pages_for c.args.bytes = omega (arith, c.pages_for-slots.ensures.number) in
-    let over : (not (is_privileged (idle c.in_ok-ready.field-0.now).cred) && nat_lt c.self.inside.pages.limits.max (PAGE_SIZE * pages_for c.args.bytes)) ≡ c.is_too_large.result =
+    let over : (not (is_privileged c.in_ok-ready.field-0.now.cred) && nat_lt c.self.inside.pages.limits.max (PAGE_SIZE * pages_for c.args.bytes)) ≡ c.is_too_large.result =
     sym (c.is_too_large.ensures ∙ (λ j. not (c.is_privileged-privileged.ensures j) && nat_lt (c.config.ensures j).max (size j))) in
-    let refused = lemmas.too_large (g.F.Frames.live c.args.door.now) _ _ _ _ _ c.self.invariant.kept _ c.self.view_is c.args.pid c.args.fd c.in_ok-end.end (sym c.in_ok-end.ensures) (idle c.in_ok-ready.field-0.now) c.in_ok-ready.ensures c.args.bytes (omega (arith, c.if-bytes-gt-MAX_SIZE.false)) (over ∙ c.if-is_too_large.true) in
+    let refused = lemmas.too_large (g.F.Frames.live c.args.door.now) _ _ _ _ _ c.self.invariant.kept _ c.self.view_is c.args.pid c.args.fd c.in_ok-end.end (sym c.in_ok-end.ensures) c.in_ok-ready.field-0.now c.in_ok-ready.ensures c.args.bytes (omega (arith, c.if-bytes-gt-MAX_SIZE.false)) (over ∙ c.if-is_too_large.true) in
     search rules
 
 pub resize-requires : goal.resize-requires
@@ -48,29 +48,29 @@ returns-in_err-resize-clause-refused g c =
 
 pub invariant_of-self-2 : goal.invariant_of-self-2
 invariant_of-self-2 g c =
-    let z : Resizes c.self.inside.pages c.resize.new.pages c.value_mut-pipe.result.now c.resize.new.pipe (is_privileged (idle c.in_ok-ready.field-0.now).cred) c.pages_for-slots.result =
+    let z : Resizes c.self.inside.pages c.resize.new.pages c.value_mut-pipe.result.now c.resize.new.pipe (is_privileged c.in_ok-ready.field-0.now.cred) c.pages_for-slots.result =
     subst (λ b. Resizes c.self.inside.pages c.resize.new.pages c.value_mut-pipe.result.now c.resize.new.pipe b c.pages_for-slots.result) c.is_privileged-privileged.ensures c.in_ok-resize.ensures in
     record {
       kept =
-          lemmas.resized-kept (g.F.Frames.live c.args.door.now) _ _ _ _ _ c.self.invariant.kept _ c.self.view_is c.args.pid c.args.fd c.in_ok-end.end (sym c.in_ok-end.ensures) (idle c.in_ok-ready.field-0.now) c.in_ok-ready.ensures _ c.value_mut-pipe.ensures.value _ _ _ c.requires.owns refl z;
+          lemmas.resized-kept (g.F.Frames.live c.args.door.now) _ _ _ _ _ c.self.invariant.kept _ c.self.view_is c.args.pid c.args.fd c.in_ok-end.end (sym c.in_ok-end.ensures) c.in_ok-ready.field-0.now c.in_ok-ready.ensures _ c.value_mut-pipe.ensures.value _ _ _ c.requires.owns refl z;
       filed = fifos-put _ _ c.in_ok-end.end.pipe _ _ c.value_mut-pipe.ensures.value (ap (λ (q : Pipe). q.opens) z.pipe) c.self.invariant.filed;
     }
 
 pub returns-clause-resized : goal.returns-clause-resized
 returns-clause-resized g c =
     let size : c.pages_for-slots.result * 4096 ≡ PAGE_SIZE * pages_for c.args.bytes = omega (arith, c.pages_for-slots.ensures.number) in
-    let over : (not (is_privileged (idle c.in_ok-ready.field-0.now).cred) && nat_lt c.self.inside.pages.limits.max (PAGE_SIZE * pages_for c.args.bytes)) ≡ c.is_too_large.result =
+    let over : (not (is_privileged c.in_ok-ready.field-0.now.cred) && nat_lt c.self.inside.pages.limits.max (PAGE_SIZE * pages_for c.args.bytes)) ≡ c.is_too_large.result =
     sym (c.is_too_large.ensures ∙ (λ j. not (c.is_privileged-privileged.ensures j) && nat_lt (c.config.ensures j).max (size j))) in
-    let z : Resizes c.self.inside.pages c.resize.new.pages c.value_mut-pipe.result.now c.resize.new.pipe (is_privileged (idle c.in_ok-ready.field-0.now).cred) c.pages_for-slots.result =
+    let z : Resizes c.self.inside.pages c.resize.new.pages c.value_mut-pipe.result.now c.resize.new.pipe (is_privileged c.in_ok-ready.field-0.now.cred) c.pages_for-slots.result =
     subst (λ b. Resizes c.self.inside.pages c.resize.new.pages c.value_mut-pipe.result.now c.resize.new.pipe b c.pages_for-slots.result) c.is_privileged-privileged.ensures c.in_ok-resize.ensures in
-    lemmas.sized_done (g.F.Frames.live c.args.door.now) _ _ _ _ _ c.self.invariant.kept _ c.self.view_is c.args.pid c.args.fd c.in_ok-end.end (sym c.in_ok-end.ensures) (idle c.in_ok-ready.field-0.now) c.in_ok-ready.ensures _ c.value_mut-pipe.ensures.value _ _ _ c.requires.owns refl z c.args.bytes _ c.pages_for-slots.ensures.number size (omega (arith, c.if-bytes-gt-MAX_SIZE.false)) (over ∙ c.if-is_too_large.false)
+    lemmas.sized_done (g.F.Frames.live c.args.door.now) _ _ _ _ _ c.self.invariant.kept _ c.self.view_is c.args.pid c.args.fd c.in_ok-end.end (sym c.in_ok-end.ensures) c.in_ok-ready.field-0.now c.in_ok-ready.ensures _ c.value_mut-pipe.ensures.value _ _ _ c.requires.owns refl z c.args.bytes _ c.pages_for-slots.ensures.number size (omega (arith, c.if-bytes-gt-MAX_SIZE.false)) (over ∙ c.if-is_too_large.false)
 
 pub returns-in_err-resize-clause-resized : goal.returns-in_err-resize-clause-resized
 returns-in_err-resize-clause-resized g c =
     let size : c.pages_for-slots.result * 4096 ≡ PAGE_SIZE * pages_for c.args.bytes = omega (arith, c.pages_for-slots.ensures.number) in
-    let over : (not (is_privileged (idle c.in_ok-ready.field-0.now).cred) && nat_lt c.self.inside.pages.limits.max (PAGE_SIZE * pages_for c.args.bytes)) ≡ c.is_too_large.result =
+    let over : (not (is_privileged c.in_ok-ready.field-0.now.cred) && nat_lt c.self.inside.pages.limits.max (PAGE_SIZE * pages_for c.args.bytes)) ≡ c.is_too_large.result =
     sym (c.is_too_large.ensures ∙ (λ j. not (c.is_privileged-privileged.ensures j) && nat_lt (c.config.ensures j).max (size j))) in
-    let z : Resizing c.self.inside.pages c.resize.new.pages c.value_mut-pipe.result.now c.resize.new.pipe (is_privileged (idle c.in_ok-ready.field-0.now).cred) c.pages_for-slots.result (Err c.in_err-resize.field-0.0) =
+    let z : Resizing c.self.inside.pages c.resize.new.pages c.value_mut-pipe.result.now c.resize.new.pipe (is_privileged c.in_ok-ready.field-0.now.cred) c.pages_for-slots.result (Err c.in_err-resize.field-0.0) =
     subst (λ b. Resizing c.self.inside.pages c.resize.new.pages c.value_mut-pipe.result.now c.resize.new.pipe b c.pages_for-slots.result (Err c.in_err-resize.field-0.0)) c.is_privileged-privileged.ensures c.in_err-resize.ensures in
     let gives : c.from_residual-in_err-resize.result ≡ Err c.in_err-resize.field-0.0 = search rules in
-    lemmas.told (g.F.Frames.live c.args.door.now) _ _ _ _ _ c.self.invariant.kept _ c.self.view_is c.args.pid c.args.fd c.in_ok-end.end (sym c.in_ok-end.ensures) (idle c.in_ok-ready.field-0.now) c.in_ok-ready.ensures _ c.value_mut-pipe.ensures.value _ _ _ _ c.args.bytes _ _ c.pages_for-slots.ensures.number (omega (arith, c.if-bytes-gt-MAX_SIZE.false)) (over ∙ c.if-is_too_large.false) refl z gives
+    lemmas.told (g.F.Frames.live c.args.door.now) _ _ _ _ _ c.self.invariant.kept _ c.self.view_is c.args.pid c.args.fd c.in_ok-end.end (sym c.in_ok-end.ensures) c.in_ok-ready.field-0.now c.in_ok-ready.ensures _ c.value_mut-pipe.ensures.value _ _ _ _ c.args.bytes _ _ c.pages_for-slots.ensures.number (omega (arith, c.if-bytes-gt-MAX_SIZE.false)) (over ∙ c.if-is_too_large.false) refl z gives

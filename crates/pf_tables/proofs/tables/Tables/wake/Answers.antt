@@ -1,9 +1,6 @@
 use Rattle.pf_tables.proofs.Parked as lemmas
 use Rattle.pf_tables.proofs.tables.Tables.wake.Goals as goal
 
-pub wake-requires : goal.wake-requires
-wake-requires g c = lemmas.lives_in (g.F.Frames.live c.args.door.now) _ _ _ _ _ _ _ c.self.view_is c.args.pid c.requires.lives
-
 pub invariant_of-self : goal.invariant_of-self
 invariant_of-self g c =
     record {
