@@ -1,4 +1,4 @@
-//! What README shows of embedding, as a program: a process of a tenant that makes a pipe, a read that waits, and a tenant
+//! What docs/EMBEDDING.md shows, as a program: a process of a tenant that makes a pipe, a read that waits, and a tenant
 //! that comes and goes. It prints what they are told.
 #![tactic(auto)]
 
