@@ -14,9 +14,9 @@
  * -EBUSY where it waits in a call; those two with -ESRCH alone. The errors beside each function come after these.
  *
  * What the host owes. A sag_hub is SAG_SHUT or was opened by sag_open; its fields are neither read nor written; only
- * one copy of it is used; and no two calls of one hub overlap, so threads take turns by a lock, or the hub stays on
- * one thread. A buffer is as long as its count says, is no part of the hub, and is nobody else's during the call. A
- * pointer is never NULL, not even where its count is 0. */
+ * one copy of it is used; and no two calls of one hub overlap, so threads take turns by a lock, or have a hub each. A
+ * buffer is as long as its count says, is no part of the hub, and is nobody else's during the call. A pointer is never
+ * NULL, not even where its count is 0. */
 #ifndef SAGTHREY_H
 #define SAGTHREY_H
 

@@ -76,7 +76,8 @@ fn told_bytes(result: i64, buffer: &[u8]) -> Result<&[u8], Told> {
     told(result).map(|count| &buffer[..buffer.len().min(count as usize)])
 }
 
-/// A hub of one namespace, which goes with its owner. It stays on its thread, as each type with a raw pointer inside.
+/// A hub of one namespace, which goes with its owner. It stays on its thread, as each type with a raw pointer inside; a
+/// host that sends it to others may add `unsafe impl Send for Hub {}`, for a hub may go from one thread to another.
 struct Hub(SagHub);
 
 const NAMESPACE: u32 = 0;

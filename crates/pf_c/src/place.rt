@@ -31,6 +31,8 @@ impl Model for Place {
     ghost also_owns = { λ p. kept p.alloc p.at p.held };
 }
 
+unsafe impl Send for Place {}
+
 impl Place {
     ghost use Rattle.std.specs.Borrow.{sem};
     ghost use Rattle.pf_c.specs.Lent.{LendsHeld};
