@@ -12,6 +12,7 @@ pub mod meta;
 pub mod open_flags;
 pub mod permissions;
 pub mod progress;
+pub mod readiness;
 pub mod step;
 
 pub use admission::{AdmitFault, EventAnswer, RetireFault};
@@ -25,6 +26,7 @@ pub use meta::{File, Kind, Meta, Mode};
 pub use open_flags::OpenFlags;
 pub use permissions::{Class, Want, may, may_remove};
 pub use progress::{Crossing, Progress, Side};
+pub use readiness::Readiness;
 pub use step::{Answer, Reply, Step};
 
 /// The size of a page in bytes (pipe(7), "Pipe capacity"): what one slot of a pipe holds.

@@ -8,7 +8,7 @@ ghost use Rattle.pf_tables.specs.Owns.{Owns};
 
 use crate::parts::HubParts;
 use crate::tenant::Tenant;
-use pf_base::{Answer, Config, MAX_FRAMES, MAX_NAMESPACES, Step};
+use pf_base::{Answer, Config, Errno, MAX_FRAMES, MAX_NAMESPACES, Readiness, Step};
 use pf_depot::{Depot, Lender, LoanDoor, Loans};
 use pf_frame::{Frame, PoolFault};
 use pf_space::Placed;
@@ -175,6 +175,7 @@ impl<A: Allocator + Clone> Hub<A> {
     ghost use Rattle.pf_machine.specs.Numbered.{at};
     ghost use Rattle.pf_frame.specs.Faults.{IsFault};
     ghost use Rattle.pf_machine.specs.Replies.{reply_length, most_of};
+    ghost use Rattle.pf_machine.specs.Queries.{can_go_on, readiness, IsNext};
     ghost use Rattle.pf_hub.specs.Tenants.{Lives, is_living, limits_at, state_at, held_at, frames_in, house_of};
     ghost use Rattle.pf_hub.specs.Covered.{IsCovered};
     ghost use Rattle.pf_hub.specs.Opening.{new_hub, limits_of, new_allocators, first_fault};
@@ -313,6 +314,40 @@ impl<A: Allocator + Clone> Hub<A> {
     {
         match find(&self.tenants, ns) {
             Some(tenant) => tenant.placed.reply_bound(step),
+            None => unreachable!(),
+        }
+    }
+
+    /// Whether the call in which a process of a namespace waits comes further when it is tried again, as `Space::can_go_on`
+    /// says.
+    pub fn can_go_on(&self, ns: u32, pid: u32) -> bool
+        requires lives { Lives self.now.world ns }
+        ensures { result ≡ can_go_on (limits_at self.now.world ns) (state_at self.now.world ns) pid }
+    {
+        match find(&self.tenants, ns) {
+            Some(tenant) => tenant.placed.can_go_on(pid),
+            None => unreachable!(),
+        }
+    }
+
+    /// The least pid above `after` whose process can go on in a namespace, if there is one. So a loop from 0 finds them all.
+    pub fn next_to_go_on(&self, ns: u32, after: u32) -> Option<u32>
+        requires lives { Lives self.now.world ns }
+        ensures { IsNext (limits_at self.now.world ns) (state_at self.now.world ns) after result }
+    {
+        match find(&self.tenants, ns) {
+            Some(tenant) => tenant.placed.next_to_go_on(after),
+            None => unreachable!(),
+        }
+    }
+
+    /// What the pipe is ready for that a descriptor of a namespace's process names (poll(2)), as `Space::readiness` says.
+    pub fn readiness(&self, ns: u32, pid: u32, fd: u32) -> Result<Readiness, Errno>
+        requires lives { Lives self.now.world ns }
+        ensures { result ≡ readiness (state_at self.now.world ns) pid fd }
+    {
+        match find(&self.tenants, ns) {
+            Some(tenant) => tenant.placed.readiness(pid, fd),
             None => unreachable!(),
         }
     }

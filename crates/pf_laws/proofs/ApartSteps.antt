@@ -2,39 +2,37 @@
 -- run leads from the opening state.
 
 use Rattle.std.proofs.Common.{◌≡◌, ℕ, zero, suc, ◌+◌, ◌-◌, ◌≤◌, Bool, true, false, not, ◌&&◌, ◌||◌, List, [], ◌∷◌, ◌++◌, length, set, Option, Some, None, Ok, Err, refl, sym, ap, ◌∙◌, subst, inl, arith, nat_eq, nat_lt, nat_le, if◌then◌else◌, length-append, length-set, set-set}
-use Rattle.std.specs.Prelude.{Result, is_some, replicate}
+use Rattle.std.specs.Prelude.{Result, replicate}
 use Rattle.std.specs.Option.{option_map}
 use Rattle.pf_machine.specs.Refusals.{◌>>=◌, ◌>>◌, refuse_if, or_refuse}
 use Rattle.pf_base.specs.Limits.{Limits}
-use Rattle.pf_machine.specs.Queue.{Segment}
+use Rattle.pf_machine.specs.Queue.{Segment, empty}
 use Rattle.pf_machine.specs.Numbered.{at, put_at, change_at, first_free, one_if, weight, sum_of}
 use Rattle.pf_machine.proofs.NumberedLaws.{at-put_same, at_within, length-keep}
 use Rattle.pf_machine.proofs.SweepLaws.{sweep-sweep}
 use Rattle.pf_machine.specs.Calls.{Transfer, Reading, Writing, Bringing, Call, Opening, Moving, written_of, made_by}
-use Rattle.pf_machine.specs.State.{itself, State, Process, Description, End, Outcome, vacant, opening, settle, living, ready, end_at, reading_end, writing_end, change_pipe, with_descriptor, waiting, told}
+use Rattle.pf_machine.specs.State.{itself, State, Process, Description, End, Outcome, vacant, opening, settle, end_at, reading_end, writing_end, change_pipe, with_descriptor, waiting, told}
 use Rattle.pf_machine.specs.Counts.{named_in, names, readers, writers}
 use Rattle.pf_base.specs.Capacities.{told_as}
-use Rattle.pf_machine.specs.Descriptors.{dup, close, set_nonblock, named, with_nonblocking}
-use Rattle.pf_machine.specs.Processes.{born, spawn, fork, exit}
-use Rattle.pf_machine.specs.Pipes.{pipe, reading, writing, with_two, first_descriptor, second_descriptor, capacity_for, is_spent}
+use Rattle.pf_machine.specs.Descriptors.{with_nonblocking}
+use Rattle.pf_machine.specs.Pipes.{opened, reading, writing, with_two, first_descriptor, second_descriptor, capacity_for, is_spent}
 use Rattle.pf_machine.specs.Transfers.{Tried, tried, try_read, try_write, two_ends, try_cross}
 use Rattle.pf_machine.specs.Attempts.{Attempt, Finished, Waits, transfer_told, given, other_opens, open_told, attempt, first, nonblocking, transfer, again, resume}
-use Rattle.pf_machine.specs.Opens.{Access, access_of, is_waiting, openable, fifo_pipe, fifo_readers, Found, pipe_of, counted, kept_by, open_pipe, open_fifo, open_path}
+use Rattle.pf_machine.specs.Opens.{Access, is_waiting, openable, fifo_pipe, fifo_readers, Found, pipe_of, counted, kept_by, open_pipe, open_fifo, open_path}
 use Rattle.pf_machine.specs.Sweep.{sweep}
 use Rattle.pf_machine.specs.Machine.{call, act, step_of}
 use Rattle.pf_machine.specs.Runs.{run_of}
 use Rattle.pf_laws.specs.Standing.{opens, held, opening_it, reads_it, writes_it, EndsApart, reached}
 use Rattle.pf_base.specs.declared.TheConstants.{MAX_PROCESSES, MAX_DESCRIPTORS, MAX_WRITE}
-use Rattle.pf_base.specs.declared.cred.Cred.{Cred}
 use Rattle.pf_base.specs.declared.errno.Errno.{Errno}
-use Rattle.pf_base.specs.declared.errno.Errno.TheVariants.{ESRCH, EBUSY, EBADF, EAGAIN, EINVAL, EMFILE, ENFILE, ENOMEM, ENXIO, EPIPE}
-use Rattle.pf_base.specs.declared.progress.Crossing.TheVariants as crossings
+use Rattle.pf_base.specs.declared.errno.Errno.TheVariants.{EBADF, EAGAIN, EINVAL, EMFILE, ENFILE, ENOMEM, ENXIO, EPIPE}
 use Rattle.pf_base.specs.declared.progress.Progress.{Progress}
 use Rattle.pf_base.specs.declared.progress.Progress.TheVariants.{Moved, EndOfFile, NoReader, WouldBlock}
 use Rattle.pf_base.specs.declared.step.Reply.TheVariants.{Num}
 use Rattle.pf_base.specs.declared.step.Step.{Step}
 use Rattle.pf_base.specs.declared.step.Step.TheVariants as steps
 use Rattle.pf_machine.proofs.HoldsLaws.{Holds, goes, carries, passes, found}
+use Rattle.pf_machine.proofs.StepLaws.{Lives, Free, Still, all-move, step-keeps}
 use Rattle.pf_laws.proofs.EndLaws.{IsApart, counted_apart}
 use Rattle.pf_laws.proofs.ApartLaws.{Sound, sound-tame, sound-clear, sound-copy, sound-close, sound-dup, sound-wait, sound-park, sound-opened, sound-two, sound-one}
 
@@ -78,73 +76,21 @@ module _ (s : State Segment ℕ) (is : SoundState s) where
   level-sound : (ps : List (Option (Process ℕ))) (ds : List (Option (Description ℕ))) → Level ps ds → Sound ps (length ds)
   level-sound ps ds l = subst (λ n. Sound ps n) (sym l.drawn) (subst (λ qs. Sound qs (length s.descriptions)) (sym l.people) is)
 
-  -- who makes a step stands, and waits in this call or in none
-  pub record Stands (k : ℕ) (p : Process ℕ) : Type 0 where
-    pub at_place : at s.processes k ≡ Some p
-
-  pub record Free (k : ℕ) (p : Process ℕ) : Type 0 where
-    pub at_place : at s.processes k ≡ Some p
-    pub free : p.parked ≡ None
-
-  living-stands : (q : ℕ) → Holds (Stands (q - 1)) (living s q)
-  living-stands zero = tt
-  living-stands (suc i) = by_process (at s.processes i) refl
-    where
-      by_process : (o : Option (Process ℕ)) → at s.processes i ≡ o → Holds (Stands (suc i - 1)) (or_refuse ESRCH o)
-      by_process None e = tt
-      by_process (Some p) e = let same : suc i - 1 ≡ i = omega arith in record { at_place = ap (λ k. at s.processes k) same ∙ e }
-
-  ready-free : (q : ℕ) → Holds (Free (q - 1)) (ready s q)
-  ready-free q = goes (Stands (q - 1)) (Free (q - 1)) (living s q) (λ p. refuse_if (is_some p.parked) EBUSY >> Ok p) (living-stands q) (λ p h. by_call p h.at_place p.parked refl)
-    where
-      by_call : (p : Process ℕ) → at s.processes (q - 1) ≡ Some p → (o : Option (Call ℕ)) → p.parked ≡ o → Holds (Free (q - 1)) (refuse_if (is_some o) EBUSY >> Ok p)
-      by_call p e None f = record { at_place = e; free = f }
-      by_call p e (Some call) f = tt
-
-  by_ready : (q : ℕ) (f : Process ℕ → Result (Outcome Segment ℕ) Errno) → ((p : Process ℕ) → Free (q - 1) p → Holds OutSound (f p)) → Holds OutSound (ready s q >>= f)
-  by_ready q f h = goes (Free (q - 1)) OutSound (ready s q) f (ready-free q) h
-
-  -- Calls that don't wait
-
-  spawn-sound : (cred : Cred) → Holds OutSound (spawn s cred)
-  spawn-sound cred = search (passes, born-sound) depth 16
-    where
-      q : Process ℕ
-      q = record { cred = cred; descriptors = vacant MAX_DESCRIPTORS; parked = None }
-
-      born-sound : Holds OutSound (born s q)
-      born-sound =
-          let made = sound-tame s.processes (length s.descriptions) is (first_free s.processes + 1 - 1) (Some q) (λ n. omega arith) (λ n none. none_named n) in
-          search (passes, made) depth 16
-
-  fork-sound : (q : ℕ) (p : Process ℕ) → Free (q - 1) p → Holds OutSound (fork s p)
-  fork-sound q p f = let made = sound-copy s.processes (length s.descriptions) is (q - 1) (first_free s.processes + 1 - 1) p f.at_place f.free in search (passes, made) depth 16
-
-  close-sound : (q : ℕ) (p : Process ℕ) (fd : ℕ) → Free (q - 1) p → Holds OutSound (close s q p fd)
-  close-sound q p fd f = let made = sound-close s.processes (length s.descriptions) is (q - 1) fd p f.at_place in search (carries, made) depth 16
-
-  dup-sound : (q : ℕ) (p : Process ℕ) (fd : ℕ) → Free (q - 1) p → Holds OutSound (dup s q p fd)
-  dup-sound q p fd f = found OutSound EBADF (at p.descriptors fd) _ (λ n e.
-      let made = sound-dup s.processes (length s.descriptions) is (q - 1) fd (first_free p.descriptors) n p f.at_place e in
-      passes OutSound (refuse_if (nat_le MAX_DESCRIPTORS (first_free p.descriptors)) EMFILE) _ made)
+  abbrev drawn : ℕ
+  drawn = length s.descriptions
 
   -- both descriptions of a pipe are new
-  pipe-sound : (c : Limits) (q : ℕ) (p : Process ℕ) (nonblock : Bool) → Free (q - 1) p → Holds OutSound (pipe (length s.descriptions) (length s.descriptions + 1) (length s.pipes) c s q p nonblock)
-  pipe-sound c q p nonblock f = let made = two in search (passes, carries, made) depth 16
+  two-sound : (q : ℕ) (p : Process ℕ) (nonblock : Bool) → Free s q p → (slots : ℕ)
+      → SoundState (opened drawn (drawn + 1) (length s.pipes) s q nonblock (empty slots) p)
+  two-sound q p nonblock f slots =
+      subst (λ n. Sound (put_at s.processes (q - 1) (with_two drawn (drawn + 1) p)) n) count
+      (sound-two s.processes drawn is (q - 1) (first_descriptor p) (second_descriptor p) p f.at_place f.free)
     where
       ends : List (Option (Description ℕ))
       ends = Some (reading (length s.pipes) nonblock) ∷ Some (writing (length s.pipes) nonblock) ∷ []
 
-      count : length s.descriptions + 2 ≡ length (s.descriptions ++ ends)
+      count : drawn + 2 ≡ length (s.descriptions ++ ends)
       count = omega (arith, length-append s.descriptions ends)
-
-      two : Sound (put_at s.processes (q - 1) (with_two (length s.descriptions) (length s.descriptions + 1) p)) (length (s.descriptions ++ ends))
-      two = subst (λ n. Sound (put_at s.processes (q - 1) (with_two (length s.descriptions) (length s.descriptions + 1) p)) n) count (sound-two s.processes (length s.descriptions) is (q - 1) (first_descriptor p) (second_descriptor p) p f.at_place f.free)
-
-  -- the flag is no name
-  set_nonblock-sound : (p : Process ℕ) (fd : ℕ) (on : Bool) → Holds OutSound (set_nonblock itself s p fd on)
-  set_nonblock-sound p fd on = carries OutSound (named p fd) _ (λ n.
-      level-sound s.processes (change_at (with_nonblocking on) s.descriptions n) (record { people = refl; drawn = length-set s.descriptions n (option_map (with_nonblocking on) (at s.descriptions n)) }))
 
   -- Transfers
 
@@ -211,7 +157,8 @@ module _ (s : State Segment ℕ) (is : SoundState s) where
       by_none true = tt
       by_none false = level-sound t.processes t.descriptions h.0
 
-  transfer-sound : (q : ℕ) (p : Process ℕ) → Free (q - 1) p → (flag : Bool) (call : Transfer) → Holds OutSound (transfer s q p flag call)
+  transfer-sound : (q : ℕ) (p : Process ℕ) → Free s q p → (flag : Bool) (call : Transfer)
+      → Holds OutSound (transfer s q p flag call)
   transfer-sound q p f flag call =
       goes LevelAttempt OutSound (attempt s q p (Moving call)) (first q (flag || nonblocking s p call)) (attempt-level q p call)
       (λ a h. first-sound q p f.at_place (flag || nonblocking s p call) a h)
@@ -241,7 +188,7 @@ module _ (s : State Segment ℕ) (is : SoundState s) where
       by_end (Err x) = waits-sound (q - 1) None p e (no_open None p.parked refl) s.processes s.descriptions same
       by_end (Ok x) = by_came (nat_lt kept (other_opens x))
 
-  resume-sound : (q : ℕ) (p : Process ℕ) → Stands (q - 1) p → Holds OutSound (resume s q p)
+  resume-sound : (q : ℕ) (p : Process ℕ) → Lives s q p → Holds OutSound (resume s q p)
   resume-sound q p h = found OutSound EINVAL p.parked (λ call. Ok (again s q (attempt s q p call))) by_call
     where
       by_call : (call : Call ℕ) → p.parked ≡ Some call → OutSound (again s q (attempt s q p call))
@@ -250,7 +197,8 @@ module _ (s : State Segment ℕ) (is : SoundState s) where
 
   -- Open
 
-  open_pipe-sound : (t : State Segment ℕ) → Level t.processes t.descriptions → (q : ℕ) (p : Process ℕ) → Free (q - 1) p → (a : Access) (n : ℕ) → Holds OutSound (first q false (open_pipe itself (length s.descriptions) n t q p a n))
+  open_pipe-sound : (t : State Segment ℕ) → Level t.processes t.descriptions → (q : ℕ) (p : Process ℕ) → Free s q p
+      → (a : Access) (n : ℕ) → Holds OutSound (first q false (open_pipe itself (length s.descriptions) n t q p a n))
   open_pipe-sound t l q p f a n = by_other (is_waiting a (readers itself t n) (writers itself t n))
     where
       d : Description ℕ
@@ -292,7 +240,8 @@ module _ (s : State Segment ℕ) (is : SoundState s) where
   pipe_of-level c p file None =
       passes FoundLevel (refuse_if (is_spent s.pipes 1) ENFILE) _ (carries FoundLevel (told_as ENOMEM (capacity_for c s p.cred)) _ (λ slots. same))
 
-  open-sound : (c : Limits) (q : ℕ) (p : Process ℕ) → Free (q - 1) p → (path : List ℕ) (a : Access) → Holds OutSound (open_path itself (length s.descriptions) itself c s q p path a)
+  open-sound : (c : Limits) (q : ℕ) (p : Process ℕ) → Free s q p → (path : List ℕ) (a : Access)
+      → Holds OutSound (open_path itself (length s.descriptions) itself c s q p path a)
   open-sound c q p f path a = carries OutSound (openable s.files p.cred path a) (λ file. open_fifo itself (length s.descriptions) itself c s q p a file.number) (λ file. opened file.number)
     where
       opened : (file : ℕ) → Holds OutSound (open_fifo itself (length s.descriptions) itself c s q p a file)
@@ -306,29 +255,31 @@ module _ (s : State Segment ℕ) (is : SoundState s) where
 
   -- Steps
 
+  still : Still s OutSound
+  still = record {
+    spawned = λ cred. sound-tame s.processes drawn is _ (Some _) (λ n. omega arith) (λ n none. none_named n);
+    forked = λ pid p f. sound-copy s.processes drawn is (pid - 1) _ p f.at_place f.free;
+    exited = λ pid p l. sound-clear s.processes drawn is (pid - 1);
+    duped = λ pid p fd n f e.
+        sound-dup s.processes drawn is (pid - 1) fd (first_free p.descriptors) n p f.at_place e;
+    closed = λ pid p fd f. sound-close s.processes drawn is (pid - 1) fd p f.at_place;
+    flagged = λ n on. level-sound s.processes (change_at (with_nonblocking on) s.descriptions n) (record {
+      people = refl;
+      drawn = length-set s.descriptions n (option_map (with_nonblocking on) (at s.descriptions n));
+    });
+    piped = two-sound;
+    sized = λ p fd e h pages. is;
+    looked = λ r fine short. is;
+    made = λ c kind path mode files e. is;
+    filed = λ c files how. is;
+    opened = λ c pid p path a f. open-sound c pid p f path a;
+  }
+
   kept : (c : Limits) (step : Step) → Holds OutSound (call c s step)
-  kept c (steps.Spawn uid gid umask groups) = spawn-sound (record { uid = uid; gid = gid; groups = groups; umask = umask })
-  kept c (steps.Exit pid) = carries OutSound (living s pid) (λ p. exit s pid) (λ p. sound-clear s.processes (length s.descriptions) is (pid - 1))
-  kept c (steps.Resume pid) = goes (Stands (pid - 1)) OutSound (living s pid) (λ p. resume s pid p) (living-stands pid) (λ p h. resume-sound pid p h)
-  kept c (steps.Fork pid) = by_ready pid _ (λ p f. fork-sound pid p f)
-  kept c (steps.Mkdir pid path mode) = search (carries, is) depth 16
-  kept c (steps.Mkfifo pid path mode) = search (carries, is) depth 16
-  kept c (steps.Unlink pid path) = search (carries, is) depth 16
-  kept c (steps.Rmdir pid path) = search (carries, is) depth 16
-  kept c (steps.Chmod pid path mode) = search (carries, is) depth 16
-  kept c (steps.Stat pid path) = search (carries, is) depth 16
-  kept c (steps.List pid path) = search (carries, is) depth 16
-  kept c (steps.Open pid path flags) = by_ready pid _ (λ p f. open-sound c pid p f path (access_of flags.0))
-  kept c (steps.Pipe pid nonblock) = by_ready pid _ (λ p f. pipe-sound c pid p nonblock f)
-  kept c (steps.Dup pid fd) = by_ready pid _ (λ p f. dup-sound pid p fd f)
-  kept c (steps.Close pid fd) = by_ready pid _ (λ p f. close-sound pid p fd f)
-  kept c (steps.Read pid fd n) = by_ready pid _ (λ p f. transfer-sound pid p f false (Reading fd n))
-  kept c (steps.Write pid fd payload) = by_ready pid _ (λ p f. transfer-sound pid p f false (Writing fd payload 0))
-  kept c (steps.Tee pid source sink n nonblock) = by_ready pid _ (λ p f. transfer-sound pid p f nonblock (Bringing crossings.Tee source sink n))
-  kept c (steps.Splice pid source sink n nonblock) = by_ready pid _ (λ p f. transfer-sound pid p f nonblock (Bringing crossings.Splice source sink n))
-  kept c (steps.SetSize pid fd bytes) = search (carries, passes, is) depth 16
-  kept c (steps.GetSize pid fd) = search (carries, is) depth 16
-  kept c (steps.SetNonblock pid fd on) = by_ready pid _ (λ p f. set_nonblock-sound p fd on)
+  kept c (steps.Resume pid) = step-keeps s OutSound still c (steps.Resume pid) (λ p l. resume-sound pid p l)
+  kept c x =
+      step-keeps s OutSound still c x
+      (all-move s OutSound (λ pid p flag call f. transfer-sound pid p f flag call) (λ names. is) x tt)
 
   act-sound : (c : Limits) (step : Step) → OutSound (act c s step)
   act-sound c step = settled (call c s step) (kept c step)

@@ -1,28 +1,18 @@
 -- A FIFO has one pipe at most, in every state that a run reaches from the opening state.
 
-use Rattle.std.proofs.Common.{◌≡◌, ◌≢◌, ℕ, zero, suc, Bool, true, false, List, [], ◌∷◌, ◌++◌, length, Option, Some, None, Ok, Err, refl, sym, ap, ◌∙◌, subst, ◌⊎◌, inl, inr, ⊎_elim, arith, nat_lt, if◌then◌else◌}
+use Rattle.std.proofs.Common.{◌≡◌, ◌≢◌, ℕ, zero, suc, Bool, true, false, List, [], ◌∷◌, ◌++◌, length, Option, Some, None, refl, sym, ap, ◌∙◌, subst, ◌⊎◌, inl, inr, ⊎_elim, arith, if◌then◌else◌}
 use Rattle.std.proofs.lemmas.Bool.{eqb-true, eq-eqb}
-use Rattle.std.specs.Prelude.{Result}
 use Rattle.std.specs.Option.{option_map, option_and_then}
 use Rattle.pf_base.specs.Limits.{Limits}
 use Rattle.pf_machine.specs.Queue.{Segment, Queue}
 use Rattle.pf_machine.specs.Numbered.{at, change_at, keep}
 use Rattle.pf_machine.proofs.NumberedLaws.{at-keep}
-use Rattle.pf_machine.specs.Calls.{Reading, Writing, Bringing}
-use Rattle.pf_machine.specs.State.{itself, State, Pipe, Outcome, opening, holding, settle}
-use Rattle.pf_machine.specs.Counts.{ends}
+use Rattle.pf_machine.specs.State.{State, Pipe, opening, holding}
 use Rattle.pf_machine.specs.Pipes.{new_pipe}
-use Rattle.pf_machine.specs.Opens.{access_of, first_where, is_of_file, counted}
-use Rattle.pf_machine.specs.Sweep.{sweep}
-use Rattle.pf_machine.specs.Machine.{call, act, step_of}
-use Rattle.pf_machine.specs.Runs.{run_of}
+use Rattle.pf_machine.specs.Opens.{first_where, is_of_file, counted}
 use Rattle.pf_laws.specs.Standing.{OneFifoEach, reached}
-use Rattle.pf_base.specs.declared.errno.Errno.{Errno}
-use Rattle.pf_base.specs.declared.progress.Crossing.TheVariants as crossings
 use Rattle.pf_base.specs.declared.step.Step.{Step}
-use Rattle.pf_base.specs.declared.step.Step.TheVariants as steps
-use Rattle.pf_machine.proofs.HoldsLaws.{Holds, carries, passes}
-use Rattle.pf_laws.proofs.KeepLaws.{Kept, transfer-keeps, resume-keeps, open-keeps}
+use Rattle.pf_laws.proofs.KeepLaws.{Kept, kept-run}
 
 -- Pipes by the numbers of their FIFOs
 
@@ -149,49 +139,11 @@ others = record {
   held = λ s n q h. apart-holding s.pipes n q h;
   opens = λ s a n h. apart-changed (counted a) (λ x. refl) s.pipes n h;
   fifo = λ s q owner f there e h. apart-fifo s.pipes q owner f.number e h;
+  piped = λ s q owner h. apart-push s.pipes (new_pipe q owner None) refl h;
+  fewer = λ s test h. apart-keep test s.pipes h;
+  made = λ s c kind path mode files e h. h;
+  filed = λ s c files how h. h;
 }
-
-module _ (s : State Segment ℕ) (m : Apart s.pipes) where
-  abbrev Keeps : Outcome Segment ℕ → Type 0
-  Keeps o = Apart o.state.pipes
-
-  apart-new : (q : Queue) (owner : ℕ) → Apart (s.pipes ++ Some (new_pipe q owner None) ∷ [])
-  apart-new q owner = apart-push s.pipes (new_pipe q owner None) refl m
-
-  kept : (c : Limits) (step : Step) → Holds Keeps (call c s step)
-  kept c (steps.Spawn uid gid umask groups) = search (passes, m) depth 16
-  kept c (steps.Exit pid) = search (carries, m) depth 16
-  kept c (steps.Resume pid) = carries Keeps _ _ (λ p. resume-keeps IsApart others s m pid p)
-  kept c (steps.Fork pid) = search (carries, passes, m) depth 16
-  kept c (steps.Mkdir pid path mode) = search (carries, m) depth 16
-  kept c (steps.Mkfifo pid path mode) = search (carries, m) depth 16
-  kept c (steps.Unlink pid path) = search (carries, m) depth 16
-  kept c (steps.Rmdir pid path) = search (carries, m) depth 16
-  kept c (steps.Chmod pid path mode) = search (carries, m) depth 16
-  kept c (steps.Stat pid path) = search (carries, m) depth 16
-  kept c (steps.List pid path) = search (carries, m) depth 16
-  kept c (steps.Open pid path flags) = carries Keeps _ _ (λ p. open-keeps IsApart others s m c pid p path (access_of flags.0))
-  kept c (steps.Pipe pid nonblock) = search (carries, passes, apart-new) depth 16
-  kept c (steps.Dup pid fd) = search (carries, passes, m) depth 16
-  kept c (steps.Close pid fd) = search (carries, m) depth 16
-  kept c (steps.Read pid fd n) = carries Keeps _ _ (λ p. transfer-keeps IsApart others s m pid p false (Reading fd n))
-  kept c (steps.Write pid fd payload) = carries Keeps _ _ (λ p. transfer-keeps IsApart others s m pid p false (Writing fd payload 0))
-  kept c (steps.Tee pid source sink n nonblock) = carries Keeps _ _ (λ p. transfer-keeps IsApart others s m pid p nonblock (Bringing crossings.Tee source sink n))
-  kept c (steps.Splice pid source sink n nonblock) = carries Keeps _ _ (λ p. transfer-keeps IsApart others s m pid p nonblock (Bringing crossings.Splice source sink n))
-  kept c (steps.SetSize pid fd bytes) = search (carries, passes, apart-holding, m) depth 16
-  kept c (steps.GetSize pid fd) = search (carries, m) depth 16
-  kept c (steps.SetNonblock pid fd on) = search (carries, m) depth 16
-
-  step-apart : (c : Limits) (step : Step) → Apart (step_of c s step).state.pipes
-  step-apart c step = apart-keep (λ n. nat_lt 0 (ends itself (sweep itself (act c s step).state).descriptions n)) (act c s step).state.pipes (settled (call c s step) (kept c step))
-    where
-      settled : (r : Result (Outcome Segment ℕ) Errno) → Holds Keeps r → Apart (settle s r).state.pipes
-      settled (Ok o) h = h
-      settled (Err e) h = m
-
-run-apart : (c : Limits) (s : State Segment ℕ) (xs : List Step) → Apart s.pipes → Apart (run_of c s xs).state.pipes
-run-apart c s [] m = m
-run-apart c s (x ∷ xs) m = run-apart c (step_of c s x).state xs (step-apart s m c x)
 
 pub one_fifo_each : (c : Limits) (xs : List Step) → OneFifoEach (reached c xs)
 one_fifo_each c xs = record {
@@ -200,7 +152,7 @@ one_fifo_each c xs = record {
 }
   where
     apart : Apart (reached c xs).pipes
-    apart = run-apart c opening xs (record { one = λ m n file e f. absurd (cc) })
+    apart = kept-run IsApart others c opening xs (record { one = λ m n file e f. absurd (cc) })
 
     file_of : (n : ℕ) (p : Pipe Segment) (file : ℕ) → at (reached c xs).pipes n ≡ Some p → p.file ≡ Some file → file_at (reached c xs).pipes n ≡ Some file
     file_of n p file e g = ap (λ (o : Option (Pipe Segment)). option_and_then (λ p. p.file) o) e ∙ g

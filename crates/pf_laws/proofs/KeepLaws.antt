@@ -1,9 +1,14 @@
--- What calls that may wait keep: whatever the changes to single parts of a state keep.
+-- What changes to single parts of a state keep, each step keeps, and each run.
 
 use Rattle.std.specs.Prelude.{◌≡◌, ℕ, ◌+◌, List, [], ◌∷◌, ◌++◌, Bool, true, false, not, ◌&&◌, ◌||◌, if◌then◌else◌, Option, Some, None, Result, Ok, Err, nat_eq, nat_lt, nat_le, length}
 use Rattle.std.proofs.Common.{refl}
 use Rattle.pf_machine.specs.Refusals.{◌>>◌, refuse_if, or_refuse}
 use Rattle.pf_base.specs.Limits.{Limits}
+use Rattle.pf_machine.specs.FileCalls as calls
+use Rattle.pf_machine.specs.Files.{with_files, with_new}
+use Rattle.pf_machine.specs.Sweep.{sweep}
+use Rattle.pf_machine.specs.Machine.{call, act, step_of}
+use Rattle.pf_machine.specs.Runs.{run_of}
 use Rattle.pf_machine.specs.FileMap.{Files, Path, find, is_directory}
 use Rattle.pf_machine.specs.Paths.{words_of, reach, target_of, target}
 use Rattle.pf_base.specs.Permissions.{allows}
@@ -12,10 +17,10 @@ use Rattle.pf_base.specs.declared.meta.File.{File}
 use Rattle.pf_base.specs.declared.permissions.Want.TheVariants.{Read, Write}
 use Rattle.pf_machine.specs.Queue.{Segment, Queue, empty}
 use Rattle.pf_machine.specs.Progress.{read_now, cross_now}
-use Rattle.pf_machine.specs.Numbered.{at, first_free}
+use Rattle.pf_machine.specs.Numbered.{at, first_free, keep}
 use Rattle.pf_machine.specs.Calls.{Transfer, Reading, Writing, Bringing, Call, Opening, Moving, written_of}
-use Rattle.pf_machine.specs.State.{itself, State, Process, Description, End, Outcome, end_at, reading_end, writing_end, change_pipe, with_queue, told}
-use Rattle.pf_machine.specs.Counts.{readers, writers}
+use Rattle.pf_machine.specs.State.{itself, State, Process, Description, End, Outcome, end_at, reading_end, writing_end, change_pipe, with_queue, told, settle}
+use Rattle.pf_machine.specs.Counts.{readers, writers, ends}
 use Rattle.pf_base.specs.Capacities.{told_as}
 use Rattle.pf_machine.specs.Pipes.{new_pipe, capacity_for, is_spent}
 use Rattle.pf_machine.specs.Transfers.{Tried, Ends, tried, try_read, try_write, two_ends, try_cross}
@@ -24,10 +29,14 @@ use Rattle.pf_machine.specs.Opens.{Access, is_waiting, openable, fifo_pipe, fifo
 use Rattle.pf_base.specs.declared.TheConstants.{MAX_WRITE, MAX_DESCRIPTORS}
 use Rattle.pf_base.specs.declared.progress.Progress.{Progress}
 use Rattle.pf_base.specs.declared.progress.Progress.TheVariants.{Moved, EndOfFile, NoReader, WouldBlock}
+use Rattle.pf_base.specs.declared.meta.Kind.{Kind}
+use Rattle.pf_base.specs.declared.step.Step.{Step}
+use Rattle.pf_base.specs.declared.step.Step.TheVariants as steps
 use Rattle.pf_base.specs.declared.step.Reply.TheVariants.{Num}
 use Rattle.pf_base.specs.declared.errno.Errno.{Errno}
 use Rattle.pf_base.specs.declared.errno.Errno.TheVariants.{ENXIO, EBADF, EAGAIN, ENOMEM, EINVAL, ENFILE, EMFILE, EPIPE, ENOENT, EACCES, EISDIR, ENOTDIR}
 use Rattle.pf_machine.proofs.HoldsLaws.{Holds, goes, carries, passes, found}
+use Rattle.pf_machine.proofs.StepLaws.{Refiled, Still, all-move, step-keeps}
 
 -- a file stands at some path
 pub record There (files : Files) (f : File) : Type 0 where
@@ -56,6 +65,12 @@ pub record Kept (P : State Segment ℕ → Type 0) : Type 0 where
   pub held : (s : State Segment ℕ) (n : ℕ) (q : Queue) → P s → P (with_queue s n q)
   pub opens : (s : State Segment ℕ) (a : Access) (n : ℕ) → P s → P (change_pipe (counted a) s n)
   pub fifo : (s : State Segment ℕ) (q : Queue) (owner : ℕ) (f : File) → There s.files f → fifo_pipe s f.number ≡ None → P s → P (record s { pipes = s.pipes ++ Some (new_pipe q owner (Some f.number)) ∷ [] })
+  pub piped : (s : State Segment ℕ) (q : Queue) (owner : ℕ) → P s
+      → P (record s { pipes = s.pipes ++ Some (new_pipe q owner None) ∷ [] })
+  pub fewer : (s : State Segment ℕ) (test : ℕ → Bool) → P s → P (record s { pipes = keep test s.pipes })
+  pub made : (s : State Segment ℕ) (c : Cred) (kind : Kind) (path : List ℕ) (mode : ℕ) (files : Files)
+      → calls.make kind s.files s.files_made c path mode ≡ Ok files → P s → P (with_new s files)
+  pub filed : (s : State Segment ℕ) (c : Cred) (files : Files) → Refiled s.files c files → P s → P (with_files s files)
 
 module _ (P : State Segment ℕ → Type 0) (k : Kept P) (s : State Segment ℕ) (m : P s) where
   abbrev Keeps : Outcome Segment ℕ → Type 0
@@ -136,11 +151,11 @@ module _ (P : State Segment ℕ → Type 0) (k : Kept P) (s : State Segment ℕ)
       by_none true = tt
       by_none false = h
 
-  pub transfer-keeps : (pid : ℕ) (p : Process ℕ) (flag : Bool) (call : Transfer) → Holds Keeps (transfer s pid p flag call)
+  transfer-keeps : (pid : ℕ) (p : Process ℕ) (flag : Bool) (call : Transfer) → Holds Keeps (transfer s pid p flag call)
   transfer-keeps pid p flag call =
       goes Stays Keeps (attempt s pid p (Moving call)) (first pid (flag || nonblocking s p call)) (attempt-keeps pid p (Moving call)) (λ a h. first-keeps pid (flag || nonblocking s p call) a h)
 
-  pub resume-keeps : (pid : ℕ) (p : Process ℕ) → Holds Keeps (resume s pid p)
+  resume-keeps : (pid : ℕ) (p : Process ℕ) → Holds Keeps (resume s pid p)
   resume-keeps pid p = carries Keeps (or_refuse EINVAL p.parked) (λ call. Ok (again s pid (attempt s pid p call))) (λ call. again-keeps (attempt s pid p call) (attempt-keeps pid p call))
     where
       again-keeps : (r : Result (Attempt Segment ℕ) Errno) → Holds Stays r → Keeps (again s pid r)
@@ -175,7 +190,8 @@ module _ (P : State Segment ℕ → Type 0) (k : Kept P) (s : State Segment ℕ)
       passes FoundIn (refuse_if (is_spent s.pipes 1) ENFILE) _
       (carries FoundIn (told_as ENOMEM (capacity_for c s p.cred)) _ (λ slots. k.fifo s (empty slots) p.cred.uid f there e m))
 
-  pub open-keeps : (c : Limits) (pid : ℕ) (p : Process ℕ) (path : List ℕ) (a : Access) → Holds Keeps (open_path itself (length s.descriptions) itself c s pid p path a)
+  open-keeps : (c : Limits) (pid : ℕ) (p : Process ℕ) (path : List ℕ) (a : Access)
+      → Holds Keeps (open_path itself (length s.descriptions) itself c s pid p path a)
   open-keeps c pid p path a = goes (There s.files) Keeps (openable s.files p.cred path a) (λ f. open_fifo itself (length s.descriptions) itself c s pid p a f.number) (openable-there s.files p.cred path a) opened
     where
       opened : (f : File) → There s.files f → Holds Keeps (open_fifo itself (length s.descriptions) itself c s pid p a f.number)
@@ -186,3 +202,42 @@ module _ (P : State Segment ℕ → Type 0) (k : Kept P) (s : State Segment ℕ)
           (goes FoundIn Keeps (pipe_of c s p f.number (fifo_pipe s f.number)) (λ found. first pid false (open_pipe itself (length s.descriptions) found.pipe found.state pid p a found.pipe))
           (pipe_of-keeps c p f (fifo_pipe s f.number) there refl)
           (λ found h. first-keeps pid false (open_pipe itself (length s.descriptions) found.pipe found.state pid p a found.pipe) (open_pipe-keeps (length s.descriptions) found.pipe found.state pid p a found.pipe h)))))
+
+  -- Steps
+
+  still : Still s Keeps
+  still = record {
+    spawned = λ cred. k.people s _ m;
+    forked = λ pid p f. k.people s _ m;
+    exited = λ pid p l. k.people s _ m;
+    duped = λ pid p fd n f e. k.people s _ m;
+    closed = λ pid p fd f. k.people s _ m;
+    flagged = λ n on. k.drawn s _ m;
+    piped = λ pid p nonblock f slots. k.people _ _ (k.drawn _ _ (k.piped s (empty slots) p.cred.uid m));
+    sized = λ p fd e is pages. k.held s e.description.pipe _ m;
+    looked = λ r fine short. m;
+    made = λ c kind path mode files e. k.made s c kind path mode files e m;
+    filed = λ c files how. k.filed s c files how m;
+    opened = λ c pid p path a f. open-keeps c pid p path a;
+  }
+
+  call-keeps : (c : Limits) (x : Step) → Holds Keeps (call c s x)
+  call-keeps c (steps.Resume pid) = step-keeps s Keeps still c (steps.Resume pid) (λ p l. resume-keeps pid p)
+  call-keeps c x =
+      step-keeps s Keeps still c x
+      (all-move s Keeps (λ pid p flag call f. transfer-keeps pid p flag call) (λ names. m) x tt)
+
+  pub kept-step : (c : Limits) (x : Step) → P (step_of c s x).state
+  kept-step c x = swept (act c s x).state (settled (call c s x) (call-keeps c x))
+    where
+      settled : (r : Result (Outcome Segment ℕ) Errno) → Holds Keeps r → P (settle s r).state
+      settled (Ok o) h = h
+      settled (Err e) h = m
+
+      swept : (t : State Segment ℕ) → P t → P (sweep itself t)
+      swept t h = k.drawn _ _ (k.fewer t (λ n. nat_lt 0 (ends itself (sweep itself t).descriptions n)) h)
+
+pub kept-run : (P : State Segment ℕ → Type 0) → Kept P → (c : Limits) (s : State Segment ℕ) (xs : List Step) → P s
+    → P (run_of c s xs).state
+kept-run P k c s [] m = m
+kept-run P k c s (x ∷ xs) m = kept-run P k c (step_of c s x).state xs (kept-step P k s m c x)

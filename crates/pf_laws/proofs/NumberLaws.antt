@@ -1,36 +1,27 @@
 -- Numbers of files: no two paths have files of one number, and none of a file or of a FIFO's pipe is still to be drawn, in
 -- every state that a run reaches from the opening state.
 
-use Rattle.std.proofs.Common.{◌≡◌, ℕ, ◌+◌, ◌≤◌, Bool, true, false, List, [], ◌∷◌, ◌++◌, Option, Some, None, Ok, Err, refl, sym, ap, ◌∙◌, ◌⊎◌, inl, inr, ⊎_elim, arith, nat_lt, if◌then◌else◌}
-use Rattle.std.specs.Prelude.{Result}
+use Rattle.std.proofs.Common.{◌≡◌, ℕ, ◌+◌, ◌≤◌, Bool, true, false, List, [], ◌∷◌, ◌++◌, Option, Some, None, refl, sym, ap, ◌∙◌, ◌⊎◌, inl, inr, ⊎_elim, arith, if◌then◌else◌}
 use Rattle.pf_base.specs.Limits.{Limits}
 use Rattle.pf_machine.specs.FileMap.{Files, Path, find, insert, remove, set_mode, same_path, with_mode, root_alone}
 use Rattle.pf_base.specs.Root.{root}
 use Rattle.pf_machine.specs.FileCalls as calls
 use Rattle.pf_machine.specs.FileCalls.{made_by}
-use Rattle.pf_machine.specs.Files.{make, unlink, rmdir, chmod, with_files, with_new}
-use Rattle.pf_base.specs.Permissions.{mode_of}
+use Rattle.pf_machine.specs.Files.{with_files, with_new}
 use Rattle.pf_machine.specs.Queue.{Segment, Queue}
 use Rattle.pf_machine.specs.Numbered.{change_at, keep}
-use Rattle.pf_machine.specs.Calls.{Reading, Writing, Bringing}
-use Rattle.pf_machine.specs.State.{itself, State, Process, Outcome, opening, holding, settle, done}
-use Rattle.pf_machine.specs.Counts.{ends}
+use Rattle.pf_machine.specs.State.{State, opening, holding}
 use Rattle.pf_machine.specs.Pipes.{new_pipe}
-use Rattle.pf_machine.specs.Opens.{Access, access_of, fifo_pipe, counted}
-use Rattle.pf_machine.specs.Sweep.{sweep}
-use Rattle.pf_machine.specs.Machine.{call, act, step_of}
-use Rattle.pf_machine.specs.Runs.{run_of}
+use Rattle.pf_machine.specs.Opens.{Access, fifo_pipe, counted}
 use Rattle.pf_laws.specs.Standing.{NumbersApart, reached}
 use Rattle.pf_base.specs.declared.cred.Cred.{Cred}
-use Rattle.pf_base.specs.declared.errno.Errno.{Errno}
 use Rattle.pf_base.specs.declared.meta.File.{File}
 use Rattle.pf_base.specs.declared.meta.Kind.{Kind}
-use Rattle.pf_base.specs.declared.progress.Crossing.TheVariants as crossings
 use Rattle.pf_base.specs.declared.step.Step.{Step}
-use Rattle.pf_base.specs.declared.step.Step.TheVariants as steps
 use Rattle.pf_machine.proofs.FileLaws.{same_path-eq, moded, find-insert, find-remove_same, find-remove_other, find-set_mode}
-use Rattle.pf_machine.proofs.HoldsLaws.{Holds, goes, carries, passes}
-use Rattle.pf_laws.proofs.KeepLaws.{Kept, There, transfer-keeps, resume-keeps, open-keeps}
+use Rattle.pf_machine.proofs.HoldsLaws.{Holds, carries, passes, of_given}
+use Rattle.pf_laws.proofs.KeepLaws.{Kept, There, kept-run}
+use Rattle.pf_machine.proofs.StepLaws.{Refiled, Unlinked, Removed, Remoded}
 use Rattle.pf_laws.proofs.FifoLaws.{Pipes, file_at, changed, kept_file, pushed, found_at}
 
 -- of files, where so many were made, and of pipes
@@ -127,6 +118,32 @@ module _ (files : Files) (made : ℕ) (ps : Pipes) (is : Numbers files made ps) 
 abbrev IsNumbered : State Segment ℕ → Type 0
 IsNumbered s = Numbers s.files s.files_made s.pipes
 
+-- a file that is made gets the next number
+files-made : (s : State Segment ℕ) → IsNumbered s → (c : Cred) (kind : Kind) (path : List ℕ) (mode : ℕ)
+    → Holds (λ files. IsNumbered (with_new s files)) (calls.make kind s.files s.files_made c path mode)
+files-made s m c kind path mode = search (carries, passes, inserted) depth 24
+  where
+    inserted : (p : Path) → Numbers (insert p (made_by c kind mode s.files_made) s.files) (s.files_made + 1) s.pipes
+    inserted p = numbers-insert s.files s.files_made s.pipes m p (made_by c kind mode s.files_made) refl
+
+files-left : (s : State Segment ℕ) (c : Cred) (files : Files) → Refiled s.files c files → IsNumbered s
+    → IsNumbered (with_files s files)
+files-left s c files how m = by_call how
+  where
+    Left : Files → Type 0
+    Left fs = Numbers fs s.files_made s.pipes
+
+    removed : (p : Path) → Left (remove p s.files)
+    removed p = numbers-remove s.files s.files_made s.pipes m p
+
+    remoded : (p : Path) (mode : ℕ) → Left (set_mode p mode s.files)
+    remoded p mode = numbers-set_mode s.files s.files_made s.pipes m p mode
+
+    by_call : Refiled s.files c files → Left files
+    by_call (Unlinked path e) = of_given Left _ files e (search (carries, passes, removed) depth 24)
+    by_call (Removed path e) = of_given Left _ files e (search (carries, passes, removed) depth 24)
+    by_call (Remoded path mode e) = of_given Left _ files e (search (carries, passes, remoded) depth 24)
+
 others : Kept IsNumbered
 others = record {
   people = λ s ps h. h;
@@ -134,81 +151,11 @@ others = record {
   held = λ s n q h. numbers-holding s.files s.files_made s.pipes h n q;
   opens = λ s a n h. numbers-counted s.files s.files_made s.pipes h a n;
   fifo = λ s q owner f there e h. numbers-fifo s.files s.files_made s.pipes h q owner f there;
+  piped = λ s q owner h. numbers-new s.files s.files_made s.pipes h q owner;
+  fewer = λ s test h. numbers-keep s.files s.files_made s.pipes h test;
+  made = λ s c kind path mode files e h. of_given _ _ files e (files-made s h c kind path mode);
+  filed = files-left;
 }
-
-module _ (s : State Segment ℕ) (m : IsNumbered s) where
-  abbrev Keeps : Outcome Segment ℕ → Type 0
-  Keeps o = IsNumbered o.state
-
-  abbrev Named : Files → Type 0
-  Named files = Numbers files s.files_made s.pipes
-
-  -- a file that is made gets the next number
-  inserted : (p : Path) (c : Cred) (kind : Kind) (mode : ℕ) → Numbers (insert p (made_by c kind mode s.files_made) s.files) (s.files_made + 1) s.pipes
-  inserted p c kind mode = numbers-insert s.files s.files_made s.pipes m p (made_by c kind mode s.files_made) refl
-
-  made-keeps : (kind : Kind) (p : Process ℕ) (path : List ℕ) (bits : ℕ) → Holds Keeps (make kind s p path bits)
-  made-keeps kind p path bits = carries Keeps (mode_of bits) _ (λ mode.
-      goes (λ files. Numbers files (s.files_made + 1) s.pipes) Keeps (calls.make kind s.files s.files_made p.cred path mode) (λ files. Ok (done (with_new s files) 0)) (search (carries, passes, inserted) depth 24) (λ files h. h))
-
-  removed : (p : Path) → Named (remove p s.files)
-  removed p = numbers-remove s.files s.files_made s.pipes m p
-
-  unlinked-keeps : (p : Process ℕ) (path : List ℕ) → Holds Keeps (unlink s p path)
-  unlinked-keeps p path = goes Named Keeps (calls.unlink s.files p.cred path) (λ files. Ok (done (with_files s files) 0)) (search (carries, passes, removed) depth 24) (λ files h. h)
-
-  removed-keeps : (p : Process ℕ) (path : List ℕ) → Holds Keeps (rmdir s p path)
-  removed-keeps p path = goes Named Keeps (calls.rmdir s.files p.cred path) (λ files. Ok (done (with_files s files) 0)) (search (carries, passes, removed) depth 24) (λ files h. h)
-
-  remoded : (p : Path) (mode : ℕ) → Named (set_mode p mode s.files)
-  remoded p mode = numbers-set_mode s.files s.files_made s.pipes m p mode
-
-  remoded-keeps : (p : Process ℕ) (path : List ℕ) (bits : ℕ) → Holds Keeps (chmod s p path bits)
-  remoded-keeps p path bits = carries Keeps (mode_of bits) _ (λ mode.
-      goes Named Keeps (calls.chmod s.files p.cred path mode) (λ files. Ok (done (with_files s files) 0)) (search (carries, passes, remoded) depth 24) (λ files h. h))
-
-  resized : (n : ℕ) (q : Queue) → Numbers s.files s.files_made (change_at (holding q) s.pipes n)
-  resized n q = numbers-holding s.files s.files_made s.pipes m n q
-
-  opened_pipe : (q : Queue) (owner : ℕ) → Numbers s.files s.files_made (s.pipes ++ Some (new_pipe q owner None) ∷ [])
-  opened_pipe q owner = numbers-new s.files s.files_made s.pipes m q owner
-
-  kept : (c : Limits) (step : Step) → Holds Keeps (call c s step)
-  kept c (steps.Spawn uid gid umask groups) = search (passes, m) depth 16
-  kept c (steps.Exit pid) = search (carries, m) depth 16
-  kept c (steps.Resume pid) = carries Keeps _ _ (λ p. resume-keeps IsNumbered others s m pid p)
-  kept c (steps.Fork pid) = search (carries, passes, m) depth 16
-  kept c (steps.Mkdir pid path mode) = search (carries, made-keeps)
-  kept c (steps.Mkfifo pid path mode) = search (carries, made-keeps)
-  kept c (steps.Unlink pid path) = search (carries, unlinked-keeps)
-  kept c (steps.Rmdir pid path) = search (carries, removed-keeps)
-  kept c (steps.Chmod pid path mode) = search (carries, remoded-keeps)
-  kept c (steps.Stat pid path) = search (carries, m) depth 16
-  kept c (steps.List pid path) = search (carries, m) depth 16
-  kept c (steps.Open pid path flags) = carries Keeps _ _ (λ p. open-keeps IsNumbered others s m c pid p path (access_of flags.0))
-  kept c (steps.Pipe pid nonblock) = search (carries, passes, opened_pipe) depth 16
-  kept c (steps.Dup pid fd) = search (carries, passes, m) depth 16
-  kept c (steps.Close pid fd) = search (carries, m) depth 16
-  kept c (steps.Read pid fd n) = carries Keeps _ _ (λ p. transfer-keeps IsNumbered others s m pid p false (Reading fd n))
-  kept c (steps.Write pid fd payload) = carries Keeps _ _ (λ p. transfer-keeps IsNumbered others s m pid p false (Writing fd payload 0))
-  kept c (steps.Tee pid source sink n nonblock) = carries Keeps _ _ (λ p. transfer-keeps IsNumbered others s m pid p nonblock (Bringing crossings.Tee source sink n))
-  kept c (steps.Splice pid source sink n nonblock) = carries Keeps _ _ (λ p. transfer-keeps IsNumbered others s m pid p nonblock (Bringing crossings.Splice source sink n))
-  kept c (steps.SetSize pid fd bytes) = search (carries, passes, resized) depth 16
-  kept c (steps.GetSize pid fd) = search (carries, m) depth 16
-  kept c (steps.SetNonblock pid fd on) = search (carries, m) depth 16
-
-  step-numbered : (c : Limits) (step : Step) → IsNumbered (step_of c s step).state
-  step-numbered c step =
-      let o = (act c s step).state in
-      numbers-keep o.files o.files_made o.pipes (settled (call c s step) (kept c step)) (λ n. nat_lt 0 (ends itself (sweep itself o).descriptions n))
-    where
-      settled : (r : Result (Outcome Segment ℕ) Errno) → Holds Keeps r → IsNumbered (settle s r).state
-      settled (Ok o) h = h
-      settled (Err e) h = m
-
-run-numbered : (c : Limits) (s : State Segment ℕ) (xs : List Step) → IsNumbered s → IsNumbered (run_of c s xs).state
-run-numbered c s [] m = m
-run-numbered c s (x ∷ xs) m = run-numbered c (step_of c s x).state xs (step-numbered s m c x)
 
 -- the root stands alone
 opening-numbered : IsNumbered opening
@@ -237,7 +184,7 @@ numbers_apart c xs = record {
 }
   where
     numbered : IsNumbered (reached c xs)
-    numbered = run-numbered c opening xs opening-numbered
+    numbered = kept-run IsNumbered others c opening xs opening-numbered
 
     by_found : (o : Option ℕ) → fifo_pipe (reached c xs) ((reached c xs).files_made + 1) ≡ o → o ≡ None
     by_found None e = refl

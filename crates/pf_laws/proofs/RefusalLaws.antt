@@ -27,7 +27,8 @@ use Rattle.pf_base.specs.declared.step.Step.TheVariants as steps
 use Rattle.pf_machine.proofs.HoldsLaws.{Holds}
 use Rattle.pf_laws.proofs.PieceLaws.{at-replicate}
 use Rattle.pf_laws.proofs.WaitLaws.{IsOk, CanTry, AllCanTry, sweep-all}
-use Rattle.pf_laws.proofs.WaitSteps.{IsNoError, Good, GoodOf, Told, attempt-told, good, can-try}
+use Rattle.pf_machine.proofs.StepLaws.{IsNoError}
+use Rattle.pf_laws.proofs.WaitSteps.{Good, GoodOf, Told, attempt-told, good, can-try}
 
 -- States that runs reach
 

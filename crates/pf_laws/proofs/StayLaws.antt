@@ -1,37 +1,28 @@
 -- Each step leaves a map of files where there was one.
 
-use Rattle.std.specs.Prelude.{◌≡◌, ℕ, ◌+◌, List, [], ◌∷◌, ◌++◌, length, Bool, true, false, not, ◌&&◌, Option, Some, None, is_some, IsTrue, Result, Ok, Err, ⊤, nat_eq}
+use Rattle.std.specs.Prelude.{◌≡◌, ℕ, List, [], ◌∷◌, ◌++◌, Bool, true, false, not, ◌&&◌, Option, Some, None, is_some, IsTrue, Ok, ⊤, nat_eq}
 use Rattle.std.proofs.Common.{refl, sym, ap, subst, ◌∙◌}
-use Rattle.pf_machine.specs.Refusals.{◌>>=◌, ◌>>◌, refuse_if}
+use Rattle.pf_machine.specs.Refusals.{◌>>◌, refuse_if}
 use Rattle.pf_machine.specs.FileMap.{Files, Path, Name, find, front, insert, names_below, is_directory, IsDirectory, IsFileMap}
 use Rattle.pf_machine.specs.FileCalls as calls
 use Rattle.pf_machine.specs.FileCalls.{Place, place_of, place, permitted_change, permitted_removal, is_fifo, is_full, made_by}
 use Rattle.pf_machine.specs.Paths.{Words, Resolved, Last, Nothing, Dot, DotDot, Named, words_of, reach, searched, permitted, entry_of, entry, target, is_nonempty}
-use Rattle.pf_base.specs.Permissions.{allows, mode_of, is_privileged}
+use Rattle.pf_base.specs.Permissions.{allows, is_privileged}
 use Rattle.pf_base.specs.Limits.{Limits}
 use Rattle.pf_machine.specs.Queue.{Segment}
 use Rattle.pf_machine.specs.Numbered.{at}
-use Rattle.pf_machine.specs.Calls.{Reading, Writing, Bringing}
-use Rattle.pf_machine.specs.State.{itself, State, Process, Outcome, settle, living, ready, done}
-use Rattle.pf_machine.specs.Processes.{exit, fork}
-use Rattle.pf_machine.specs.Descriptors.{dup, close, set_nonblock}
-use Rattle.pf_machine.specs.Pipes.{pipe, set_size, get_size}
-use Rattle.pf_machine.specs.Attempts.{transfer, resume}
-use Rattle.pf_machine.specs.Opens.{access_of, open_path}
-use Rattle.pf_machine.specs.Files.{with_files, with_new, make, unlink, rmdir, chmod, stat, list}
-use Rattle.pf_machine.specs.Machine.{call, step_of}
-use Rattle.pf_base.specs.declared.progress.Crossing.TheVariants as crossings
+use Rattle.pf_machine.specs.State.{State}
+use Rattle.pf_machine.specs.Machine.{step_of}
 use Rattle.pf_base.specs.declared.step.Step.{Step}
-use Rattle.pf_base.specs.declared.step.Step.TheVariants.{Spawn, Exit, Pipe, Close, Read, Write, Tee, Splice, SetSize, GetSize, Fork, Dup, SetNonblock, Mkdir, Mkfifo, Open, Unlink, Rmdir, Chmod, Stat, List as Lists, Resume}
-use Rattle.pf_base.specs.declared.meta.Kind.TheVariants as kinds
 use Rattle.pf_base.specs.declared.cred.Cred.{Cred}
 use Rattle.pf_base.specs.declared.errno.Errno.{Errno}
 use Rattle.pf_base.specs.declared.errno.Errno.TheVariants.{EPERM, ENOENT, EACCES, EBUSY, EEXIST, ENOTDIR, EINVAL, ENOSPC, ENOTEMPTY}
 use Rattle.pf_base.specs.declared.meta.File.{File}
 use Rattle.pf_base.specs.declared.meta.Kind.{Kind}
 use Rattle.pf_base.specs.declared.permissions.Want.TheVariants.{Search}
-use Rattle.pf_machine.proofs.HoldsLaws.{Holds, goes, carries, passes, any, unless, found}
-use Rattle.pf_laws.proofs.KeepLaws.{Kept, transfer-keeps, resume-keeps, open-keeps}
+use Rattle.pf_machine.proofs.HoldsLaws.{Holds, goes, passes, any, unless, found, of_given}
+use Rattle.pf_laws.proofs.KeepLaws.{Kept, kept-step}
+use Rattle.pf_machine.proofs.StepLaws.{Refiled, Unlinked, Removed, Remoded}
 use Rattle.pf_machine.proofs.FileLaws.{insert-map, remove-map, set_mode-map}
 
 -- Places of entries
@@ -124,12 +115,14 @@ chmod-map files c path mode m =
 
 -- Steps
 
-abbrev Keeps : Outcome Segment ℕ → Type 0
-Keeps o = IsFileMap o.state.files
-
 -- the files of a state
 abbrev IsMapped : State Segment ℕ → Type 0
 IsMapped s = IsFileMap s.files
+
+files-left : (files : Files) (c : Cred) (left : Files) → Refiled files c left → IsFileMap files → IsFileMap left
+files-left files c left (Unlinked path e) m = of_given IsFileMap _ left e (unlink-map files c path m)
+files-left files c left (Removed path e) m = of_given IsFileMap _ left e (rmdir-map files c path m)
+files-left files c left (Remoded path mode e) m = of_given IsFileMap _ left e (chmod-map files c path mode m)
 
 -- no other part of it matters to them
 others : Kept IsMapped
@@ -139,61 +132,13 @@ others = record {
   held = λ s n q h. h;
   opens = λ s a n h. h;
   fifo = λ s q owner f there e h. h;
+  piped = λ s q owner h. h;
+  fewer = λ s test h. h;
+  made = λ s c kind path mode files e h.
+      of_given IsFileMap _ files e (make-map kind s.files s.files_made c path mode h);
+  filed = λ s c files how h. files-left s.files c files how h;
 }
 
-module _ (s : State Segment ℕ) (m : IsFileMap s.files) where
-  made-keeps : (kind : Kind) (p : Process ℕ) (path : List ℕ) (bits : ℕ) → Holds Keeps (make kind s p path bits)
-  made-keeps kind p path bits =
-      carries Keeps (mode_of bits) (λ mode. calls.make kind s.files s.files_made p.cred path mode >>= (λ files. Ok (done (with_new s files) 0)))
-      (λ mode. goes IsFileMap Keeps (calls.make kind s.files s.files_made p.cred path mode) (λ files. Ok (done (with_new s files) 0)) (make-map kind s.files s.files_made p.cred path mode m) (λ files h. h))
-
-  unlinked-keeps : (p : Process ℕ) (path : List ℕ) → Holds Keeps (unlink s p path)
-  unlinked-keeps p path = goes IsFileMap Keeps (calls.unlink s.files p.cred path) (λ files. Ok (done (with_files s files) 0)) (unlink-map s.files p.cred path m) (λ files h. h)
-
-  removed-keeps : (p : Process ℕ) (path : List ℕ) → Holds Keeps (rmdir s p path)
-  removed-keeps p path = goes IsFileMap Keeps (calls.rmdir s.files p.cred path) (λ files. Ok (done (with_files s files) 0)) (rmdir-map s.files p.cred path m) (λ files h. h)
-
-  remoded-keeps : (p : Process ℕ) (path : List ℕ) (bits : ℕ) → Holds Keeps (chmod s p path bits)
-  remoded-keeps p path bits =
-      carries Keeps (mode_of bits) (λ mode. calls.chmod s.files p.cred path mode >>= (λ files. Ok (done (with_files s files) 0)))
-      (λ mode. goes IsFileMap Keeps (calls.chmod s.files p.cred path mode) (λ files. Ok (done (with_files s files) 0)) (chmod-map s.files p.cred path mode m) (λ files h. h))
-
-  -- a call of a process that lives, and of one that waits in no call
-  by_caller : (pid : ℕ) (f : Process ℕ → Result (Outcome Segment ℕ) Errno) → ((p : Process ℕ) → Holds Keeps (f p)) → Holds Keeps (living s pid >>= f)
-  by_caller pid f h = carries Keeps (living s pid) f h
-
-  by_ready : (pid : ℕ) (f : Process ℕ → Result (Outcome Segment ℕ) Errno) → ((p : Process ℕ) → Holds Keeps (f p)) → Holds Keeps (ready s pid >>= f)
-  by_ready pid f h = carries Keeps (ready s pid) f h
-
-  kept : (c : Limits) (step : Step) → Holds Keeps (call c s step)
-  kept c (Spawn uid gid umask groups) = search (passes, m) depth 16
-  kept c (Exit pid) = by_caller pid (λ p. exit s pid) (λ p. m)
-  kept c (Resume pid) = by_caller pid (λ p. resume s pid p) (λ p. resume-keeps IsMapped others s m pid p)
-  kept c (Fork pid) = by_ready pid (λ p. fork s p) (λ p. search (passes, m) depth 16)
-  kept c (Mkdir pid path mode) = by_ready pid (λ p. make kinds.Directory s p path mode) (λ p. made-keeps kinds.Directory p path mode)
-  kept c (Mkfifo pid path mode) = by_ready pid (λ p. make kinds.Fifo s p path mode) (λ p. made-keeps kinds.Fifo p path mode)
-  kept c (Unlink pid path) = by_ready pid (λ p. unlink s p path) (λ p. unlinked-keeps p path)
-  kept c (Rmdir pid path) = by_ready pid (λ p. rmdir s p path) (λ p. removed-keeps p path)
-  kept c (Chmod pid path mode) = by_ready pid (λ p. chmod s p path mode) (λ p. remoded-keeps p path mode)
-  kept c (Stat pid path) = by_ready pid (λ p. stat s p path) (λ p. search (carries, m) depth 16)
-  kept c (Lists pid path) = by_ready pid (λ p. list s p path) (λ p. search (carries, m) depth 16)
-  kept c (Open pid path flags) = by_ready pid (λ p. open_path itself (length s.descriptions) itself c s pid p path (access_of flags.0)) (λ p. open-keeps IsMapped others s m c pid p path (access_of flags.0))
-  kept c (Pipe pid nonblock) = by_ready pid (λ p. pipe (length s.descriptions) (length s.descriptions + 1) (length s.pipes) c s pid p nonblock) (λ p. search (passes, carries, m) depth 16)
-  kept c (Dup pid fd) = by_ready pid (λ p. dup s pid p fd) (λ p. search (passes, carries, m) depth 16)
-  kept c (Close pid fd) = by_ready pid (λ p. close s pid p fd) (λ p. search (carries, m) depth 16)
-  kept c (Read pid fd n) = by_ready pid (λ p. transfer s pid p false (Reading fd n)) (λ p. transfer-keeps IsMapped others s m pid p false (Reading fd n))
-  kept c (Write pid fd payload) = by_ready pid (λ p. transfer s pid p false (Writing fd payload 0)) (λ p. transfer-keeps IsMapped others s m pid p false (Writing fd payload 0))
-  kept c (Tee pid source sink n nonblock) =
-      by_ready pid (λ p. transfer s pid p nonblock (Bringing crossings.Tee source sink n)) (λ p. transfer-keeps IsMapped others s m pid p nonblock (Bringing crossings.Tee source sink n))
-  kept c (Splice pid source sink n nonblock) =
-      by_ready pid (λ p. transfer s pid p nonblock (Bringing crossings.Splice source sink n)) (λ p. transfer-keeps IsMapped others s m pid p nonblock (Bringing crossings.Splice source sink n))
-  kept c (SetSize pid fd bytes) = by_ready pid (λ p. set_size itself c s p fd bytes) (λ p. search (passes, carries, m) depth 16)
-  kept c (GetSize pid fd) = by_ready pid (λ p. get_size itself s p fd) (λ p. search (carries, m) depth 16)
-  kept c (SetNonblock pid fd on) = by_ready pid (λ p. set_nonblock itself s p fd on) (λ p. search (carries, m) depth 16)
-
-  pub stays : (c : Limits) (step : Step) → IsFileMap (step_of c s step).state.files
-  stays c step = settled (call c s step) (kept c step)
-    where
-      settled : (r : Result (Outcome Segment ℕ) Errno) → Holds Keeps r → IsFileMap (settle s r).state.files
-      settled (Ok o) h = h
-      settled (Err e) h = m
+pub stays : (s : State Segment ℕ) → IsFileMap s.files → (c : Limits) (step : Step)
+    → IsFileMap (step_of c s step).state.files
+stays s m c step = kept-step IsMapped others s m c step

@@ -1,30 +1,23 @@
 -- What went through a pipe in a run: what was taken, followed by what the pipe holds, is what was given.
 
-use Rattle.std.proofs.Common.{◌≡◌, ℕ, suc, ◌+◌, ◌<◌, ◌≤◌, Bool, true, false, not, ◌&&◌, ◌*◌, List, [], ◌∷◌, ◌++◌, length, map, nat_eq, Option, Some, None, Ok, Err, refl, sym, ap, ◌∙◌, subst, ◌⊎◌, inl, inr, ⊎_elim, arith, nat_lt, if◌then◌else◌, append-nil, append_assoc}
+use Rattle.std.proofs.Common.{◌≡◌, ℕ, suc, ◌<◌, ◌≤◌, Bool, true, false, ◌*◌, List, [], ◌∷◌, ◌++◌, length, map, nat_eq, Option, Some, None, Ok, Err, refl, sym, ap, ◌∙◌, subst, ◌⊎◌, inl, inr, ⊎_elim, arith, nat_lt, if◌then◌else◌, append-nil, append_assoc}
 use Rattle.std.proofs.lemmas.Bool.{cases_lt}
 use Rattle.std.specs.Prelude.{Result, filter}
-use Rattle.pf_machine.specs.Refusals.{◌>>=◌, ◌>>◌, refuse_if, or_refuse}
+use Rattle.pf_machine.specs.Refusals.{◌>>=◌, or_refuse}
 use Rattle.pf_base.specs.Limits.{Limits}
 use Rattle.pf_machine.specs.Queue.{Segment, bytes_of, empty, with_capacity}
-use Rattle.pf_base.specs.Capacities.{pages_for}
 use Rattle.pf_machine.specs.Numbered.{at, change_at, keep}
 use Rattle.pf_machine.proofs.NumberedLaws.{at-keep, length-keep, at_past}
-use Rattle.pf_base.specs.Permissions.{is_privileged}
-use Rattle.pf_base.specs.declared.TheConstants.{PAGE_SIZE, MAX_SIZE}
-use Rattle.pf_base.specs.declared.cred.Cred.{Cred}
+use Rattle.pf_base.specs.declared.TheConstants.{PAGE_SIZE}
 use Rattle.pf_base.specs.declared.errno.Errno.{Errno}
-use Rattle.pf_base.specs.declared.errno.Errno.TheVariants.{EINVAL, EPERM}
-use Rattle.pf_base.specs.declared.meta.Kind.{Kind}
+use Rattle.pf_base.specs.declared.errno.Errno.TheVariants.{EINVAL}
 use Rattle.pf_base.specs.declared.progress.Crossing.TheVariants as crossings
 use Rattle.pf_machine.specs.Calls.{Transfer, Reading, Writing, Bringing, Opening}
-use Rattle.pf_machine.specs.State.{itself, State, Process, Description, Pipe, End, Outcome, change_pipe, with_queue, told, done, opening, settle, living, ready, end_of, holding}
-use Rattle.pf_machine.specs.Processes.{spawn, fork, exit}
-use Rattle.pf_machine.specs.Descriptors.{dup, close, set_nonblock}
-use Rattle.pf_machine.specs.Pipes.{new_pipe, pipe, may_resize, set_size, get_size}
+use Rattle.pf_machine.specs.State.{itself, State, Process, Description, Pipe, End, Outcome, change_pipe, with_queue, told, done, opening, settle, living, ready, holding}
+use Rattle.pf_machine.specs.Pipes.{new_pipe}
 use Rattle.pf_machine.specs.Counts.{readers, writers, ends}
 use Rattle.pf_machine.specs.Transfers.{Tried, tried}
 use Rattle.pf_machine.specs.Attempts.{Attempt, Finished, Waits, given, first, transfer, resume}
-use Rattle.pf_machine.specs.Files.{make, unlink, rmdir, chmod, stat, list}
 use Rattle.pf_machine.specs.Opens.{Access, Found, open_path, open_fifo, open_pipe, pipe_of, fifo_pipe, is_waiting, counted, kept_by}
 use Rattle.pf_machine.specs.Sweep.{sweep}
 use Rattle.pf_machine.specs.Machine.{call, act, step_of}
@@ -33,7 +26,8 @@ use Rattle.pf_laws.specs.Streams.{transfer_of, tried_call, if_at, put_in, taken_
 use Rattle.pf_base.specs.declared.step.Step.{Step}
 use Rattle.pf_base.specs.declared.step.Reply.{Reply}
 use Rattle.pf_base.specs.declared.step.Step.TheVariants as steps
-use Rattle.pf_machine.proofs.HoldsLaws.{Holds, carries, goes, passes}
+use Rattle.pf_machine.proofs.HoldsLaws.{Holds, carries, goes, passes, of_given}
+use Rattle.pf_machine.proofs.StepLaws.{Still, step-keeps}
 use Rattle.pf_laws.proofs.PipeLaws.{Stands, end_of-stands, bytes_at, bytes_in, Keeps, keeps-same, keeps-trans, keeps-change, keeps-push, bytes_at-kept, bytes_at-push}
 use Rattle.pf_laws.proofs.TriedLaws.{Flows, flows-none, transfer-flows, resume-flows}
 
@@ -50,45 +44,6 @@ quiet-flows : (s : State Segment ℕ) (e : Errno) (r : Result (Outcome Segment �
 quiet-flows s e (Ok o) q = flows-none s e o q.same q.keeps
 quiet-flows s e (Err x) q = flows-none s e _ (λ p. refl) (keeps-same s.pipes)
 
-spawn-quiet : (s : State Segment ℕ) (cred : Cred) → Holds (Quiet s) (spawn s cred)
-spawn-quiet s cred = search (passes, quiet-same) depth 16
-
-fork-quiet : (s : State Segment ℕ) (p : Process ℕ) → Holds (Quiet s) (fork s p)
-fork-quiet s p = search (passes, quiet-same) depth 16
-
-exit-quiet : (s : State Segment ℕ) (pid : ℕ) → Holds (Quiet s) (exit s pid)
-exit-quiet s pid = search (quiet-same) depth 16
-
-close-quiet : (s : State Segment ℕ) (pid : ℕ) (p : Process ℕ) (fd : ℕ) → Holds (Quiet s) (close s pid p fd)
-close-quiet s pid p fd = search (carries, quiet-same) depth 16
-
-set_nonblock-quiet : (s : State Segment ℕ) (p : Process ℕ) (fd : ℕ) (on : Bool) → Holds (Quiet s) (set_nonblock itself s p fd on)
-set_nonblock-quiet s p fd on = search (carries, quiet-same) depth 16
-
-get_size-quiet : (s : State Segment ℕ) (p : Process ℕ) (fd : ℕ) → Holds (Quiet s) (get_size itself s p fd)
-get_size-quiet s p fd = search (carries, quiet-same) depth 16
-
-dup-quiet : (s : State Segment ℕ) (pid : ℕ) (p : Process ℕ) (fd : ℕ) → Holds (Quiet s) (dup s pid p fd)
-dup-quiet s pid p fd = search (passes, carries, quiet-same) depth 16
-
-make-quiet : (kind : Kind) (s : State Segment ℕ) (p : Process ℕ) (path : List ℕ) (bits : ℕ) → Holds (Quiet s) (make kind s p path bits)
-make-quiet kind s p path bits = search (carries, quiet-same) depth 16
-
-unlink-quiet : (s : State Segment ℕ) (p : Process ℕ) (path : List ℕ) → Holds (Quiet s) (unlink s p path)
-unlink-quiet s p path = search (carries, quiet-same) depth 16
-
-rmdir-quiet : (s : State Segment ℕ) (p : Process ℕ) (path : List ℕ) → Holds (Quiet s) (rmdir s p path)
-rmdir-quiet s p path = search (carries, quiet-same) depth 16
-
-chmod-quiet : (s : State Segment ℕ) (p : Process ℕ) (path : List ℕ) (bits : ℕ) → Holds (Quiet s) (chmod s p path bits)
-chmod-quiet s p path bits = search (carries, quiet-same) depth 16
-
-stat-quiet : (s : State Segment ℕ) (p : Process ℕ) (path : List ℕ) → Holds (Quiet s) (stat s p path)
-stat-quiet s p path = search (carries, quiet-same) depth 16
-
-list-quiet : (s : State Segment ℕ) (p : Process ℕ) (path : List ℕ) → Holds (Quiet s) (list s p path)
-list-quiet s p path = search (carries, quiet-same) depth 16
-
 -- pipes with the same bytes, of which none came back
 pub record SamePipes (ps qs : List (Option (Pipe Segment))) : Type 0 where
   pub same : (p : ℕ) → bytes_at qs p ≡ bytes_at ps p
@@ -101,25 +56,14 @@ quiet-pipes s t r h = record { same = h.same; keeps = h.keeps }
 same-pushed : (ps : List (Option (Pipe Segment))) (slots owner : ℕ) (file : Option ℕ) → SamePipes ps (ps ++ Some (new_pipe (empty slots) owner file) ∷ [])
 same-pushed ps slots owner file = record { same = bytes_at-push ps (new_pipe (empty slots) owner file) refl; keeps = keeps-push ps (Some (new_pipe (empty slots) owner file)) }
 
-pipe-quiet : (c : Limits) (s : State Segment ℕ) (pid : ℕ) (p : Process ℕ) (nonblock : Bool) → Holds (Quiet s) (pipe (length s.descriptions) (length s.descriptions + 1) (length s.pipes) c s pid p nonblock)
-pipe-quiet c s pid p nonblock = search (passes, carries, quiet-pipes, same-pushed) depth 16
-
 -- another capacity leaves the bytes
-set_size-quiet : (c : Limits) (s : State Segment ℕ) (p : Process ℕ) (fd bytes : ℕ) → Holds (Quiet s) (set_size itself c s p fd bytes)
-set_size-quiet c s p fd bytes = goes (Stands s) (Quiet s) (end_of itself s p fd) resize (end_of-stands s p fd) (λ e stands. let made = resized e stands in search (passes, made))
-  where
-    resize : End Segment ℕ → Result (Outcome Segment ℕ) Errno
-    resize e = do
-      refuse_if (nat_lt MAX_SIZE bytes) EINVAL
-      refuse_if (not (is_privileged p.cred) && nat_lt c.max (PAGE_SIZE * pages_for bytes)) EPERM
-      may_resize c s p.cred e.pipe (pages_for bytes)
-      Ok (done (with_queue s e.description.pipe (with_capacity (pages_for bytes) e.pipe.queue)) (PAGE_SIZE * pages_for bytes))
-
-    resized : (e : End Segment ℕ) → Stands s e → Quiet s (done (with_queue s e.description.pipe (with_capacity (pages_for bytes) e.pipe.queue)) (PAGE_SIZE * pages_for bytes))
-    resized e stands = record {
-      same = bytes_at-kept (holding (with_capacity (pages_for bytes) e.pipe.queue)) s.pipes e.description.pipe (λ x h. let both : e.pipe ≡ x = cc in ap (λ (y : Pipe Segment). bytes_of y.queue) both);
-      keeps = keeps-change (holding (with_capacity (pages_for bytes) e.pipe.queue)) s.pipes e.description.pipe;
-    }
+resized : (s : State Segment ℕ) (e : End Segment ℕ) → Stands s e → (pages : ℕ)
+    → Quiet s (done (with_queue s e.description.pipe (with_capacity pages e.pipe.queue)) (PAGE_SIZE * pages))
+resized s e stands pages = record {
+  same = bytes_at-kept (holding (with_capacity pages e.pipe.queue)) s.pipes e.description.pipe
+      (λ x h. let both : e.pipe ≡ x = cc in ap (λ (y : Pipe Segment). bytes_of y.queue) both);
+  keeps = keeps-change (holding (with_capacity pages e.pipe.queue)) s.pipes e.description.pipe;
+}
 
 abbrev Leaves : List (Option (Pipe Segment)) → Attempt Segment ℕ → Type 0
 Leaves ps (Finished s r) = SamePipes ps s.pipes
@@ -164,6 +108,22 @@ open_path-quiet c s pid p path a = search (carries, open_fifo-quiet) depth 16
 
 -- One step
 
+still : (s : State Segment ℕ) → Still s (Quiet s)
+still s = record {
+  spawned = λ cred. quiet-same s _ refl;
+  forked = λ pid p f. quiet-same s _ refl;
+  exited = λ pid p l. quiet-same s _ refl;
+  duped = λ pid p fd n f e. quiet-same s _ refl;
+  closed = λ pid p fd f. quiet-same s _ refl;
+  flagged = λ n on. quiet-same s _ refl;
+  piped = λ pid p nonblock f slots. quiet-pipes s _ _ (same-pushed s.pipes slots p.cred.uid None);
+  sized = λ p fd e is pages. resized s e (of_given (Stands s) _ e is (end_of-stands s p fd)) pages;
+  looked = λ r fine short. quiet-same s _ refl;
+  made = λ c kind path mode files e. quiet-same s _ refl;
+  filed = λ c files how. quiet-same s _ refl;
+  opened = λ c pid p path a f. open_path-quiet c s pid p path a;
+}
+
 -- a transfer, and a parked call tried again
 flows-transfer : (s : State Segment ℕ) (pid : ℕ) (flag : Bool) (call : Transfer) (r : Result (Process ℕ) Errno) → Flows s (r >>= (λ p. tried s p call)) (settle s (r >>= (λ p. transfer s pid p flag call)))
 flows-transfer s pid flag call (Ok p) = transfer-flows s pid p flag call
@@ -174,28 +134,15 @@ flows-resume s pid (Ok p) = resume-flows s pid p
 flows-resume s pid (Err e) = flows-none s e _ (λ q. refl) (keeps-same s.pipes)
 
 flows-act : (c : Limits) (s : State Segment ℕ) (x : Step) → Flows s (transfer_of s x) (act c s x)
-flows-act c s (steps.Spawn uid gid umask groups) = quiet-flows s EINVAL (call c s (steps.Spawn uid gid umask groups)) (spawn-quiet s (record { uid = uid; gid = gid; groups = groups; umask = umask }))
-flows-act c s (steps.Exit pid) = quiet-flows s EINVAL (call c s (steps.Exit pid)) (search (carries, exit-quiet))
-flows-act c s (steps.Fork pid) = quiet-flows s EINVAL (call c s (steps.Fork pid)) (search (carries, fork-quiet))
-flows-act c s (steps.Mkdir pid path mode) = quiet-flows s EINVAL (call c s (steps.Mkdir pid path mode)) (search (carries, make-quiet))
-flows-act c s (steps.Mkfifo pid path mode) = quiet-flows s EINVAL (call c s (steps.Mkfifo pid path mode)) (search (carries, make-quiet))
-flows-act c s (steps.Unlink pid path) = quiet-flows s EINVAL (call c s (steps.Unlink pid path)) (search (carries, unlink-quiet))
-flows-act c s (steps.Rmdir pid path) = quiet-flows s EINVAL (call c s (steps.Rmdir pid path)) (search (carries, rmdir-quiet))
-flows-act c s (steps.Chmod pid path mode) = quiet-flows s EINVAL (call c s (steps.Chmod pid path mode)) (search (carries, chmod-quiet))
-flows-act c s (steps.Stat pid path) = quiet-flows s EINVAL (call c s (steps.Stat pid path)) (search (carries, stat-quiet))
-flows-act c s (steps.List pid path) = quiet-flows s EINVAL (call c s (steps.List pid path)) (search (carries, list-quiet))
-flows-act c s (steps.Open pid path flags) = quiet-flows s EINVAL (call c s (steps.Open pid path flags)) (search (carries, open_path-quiet))
-flows-act c s (steps.Pipe pid nonblock) = quiet-flows s EINVAL (call c s (steps.Pipe pid nonblock)) (search (carries, pipe-quiet))
-flows-act c s (steps.Dup pid fd) = quiet-flows s EINVAL (call c s (steps.Dup pid fd)) (search (carries, dup-quiet))
-flows-act c s (steps.Close pid fd) = quiet-flows s EINVAL (call c s (steps.Close pid fd)) (search (carries, close-quiet))
-flows-act c s (steps.SetSize pid fd bytes) = quiet-flows s EINVAL (call c s (steps.SetSize pid fd bytes)) (search (carries, set_size-quiet))
-flows-act c s (steps.GetSize pid fd) = quiet-flows s EINVAL (call c s (steps.GetSize pid fd)) (search (carries, get_size-quiet))
-flows-act c s (steps.SetNonblock pid fd on) = quiet-flows s EINVAL (call c s (steps.SetNonblock pid fd on)) (search (carries, set_nonblock-quiet))
 flows-act c s (steps.Read pid fd n) = flows-transfer s pid false (Reading fd n) (ready s pid)
 flows-act c s (steps.Write pid fd payload) = flows-transfer s pid false (Writing fd payload 0) (ready s pid)
 flows-act c s (steps.Tee pid source sink n nonblock) = flows-transfer s pid nonblock (Bringing crossings.Tee source sink n) (ready s pid)
 flows-act c s (steps.Splice pid source sink n nonblock) = flows-transfer s pid nonblock (Bringing crossings.Splice source sink n) (ready s pid)
 flows-act c s (steps.Resume pid) = flows-resume s pid (living s pid)
+flows-act c s (steps.List pid path) =
+    quiet-flows s EINVAL (call c s (steps.List pid path)) (step-keeps s (Quiet s) (still s) c (steps.List pid path)
+    (λ p f. search (carries, quiet-same) depth 16))
+flows-act c s x = quiet-flows s EINVAL (call c s x) (step-keeps s (Quiet s) (still s) c x tt)
 
 -- what stands in a list of which some numbers were kept stood there
 kept_was : {X : Type 0} (test : ℕ → Bool) (xs : List (Option X)) (k : ℕ) (x : X) → at (keep test xs) k ≡ Some x → at xs k ≡ Some x

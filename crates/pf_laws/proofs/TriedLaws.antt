@@ -5,7 +5,7 @@ use Rattle.std.proofs.lemmas.Bool.{eqb-true, eqb-false}
 use Rattle.std.specs.Prelude.{Result}
 use Rattle.std.specs.Option.{option_map}
 use Rattle.pf_machine.specs.Refusals.{◌>>=◌, ◌>>◌, refuse_if, or_refuse}
-use Rattle.pf_machine.specs.Queue.{Segment, Queue, bytes_of, taken}
+use Rattle.pf_machine.specs.Queue.{Segment, bytes_of, taken}
 use Rattle.pf_machine.specs.Progress.{moved, read_now, write_now, cross_now}
 use Rattle.pf_base.specs.declared.progress.Crossing.{Crossing}
 use Rattle.pf_base.specs.declared.progress.Crossing.TheVariants.{Tee, Splice}

@@ -1,7 +1,7 @@
 -- Each step keeps that whoever waits in a call can try it again; and what a step but Resume comes to is no error.
 
-use Rattle.std.proofs.Common.{◌≡◌, ℕ, zero, suc, ◌+◌, ◌-◌, Bool, true, false, not, ◌&&◌, ◌||◌, List, [], ◌∷◌, ◌++◌, length, set, Option, Some, None, Ok, Err, refl, sym, ap, ◌∙◌, subst, ◌⊎◌, inl, inr, ⊎_elim, arith, nat_eq, nat_le, nat_lt, if◌then◌else◌}
-use Rattle.std.specs.Prelude.{Result, ⊤, is_some}
+use Rattle.std.proofs.Common.{◌≡◌, ℕ, ◌+◌, ◌-◌, Bool, true, false, not, ◌&&◌, ◌||◌, List, [], ◌∷◌, ◌++◌, length, set, Option, Some, None, Ok, Err, refl, sym, ap, ◌∙◌, subst, ◌⊎◌, inl, inr, ⊎_elim, nat_eq, nat_le, nat_lt, if◌then◌else◌}
+use Rattle.std.specs.Prelude.{Result, ⊤}
 use Rattle.std.specs.Option.{option_map, option_and_then}
 use Rattle.pf_machine.specs.Refusals.{◌>>=◌, ◌>>◌, refuse_if, or_refuse}
 use Rattle.pf_base.specs.Limits.{Limits}
@@ -9,21 +9,17 @@ use Rattle.pf_machine.specs.Queue.{Segment, Queue, empty}
 use Rattle.pf_machine.specs.Numbered.{at, put_at, change_at, first_free}
 use Rattle.pf_machine.proofs.NumberedLaws.{at-put_same, at-push_new, at_within}
 use Rattle.pf_machine.specs.Calls.{Transfer, Reading, Writing, Bringing, Call, Opening, Moving, written_of}
-use Rattle.pf_machine.specs.State.{itself, State, Process, Description, Pipe, End, Outcome, holding, living, ready, end_at, end_of, reading_end, writing_end, change_pipe, change_process, waiting, told, done, vacant, with_process, with_queue, with_descriptor}
+use Rattle.pf_machine.specs.State.{itself, State, Process, Description, Pipe, End, Outcome, holding, end_at, end_of, reading_end, writing_end, change_pipe, change_process, waiting, told, with_process, with_queue, with_descriptor}
 use Rattle.pf_machine.specs.Counts.{readers, writers}
 use Rattle.pf_base.specs.Capacities.{told_as}
-use Rattle.pf_machine.specs.Descriptors.{dup, close, set_nonblock, named}
-use Rattle.pf_machine.specs.Processes.{spawn, fork, exit}
-use Rattle.pf_machine.specs.Pipes.{pipe, set_size, reading, writing, new_pipe, opened, first_descriptor, second_descriptor, with_two, capacity_for, is_spent}
+use Rattle.pf_machine.specs.Pipes.{reading, writing, new_pipe, opened, first_descriptor, second_descriptor, with_two, capacity_for, is_spent}
 use Rattle.pf_machine.specs.Transfers.{Tried, tried, try_read, try_write, two_ends, try_cross}
 use Rattle.pf_machine.specs.Attempts.{Attempt, Finished, Waits, transfer_told, given, other_opens, open_told, attempt, first, nonblocking, transfer, again, resume}
-use Rattle.pf_machine.specs.Opens.{Access, access_of, is_waiting, openable, fifo_pipe, fifo_readers, Found, pipe_of, counted, kept_by, open_pipe, open_fifo, open_path}
+use Rattle.pf_machine.specs.Opens.{Access, is_waiting, openable, fifo_pipe, fifo_readers, Found, pipe_of, counted, kept_by, open_pipe, open_fifo, open_path}
 use Rattle.pf_machine.specs.Machine.{call}
 use Rattle.pf_base.specs.declared.TheConstants.{MAX_DESCRIPTORS, MAX_WRITE}
-use Rattle.pf_base.specs.declared.cred.Cred.{Cred}
 use Rattle.pf_base.specs.declared.errno.Errno.{Errno}
-use Rattle.pf_base.specs.declared.errno.Errno.TheVariants.{ESRCH, EBUSY, EBADF, EAGAIN, EINVAL, EMFILE, ENFILE, ENOMEM, ENXIO, EPIPE}
-use Rattle.pf_base.specs.declared.progress.Crossing.TheVariants as crossings
+use Rattle.pf_base.specs.declared.errno.Errno.TheVariants.{EBADF, EAGAIN, EINVAL, EMFILE, ENFILE, ENOMEM, ENXIO, EPIPE}
 use Rattle.pf_base.specs.declared.progress.Progress.{Progress}
 use Rattle.pf_base.specs.declared.progress.Progress.TheVariants.{Moved, EndOfFile, NoReader, WouldBlock}
 use Rattle.pf_base.specs.declared.step.Reply.{Reply}
@@ -31,14 +27,10 @@ use Rattle.pf_base.specs.declared.step.Reply.TheVariants as replies
 use Rattle.pf_base.specs.declared.step.Step.{Step}
 use Rattle.pf_base.specs.declared.step.Step.TheVariants as steps
 use Rattle.pf_machine.proofs.HoldsLaws.{Holds, goes, carries, passes, found}
+use Rattle.pf_machine.proofs.StepLaws.{IsNoError, Free, by_living, Still, all-move, step-keeps}
 use Rattle.pf_laws.proofs.ApartSteps.{put-put}
 use Rattle.pf_laws.proofs.FifoLaws.{found_at}
-use Rattle.pf_laws.proofs.WaitLaws.{IsOk, Follows, Like, CanTry, try-follows, rewritten, AllCanTry, StandsStill, end_of-follows, Pipes, Lasting, lasting-same, lasting-changed, lasting-drawn, lasting-piped, lasting-flagged, at-set-either}
-
--- a reply that is no error
-abbrev pub IsNoError : Reply → Type 0
-IsNoError (replies.Err e) = ⊥
-IsNoError _ = ⊤
+use Rattle.pf_laws.proofs.WaitLaws.{IsOk, Follows, Like, CanTry, try-follows, rewritten, AllCanTry, StandsStill, end_of-follows, Lasting, lasting-same, lasting-changed, lasting-drawn, lasting-piped, lasting-flagged, at-set-either}
 
 module _ (s : State Segment ℕ) (is : AllCanTry s) where
   -- what stood in s stands
@@ -113,82 +105,18 @@ module _ (s : State Segment ℕ) (is : AllCanTry s) where
       (replies.Pid (first_free s.processes + 1)))
   born q free = put (first_free s.processes + 1) q (replies.Pid (first_free s.processes + 1)) free tt
 
-  -- Who makes a step
-
-  pub record Stands (k : ℕ) (p : Process ℕ) : Type 0 where
-    pub at_place : at s.processes k ≡ Some p
-
-  pub record Free (k : ℕ) (p : Process ℕ) : Type 0 where
-    pub at_place : at s.processes k ≡ Some p
-    pub free : p.parked ≡ None
-
-  living-stands : (q : ℕ) → Holds (Stands (q - 1)) (living s q)
-  living-stands zero = tt
-  living-stands (suc i) = by_process (at s.processes i) refl
-    where
-      by_process : (o : Option (Process ℕ)) → at s.processes i ≡ o → Holds (Stands (suc i - 1)) (or_refuse ESRCH o)
-      by_process None e = tt
-      by_process (Some p) e = let same : suc i - 1 ≡ i = omega arith in
-          record { at_place = ap (λ k. at s.processes k) same ∙ e }
-
-  ready-free : (q : ℕ) → Holds (Free (q - 1)) (ready s q)
-  ready-free q = goes (Stands (q - 1)) (Free (q - 1)) (living s q) (λ p. refuse_if (is_some p.parked) EBUSY >> Ok p)
-      (living-stands q) (λ p h. by_call p h.at_place p.parked refl)
-    where
-      by_call : (p : Process ℕ) → at s.processes (q - 1) ≡ Some p → (o : Option (Call ℕ)) → p.parked ≡ o
-          → Holds (Free (q - 1)) (refuse_if (is_some o) EBUSY >> Ok p)
-      by_call p e None f = record { at_place = e; free = f }
-      by_call p e (Some call) f = tt
-
-  by_ready : (q : ℕ) (f : Process ℕ → Result (Outcome Segment ℕ) Errno)
-      → ((p : Process ℕ) → Free (q - 1) p → Holds Good (f p))
-      → Holds Good (ready s q >>= f)
-  by_ready q f h = goes (Free (q - 1)) Good (ready s q) f (ready-free q) h
-
-  -- Calls that don't wait
-
-  spawn-good : (cred : Cred) → Holds Good (spawn s cred)
-  spawn-good cred = let made = born (record { cred = cred; descriptors = vacant MAX_DESCRIPTORS; parked = None }) refl in
-      search (passes, made) depth 16
-
-  fork-good : (p : Process ℕ) → p.parked ≡ None → Holds Good (fork s p)
-  fork-good p free = let made = born p free in search (passes, made) depth 16
-
-  close-good : (q : ℕ) (p : Process ℕ) (fd : ℕ) → p.parked ≡ None → Holds Good (close s q p fd)
-  close-good q p fd free = search (carries, put, free) depth 16
-
-  dup-good : (q : ℕ) (p : Process ℕ) (fd : ℕ) → p.parked ≡ None → Holds Good (dup s q p fd)
-  dup-good q p fd free = search (carries, passes, put, free) depth 16
-
   -- two more descriptions, of one more pipe
-  pipe-good : (c : Limits) (q : ℕ) (p : Process ℕ) (nonblock : Bool) → p.parked ≡ None
-      → Holds Good (pipe (length s.descriptions) (length s.descriptions + 1) (length s.pipes) c s q p nonblock)
-  pipe-good c q p nonblock free = search (passes, carries, made) depth 16
-    where
-      piped : ℕ → State Segment ℕ
-      piped slots =
-          opened (length s.descriptions) (length s.descriptions + 1) (length s.pipes) s q nonblock (empty slots) p
-
-      made : (slots : ℕ) → Good (told (piped slots)
-          (replies.Fds (first_descriptor p) (second_descriptor p)))
-      made slots =
-          good-put (piped slots) (replies.Fds (first_descriptor p) (second_descriptor p))
-          (q - 1) (with_two (length s.descriptions) (length s.descriptions + 1) p)
-          (lasting-piped s.descriptions _ s.pipes s.pipes (Some (new_pipe (empty slots) p.cred.uid None) ∷ [])
-          (lasting-drawn s.descriptions s.descriptions (Some (reading (length s.pipes) nonblock) ∷ Some
-          (writing (length s.pipes) nonblock) ∷ []) s.pipes s.pipes lasts-s))
-          refl free tt
-
-  set_nonblock-good : (p : Process ℕ) (fd : ℕ) (on : Bool) → Holds Good (set_nonblock itself s p fd on)
-  set_nonblock-good p fd on = carries Good (named p fd) _ (λ n. good-same _ (replies.Num 0)
-      (lasting-flagged s.descriptions s.pipes on n) refl tt)
-
-  set_size-good : (c : Limits) (p : Process ℕ) (fd bytes : ℕ) → Holds Good (set_size itself c s p fd bytes)
-  set_size-good c p fd bytes = search (passes, carries, made) depth 16
-    where
-      made : (n k : ℕ) (x : Queue) → Good (done (with_queue s n x) k)
-      made n k x = good-same (with_queue s n x) (replies.Num k)
-          (lasting-changed s.descriptions s.descriptions s.pipes s.pipes (holding x) n lasts-s) refl tt
+  piped-good : (q : ℕ) (p : Process ℕ) (nonblock : Bool) → Free s q p → (slots : ℕ)
+      → Good (told
+      (opened (length s.descriptions) (length s.descriptions + 1) (length s.pipes) s q nonblock (empty slots) p)
+      (replies.Fds (first_descriptor p) (second_descriptor p)))
+  piped-good q p nonblock f slots =
+      good-put _ (replies.Fds (first_descriptor p) (second_descriptor p))
+      (q - 1) (with_two (length s.descriptions) (length s.descriptions + 1) p)
+      (lasting-piped s.descriptions _ s.pipes s.pipes (Some (new_pipe (empty slots) p.cred.uid None) ∷ [])
+      (lasting-drawn s.descriptions s.descriptions (Some (reading (length s.pipes) nonblock) ∷ Some
+      (writing (length s.pipes) nonblock) ∷ []) s.pipes s.pipes lasts-s))
+      refl f.free tt
 
   -- Transfers
 
@@ -307,7 +235,7 @@ module _ (s : State Segment ℕ) (is : AllCanTry s) where
       by_none true = tt
       by_none false = good-same t (replies.Num (written_of call)) h.0.lasts h.0.people tt
 
-  transfer-good : (q : ℕ) (p : Process ℕ) → Free (q - 1) p → (flag : Bool) (call : Transfer)
+  transfer-good : (q : ℕ) (p : Process ℕ) → Free s q p → (flag : Bool) (call : Transfer)
       → Holds Good (transfer s q p flag call)
   transfer-good q p f flag call =
       goes (Tells p) Good (attempt s q p (Moving call)) (first q (flag || nonblocking s p call))
@@ -388,7 +316,7 @@ module _ (s : State Segment ℕ) (is : AllCanTry s) where
       }))
 
   open_pipe-good : (name : ℕ) (t : State Segment ℕ) → name ≡ length t.descriptions → Level t → (q : ℕ) (p : Process ℕ)
-      → Free (q - 1) p
+      → Free s q p
       → (a : Access) (n : ℕ) (x : Pipe Segment) → at t.pipes n ≡ Some x
       → Holds Good (first q false (open_pipe itself name n t q p a n))
   open_pipe-good name t drawn l q p f a n x stands = by_other (is_waiting a (readers itself t n) (writers itself t n))
@@ -447,7 +375,7 @@ module _ (s : State Segment ℕ) (is : AllCanTry s) where
       by_other true = waits (kept_by a (at t.pipes n))
       by_other false = has
 
-  open-good : (c : Limits) (q : ℕ) (p : Process ℕ) → Free (q - 1) p → (path : List ℕ) (a : Access)
+  open-good : (c : Limits) (q : ℕ) (p : Process ℕ) → Free s q p → (path : List ℕ) (a : Access)
       → Holds Good (open_path itself (length s.descriptions) itself c s q p path a)
   open-good c q p f path a = carries Good (openable s.files p.cred path a)
       (λ file. open_fifo itself (length s.descriptions) itself c s q p a file.number) (λ file. of_file file.number)
@@ -466,13 +394,22 @@ module _ (s : State Segment ℕ) (is : AllCanTry s) where
 
   -- Steps
 
-  -- a call of files, or one that looks
-  looks : (t : State Segment ℕ) (r : Reply) → t.descriptions ≡ s.descriptions → t.pipes ≡ s.pipes
-      → t.processes ≡ s.processes → IsNoError r → Good (told t r)
-  looks t r e f g fine = good-same t r (subst (λ (ps : Pipes). Lasting s.descriptions s.pipes t.descriptions ps)
-      (sym f)
-      (subst (λ (ds : List (Option (Description ℕ))). Lasting s.descriptions s.pipes ds s.pipes) (sym e) lasts-s))
-      g fine
+  still-good : Still s Good
+  still-good = record {
+    spawned = λ cred. born _ refl;
+    forked = λ pid p f. born p f.free;
+    exited = λ pid p l. good-clear _ (replies.Num 0) (pid - 1) lasts-s refl tt;
+    duped = λ pid p fd n f e. put pid _ (replies.Num (first_free p.descriptors)) f.free tt;
+    closed = λ pid p fd f. put pid _ (replies.Num 0) f.free tt;
+    flagged = λ n on. good-same _ (replies.Num 0) (lasting-flagged s.descriptions s.pipes on n) refl tt;
+    piped = piped-good;
+    sized = λ p fd e h pages. good-same (with_queue s e.description.pipe _) (replies.Num _)
+        (lasting-changed s.descriptions s.descriptions s.pipes s.pipes (holding _) e.description.pipe lasts-s) refl tt;
+    looked = λ r fine short. good-same s r lasts-s refl fine;
+    made = λ c kind path mode files e. good-same _ (replies.Num 0) lasts-s refl tt;
+    filed = λ c files how. good-same _ (replies.Num 0) lasts-s refl tt;
+    opened = λ c pid p path a f. open-good c pid p f path a;
+  }
 
   -- what a Resume comes to may be an error, that of its call
   abbrev pub GoodOf : Step → Outcome Segment ℕ → Type 0
@@ -480,33 +417,10 @@ module _ (s : State Segment ℕ) (is : AllCanTry s) where
   GoodOf _ o = Good o
 
   pub good : (c : Limits) (step : Step) → Holds (GoodOf step) (call c s step)
-  good c (steps.Spawn uid gid umask groups) =
-      spawn-good (record { uid = uid; gid = gid; groups = groups; umask = umask })
-  good c (steps.Exit pid) = carries Good (living s pid) (λ p. exit s pid)
-      (λ p. good-clear _ (replies.Num 0) (pid - 1) lasts-s refl tt)
-  good c (steps.Resume pid) = goes (Stands (pid - 1)) Keeps (living s pid) (λ p. resume s pid p) (living-stands pid)
-      (λ p h. resume-all pid p h.at_place)
-  good c (steps.Fork pid) = by_ready pid _ (λ p f. fork-good p f.free)
-  good c (steps.Mkdir pid path mode) = search (carries, looks) depth 16
-  good c (steps.Mkfifo pid path mode) = search (carries, looks) depth 16
-  good c (steps.Unlink pid path) = search (carries, looks) depth 16
-  good c (steps.Rmdir pid path) = search (carries, looks) depth 16
-  good c (steps.Chmod pid path mode) = search (carries, looks) depth 16
-  good c (steps.Stat pid path) = search (carries, looks) depth 16
-  good c (steps.List pid path) = search (carries, looks) depth 16
-  good c (steps.Open pid path flags) = by_ready pid _ (λ p f. open-good c pid p f path (access_of flags.0))
-  good c (steps.Pipe pid nonblock) = by_ready pid _ (λ p f. pipe-good c pid p nonblock f.free)
-  good c (steps.Dup pid fd) = by_ready pid _ (λ p f. dup-good pid p fd f.free)
-  good c (steps.Close pid fd) = by_ready pid _ (λ p f. close-good pid p fd f.free)
-  good c (steps.Read pid fd n) = by_ready pid _ (λ p f. transfer-good pid p f false (Reading fd n))
-  good c (steps.Write pid fd payload) = by_ready pid _ (λ p f. transfer-good pid p f false (Writing fd payload 0))
-  good c (steps.Tee pid source sink n nonblock) =
-      by_ready pid _ (λ p f. transfer-good pid p f nonblock (Bringing crossings.Tee source sink n))
-  good c (steps.Splice pid source sink n nonblock) =
-      by_ready pid _ (λ p f. transfer-good pid p f nonblock (Bringing crossings.Splice source sink n))
-  good c (steps.SetSize pid fd bytes) = by_ready pid _ (λ p f. set_size-good c p fd bytes)
-  good c (steps.GetSize pid fd) = search (carries, looks) depth 16
-  good c (steps.SetNonblock pid fd on) = by_ready pid _ (λ p f. set_nonblock-good p fd on)
+  good c (steps.Resume pid) = by_living s Keeps pid _ (λ p l. resume-all pid p l.at_place)
+  good c x =
+      step-keeps s Good still-good c x (all-move s Good (λ pid p flag call f. transfer-good pid p f flag call)
+      (λ names. good-same s (replies.Names names) lasts-s refl tt) x tt)
 
   pub can-try : (step : Step) (o : Outcome Segment ℕ) → GoodOf step o → AllCanTry o.state
   can-try (steps.Resume pid) o h = h

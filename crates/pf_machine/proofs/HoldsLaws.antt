@@ -1,7 +1,7 @@
 -- What holds of a call's result, if it has one: a refusal has none.
 
 use Rattle.std.specs.Prelude.{◌≡◌, Bool, true, false, Option, Some, None, Result, Ok, Err, ⊤}
-use Rattle.std.proofs.Common.{refl}
+use Rattle.std.proofs.Common.{refl, subst}
 use Rattle.pf_machine.specs.Refusals.{◌>>=◌, ◌>>◌, refuse_if, or_refuse}
 use Rattle.pf_base.specs.declared.errno.Errno.{Errno}
 
@@ -37,3 +37,18 @@ unless Q false e q h = h refl
 pub found : {A B : Type 0} (Q : B → Type 0) (e : Errno) (o : Option A) (f : A → Result B Errno) → ((x : A) → o ≡ Some x → Holds Q (f x)) → Holds Q (or_refuse e o >>= f)
 found Q e None f h = tt
 found Q e (Some x) f h = h x refl
+
+-- what it gives is known
+pub gives : {A B : Type 0} (Q : B → Type 0) (r : Result A Errno) (f : A → Result B Errno)
+    → ((x : A) → r ≡ Ok x → Holds Q (f x)) → Holds Q (r >>= f)
+gives Q (Ok x) f h = h x refl
+gives Q (Err e) f h = tt
+
+-- and so is what holds of that
+pub of_given : {A : Type 0} (P : A → Type 0) (r : Result A Errno) (x : A) → r ≡ Ok x → Holds P r → P x
+of_given P r x e h = subst (λ q. Holds P q) e h
+
+-- what follows from what holds, holds
+pub weakens : {A : Type 0} (P Q : A → Type 0) (r : Result A Errno) → ((x : A) → P x → Q x) → Holds P r → Holds Q r
+weakens P Q (Ok x) f h = f x h
+weakens P Q (Err e) f h = tt

@@ -2,6 +2,7 @@ pub mod QueueLaws
 pub mod NumberedLaws
 pub mod ChargeLaws
 pub mod SweepLaws
+pub mod ExitLaws
 pub mod MachineLaws
 pub mod RunLaws
 pub mod EventLaws
@@ -9,8 +10,16 @@ pub mod FileLaws
 pub mod HoldsLaws
 pub mod MapLaws
 pub mod Natural
+pub mod NaturalFiles
+pub mod NaturalSizes
 pub mod NaturalOpens
+pub mod NaturalWaits
+pub mod NaturalTransfers
+pub mod NaturalCalls
+pub mod NaturalSteps
+pub mod StepLaws
 pub mod ReplyLaws
+pub mod QueryLaws
 pub mod HouseLaws
 pub mod FileLimitLaws
 mod WorkedQueues
@@ -21,5 +30,6 @@ mod WorkedFiles
 mod WorkedPaths
 mod WorkedSharing
 mod WorkedWaiting
+mod WorkedQueries
 mod WorkedScript
 mod WorkedHouses

@@ -6,6 +6,7 @@ use Rattle.pf_machine.specs.Refusals.{◌>>=◌, ◌>>◌, or_refuse}
 use Rattle.pf_machine.specs.Numbered.{change_at, keep_from}
 use Rattle.pf_base.specs.declared.errno.Errno.{Errno}
 use Rattle.pf_machine.proofs.NumberedLaws.{first_free-map}
+use Rattle.pf_machine.specs.State.{vacant}
 use Rattle.pf_machine.specs.Opens.{first_where}
 use Rattle.pf_machine.specs.Pipes.{second_free}
 use Rattle.pf_machine.specs.Maps.{if_ok, each}
@@ -28,6 +29,11 @@ module _ {X Y : Type 0} (f : X → Y) where
       kept : (b : Bool) → cond b (option_map f x) None ≡ option_map f (cond b x None)
       kept true = refl
       kept false = refl
+
+  pub vacant-map : (n : ℕ) → each f (vacant n) ≡ vacant n
+  unfolding vacant
+  vacant-map zero = refl
+  vacant-map (suc n) = ap (λ xs. None ∷ xs) (vacant-map n)
 
   pub second_free-map : (xs : List (Option X)) → second_free (each f xs) ≡ second_free xs
   second_free-map [] = refl
@@ -71,3 +77,9 @@ pub bind-same : {A C D : Type 0} (j : C → D) (r : Result A Errno) (k : A → R
     → ((a : A) → m a ≡ if_ok j (k a)) → (r >>= m) ≡ if_ok j (r >>= k)
 bind-same j (Ok a) k m same = same a
 bind-same j (Err e) k m same = refl
+
+-- a map that goes on
+pub bind-map : {A B C : Type 0} (h : A → B) (r : Result A Errno) (k : B → Result C Errno)
+    → (if_ok h r >>= k) ≡ (r >>= (λ a. k (h a)))
+bind-map h (Ok a) k = refl
+bind-map h (Err e) k = refl

@@ -1,29 +1,31 @@
 -- A step of a state under other names, with other things in its slots, is the step of the state: what a process is told
 -- doesn't depend on what its slots hold, nor on how its descriptions are named.
 
-use Rattle.std.proofs.Common.{◌≡◌, ℕ, zero, suc, ◌+◌, ◌-◌, ◌*◌, if◌then◌else◌, ◌||◌, Bool, List, [], ◌∷◌, ◌++◌, nat_le, nat_lt, nat_eq, is_some, Option, Some, None, Result, Ok, refl, sym, ap, ◌∙◌}
+use Rattle.std.proofs.Common.{◌≡◌, ℕ, zero, suc, ◌+◌, ◌-◌, ◌*◌, if◌then◌else◌, ◌||◌, Bool, List, [], ◌∷◌, ◌++◌, nat_le, nat_lt, nat_eq, not, is_some, Option, Some, None, Result, Ok, refl, sym, ap, ◌∙◌}
 use Rattle.std.specs.Option.{option_map, option_and_then}
 use Rattle.std.proofs.lemmas.List.{map-set, map-append, length-map}
 use Rattle.pf_base.specs.Capacities.{new_capacity, told_as}
+use Rattle.pf_base.specs.Credentials.{is_valid}
 use Rattle.pf_base.specs.Limits.{Limits}
 use Rattle.pf_base.specs.Permissions.{is_privileged}
 use Rattle.pf_machine.specs.Refusals.{◌>>=◌, ◌>>◌, refuse_if, or_refuse}
 use Rattle.pf_machine.specs.Numbered.{at, put_at, first_free, one_if}
 use Rattle.pf_machine.proofs.NumberedLaws.{at-map, first_free-map, sum_of-map}
 use Rattle.pf_base.specs.declared.TheConstants.{PAGE_SIZE, MAX_MADE, MAX_DESCRIPTORS, MAX_PROCESSES}
+use Rattle.pf_base.specs.declared.cred.Cred.{Cred}
 use Rattle.pf_base.specs.declared.errno.Errno.{Errno}
-use Rattle.pf_base.specs.declared.errno.Errno.TheVariants.{ESRCH, EBUSY, EBADF, EMFILE, EAGAIN, ENFILE}
+use Rattle.pf_base.specs.declared.errno.Errno.TheVariants.{ESRCH, EBUSY, EBADF, EINVAL, EMFILE, EAGAIN, ENFILE}
 use Rattle.pf_base.specs.declared.step.Reply.TheVariants.{Pid, Fds}
 use Rattle.pf_machine.specs.Queue.{empty}
 use Rattle.pf_machine.specs.Calls.{Call, Opening, Moving, made_by}
-use Rattle.pf_machine.specs.State.{Process, Description, Pipe, State, Outcome, End, living, ready, end_at, end_of, with_process, with_descriptor, told, done}
+use Rattle.pf_machine.specs.State.{Process, Description, Pipe, State, Outcome, End, vacant, opening, process, living, ready, end_at, end_of, with_process, with_descriptor, told, done}
 use Rattle.pf_machine.specs.Counts.{charged, total, named_in, names_of, names, ends}
 use Rattle.pf_machine.specs.Sweep.{live_descriptions, live_pipes, sweep}
-use Rattle.pf_machine.specs.Processes.{born, exit}
+use Rattle.pf_machine.specs.Processes.{born, spawn, exit}
 use Rattle.pf_machine.specs.Descriptors.{named, dup, close, without_descriptor, with_nonblocking, with_flag, set_nonblock}
 use Rattle.pf_machine.specs.Pipes.{get_size, pipe, opened, new_pipe, reading, writing, with_two, first_descriptor, second_descriptor}
 use Rattle.pf_machine.specs.Maps.{if_ok, each, pipe_as, call_as, process_as, description_as, state_as, outcome_as, end_as}
-use Rattle.pf_machine.proofs.MapLaws.{second_free-map, bind-same, change_at-map, keep_from-map, keep_from-same, or_refuse-as, then-as, bind-as}
+use Rattle.pf_machine.proofs.MapLaws.{vacant-map, second_free-map, bind-same, change_at-map, keep_from-map, keep_from-same, or_refuse-as, then-as, bind-as}
 
 -- Names alone
 
@@ -53,11 +55,13 @@ module _ {X Y : Type 0} (f : X → Y) {N M : Type 0} (g : N → M) where
 
   -- Who makes a step
 
+  pub process-as : (s : State X N) (pid : ℕ) → process (S s) pid ≡ option_map (process_as g) (process s pid)
+  process-as s zero = refl
+  process-as s (suc i) = at-map (process_as g) s.processes i
+
   pub living-as : (s : State X N) (pid : ℕ) → living (S s) pid ≡ if_ok (process_as g) (living s pid)
-  living-as s zero = refl
-  living-as s (suc i) =
-      ap (or_refuse ESRCH) (at-map (process_as g) s.processes i)
-      ∙ or_refuse-as (process_as g) ESRCH (at s.processes i)
+  living-as s pid =
+      ap (or_refuse ESRCH) (process-as s pid) ∙ or_refuse-as (process_as g) ESRCH (process s pid)
 
   waits-as : (o : Option (Call N)) → is_some (option_map (call_as g) o) ≡ is_some o
   waits-as None = refl
@@ -122,6 +126,17 @@ module _ {X Y : Type 0} (f : X → Y) {N M : Type 0} (g : N → M) where
       rest m =
           refuse_if (nat_le MAX_PROCESSES m) EAGAIN
           >> Ok (told (with_process (S s) (m + 1) (process_as g p)) (Pid (m + 1)))
+
+  pub spawn-as : (s : State X N) (cred : Cred) → spawn (S s) cred ≡ if_ok O (spawn s cred)
+  spawn-as s cred =
+      ap (λ xs. refuse_if (not (is_valid cred)) EINVAL >> born (S s) (bare xs)) (sym (vacant-map g MAX_DESCRIPTORS))
+      ∙ then-as O (refuse_if (not (is_valid cred)) EINVAL) _ _ (born-as s (bare (vacant MAX_DESCRIPTORS)))
+    where
+      bare : {L : Type 0} → List (Option L) → Process L
+      bare xs = record { cred = cred; descriptors = xs; parked = None }
+
+  pub opening-as : S opening ≡ opening
+  opening-as = ap (λ ps. record (opening {X = Y} {N = M}) { processes = ps }) (vacant-map (process_as g) MAX_PROCESSES)
 
   pub close-as : (s : State X N) (pid : ℕ) (p : Process N) (fd : ℕ)
       → close (S s) pid (process_as g p) fd ≡ if_ok O (close s pid p fd)

@@ -19,7 +19,7 @@ use Rattle.pf_machine.specs.State.{Process, Description, Pipe, State, Outcome, w
 use Rattle.pf_machine.specs.Counts.{readers, writers, charged, total}
 use Rattle.pf_machine.specs.Pipes.{new_pipe}
 use Rattle.pf_machine.specs.Attempts.{Attempt, Finished, Waits, given, first, unwaiting}
-use Rattle.pf_machine.specs.Opens.{Access, is_waiting, is_of_file, fifo_pipe, fifo_readers, Found, pipe_of, counted, kept_by, open_pipe, open_fifo}
+use Rattle.pf_machine.specs.Opens.{Access, is_waiting, is_of_file, fifo_pipe, fifo_readers, Found, pipe_of, counted, kept_by, openable, open_pipe, open_fifo, open_path}
 use Rattle.pf_machine.specs.Maps.{if_ok, each, pipe_as, call_as, process_as, description_as, state_as, outcome_as, attempt_as}
 use Rattle.pf_machine.proofs.MapLaws.{change_at-map, first_where-map, then-as, bind-as, bind-same}
 use Rattle.pf_machine.proofs.Natural.{with_descriptor-as, with_process-as}
@@ -69,7 +69,7 @@ module _ {X Y : Type 0} (f : X → Y) {N M : Type 0} (g : N → M) where
 
   -- The first attempt
 
-  given-as : (s : State X N) (pid : ℕ) (p : Process N) (n : N)
+  pub given-as : (s : State X N) (pid : ℕ) (p : Process N) (n : N)
       → given (S s) pid (process_as g p) (g n) ≡ A (given s pid p n)
   given-as s pid p n =
       ap (λ m. Finished (with (with_descriptor m (g n) (process_as g p))) (Num m)) (first_free-map g p.descriptors)
@@ -200,3 +200,9 @@ module _ {X Y : Type 0} (f : X → Y) {N M : Type 0} (g : N → M) where
             >> (refuse_if (a.writes && not a.reads && a.nonblock && nat_eq readers 0) ENXIO
             >> (refuse_if (nat_lt MAX_MADE (drawn + 1)) ENFILE
             >> (pipe_of c (S s) (process_as g p) file pipe >>= opens)))
+
+    pub open_path-as : (name : N) (of : ℕ → N) (to : ℕ → M) → ((n : ℕ) → to n ≡ g (of n))
+        → (c : Limits) (s : State X N) (pid : ℕ) (p : Process N) (path : List ℕ) (a : Access)
+        → open_path w (g name) to c (S s) pid (process_as g p) path a ≡ if_ok O (open_path v name of c s pid p path a)
+    open_path-as name of to names c s pid p path a =
+        bind-same O (openable s.files p.cred path a) _ _ (λ x. open_fifo-as name of to names c s pid p a x.number)

@@ -12,25 +12,23 @@ use Rattle.pf_machine.specs.Numbered.{at, first_free}
 use Rattle.pf_machine.specs.Calls.{Transfer, Reading, Writing, Bringing, Call, Opening, Moving, written_of}
 use Rattle.pf_machine.specs.State.{itself, State, Process, Description, End, Outcome, process, living, ready, settle, told, end_at, reading_end, change_pipe}
 use Rattle.pf_machine.specs.Counts.{readers, writers}
-use Rattle.pf_machine.specs.Processes.{exit, fork}
-use Rattle.pf_machine.specs.Descriptors.{dup, close, set_nonblock}
-use Rattle.pf_machine.specs.Pipes.{pipe, set_size, get_size, is_spent}
-use Rattle.pf_machine.specs.Files.{make, unlink, rmdir, chmod, stat, list}
+use Rattle.pf_machine.specs.Pipes.{is_spent}
+use Rattle.pf_machine.specs.Files.{list}
 use Rattle.pf_machine.specs.Transfers.{Tried, tried, try_read}
 use Rattle.pf_machine.specs.Attempts.{Attempt, Finished, Waits, transfer_told, given, other_opens, open_told, attempt, first, again, nonblocking, transfer, resume}
-use Rattle.pf_machine.specs.Opens.{Access, access_of, is_waiting, counted, kept_by, openable, fifo_pipe, fifo_readers, pipe_of, open_pipe, open_fifo, open_path}
+use Rattle.pf_machine.specs.Opens.{Access, is_waiting, counted, kept_by, openable, fifo_pipe, fifo_readers, pipe_of, open_pipe, open_fifo, open_path}
 use Rattle.pf_machine.specs.Machine.{call, call_of}
 use Rattle.pf_base.specs.declared.TheConstants.{MAX_DESCRIPTORS}
 use Rattle.pf_base.specs.declared.errno.Errno.{Errno}
 use Rattle.pf_base.specs.declared.errno.Errno.TheVariants.{EBADF, EPIPE, EAGAIN, EINVAL, EMFILE, ENXIO, ENFILE, ESRCH}
 use Rattle.pf_base.specs.declared.meta.File.{File}
-use Rattle.pf_base.specs.declared.meta.Kind.TheVariants as kinds
 use Rattle.pf_base.specs.declared.progress.Crossing.TheVariants as crossings
 use Rattle.pf_base.specs.declared.progress.Progress.{Progress}
 use Rattle.pf_base.specs.declared.progress.Progress.TheVariants.{Moved, WouldBlock, EndOfFile, NoReader}
 use Rattle.pf_base.specs.declared.step.Reply.TheVariants.{Num}
 use Rattle.pf_base.specs.declared.step.Step.{Step}
-use Rattle.pf_base.specs.declared.step.Step.TheVariants.{Spawn, Exit, Pipe, Close, Read, Write, Tee, Splice, SetSize, GetSize, Fork, Dup, SetNonblock, Mkdir, Mkfifo, Open, Unlink, Rmdir, Chmod, Stat, List as Lists, Resume}
+use Rattle.pf_base.specs.declared.step.Step.TheVariants.{Read, Write, Tee, Splice, List as Lists, Resume}
+use Rattle.pf_machine.proofs.StepLaws.{Still, step-keeps}
 use Rattle.pf_machine.proofs.HoldsLaws.{Holds, goes, carries, passes}
 use Rattle.pf_machine.specs.Replies.{reply_length}
 
@@ -156,38 +154,34 @@ module _ (s : State Segment ℕ) (m : ℕ) where
 
   -- Calls that hand out nothing
 
-  by_ready : (pid : ℕ) (f : Process ℕ → Result (Outcome Segment ℕ) Errno) → ((p : Process ℕ) → Holds Few (f p)) → Holds Few (ready s pid >>= f)
-  by_ready pid f h = carries Few (ready s pid) f h
-
-  transferred : (pid : ℕ) (p : Process ℕ) (flag : Bool) (fd : ℕ) (x : List ℕ) → Holds Few (transfer s pid p flag (Writing fd x 0))
-  transferred pid p flag fd x = transfer-few pid p flag (Writing fd x 0) (any_tried (tried s p (Writing fd x 0)))
+  still : Still s Few
+  still = record {
+    spawned = λ cred. nothing;
+    forked = λ pid p f. nothing;
+    exited = λ pid p l. nothing;
+    duped = λ pid p fd n f e. nothing;
+    closed = λ pid p fd f. nothing;
+    flagged = λ n on. nothing;
+    piped = λ pid p nonblock f slots. nothing;
+    sized = λ p fd e is pages. nothing;
+    looked = λ r fine short. omega (arith, short);
+    made = λ c kind path mode files e. nothing;
+    filed = λ c files how. nothing;
+    opened = λ c pid p path a f. open-few c pid p path a;
+  }
 
   pub quiet : (c : Limits) (step : Step) → ((pid fd n : ℕ) → step ≡ Read pid fd n → ⊥) → ((pid : ℕ) (path : List ℕ) → step ≡ Lists pid path → ⊥) → ((pid : ℕ) → step ≡ Resume pid → ⊥)
       → Holds Few (call c s step)
-  quiet c (Spawn uid gid umask groups) r l a = search (passes, nothing) depth 16
-  quiet c (Exit pid) r l a = carries Few (living s pid) (λ p. exit s pid) (λ p. nothing)
-  quiet c (Resume pid) r l a = absurd (a pid refl)
   quiet c (Read pid fd n) r l a = absurd (r pid fd n refl)
   quiet c (Lists pid path) r l a = absurd (l pid path refl)
-  quiet c (Fork pid) r l a = by_ready pid (λ p. fork s p) (λ p. search (passes, nothing) depth 16)
-  quiet c (Mkdir pid path mode) r l a = by_ready pid (λ p. make kinds.Directory s p path mode) (λ p. search (carries, nothing) depth 16)
-  quiet c (Mkfifo pid path mode) r l a = by_ready pid (λ p. make kinds.Fifo s p path mode) (λ p. search (carries, nothing) depth 16)
-  quiet c (Unlink pid path) r l a = by_ready pid (λ p. unlink s p path) (λ p. search (carries, nothing) depth 16)
-  quiet c (Rmdir pid path) r l a = by_ready pid (λ p. rmdir s p path) (λ p. search (carries, nothing) depth 16)
-  quiet c (Chmod pid path mode) r l a = by_ready pid (λ p. chmod s p path mode) (λ p. search (carries, nothing) depth 16)
-  quiet c (Stat pid path) r l a = by_ready pid (λ p. stat s p path) (λ p. search (carries, nothing) depth 16)
-  quiet c (Open pid path flags) r l a = by_ready pid (λ p. open_path itself (length s.descriptions) itself c s pid p path (access_of flags.0)) (λ p. open-few c pid p path (access_of flags.0))
-  quiet c (Pipe pid nonblock) r l a = by_ready pid (λ p. pipe (length s.descriptions) (length s.descriptions + 1) (length s.pipes) c s pid p nonblock) (λ p. search (passes, carries, nothing) depth 16)
-  quiet c (Dup pid fd) r l a = by_ready pid (λ p. dup s pid p fd) (λ p. search (passes, carries, nothing) depth 16)
-  quiet c (Close pid fd) r l a = by_ready pid (λ p. close s pid p fd) (λ p. search (carries, nothing) depth 16)
-  quiet c (Write pid fd payload) r l a = by_ready pid (λ p. transfer s pid p false (Writing fd payload 0)) (λ p. transferred pid p false fd payload)
-  quiet c (Tee pid source sink n nonblock) r l a =
-      by_ready pid (λ p. transfer s pid p nonblock (Bringing crossings.Tee source sink n)) (λ p. transfer-few pid p nonblock (Bringing crossings.Tee source sink n) (any_tried (tried s p (Bringing crossings.Tee source sink n))))
-  quiet c (Splice pid source sink n nonblock) r l a =
-      by_ready pid (λ p. transfer s pid p nonblock (Bringing crossings.Splice source sink n)) (λ p. transfer-few pid p nonblock (Bringing crossings.Splice source sink n) (any_tried (tried s p (Bringing crossings.Splice source sink n))))
-  quiet c (SetSize pid fd bytes) r l a = by_ready pid (λ p. set_size itself c s p fd bytes) (λ p. search (passes, carries, nothing) depth 16)
-  quiet c (GetSize pid fd) r l a = by_ready pid (λ p. get_size itself s p fd) (λ p. search (carries, nothing) depth 16)
-  quiet c (SetNonblock pid fd on) r l a = by_ready pid (λ p. set_nonblock itself s p fd on) (λ p. search (carries, nothing) depth 16)
+  quiet c (Resume pid) r l a = absurd (a pid refl)
+  quiet c (Write pid fd x) r l a =
+      step-keeps s Few still c (Write pid fd x) (λ p f. transfer-few pid p false (Writing fd x 0) (any_tried _))
+  quiet c (Tee pid i o n flag) r l a = step-keeps s Few still c (Tee pid i o n flag)
+      (λ p f. transfer-few pid p flag (Bringing crossings.Tee i o n) (any_tried _))
+  quiet c (Splice pid i o n flag) r l a = step-keeps s Few still c (Splice pid i o n flag)
+      (λ p f. transfer-few pid p flag (Bringing crossings.Splice i o n) (any_tried _))
+  quiet c x r l a = step-keeps s Few still c x tt
 
   -- A read
 

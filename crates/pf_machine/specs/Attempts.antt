@@ -80,12 +80,15 @@ given s pid p n =
 abbrev pub open_told : {X N : Type 0} → State X N → ℕ → Process N → N → ℕ → End X N → Attempt X N
 open_told s pid p n kept e = if nat_lt kept (other_opens e) then given s pid p n else Waits s (Opening n kept)
 
+abbrev pub reopened : {X N : Type 0} → (N → ℕ) → State X N → ℕ → Process N → N → ℕ → Result (Attempt X N) Errno
+reopened number s pid p n kept = do
+  e ← or_refuse EBADF (end_at number s (number n))
+  Ok (open_told s pid p n kept e)
+
 -- Both
 
 abbrev pub attempt : State Segment ℕ → ℕ → Process ℕ → Call ℕ → Result (Attempt Segment ℕ) Errno
-attempt s pid p (Opening n kept) = do
-  e ← or_refuse EBADF (end_at itself s n)
-  Ok (open_told s pid p n kept e)
+attempt s pid p (Opening n kept) = reopened itself s pid p n kept
 attempt s pid p (Moving transfer) = do
   t ← tried s p transfer
   transfer_told transfer t t.progress
@@ -105,18 +108,24 @@ first pid nonblock (Finished s reply) = Ok (told s reply)
 first pid nonblock (Waits s call) = if nonblock then unwaiting s (written_of call) else Ok (parked s pid call)
 
 -- whether the description at a descriptor has O_NONBLOCK
-abbrev pub is_nonblocking : State Segment ℕ → Process ℕ → ℕ → Bool
-is_nonblocking s p fd = of_end (end_of itself s p fd)
+abbrev pub has_nonblock : {X N : Type 0} → (N → ℕ) → State X N → Process N → ℕ → Bool
+has_nonblock {X} {N} number s p fd = of_end (end_of number s p fd)
   where
-    of_end : Result (End Segment ℕ) Errno → Bool
+    of_end : Result (End X N) Errno → Bool
     of_end (Ok e) = e.description.nonblocking
     of_end (Err e) = false
 
+abbrev pub is_nonblocking : State Segment ℕ → Process ℕ → ℕ → Bool
+is_nonblocking s p fd = has_nonblock itself s p fd
+
 -- or one of those of a transfer
+abbrev pub any_nonblock : {X N : Type 0} → (N → ℕ) → State X N → Process N → Transfer → Bool
+any_nonblock number s p (Reading fd n) = has_nonblock number s p fd
+any_nonblock number s p (Writing fd x written) = has_nonblock number s p fd
+any_nonblock number s p (Bringing c source sink n) = has_nonblock number s p source || has_nonblock number s p sink
+
 abbrev pub nonblocking : State Segment ℕ → Process ℕ → Transfer → Bool
-nonblocking s p (Reading fd n) = is_nonblocking s p fd
-nonblocking s p (Writing fd x written) = is_nonblocking s p fd
-nonblocking s p (Bringing c source sink n) = is_nonblocking s p source || is_nonblocking s p sink
+nonblocking s p call = any_nonblock itself s p call
 
 -- a transfer as a step of its own: the step's flag and the descriptions say whether it may wait
 abbrev pub transfer : State Segment ℕ → ℕ → Process ℕ → Bool → Transfer → Result (Outcome Segment ℕ) Errno

@@ -2,7 +2,7 @@
 
 use Rattle.std.specs.Prelude.{ℕ, Bool, nat_le, Result, Ok}
 use Rattle.pf_machine.specs.Refusals.{◌>>=◌, ◌>>◌, refuse_if, or_refuse}
-use Rattle.pf_machine.specs.Numbered.{at, clear_at, change_at, first_free}
+use Rattle.pf_machine.specs.Numbered.{at, clear_at, change_at, keep, first_free}
 use Rattle.pf_machine.specs.State.{State, Process, Description, Outcome, with_process, with_descriptor, done}
 use Rattle.pf_base.specs.declared.TheConstants.{MAX_DESCRIPTORS}
 use Rattle.pf_base.specs.declared.errno.Errno.{Errno}
@@ -22,6 +22,10 @@ dup s pid p fd = do
 -- a process without one of its descriptors
 abbrev pub without_descriptor : {N : Type 0} → ℕ → Process N → Process N
 without_descriptor fd p = record p { descriptors = clear_at p.descriptors fd }
+
+-- and without its first n: what Exit leaves of one on the way
+abbrev pub without_first : {N : Type 0} → ℕ → Process N → Process N
+without_first n p = record p { descriptors = keep (λ fd. nat_le n fd) p.descriptors }
 
 abbrev pub close : {X N : Type 0} → State X N → ℕ → Process N → ℕ → Result (Outcome X N) Errno
 close s pid p fd = named p fd >>= (λ _. Ok (done (with_process s pid (without_descriptor fd p)) 0))

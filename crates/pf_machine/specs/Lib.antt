@@ -19,6 +19,7 @@ pub mod Opens
 pub mod Files
 pub mod Machine
 pub mod Replies
+pub mod Queries
 pub mod Runs
 pub mod Events
 pub mod Houses

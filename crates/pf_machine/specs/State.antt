@@ -121,6 +121,14 @@ module _ {X N : Type 0} where
   abbrev pub ready : State X N → ℕ → Result (Process N) Errno
   ready s pid = ready_in s.processes pid
 
+  -- a call of a process that lives
+  abbrev pub of_living : {A : Type 0} → State X N → ℕ → (Process N → Result A Errno) → Result A Errno
+  of_living s pid call = living s pid >>= call
+
+  -- and of one that waits in no call
+  abbrev pub of_ready : {A : Type 0} → State X N → ℕ → (Process N → Result A Errno) → Result A Errno
+  of_ready s pid call = ready s pid >>= call
+
   -- What a process names
 
   -- the end that the description of a number is

@@ -3,6 +3,7 @@ ghost use Rattle.pf_machine.specs.Progress.{moved, portion, read_now, write_now,
 ghost use Rattle.pf_base.specs.declared.progress.Crossing.TheVariants.{Tee, Splice};
 ghost use Rattle.pf_base.specs.declared.progress.Progress.TheVariants.{WouldBlock, EndOfFile};
 ghost use Rattle.pf_machine.specs.Queue.{room_of, bytes_of, taken};
+ghost use Rattle.pf_machine.specs.Queries.{read_goes_on, write_goes_on, cross_goes_on};
 ghost use Rattle.pf_frame.specs.Live.{Live, IsSound};
 ghost use Rattle.pf_ring.specs.Ring.{queue_of};
 ghost use Rattle.pf_ring.specs.Windows.{Stands, Keeps, SameBytes, PutsBehind, bytes_in};
@@ -116,6 +117,36 @@ impl Pipe {
         ensures { (f : Live) → result ≡ room_of (queue_of f self.now.ring) }
     {
         self.ring.room()
+    }
+
+    /// Whether a read of at most `most` bytes that waits would go on.
+    pub fn read_goes_on(&self, most: u64) -> bool
+        ensures { (f : Live) → IsSound f → Stands f self.now.ring.segments
+            → result ≡ read_goes_on (queue_of f self.now.ring) self.now.writers most }
+    {
+        most == 0 || self.ring.len() > 0 || self.writers == 0
+    }
+
+    /// Whether a write that waits would go on, of which so many bytes are left, and which is to stay whole or not.
+    pub fn write_goes_on(&self, whole: bool, left: usize) -> bool
+        ensures { (f : Live) → result ≡ write_goes_on (queue_of f self.now.ring) self.now.readers whole left }
+    {
+        left == 0 || self.readers == 0 || portion(whole, left, self.ring.room()) > 0
+    }
+
+    /// Whether a tee or a splice that waits, of at most `most` bytes from this pipe to `sink`, would go on.
+    pub fn cross_goes_on(&self, sink: &Pipe, most: u64) -> bool
+        ensures { (f : Live) → IsSound f → Stands f self.now.ring.segments
+            → result ≡ cross_goes_on (queue_of f self.now.ring) (queue_of f sink.now.ring)
+            self.now.writers sink.now.readers most }
+    {
+        if most == 0 || sink.readers == 0 {
+            return true;
+        }
+        if self.ring.len() == 0 {
+            return self.writers == 0;
+        }
+        sink.ring.used() < sink.ring.slots()
     }
 
     /// The user that its pages are charged to.

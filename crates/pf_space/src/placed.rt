@@ -1,7 +1,7 @@
 //! A namespace beside the allocator of its files, where a contract sees it.
 
 use crate::space::Space;
-use pf_base::{Answer, Config, Step};
+use pf_base::{Answer, Config, Errno, Readiness, Step};
 use pf_frame::Frames;
 use std::alloc::{AllocError, Allocator, Global};
 
@@ -24,6 +24,7 @@ impl<A: Allocator> Placed<A> {
     ghost use Rattle.pf_machine.specs.Replies.{most_of, written_in};
     ghost use Rattle.pf_tables.specs.Bounds.{Covers};
     ghost use Rattle.pf_tables.specs.Held.{HoldsNone};
+    ghost use Rattle.pf_tables.specs.Queries.{GoesOn, GoesOnNext, IsReadiness};
 
     /// A number of bytes that the vector of a step's reply is no longer than, as `Space::reply_bound` says.
     pub fn reply_bound(&self, step: &Step) -> usize
@@ -46,6 +47,27 @@ impl<A: Allocator> Placed<A> {
         ensures { result ≡ written_in (call_of self.now.space.state pid) }
     {
         self.space.parked_written(pid)
+    }
+
+    /// Whether the call in which a process waits comes further when it is tried again, as `Space::can_go_on` says.
+    pub fn can_go_on(&self, pid: u32) -> bool
+        ensures { GoesOn self.now.space pid result }
+    {
+        self.space.can_go_on(pid)
+    }
+
+    /// The next process that can go on, as `Space::next_to_go_on` says.
+    pub fn next_to_go_on(&self, after: u32) -> Option<u32>
+        ensures { GoesOnNext self.now.space after result }
+    {
+        self.space.next_to_go_on(after)
+    }
+
+    /// What a descriptor's pipe is ready for, as `Space::readiness` says.
+    pub fn readiness(&self, pid: u32, fd: u32) -> Result<Readiness, Errno>
+        ensures { IsReadiness self.now.space pid fd result }
+    {
+        self.space.readiness(pid, fd)
     }
 }
 

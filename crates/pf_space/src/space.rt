@@ -14,6 +14,7 @@ mod opens;
 mod parked;
 mod pipes;
 mod processes;
+mod queries;
 mod transfers;
 
 /// One namespace: its processes, their descriptors, and its pipes.

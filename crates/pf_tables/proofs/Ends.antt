@@ -78,21 +78,21 @@ module _ (f : Live) (side : Option Side) (ps : ProcessRows) (ds : DescriptionRow
       (at-map (pipe_meaning f) (pipes_of pipes) e.value.pipe.serial ∙ ap (option_map (pipe_meaning f)) (shown pipe_of pipes e.value.pipe.serial (e.value.pipe.slot, r) g))
 
   -- what the tables find and what the machine finds: one refusal, or the end that the rows show
-  abbrev Agrees : Result Description Errno → Result (End Segment ℕ) Errno → Type 0
+  abbrev pub Agrees : Result Description Errno → Result (End Segment ℕ) Errno → Type 0
   Agrees (Err e) machine = machine ≡ Err e
   Agrees (Ok d) machine = (r : Pipe) × (at pipes d.pipe.serial ≡ Some (d.pipe.slot, r)) × (machine ≡ Ok (end_of_rows f d r))
 
-  abbrev if_sided : Description → Result Description Errno
+  abbrev pub if_sided : Description → Result Description Errno
   if_sided d = refuse_if (not (has side d)) EBADF >> Ok d
 
-  abbrev of_key : Option Key → Result Description Errno
+  abbrev pub of_key : Option Key → Result Description Errno
   of_key o = or_refuse EBADF o >>= (λ k. or_refuse EBADF (description_in ds k) >>= if_sided)
 
   by_sides : (b : Bool) (d : Description) (r : Pipe) → at pipes d.pipe.serial ≡ Some (d.pipe.slot, r) → Agrees (refuse_if (not b) EBADF >> Ok d) (sided b (end_of_rows f d r))
   by_sides true d r h = (r, h, refl)
   by_sides false d r h = refl
 
-  by_key : (i : ℕ) (p : Process) → at ps i ≡ Some p → (o : Option Key) → at p.descriptors fd ≡ o → Agrees (of_key o) (side_end side s (process_of p) fd)
+  pub by_key : (i : ℕ) (p : Process) → at ps i ≡ Some p → (o : Option Key) → at p.descriptors fd ≡ o → Agrees (of_key o) (side_end side s (process_of p) fd)
   by_key i p h None g = no_side (process_of p) (shown_key p None g)
   by_key i p h (Some k) g =
       let e = finds ds k (t.finds i (suc fd) p k h g) in

@@ -35,4 +35,5 @@ mod ProcessTableEmpty
 mod ProcessesAlive
 mod Parked
 mod TransfersWhole
+mod Queries
 mod FileTree

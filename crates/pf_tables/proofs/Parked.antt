@@ -1,6 +1,6 @@
 -- A call is over, or begins: what the tables keep and show of it.
 
-use Rattle.std.proofs.Common.{◌≡◌, ℕ, zero, suc, ◌-◌, [], ◌∷◌, set, map, Option, Some, None, IsOk, Result, Ok, Err, refl, sym, ap, subst, ◌∙◌, arith}
+use Rattle.std.proofs.Common.{◌≡◌, ℕ, zero, suc, ◌-◌, [], ◌∷◌, set, map, Option, Some, None, IsOk, Result, Ok, refl, sym, ap, subst, ◌∙◌, arith}
 use Rattle.std.specs.Option.{option_map, option_and_then}
 use Rattle.std.proofs.lemmas.List.{map-set, set-set}
 use Rattle.pf_machine.specs.FileMap.{Files}

@@ -3,6 +3,7 @@ pub mod Held
 pub mod Meaning
 pub mod Opened
 pub mod Owns
+pub mod Queries
 pub mod Recharging
 pub mod Rows
 pub mod Tables

@@ -124,14 +124,17 @@ has (Some sides.Write) d = d.writes
 abbrev pub description_in : DescriptionRows → Key → Option Description
 description_in ds k = option_map (λ n. n.value) (find ds k.slot k.serial)
 
--- the description of the end that a process's descriptor names, of a side where one is asked for
-abbrev pub end_in : Option Side → ProcessRows → DescriptionRows → ℕ → ℕ → Result Description Errno
-end_in side ps ds pid fd = do
-  p ← ready_in ps pid
+-- the description of the end that a descriptor of a process names, of a side where one is asked for
+abbrev pub end_of_row : Option Side → Process → DescriptionRows → ℕ → Result Description Errno
+end_of_row side p ds fd = do
   k ← or_refuse EBADF (at p.descriptors fd)
   d ← or_refuse EBADF (description_in ds k)
   refuse_if (not (has side d)) EBADF
   Ok d
+
+-- the same of the process that has a pid and waits in no call
+abbrev pub end_in : Option Side → ProcessRows → DescriptionRows → ℕ → ℕ → Result Description Errno
+end_in side ps ds pid fd = ready_in ps pid >>= (λ p. end_of_row side p ds fd)
 
 -- a pipe that an end has gone from
 abbrev pub with_fewer : Description → Pipe → Pipe

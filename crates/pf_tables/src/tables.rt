@@ -5,7 +5,7 @@
 //! above this file nobody sees a ring.
 
 ghost use Rattle.std.specs.Prelude.{◌≡◌, Some, None, IfOk};
-ghost use Rattle.pf_tables.specs.Rows.{key_in, end_in};
+ghost use Rattle.pf_tables.specs.Rows.{key_in, end_of_row, end_in};
 
 mod bounds;
 mod descriptors;
@@ -14,10 +14,11 @@ mod opens;
 mod parked;
 mod pipes;
 mod processes;
+mod queries;
 mod transfers;
 
 use crate::file_tree::FileTree;
-use crate::process_table::ProcessTable;
+use crate::process_table::{Process, ProcessTable};
 pub use opens::Access;
 use pf_base::{Config, Errno, Side};
 use pf_fds::{Descriptions, Key, Registry};
@@ -96,17 +97,15 @@ fn key_of(processes: &ProcessTable, pid: u32, fd: u32) -> Result<Key, Errno>
     }
 }
 
-// The description of the end that a process's descriptor names, of this side where one is asked for.
-fn end(
-    processes: &ProcessTable,
+// The description of the end that a descriptor of a process names, of this side where one is asked for.
+fn end_of(
+    process: &Process,
     descriptions: &Descriptions<Description>,
-    pid: u32,
     fd: u32,
     side: Option<Side>,
 ) -> Result<Description, Errno>
-    ensures { result ≡ end_in side processes.now descriptions.now.items pid fd }
+    ensures { result ≡ end_of_row side process.now descriptions.now.items fd }
 {
-    let process = processes.ready(pid)?;
     let Some(key) = process.descriptors.get(fd as usize) else {
         return Err(Errno::EBADF);
     };
@@ -117,6 +116,19 @@ fn end(
         return Err(Errno::EBADF);
     }
     Ok(*description)
+}
+
+// The same of a process that waits in no call.
+fn end(
+    processes: &ProcessTable,
+    descriptions: &Descriptions<Description>,
+    pid: u32,
+    fd: u32,
+    side: Option<Side>,
+) -> Result<Description, Errno>
+    ensures { result ≡ end_in side processes.now descriptions.now.items pid fd }
+{
+    end_of(processes.ready(pid)?, descriptions, fd, side)
 }
 
 // The same, of an end that reads.

@@ -91,7 +91,7 @@ impl Access {
 }
 
 // How often the other side of a pipe was opened than that which an end is for.
-fn other_opens(pipe: &Pipe, reads: bool) -> u64
+pub(super) fn other_opens(pipe: &Pipe, reads: bool) -> u64
     ensures { result ≡ other_opens reads pipe.now }
 {
     if reads {
