@@ -53,6 +53,15 @@ typedef struct sag_meta {
     uint32_t mode, uid, gid;
 } sag_meta;
 
+/* What the pipe of a descriptor is ready for: how many bytes there are to read (FIONREAD of ioctl_pipe(2)), how many a
+ * write may have that goes in whole at once, and whether somebody reads the pipe and somebody writes it. In the words of
+ * poll(2), of an end that reads: POLLIN where bytes > 0, POLLHUP where !has_writer; and of one that writes: POLLOUT
+ * where room >= 4096, POLLERR where !has_reader. */
+typedef struct sag_ready {
+    uint64_t bytes, room;
+    bool has_reader, has_writer;
+} sag_ready;
+
 /* How sag_open_path opens a FIFO: for reading, for writing, or both; and with O_NONBLOCK. Not the numbers of
  * <fcntl.h>. */
 enum { SAG_READ = 1, SAG_WRITE = 2, SAG_NONBLOCK = 4 };
@@ -105,6 +114,16 @@ int64_t sag_exit(sag_hub *h, uint32_t ns, uint32_t pid);
  * read. A result above `count` says that bytes were lost. This profile's own. */
 int64_t sag_resume(sag_hub *h, uint32_t ns, uint32_t pid, void *into, size_t count);
 
+/* Who can go on. An event loop asks after each step that may have let somebody go on: one of the same namespace. */
+
+/* Whether the call in which a process waits comes further when sag_resume tries it again: it is told something else than
+ * SAG_PARKED, or more bytes of its write go in. False where it waits in no call. This profile's own. */
+bool sag_can_go_on(sag_hub *h, uint32_t ns, uint32_t pid);
+
+/* The least pid above `after` whose process can go on, 0 where there is none: so a loop from 0 finds them all. This
+ * profile's own, in place of poll(2) and epoll(7). */
+uint32_t sag_next_to_go_on(sag_hub *h, uint32_t ns, uint32_t after);
+
 /* Pipes */
 
 /* A new pipe: fds[0] is for reading, fds[1] for writing. 0, else both stay as they were. `nonblock` is pipe2's
@@ -129,6 +148,9 @@ int64_t sag_set_pipe_size(sag_hub *h, uint32_t ns, uint32_t pid, uint32_t fd, ui
 
 /* A pipe's capacity in bytes. (fcntl(2), F_GETPIPE_SZ) */
 int64_t sag_pipe_size(sag_hub *h, uint32_t ns, uint32_t pid, uint32_t fd);
+
+/* What the pipe of a descriptor is ready for goes to *out. 0, else *out is as it was. (poll(2)) */
+int64_t sag_readiness(sag_hub *h, uint32_t ns, uint32_t pid, uint32_t fd, sag_ready *out);
 
 /* Descriptors */
 

@@ -1,6 +1,6 @@
 /* A host that runs two plug-ins in one process, as a shell runs two programs: `list | number`. Each is a program that
  * was written for system calls; here its calls go to Sagthrey, and none of them blocks the host. An event loop gives
- * each plug-in its turn, and tries the call again in which one waits.
+ * each plug-in its turn, and tries the call in which one waits again once it can go on.
  *
  * The plug-ins know numbers of their own, 0 and 1, since a shell moves the pipe's ends there with dup2. Sagthrey has
  * dup(2) and no dup2(2), so the host keeps a table for each program, from the program's number to the descriptor. */
@@ -111,15 +111,15 @@ static void number(program *p, int64_t told) {
     printf("%s reads: %d %.*s", p->name, ++p->line, (int)told, p->buffer);
 }
 
-/* A read that may wait. Where it does, the program has its next turn once the call is told something else. */
+/* A read that may wait. Where it does, the program has its next turn once the call can go on. */
 static void turn_of_number(program *p) {
     int64_t told = p->waits
         ? sag_resume(&hub, NAMESPACE, p->pid, p->buffer, sizeof p->buffer)
         : sag_read(&hub, NAMESPACE, p->pid, (uint32_t)descriptor(p, 0), p->buffer, sizeof p->buffer);
-    bool waited = p->waits;
+    WANT(!p->waits || told != SAG_PARKED);
     p->waits = told == SAG_PARKED;
     if (p->waits) {
-        if (!waited) printf("%s waits\n", p->name);
+        printf("%s waits\n", p->name);
         return;
     }
     number(p, told);
@@ -144,10 +144,17 @@ int main(void) {
     WANT(host_close(&numberer, ends[1]) == 0 && host_dup2(&numberer, 6, 0) == -EBADF);
     WANT(host_close(&shell, ends[0]) == 0 && host_close(&shell, ends[1]) == 0);
 
-    /* The event loop. The reader comes first, so it waits until there are bytes. */
+    sag_ready ready;
+    WANT(sag_readiness(&hub, NAMESPACE, lister.pid, (uint32_t)descriptor(&lister, 1), &ready) == 0);
+    WANT(ready.bytes == 0 && ready.room == 65536 && ready.has_reader && ready.has_writer);
+
+    /* The event loop. The reader comes first, so it waits until there are bytes: who waits has a turn only where its call
+     * can go on, so none is tried again in vain. */
     while (!lister.ended || !numberer.ended) {
-        if (!numberer.ended) turn_of_number(&numberer);
+        bool can = !numberer.waits || sag_can_go_on(&hub, NAMESPACE, numberer.pid);
+        if (!numberer.ended && can) turn_of_number(&numberer);
         if (!lister.ended) list(&lister);
+        WANT(sag_next_to_go_on(&hub, NAMESPACE, 0) == (numberer.waits ? numberer.pid : 0));
     }
     WANT(sag_exit(&hub, NAMESPACE, shell.pid) == 0);
     WANT(sag_free_frames(&hub) == 16 && sag_held(&hub, NAMESPACE) == 0);

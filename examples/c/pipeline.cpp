@@ -75,7 +75,7 @@ public:
             ? sag_resume(hub.get(), name_space, pid, buffer.data(), buffer.size())
             : sag_read(hub.get(), name_space, pid, numbers.at(number), buffer.data(), buffer.size());
         if (told == SAG_PARKED) {
-            if (!waits) std::cout << name << " waits\n";
+            std::cout << name << " waits\n";
             waits = true;
             return false;
         }
@@ -83,6 +83,9 @@ public:
         text.assign(buffer.data(), static_cast<std::size_t>(done(told)));
         return true;
     }
+
+    // Whether it has anything to do: it doesn't wait, or its call can go on.
+    bool can_go_on() { return !waits || sag_can_go_on(hub.get(), name_space, pid); }
 
     void exit() {
         done(sag_exit(hub.get(), name_space, pid));
@@ -123,7 +126,7 @@ void run() {
     std::size_t written = 0, read = 0;
     std::string text;
     while (!list.ended || !number.ended) {
-        if (!number.ended && number.read(0, text)) {
+        if (!number.ended && number.can_go_on() && number.read(0, text)) {
             if (text.empty()) number.exit();
             else std::cout << number.called() << " reads: " << ++read << " " << text;
         }

@@ -36,6 +36,7 @@ extern "C" {
     fn sag_spawn(h: *mut SagHub, ns: u32, uid: u32, gid: u32, groups: *const u32, count: usize, umask: u32) -> i64;
     fn sag_fork(h: *mut SagHub, ns: u32, pid: u32) -> i64;
     fn sag_exit(h: *mut SagHub, ns: u32, pid: u32) -> i64;
+    fn sag_can_go_on(h: *mut SagHub, ns: u32, pid: u32) -> bool;
     fn sag_resume(h: *mut SagHub, ns: u32, pid: u32, into: *mut u8, count: usize) -> i64;
     fn sag_pipe(h: *mut SagHub, ns: u32, pid: u32, nonblock: bool, fds: *mut u32) -> i64;
     fn sag_read(h: *mut SagHub, ns: u32, pid: u32, fd: u32, into: *mut u8, count: usize) -> i64;
@@ -134,6 +135,11 @@ impl Hub {
         let (at, count) = (into.as_mut_ptr(), into.len());
         let result = unsafe { sag_read(&mut self.0, NAMESPACE, pid, fd, at, count) };
         told_bytes(result, into)
+    }
+
+    /// Whether the call in which a process waits comes further when it is tried again.
+    fn can_go_on(&mut self, pid: u32) -> bool {
+        unsafe { sag_can_go_on(&mut self.0, NAMESPACE, pid) }
     }
 
     /// Tries the read again in which the process waits.
@@ -243,8 +249,8 @@ impl Program {
         Ok(())
     }
 
-    /// A turn of the second, which prints what it reads from its number 0, with a number. Where the read waits, it is
-    /// tried again at the next turn.
+    /// A turn of the second, which prints what it reads from its number 0, with a number. Where the read waits, the
+    /// next turn is once it can go on.
     fn number(&mut self, hub: &mut Hub) -> Result<(), Told> {
         let mut buffer = [0; 16];
         let answer = match self.waits {
@@ -252,9 +258,7 @@ impl Program {
             false => hub.read(self.pid, self.descriptor(0)?, &mut buffer),
         };
         if answer == Err(Told::Parked) {
-            if !self.waits {
-                println!("{} waits", self.name);
-            }
+            println!("{} waits", self.name);
             self.waits = true;
             return Ok(());
         }
@@ -295,7 +299,7 @@ fn main() -> Result<(), Told> {
 
     // The event loop. The reader comes first, so it waits until there are bytes.
     while !list.ended || !number.ended {
-        if !number.ended {
+        if !number.ended && (!number.waits || hub.can_go_on(number.pid)) {
             number.number(&mut hub)?;
         }
         if !list.ended {

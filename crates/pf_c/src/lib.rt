@@ -17,9 +17,11 @@ mod pipes;
 mod place;
 mod processes;
 mod queries;
+mod ready;
 mod told;
 
 pub use handle::SagHub;
 pub use meta::SagMeta;
 pub use opening::{OpenFault, SagLimits};
 pub use place::{Opaque, Place};
+pub use ready::SagReady;
