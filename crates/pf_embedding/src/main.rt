@@ -13,9 +13,10 @@ use crate::trouble::Trouble;
 fn main(rt: HostRuntime) -> Result<(), Trouble> {
     let alloc = rt.alloc();
     println!(rt; "{:?}", alone::hello(alloc)?)?;
-    for answer in waits::waits(alloc)? {
-        println!(rt; "{answer:?}")?;
-    }
+    let (parked, early, next, told) = waits::waits(alloc)?;
+    println!(rt; "{parked:?}")?;
+    println!(rt; "{early} {next:?}")?;
+    println!(rt; "{told:?}")?;
     println!(rt; "{:?}", guest::job(alloc)?)?;
     Ok(())
 }

@@ -6,8 +6,8 @@ use pf_base::{Answer, ByteString, Groups, Step};
 use pf_hub::Hub;
 use std::alloc::Global;
 
-/// What a reader is told whose pipe is empty, once it is resumed too early, and once bytes are there.
-pub(crate) fn waits(alloc: Global) -> Result<[Answer; 3], Trouble> {
+/// What a reader is told whose pipe is empty, whether it can go on then, who can once bytes are there, and what it is told then.
+pub(crate) fn waits(alloc: Global) -> Result<(Answer, bool, Option<u32>, Answer), Trouble> {
     let limits = vec![in alloc; (reserve(16)?, alloc)]?;
     let mut hub = Hub::new(alloc, pages(alloc, 16)?, limits)?;
     let red = 0;
@@ -36,7 +36,7 @@ pub(crate) fn waits(alloc: Global) -> Result<[Answer; 3], Trouble> {
             n: 100,
         },
     );
-    let still = hub.step(red, &Step::Resume { pid: 1 });
+    let early = hub.can_go_on(red, 1);
     let payload = ByteString::from_slice(alloc, b"hello")?;
     hub.step(
         red,
@@ -46,6 +46,7 @@ pub(crate) fn waits(alloc: Global) -> Result<[Answer; 3], Trouble> {
             payload,
         },
     );
+    let next = hub.next_to_go_on(red, 0);
     let told = hub.step(red, &Step::Resume { pid: 1 });
-    Ok([parked, still, told])
+    Ok((parked, early, next, told))
 }

@@ -18,6 +18,8 @@ use std::marker::Model;
 use std::sync::ledger::{Blank, Ledger, Share};
 use std::sync::{Mutex, Wait};
 
+mod queries;
+
 /// A namespace for a thread of its own: its space, its frames on loan, its shares of the ledgers of a depot that other
 /// workers share, and a few frames of that depot in stock.
 ///
