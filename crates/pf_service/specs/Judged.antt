@@ -40,3 +40,8 @@ pub record IsClosed (configs : List Limits) (seats : List OneSeat) (ts : List On
 -- these seats don't fit some transcripts and some numbers of seats: which ones lay behind the lock isn't said
 abbrev pub IsClosedFault : List Limits → List OneSeat → CloseFault → Type 0
 IsClosedFault configs seats fault = (ts : List OneTranscript) × (given : List ℕ) × IsCause configs ts given seats fault
+
+-- these seats don't fit what lay behind the locks, or memory was wanted
+abbrev pub IsUnlockedFault : (List OneTranscript → List ℕ → Type 0) → List Limits → List OneSeat → CloseFault → Type 0
+IsUnlockedFault Lay configs seats NoMemory = Unit {0}
+IsUnlockedFault Lay configs seats fault = (ts : List OneTranscript) × (given : List ℕ) × Lay ts given × IsCause configs ts given seats fault

@@ -15,11 +15,11 @@ mod opening;
 mod place;
 pub mod receipt;
 mod retired;
-mod returns;
 pub mod seat;
 mod seated;
 pub mod service;
 pub mod transcript;
+mod unlocks;
 mod waiters;
 mod waiting;
 

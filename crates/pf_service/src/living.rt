@@ -2,12 +2,11 @@ ghost use Rattle.std.specs.Prelude.{◌≡◌, ◌+◌, ◌<◌};
 
 use crate::logged::Logged;
 use crate::retired::Retired;
-use crate::returns::Returns;
 use crate::transcript::Transcript;
 use pf_base::{Config, Reply, Step};
 use pf_depot::{Allotment, DepotBook, Stock};
 use pf_space::Placed;
-use pf_worker::{Gate, GatedDepot};
+use pf_worker::{Gate, GatedDepot, Returns};
 use std::alloc::{AllocError, Allocator, Global};
 use std::sync::ledger::{Ledger, Share};
 use std::sync::{Mutex, Wait};

@@ -7,17 +7,17 @@ use crate::fault::{CloseFault, ServiceFault};
 use crate::guests::Guests;
 use crate::judge::compare;
 use crate::opening::{admitted, configs_of, furnished, places_of};
-use crate::place::{Place, parts_of};
+use crate::place::Place;
 use crate::receipt::Receipt;
-use crate::returns::ToTheDepot;
 use crate::seat::Seat;
 use crate::seated::Seated;
 use crate::transcript::Transcripts;
+use crate::unlocks::{ForGood, Unlocks};
 use pf_base::{AdmitFault, Config, RetireFault, Step};
 use pf_depot::DepotBook;
 use pf_frame::{Frame, PoolFault};
 use pf_hub::{first_fault, reserves_of};
-use pf_worker::Gate;
+use pf_worker::{Gate, ToTheDepot};
 use std::alloc::{Allocator, Global};
 use std::marker::Model;
 use std::sync::ledger::{Blank, Ledger};
@@ -65,9 +65,9 @@ impl<A: Allocator + Clone, G: Gate, C: Ledger, H: Ledger> Service<A, G, C, H> {
     ghost use Rattle.pf_frame.specs.Faults.{IsFault};
     ghost use Rattle.pf_service.specs.declared.event.Event.{Event as OneEvent};
     ghost use Rattle.pf_service.specs.Faults.{IsCallFault, IsAdmissionFault, IsRetirementFault};
-    ghost use Rattle.pf_service.specs.Judged.{IsClosed, IsClosedFault};
+    ghost use Rattle.pf_service.specs.Judged.{IsClosed, IsClosedFault, IsUnlockedFault};
     ghost use Rattle.pf_hub.specs.Opening.{first_fault};
-    ghost use Rattle.pf_service.specs.Seats.{Gains, event_at, IsSeatFault};
+    ghost use Rattle.pf_service.specs.Seats.{AreGiven, Gains, event_at, IsSeatFault};
     ghost use Rattle.pf_service.specs.Told.{Told};
     ghost use Rattle.pf_service.specs.Waited.{IsWaited, IsAnswered, AreParked};
     ghost use Rattle.pf_service.specs.declared.TheConstants.{MAX_SEATS};
@@ -251,6 +251,17 @@ impl<A: Allocator + Clone, G: Gate, C: Ledger, H: Ledger> Service<A, G, C, H> {
         ensures closed { IfOk result (IsClosed self seats.items) }
         ensures fault { IfErr result (IsClosedFault self seats.items) }
     {
+        self.close_by(&ForGood, seats)
+    }
+
+    // The same by any way to open the locks.
+    fn close_by<W: Unlocks>(self, way: &W, seats: Vec<Seat>) -> Result<Transcripts, CloseFault>
+    where
+        G: Drop,
+        ensures closed { IfOk result (IsClosed self seats.items) }
+        ensures all { IfOk result (λ ts. (given : List ℕ) × W.lay way.now ts given × AreGiven given seats.items) }
+        ensures fault { IfErr result (IsUnlockedFault (λ ts given. W.lay way.now ts given) self seats.items) }
+    {
         let Service {
             alloc,
             configs,
@@ -261,10 +272,7 @@ impl<A: Allocator + Clone, G: Gate, C: Ledger, H: Ledger> Service<A, G, C, H> {
         } = self;
         drop(book);
         drop(gate);
-        let Ok(places) = guests.after(places) else {
-            return Err(CloseFault::NoMemory);
-        };
-        let Ok((transcripts, given)) = parts_of(alloc, places) else {
+        let Ok((transcripts, given)) = way.unlock(alloc, places, guests) else {
             return Err(CloseFault::NoMemory);
         };
         compare(alloc, &configs, &transcripts, &given, &seats)?;

@@ -8,6 +8,7 @@ ghost use Rattle.pf_worker.specs.Workers.{new_workers};
 
 use crate::gate::Gate;
 use crate::gated::GatedDepot;
+use crate::returns::{Returns, ToTheDepot};
 use pf_base::{AdmitFault, Answer, Config, RetireFault, Step};
 use pf_depot::{Allotment, DepotBook, Loans, Stock};
 use pf_frame::{Frame, PoolFault};
@@ -52,7 +53,7 @@ impl<A: Allocator, C: Ledger, H: Ledger> Model for Worker<A, C, H> {
 }
 
 impl<A: Allocator + Clone, C: Ledger, H: Ledger> Worker<A, C, H> {
-    ghost use Rattle.std.specs.Prelude.{false, ◌<◌};
+    ghost use Rattle.std.specs.Prelude.{ℕ, false, ◌<◌, OnOk};
     ghost use Rattle.pf_base.specs.declared.TheConstants.{MAX_NUMBERS};
     ghost use Rattle.pf_machine.specs.Machine.{Answers, may_want_memory};
     ghost use Rattle.pf_machine.specs.Events.{IsDone};
@@ -168,6 +169,22 @@ impl<A: Allocator + Clone, C: Ledger, H: Ledger> Worker<A, C, H> {
             (λ e. (e.0 ≡ self) × (e.1 ≡ RetireFault.Alive (alive self.tenant.state))
             × (0 < alive self.tenant.state)) }
     {
+        self.retire_by(rt, &ToTheDepot, book)
+    }
+
+    // The same by any way to the depot.
+    fn retire_by<R: Wait, D: Returns>(
+        self,
+        rt: &R,
+        way: &D,
+        book: &Mutex<DepotBook<C, H>>,
+    ) -> Result<(), (Self, RetireFault)>
+        ensures retired { MatchResult result
+            (λ _. alive self.tenant.state ≡ 0)
+            (λ e. (e.0 ≡ self) × (e.1 ≡ RetireFault.Alive (alive self.tenant.state))
+            × (0 < alive self.tenant.state)) }
+        ensures returned { OnOk result ((stock : ℕ) × D.returned way.now self.tenant.limits.reserve stock) }
+    {
         let processes = self.placed.processes();
         if processes > 0 {
             return Err((self, RetireFault::Alive { processes }));
@@ -182,7 +199,7 @@ impl<A: Allocator + Clone, C: Ledger, H: Ledger> Worker<A, C, H> {
         } = self;
         // no other worker waits while the files go
         drop(placed);
-        book.lock(rt).retire(loans, credits, held, stock);
+        way.give_back(rt, book, loans, credits, held, stock);
         Ok(())
     }
 

@@ -9,7 +9,7 @@ use std::sync::{Mutex, Wait};
 ///
 /// That all was given back is a fact which nobody but `give_back` gives: a contract over any way can't see what the fact
 /// is. So whoever asks for the fact asks for a call. A ledger has one book, so there is one depot that can take its shares.
-pub(crate) trait Returns {
+pub trait Returns {
     /// A namespace gave back all that it had: a reservation of so many frames, and so many in stock.
     ghost returned: { Self → ℕ → ℕ → Type 0 };
 
@@ -31,8 +31,8 @@ pub(crate) trait Returns {
 }
 
 /// The way that there is.
-#[derive(Clone, Copy)]
-pub(crate) struct ToTheDepot;
+#[derive(Clone, Copy, Debug, PartialEq, Eq)]
+pub struct ToTheDepot;
 
 impl Returns for ToTheDepot {
     ghost returned = { λ _ _ _. Unit {0} };
