@@ -15,10 +15,10 @@ ghost use Rattle.pf_play.specs.Played.{IsChosen, comes_and_goes, is_step};
 ghost use Rattle.pf_play.specs.Plays.{IsPlayedFor, nomem_of};
 
 use linked_list_allocator::LocalHeap;
-use pf_base::{AdmitFault, Answer, Config, EventAnswer, RetireFault, Step};
+use pf_base::{Config, EventAnswer, RetireFault, Step};
 use pf_frame::{Frame, PoolFault};
 use pf_hub::Hub;
-use pf_script::{Line, Script};
+use pf_script::{Line, Script, Told};
 use std::alloc::{AllocError, Allocator, Global};
 
 /// The fewest bytes that a heap for a namespace's files may have.
@@ -123,19 +123,15 @@ fn number_of(numbers: &[Option<u32>], place: u32) -> Option<u32>
 }
 
 /// A step of the namespace with this number, if one lives.
-fn step_if_living<A: Allocator + Clone>(
-    hub: &mut Hub<A>,
-    number: Option<u32>,
-    step: &Step,
-) -> EventAnswer
+fn step_if_living<A: Allocator + Clone>(hub: &mut Hub<A>, number: Option<u32>, step: &Step) -> Told
     ensures follows { (names : List (Option ℕ)) (named : House) (place : ℕ) →
         IsNamed names (house_of hub.old.world) named → at names place ≡ number →
         Follows names (house_of hub.new.world) named (Stepping place step.now) result }
     ensures allocators { hub.new.allocators ≡ hub.old.allocators }
 {
     match number {
-        Some(ns) if hub.lives(ns) => EventAnswer::Answer(hub.step(ns, step)),
-        _ => EventAnswer::Gone,
+        Some(ns) if hub.lives(ns) => Told::new(EventAnswer::Answer(hub.step(ns, step))),
+        _ => Told::new(EventAnswer::Gone),
     }
 }
 
@@ -184,6 +180,7 @@ fn admit<A: Allocator + Clone>(
 }
 
 /// Does what a line of the script says. `ns` is its name's place in the script, and `place` among the names that are run.
+#[inline(always)]
 fn tell<A: Allocator + Clone>(
     hub: &mut Hub<A>,
     numbers: &mut Vec<Option<u32>>,
@@ -192,7 +189,7 @@ fn tell<A: Allocator + Clone>(
     place: u32,
     line: &Line,
     tree: A,
-) -> EventAnswer
+) -> Told
     requires exists { ns < length script.now.spaces }
     requires room { given (length numbers.old.items) line.now ≤ vec_capacity numbers.old }
     requires few { given (length numbers.old.items) line.now ≤ 64 }
@@ -205,8 +202,8 @@ fn tell<A: Allocator + Clone>(
 {
     match line {
         Line::Step(step) => step_if_living(hub, number_of(numbers, place), step),
-        Line::Admit => admit(hub, numbers, script.config(ns as usize), tree),
-        Line::Retire => retire(hub, number_of(numbers, place)),
+        Line::Admit => Told::new(admit(hub, numbers, script.config(ns as usize), tree)),
+        Line::Retire => Told::new(retire(hub, number_of(numbers, place))),
     }
 }
 
@@ -217,7 +214,7 @@ fn play_all<A: Allocator + Copy>(
     script: &Script,
     trees: &[A],
     frames: Vec<Frame>,
-) -> Result<Vec<EventAnswer>, AllocError>
+) -> Result<Vec<Told>, AllocError>
     requires frames { length frames.items ≡ script.now.frames }
     requires trees { length trees.now ≡ length script.now.spaces }
     ensures { IfOk result (λ answers. IsPlayedFor script.now None answers.items) }
@@ -242,7 +239,7 @@ fn play_all_in_global(
     alloc: Global,
     script: &Script,
     frames: Vec<Frame>,
-) -> Result<Vec<EventAnswer>, AllocError>
+) -> Result<Vec<Told>, AllocError>
     requires { length frames.items ≡ script.now.frames }
     ensures { IfOk result (λ answers. IsPlayedFor script.now None answers.items) }
 {
@@ -256,7 +253,7 @@ fn play_all_in_heaps(
     script: &Script,
     bytes: u32,
     frames: Vec<Frame>,
-) -> Result<Vec<EventAnswer>, AllocError>
+) -> Result<Vec<Told>, AllocError>
     requires { length frames.items ≡ script.now.frames }
     ensures { IfOk result (λ answers. IsPlayedFor script.now None answers.items) }
 {
@@ -298,7 +295,7 @@ fn play_alone<A: Allocator + Copy>(
     ns: u32,
     tree: A,
     frames: Vec<Frame>,
-) -> Result<Vec<EventAnswer>, AllocError>
+) -> Result<Vec<Told>, AllocError>
     requires frames { length frames.items ≡ script.now.frames }
     requires exists { ns < length script.now.spaces }
     ensures { IfOk result (λ answers. IsPlayedFor script.now (Some ns) answers.items) }
@@ -325,7 +322,7 @@ fn play_alone_in_heap(
     ns: u32,
     bytes: u32,
     frames: Vec<Frame>,
-) -> Result<Vec<EventAnswer>, AllocError>
+) -> Result<Vec<Told>, AllocError>
     requires frames { length frames.items ≡ script.now.frames }
     requires exists { ns < length script.now.spaces }
     ensures { IfOk result (λ answers. IsPlayedFor script.now (Some ns) answers.items) }
@@ -342,7 +339,7 @@ pub fn play(
     only: Option<u32>,
     tree_heap: Option<u32>,
     frames: Vec<Frame>,
-) -> Result<Vec<EventAnswer>, AllocError>
+) -> Result<Vec<Told>, AllocError>
     requires frames { length frames.items ≡ script.now.frames }
     requires chosen { IsChosen script.now only }
     ensures { IfOk result (λ answers. IsPlayedFor script.now only answers.items) }
@@ -372,15 +369,12 @@ fn are_others(lines: &[(u32, Line)]) -> bool
 }
 
 /// How many of these answers say that memory was wanted.
-pub fn count_nomem(answers: &[EventAnswer]) -> u64
+pub fn count_nomem(answers: &[Told]) -> u64
     ensures { result ≡ nomem_of answers.now }
 {
     let mut count: u64 = 0;
     for answer in answers {
-        if matches!(
-            answer,
-            EventAnswer::Answer(Answer::NoMemory) | EventAnswer::NotAdmitted(AdmitFault::NoMemory)
-        ) {
+        if answer.wants_memory() {
             count += 1;
         }
     }

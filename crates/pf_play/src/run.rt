@@ -3,7 +3,7 @@ ghost use Rattle.pf_play.specs.Played.{IsChosen};
 ghost use Rattle.pf_play.specs.Replays.{IsReplayed, IsFault, Names, NamesNone};
 
 use crate::engine::{Options, count_nomem, frames_of, play};
-use pf_script::{Refusal, Script, ScriptFault, Sink, Source, WriteFault, print, read_script};
+use pf_script::{Refusal, Script, ScriptFault, Sink, Source, WriteFault, print_told, read_script};
 use std::alloc::{AllocError, Global};
 use thiserror::Error;
 
@@ -115,6 +115,6 @@ pub fn replay<R: Source, W: Sink>(
     let frames = frames_of(alloc, script.frames(), options.fill)?;
     let answers = play(alloc, &script, only, options.tree_heap, frames)?;
     let nomem = count_nomem(answers.as_slice());
-    print(writer, &script, answers.as_slice(), only)?;
+    print_told(writer, &script, answers.as_slice(), only)?;
     Ok(Replayed { nomem })
 }

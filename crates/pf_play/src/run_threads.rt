@@ -5,7 +5,7 @@ ghost use Rattle.pf_play.specs.Workers.{IsGated};
 use crate::engine::{Options, comes_and_goes, count_nomem, frames_of};
 use crate::run::{ReplayFault, Replayed, chosen};
 use crate::threads::play_threads;
-use pf_script::{Sink, Source, print, read_script};
+use pf_script::{Sink, Source, print_told, read_script};
 use pf_worker::Gate;
 use std::alloc::Global;
 use std::sync::Wait;
@@ -46,6 +46,6 @@ pub fn replay_threads<T: Threads + Wait + Sync, R: Source, W: Sink, G: Gate + Sy
     let frames = frames_of(alloc, script.frames(), options.fill)?;
     let answers = play_threads(rt, alloc, &script, only, frames, gate)?;
     let nomem = count_nomem(answers.as_slice());
-    print(writer, &script, answers.as_slice(), only)?;
+    print_told(writer, &script, answers.as_slice(), only)?;
     Ok(Replayed { nomem })
 }

@@ -14,7 +14,7 @@ ghost use Rattle.pf_worker.specs.Workers.{new_worker};
 use pf_base::{Answer, Config, EventAnswer, MAX_NAMESPACES, Step};
 use pf_depot::DepotBook;
 use pf_frame::{Frame, PoolFault};
-use pf_script::{Line, Script};
+use pf_script::{Line, Script, Told};
 use pf_worker::{Gate, Worker, open};
 use std::alloc::{AllocError, Global};
 use std::marker::Brand;
@@ -90,7 +90,7 @@ fn work<R: Wait, G: Gate, C: Ledger, H: Ledger>(
 }
 
 /// What a thread ends with.
-type Told = Result<Vec<Answer>, AllocError>;
+type Ended = Result<Vec<Answer>, AllocError>;
 
 /// What a thread promises: its namespace is told what the lone machine is, and the gate was told of each of its steps.
 #[derive(Clone, Copy)]
@@ -100,7 +100,7 @@ struct PlaysAlone<'a, G: Gate> {
     ns: u32,
 }
 
-impl<'a, G: Gate> Promise<Told> for PlaysAlone<'a, G> {
+impl<'a, G: Gate> Promise<Ended> for PlaysAlone<'a, G> {
     ghost use Rattle.std.specs.Prelude.{IfOk};
     ghost use Rattle.pf_play.specs.Workers.{IsWorked};
 
@@ -123,7 +123,7 @@ fn start<
     book: &'s Mutex<DepotBook<C, H>>,
     gate: &'s G,
     worker: Worker<Global, C, H>,
-) -> Result<PromisedHandle<Told, PlaysAlone<'s, G>>, AllocError>
+) -> Result<PromisedHandle<Ended, PlaysAlone<'s, G>>, AllocError>
     requires { IsOpened script.now worker }
     ensures { IfOk result (λ h. (h.promise.script.now ≡ script.entry.now) × (h.promise.gate.now ≡ gate.entry.now)
         × (h.promise.ns ≡ worker.number)) }
@@ -131,7 +131,7 @@ fn start<
     let ns = worker.number();
     let child = scope.spawn_with(
         PlaysAlone { script, gate, ns },
-        move || -> Told
+        move || -> Ended
             requires { IsOpened script.now worker }
             ensures { IfOk result (λ answers. IsWorked (G.passed gate.entry.now) script.entry.now worker.number answers.items) }
         { work(rt, alloc, script, book, gate, worker) },
@@ -367,12 +367,12 @@ fn play_for<
 }
 
 // Answers to steps as answers to a script's lines.
-fn as_told(alloc: Global, answers: Vec<Answer>) -> Result<Vec<EventAnswer>, AllocError>
+fn as_told(alloc: Global, answers: Vec<Answer>) -> Result<Vec<Told>, AllocError>
     ensures { IfOk result (λ told. told.items ≡ map (λ a. events.Answer a) answers.items) }
 {
     answers
         .into_iter()
-        .map(|answer| EventAnswer::Answer(answer))
+        .map(|answer| Told::new(EventAnswer::Answer(answer)))
         .collect(alloc)
 }
 
@@ -385,7 +385,7 @@ pub fn play_threads<R: Threads + Wait + Sync, G: Gate + Sync>(
     only: Option<u32>,
     frames: Vec<Frame>,
     gate: &G,
-) -> Result<Vec<EventAnswer>, AllocError>
+) -> Result<Vec<Told>, AllocError>
     requires only { comes_and_goes script.now ≡ false }
     requires whole { script.now.opening ≡ length script.now.spaces }
     requires frames { length frames.items ≡ script.now.frames }

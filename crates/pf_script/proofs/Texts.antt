@@ -2,7 +2,7 @@
 
 use Rattle.std.proofs.Common.{◌≡◌, ℕ, ◌+◌, ◌<◌, ◌≤◌, List, [], ◌∷◌, ◌++◌, length, take, drop, get_or, refl, ap, append_assoc, length-drop, sym, ◌∙◌, arith}
 use Rattle.std.specs.Prelude.{nat_eq, zero, suc, true, false, codes, map, option_map, slice_get, Option, Some, None, if◌then◌else◌}
-use Rattle.std.proofs.lemmas.List.{take-append-drop, append-nil, get_or_default}
+use Rattle.std.proofs.lemmas.List.{take-append-drop, append-nil}
 use Rattle.std.proofs.Math.ListN.{drop_of_length-le}
 use Rattle.std.proofs.lemmas.Option.{slice_get-map, slice_get-get_or}
 use Rattle.hex.specs.Hex.{encode_with, encode_lower, lower_digits}
@@ -64,14 +64,13 @@ pub names_end : (text rest all : List ℕ) → IsFirstByte (is_byte 47) rest Non
 names_end text rest all none same = sym (append-nil text) ∙ ap (λ x. text ++ x) (sym (no_name [] rest none)) ∙ same
 
 -- a line was put
-pub line_on : (done all : List ℕ) (i : ℕ) (answers : List EventAnswer) (d : EventAnswer) → i < length answers →
-    d ≡ get_or answers i d →
+pub line_on : (done all : List ℕ) (i : ℕ) (answers : List EventAnswer) → i < length answers →
     done ++ lines_text (i + 1) (drop i answers) ≡ all →
-    (done ++ line_text (i + 1) d) ++ lines_text (i + 1 + 1) (drop (i + 1) answers) ≡ all
+    (done ++ line_text (i + 1) (get_or answers i told.Gone)) ++ lines_text (i + 1 + 1) (drop (i + 1) answers) ≡ all
 unfolding lines_text
-line_on done all i answers d high is same =
-    let here = rw (next_of answers i d high, ← is) at same in
-    append_assoc done (line_text (i + 1) d) (lines_text (i + 1 + 1) (drop (i + 1) answers)) ∙ here
+line_on done all i answers high same =
+    let here = rw (next_of answers i told.Gone high) at same in
+    append_assoc done (line_text (i + 1) (get_or answers i told.Gone)) (lines_text (i + 1 + 1) (drop (i + 1) answers)) ∙ here
 
 pub lines_end : (done all : List ℕ) (i : ℕ) (answers : List EventAnswer) → length answers ≤ i →
     done ++ lines_text (i + 1) (drop i answers) ≡ all → done ≡ all
@@ -81,15 +80,14 @@ lines_end done all i answers past same =
     sym (append-nil done) ∙ here
 
 -- the line of an answer at a place was put
-pub chosen_on : (done all : List ℕ) (i place : ℕ) (answers : List EventAnswer) (places : List ℕ) (d : EventAnswer) →
-    i < length places → place ≡ get_or places i 0 → place < length answers → d ≡ get_or answers place d →
+pub chosen_on : (done all : List ℕ) (i place : ℕ) (answers : List EventAnswer) (places : List ℕ) →
+    i < length places → place ≡ get_or places i 0 →
     done ++ lines_text (i + 1) (chosen answers (drop i places)) ≡ all →
-    (done ++ line_text (i + 1) d) ++ lines_text (i + 1 + 1) (chosen answers (drop (i + 1) places)) ≡ all
+    (done ++ line_text (i + 1) (get_or answers place told.Gone)) ++ lines_text (i + 1 + 1) (chosen answers (drop (i + 1) places)) ≡ all
 unfolding lines_text
-chosen_on done all i place answers places d high at_place low is same =
-    let one : get_or answers place told.Gone ≡ d = get_or_default answers place told.Gone d low ∙ sym is in
-    let here = rw (next_of places i 0 high, ← at_place, one) at same in
-    append_assoc done (line_text (i + 1) d) (lines_text (i + 1 + 1) (chosen answers (drop (i + 1) places))) ∙ here
+chosen_on done all i place answers places high at_place same =
+    let here = rw (next_of places i 0 high, ← at_place) at same in
+    append_assoc done (line_text (i + 1) (get_or answers place told.Gone)) (lines_text (i + 1 + 1) (chosen answers (drop (i + 1) places))) ∙ here
 
 pub chosen_end : (done all : List ℕ) (i : ℕ) (answers : List EventAnswer) (places : List ℕ) → length places ≤ i →
     done ++ lines_text (i + 1) (chosen answers (drop i places)) ≡ all → done ≡ all

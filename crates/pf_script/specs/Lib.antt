@@ -7,5 +7,7 @@ pub mod Named
 pub mod Places
 pub mod Sound
 pub mod Text
+pub mod Told
+pub mod Answers
 pub mod Puts
 pub mod Notices

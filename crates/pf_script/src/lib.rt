@@ -3,6 +3,8 @@
 #![tactic(auto)]
 
 mod adapters;
+mod answers;
+mod count;
 mod fault;
 mod judge;
 mod laws;
@@ -16,6 +18,7 @@ mod refusal;
 mod script;
 mod steps;
 mod text;
+mod told;
 mod transcript;
 
 pub use adapters::{Reading, Writing};
@@ -29,4 +32,5 @@ pub use port::{Failed, INPUT_LIMIT, Sink, Source, WriteFault, write_out};
 pub use read::read_script;
 pub use refusal::{Refusal, first_fault_decides};
 pub use script::Script;
-pub use transcript::print;
+pub use told::Told;
+pub use transcript::{print, print_told};

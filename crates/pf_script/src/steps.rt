@@ -83,6 +83,7 @@ impl Steps {
     }
 
     /// Puts a line behind the others, unless memory is wanted, as it is for more than 2^32 lines.
+    #[inline(always)]
     pub fn push(&mut self, ns: u32, line: Line) -> Result<(), AllocError>
         requires { ns < 64 }
         ensures pushed { OnOk result (self.new ≡ self.old ++ (ns, line) ∷ []) }

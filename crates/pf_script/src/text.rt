@@ -1,7 +1,8 @@
 ghost use Rattle.std.specs.Prelude.{◌≡◌, ◌≤◌, ◌<◌, [], decimal, length};
-ghost use Rattle.pf_script.specs.Text.{hex_text, octal_text, kind_text, number_of_names, names_text, meta_text, reply_text, answer_text, event_text, line_text, header};
+ghost use Rattle.pf_script.specs.Text.{hex_text, octal_text, kind_text, number_of_names, names_text, meta_text, reply_text, answer_text, event_text, header};
 ghost use Rattle.pf_script.specs.Puts.{Puts};
 ghost use Rattle.pf_base.specs.declared.admission.EventAnswer.TheVariants.{NotAdmitted, NotRetired};
+ghost use Rattle.pf_base.specs.declared.step.Reply.TheVariants as replies;
 ghost use Rattle.pf_script.specs.declared.text.TheConstants.{PIECE};
 ghost use Rattle.hex.specs.Hex.{encode_lower};
 
@@ -9,7 +10,9 @@ use crate::port::Sink;
 use crate::printer::Printer;
 use itoa::Buffer;
 use memchr::memchr;
-use pf_base::{AdmitFault, Answer, EventAnswer, Kind, Meta, Mode, Reply, RetireFault};
+use pf_base::{
+    AdmitFault, Answer, ByteString, Errno, EventAnswer, Kind, Meta, Mode, Reply, RetireFault,
+};
 use pf_words::cut_at;
 
 /// How many bytes are turned into digits at once.
@@ -49,7 +52,16 @@ fn put_digit<W: Sink>(out: &mut Printer, writer: &mut W, n: u64)
     out.put(writer, &[b'0' + n as u8]);
 }
 
+/// Puts a number of several digits.
+fn put_large<W: Sink>(out: &mut Printer, writer: &mut W, n: u64)
+    ensures { Puts (W.output writer.old) out.old (W.output writer.new) out.new (decimal n) }
+{
+    let mut buffer = Buffer::new();
+    out.put(writer, buffer.format(n).as_bytes());
+}
+
 /// Puts a number in decimal.
+#[inline(always)]
 pub fn put_number<W: Sink>(out: &mut Printer, writer: &mut W, n: u64)
     ensures { Puts (W.output writer.old) out.old (W.output writer.new) out.new (decimal n) }
 {
@@ -57,8 +69,7 @@ pub fn put_number<W: Sink>(out: &mut Printer, writer: &mut W, n: u64)
     if n < 10 {
         put_digit(out, writer, n);
     } else {
-        let mut buffer = Buffer::new();
-        out.put(writer, buffer.format(n).as_bytes());
+        put_large(out, writer, n);
     }
 }
 
@@ -117,7 +128,7 @@ fn put_kind<W: Sink>(out: &mut Printer, writer: &mut W, kind: Kind)
 }
 
 /// Puts what is known of a file.
-fn put_meta<W: Sink>(out: &mut Printer, writer: &mut W, meta: &Meta)
+pub fn put_meta<W: Sink>(out: &mut Printer, writer: &mut W, meta: &Meta)
     ensures { Puts (W.output writer.old) out.old (W.output writer.new) out.new (meta_text meta.now) }
 {
     out.put(writer, b"meta ");
@@ -130,41 +141,74 @@ fn put_meta<W: Sink>(out: &mut Printer, writer: &mut W, meta: &Meta)
     put_number(out, writer, u64::from(meta.gid));
 }
 
+/// Puts a reply that is a number.
+pub fn put_num<W: Sink>(out: &mut Printer, writer: &mut W, n: u64)
+    ensures { Puts (W.output writer.old) out.old (W.output writer.new) out.new (reply_text (replies.Num n)) }
+{
+    out.put(writer, b"num ");
+    put_number(out, writer, n);
+}
+
+/// Puts a reply that is a process.
+pub fn put_pid<W: Sink>(out: &mut Printer, writer: &mut W, pid: u32)
+    ensures { Puts (W.output writer.old) out.old (W.output writer.new) out.new (reply_text (replies.Pid pid)) }
+{
+    out.put(writer, b"pid ");
+    put_number(out, writer, u64::from(pid));
+}
+
+/// Puts a reply that is a pipe's two descriptors.
+pub fn put_fds<W: Sink>(out: &mut Printer, writer: &mut W, read: u32, write: u32)
+    ensures { Puts (W.output writer.old) out.old (W.output writer.new) out.new (reply_text (replies.Fds read write)) }
+{
+    out.put(writer, b"fds ");
+    put_number(out, writer, u64::from(read));
+    out.put(writer, b" ");
+    put_number(out, writer, u64::from(write));
+}
+
+/// Puts a reply that is what was read.
+#[inline(always)]
+pub fn put_bytes_read<W: Sink>(out: &mut Printer, writer: &mut W, bytes: &ByteString)
+    ensures { Puts (W.output writer.old) out.old (W.output writer.new) out.new (reply_text (replies.Bytes bytes.now)) }
+{
+    let bytes = bytes.as_slice();
+    out.put(writer, b"bytes ");
+    put_number(out, writer, bytes.len() as u64);
+    out.put(writer, b" ");
+    put_bytes(out, writer, bytes);
+}
+
+/// Puts a reply that is the names in a directory.
+pub fn put_names_read<W: Sink>(out: &mut Printer, writer: &mut W, bytes: &ByteString)
+    ensures { Puts (W.output writer.old) out.old (W.output writer.new) out.new (reply_text (replies.Names bytes.now)) }
+{
+    let bytes = bytes.as_slice();
+    out.put(writer, b"names ");
+    put_number(out, writer, count_names(bytes) as u64);
+    put_names(out, writer, bytes);
+}
+
+/// Puts a reply that is an error.
+pub fn put_error<W: Sink>(out: &mut Printer, writer: &mut W, errno: Errno)
+    ensures { Puts (W.output writer.old) out.old (W.output writer.new) out.new (reply_text (replies.Err errno)) }
+{
+    out.put(writer, b"err ");
+    out.put(writer, errno.name().as_bytes());
+}
+
 fn put_reply<W: Sink>(out: &mut Printer, writer: &mut W, reply: &Reply)
     ensures { Puts (W.output writer.old) out.old (W.output writer.new) out.new (reply_text reply.now) }
 {
     match reply {
-        Reply::Num(n) => {
-            out.put(writer, b"num ");
-            put_number(out, writer, *n);
-        }
-        Reply::Pid(pid) => {
-            out.put(writer, b"pid ");
-            put_number(out, writer, u64::from(*pid));
-        }
-        Reply::Fds(read, write) => {
-            out.put(writer, b"fds ");
-            put_number(out, writer, u64::from(*read));
-            out.put(writer, b" ");
-            put_number(out, writer, u64::from(*write));
-        }
-        Reply::Bytes(bytes) => {
-            out.put(writer, b"bytes ");
-            put_number(out, writer, bytes.as_slice().len() as u64);
-            out.put(writer, b" ");
-            put_bytes(out, writer, bytes.as_slice());
-        }
-        Reply::Names(bytes) => {
-            out.put(writer, b"names ");
-            put_number(out, writer, count_names(bytes.as_slice()) as u64);
-            put_names(out, writer, bytes.as_slice());
-        }
+        Reply::Num(n) => put_num(out, writer, *n),
+        Reply::Pid(pid) => put_pid(out, writer, *pid),
+        Reply::Fds(read, write) => put_fds(out, writer, *read, *write),
+        Reply::Bytes(bytes) => put_bytes_read(out, writer, bytes),
+        Reply::Names(bytes) => put_names_read(out, writer, bytes),
         Reply::Meta(meta) => put_meta(out, writer, meta),
         Reply::Parked => out.put(writer, b"parked"),
-        Reply::Err(errno) => {
-            out.put(writer, b"err ");
-            out.put(writer, errno.name().as_bytes());
-        }
+        Reply::Err(errno) => put_error(out, writer, *errno),
     }
 }
 
@@ -178,7 +222,7 @@ fn put_answer<W: Sink>(out: &mut Printer, writer: &mut W, answer: &Answer)
 }
 
 /// Puts why a namespace isn't admitted.
-fn put_admission<W: Sink>(out: &mut Printer, writer: &mut W, fault: AdmitFault)
+pub fn put_admission<W: Sink>(out: &mut Printer, writer: &mut W, fault: AdmitFault)
     ensures { Puts (W.output writer.old) out.old (W.output writer.new) out.new
         (event_text (NotAdmitted fault)) }
 {
@@ -193,7 +237,7 @@ fn put_admission<W: Sink>(out: &mut Printer, writer: &mut W, fault: AdmitFault)
 }
 
 /// Puts why a namespace isn't retired.
-fn put_retirement<W: Sink>(out: &mut Printer, writer: &mut W, fault: RetireFault)
+pub fn put_retirement<W: Sink>(out: &mut Printer, writer: &mut W, fault: RetireFault)
     ensures { Puts (W.output writer.old) out.old (W.output writer.new) out.new
         (event_text (NotRetired fault)) }
 {
@@ -206,7 +250,8 @@ fn put_retirement<W: Sink>(out: &mut Printer, writer: &mut W, fault: RetireFault
     }
 }
 
-fn put_event<W: Sink>(out: &mut Printer, writer: &mut W, answer: &EventAnswer)
+/// Puts an answer.
+pub fn put_event<W: Sink>(out: &mut Printer, writer: &mut W, answer: &EventAnswer)
     ensures { Puts (W.output writer.old) out.old (W.output writer.new) out.new (event_text answer.now) }
 {
     match answer {
@@ -217,17 +262,6 @@ fn put_event<W: Sink>(out: &mut Printer, writer: &mut W, answer: &EventAnswer)
         EventAnswer::Retired => out.put(writer, b"retired"),
         EventAnswer::NotRetired(fault) => put_retirement(out, writer, *fault),
     }
-}
-
-/// Puts the line with this number among its namespace's.
-pub fn put_line<W: Sink>(out: &mut Printer, writer: &mut W, number: u64, answer: &EventAnswer)
-    ensures { Puts (W.output writer.old) out.old (W.output writer.new) out.new
-        (line_text number answer.now) }
-{
-    put_number(out, writer, number);
-    out.put(writer, b": ");
-    put_event(out, writer, answer);
-    out.put(writer, b"\n");
 }
 
 /// Puts a namespace's header.

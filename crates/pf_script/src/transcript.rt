@@ -1,38 +1,67 @@
-ghost use Rattle.std.specs.Prelude.{◌≡◌, ◌<◌, length, OnOk, OnErr};
+ghost use Rattle.std.specs.Prelude.{◌≡◌, ◌+◌, ◌<◌, ◌^◌, length, slice_index_or, OnOk, OnErr};
 ghost use Rattle.std.specs.List.{All};
+ghost use Rattle.pf_base.specs.declared.admission.EventAnswer.TheVariants.{Gone};
 ghost use Rattle.pf_script.specs.Ports.{IsWritten, IsCut};
 ghost use Rattle.pf_script.specs.Puts.{Puts};
-ghost use Rattle.pf_script.specs.Text.{lines_text, section, sections, section_at, answers_of, chosen, print, text, IsAnswered};
+ghost use Rattle.pf_script.specs.Text.{line_text, lines_text, section, sections, section_at, answers_of, chosen, print, text, IsAnswered};
+ghost use Rattle.pf_script.specs.Answers.{answers_in};
 
+use crate::answers::{Answers, put_at};
+use crate::count::Count;
 use crate::port::{Sink, WriteFault};
 use crate::printer::Printer;
 use crate::script::Script;
-use crate::text::{put_header, put_line};
+use crate::text::put_header;
+use crate::told::Told;
 use pf_base::EventAnswer;
 
-/// Puts the lines of these answers.
-fn put_lines<W: Sink>(out: &mut Printer, writer: &mut W, answers: &[EventAnswer])
-    ensures { Puts (W.output writer.old) out.old (W.output writer.new) out.new (lines_text 1 answers.now) }
+/// Puts the line of the answer at this place, with the next number among its namespace's.
+#[inline(always)]
+fn put_line<W: Sink>(
+    out: &mut Printer,
+    writer: &mut W,
+    number: &mut Count,
+    answers: Answers<'_>,
+    place: usize,
+)
+    requires within { place < length (answers_in answers) }
+    requires few { number.old + 1 < 2 ^ 64 }
+    ensures put { Puts (W.output writer.old) out.old (W.output writer.new) out.new
+        (line_text (number.old + 1) (slice_index_or (answers_in answers.entry) place Gone)) }
+    ensures number { number.new ≡ number.old + 1 }
 {
+    number.step();
+    out.put(writer, number.digits());
+    out.put(writer, b": ");
+    put_at(out, writer, answers, place);
+    out.put(writer, b"\n");
+}
+
+/// Puts the lines of these answers.
+fn put_lines<W: Sink>(out: &mut Printer, writer: &mut W, answers: Answers<'_>)
+    ensures { Puts (W.output writer.old) out.old (W.output writer.new) out.new (lines_text 1 (answers_in answers.entry)) }
+{
+    let mut number = Count::zero();
     for i in 0..answers.len() {
         if out.has_failed() {
             return;
         }
-        put_line(out, writer, i as u64 + 1, &answers[i]);
+        put_line(out, writer, &mut number, answers, i);
     }
 }
 
 /// Puts the lines of the answers at these places.
-fn put_chosen<W: Sink>(out: &mut Printer, writer: &mut W, answers: &[EventAnswer], places: &[u32])
-    requires { All (λ i. i < length answers.now) places.now }
+fn put_chosen<W: Sink>(out: &mut Printer, writer: &mut W, answers: Answers<'_>, places: &[u32])
+    requires { All (λ i. i < length (answers_in answers)) places.now }
     ensures { Puts (W.output writer.old) out.old (W.output writer.new) out.new
-        (lines_text 1 (chosen answers.now places.now)) }
+        (lines_text 1 (chosen (answers_in answers.entry) places.now)) }
 {
+    let mut number = Count::zero();
     for i in 0..places.len() {
         if out.has_failed() {
             return;
         }
-        put_line(out, writer, i as u64 + 1, &answers[places[i] as usize]);
+        put_line(out, writer, &mut number, answers, places[i] as usize);
     }
 }
 
@@ -42,27 +71,22 @@ fn put_section<W: Sink>(
     writer: &mut W,
     script: &Script,
     ns: usize,
-    answers: &[EventAnswer],
+    answers: Answers<'_>,
 )
     requires exists { ns < length script.now.spaces }
-    requires answered { length answers.now ≡ length script.now.steps }
+    requires answered { length (answers_in answers) ≡ length script.now.steps }
     ensures { Puts (W.output writer.old) out.old (W.output writer.new) out.new
-        (section_at script.now (answers_of script.now.steps answers.now ns) ns) }
+        (section_at script.now (answers_of script.now.steps (answers_in answers.entry) ns) ns) }
 {
     put_header(out, writer, script.name(ns));
     put_chosen(out, writer, answers, script.places(ns));
 }
 
 /// Puts the sections of all namespaces.
-fn put_sections<W: Sink>(
-    out: &mut Printer,
-    writer: &mut W,
-    script: &Script,
-    answers: &[EventAnswer],
-)
-    requires { length answers.now ≡ length script.now.steps }
+fn put_sections<W: Sink>(out: &mut Printer, writer: &mut W, script: &Script, answers: Answers<'_>)
+    requires { length (answers_in answers) ≡ length script.now.steps }
     ensures { Puts (W.output writer.old) out.old (W.output writer.new) out.new
-        (print script.now answers.now) }
+        (print script.now (answers_in answers.entry)) }
 {
     for ns in 0..script.count_spaces() {
         if out.has_failed() {
@@ -78,11 +102,11 @@ fn put_alone<W: Sink>(
     writer: &mut W,
     script: &Script,
     ns: usize,
-    answers: &[EventAnswer],
+    answers: Answers<'_>,
 )
     requires { ns < length script.now.spaces }
     ensures { Puts (W.output writer.old) out.old (W.output writer.new) out.new
-        (section_at script.now answers.now ns) }
+        (section_at script.now (answers_in answers.entry) ns) }
 {
     put_header(out, writer, script.name(ns));
     put_lines(out, writer, answers);
@@ -93,17 +117,35 @@ fn put_text<W: Sink>(
     out: &mut Printer,
     writer: &mut W,
     script: &Script,
-    answers: &[EventAnswer],
+    answers: Answers<'_>,
     only: Option<u32>,
 )
-    requires { IsAnswered script.now answers.now only }
+    requires { IsAnswered script.now (answers_in answers) only }
     ensures { Puts (W.output writer.old) out.old (W.output writer.new) out.new
-        (text script.now answers.now only) }
+        (text script.now (answers_in answers.entry) only) }
 {
     match only {
         None => put_sections(out, writer, script, answers),
         Some(ns) => put_alone(out, writer, script, ns as usize, answers),
     }
+}
+
+/// `print` of answers in either form.
+fn print_either<W: Sink>(
+    writer: &mut W,
+    script: &Script,
+    answers: Answers<'_>,
+    only: Option<u32>,
+) -> Result<(), WriteFault>
+    requires { IsAnswered script.now (answers_in answers) only }
+    ensures written { OnOk result
+        (IsWritten (W.output writer.old) (W.output writer.new) (text script.now (answers_in answers.entry) only)) }
+    ensures cut { OnErr result
+        (IsCut (W.output writer.old) (W.output writer.new) (text script.now (answers_in answers.entry) only)) }
+{
+    let mut out = Printer::new();
+    put_text(&mut out, writer, script, answers, only);
+    out.finish(writer)
 }
 
 /// Prints the text of the answers to a script's steps: of each namespace its name and a line for each of its steps.
@@ -123,7 +165,21 @@ pub fn print<W: Sink>(
     ensures cut { OnErr result
         (IsCut (W.output writer.old) (W.output writer.new) (text script.now answers.now only)) }
 {
-    let mut out = Printer::new();
-    put_text(&mut out, writer, script, answers, only);
-    out.finish(writer)
+    print_either(writer, script, Answers::Whole(answers), only)
+}
+
+/// `print` of answers in little room.
+pub fn print_told<W: Sink>(
+    writer: &mut W,
+    script: &Script,
+    answers: &[Told],
+    only: Option<u32>,
+) -> Result<(), WriteFault>
+    requires { IsAnswered script.now answers.now only }
+    ensures written { OnOk result
+        (IsWritten (W.output writer.old) (W.output writer.new) (text script.now answers.now only)) }
+    ensures cut { OnErr result
+        (IsCut (W.output writer.old) (W.output writer.new) (text script.now answers.now only)) }
+{
+    print_either(writer, script, Answers::Short(answers), only)
 }

@@ -200,6 +200,7 @@ pub fn descriptor_of(words: &[&[u8]]) -> Result<Descriptor, LineFault>
     }
 }
 
+#[inline(always)]
 #[tactic(auto, unfolding(crate::specs::Arguments::sized_with))]
 fn sized_with(pid: &[u8], fd: &[u8], len: &[u8]) -> Result<Sized, LineFault>
     ensures read { Gives result (shapes.sized_with pid.now fd.now len.now) }
@@ -212,6 +213,7 @@ fn sized_with(pid: &[u8], fd: &[u8], len: &[u8]) -> Result<Sized, LineFault>
 }
 
 /// PID FD LEN.
+#[inline(always)]
 #[tactic(auto, unfolding(crate::specs::Arguments::sized_of))]
 pub fn sized_of(words: &[&[u8]]) -> Result<Sized, LineFault>
     ensures read { Gives result (shapes.sized_of (map (λ w. w.now) words.now)) }

@@ -1,4 +1,4 @@
-ghost use Rattle.std.specs.Prelude.{◌≡◌, ◌≤◌, ◌*◌, Some, None, Ok, length, map, not};
+ghost use Rattle.std.specs.Prelude.{◌≡◌, ◌≤◌, ◌*◌, ◌∷◌, [], Some, None, Ok, length, map, not};
 ghost use Rattle.std.specs.List.{list_all};
 ghost use Rattle.pf_words.specs.Words.{digit, digits, number, positive, octal, numbers_of, decoded, hex_bytes, hex_byte, repeated, bytes_of_parts, pieces_of, is_letter, is_name_byte, begins_with_letter, is_kept_word, is_name, is_canonical};
 ghost use Rattle.pf_words.specs.Arguments.{or_cause, bytes_at};
@@ -49,6 +49,15 @@ fn digits_of(base: u8, most: u64, word: &[u8]) -> Option<u64>
     Some(value)
 }
 
+/// The number that one decimal digit stands for, at most `most`.
+#[tactic(auto, unfolding(crate::specs::Words::digits_from))]
+fn one_digit_of(most: u64, c: u8) -> Option<u64>
+    ensures { result ≡ digits 10 most (c ∷ []) }
+{
+    let n = u64::from(digit_of(10, c)?);
+    if n <= most { Some(n) } else { None }
+}
+
 /// Whether there are digits, and no zero at the front of others.
 fn is_canonical_word(word: &[u8]) -> bool
     ensures { result ≡ is_canonical word.now }
@@ -64,6 +73,10 @@ fn is_canonical_word(word: &[u8]) -> bool
 pub fn number_of(most: u64, word: &[u8]) -> Option<u64>
     ensures { result ≡ number most word.now }
 {
+    // Most numbers have one digit.
+    if let [c] = word {
+        return one_digit_of(most, *c);
+    }
     if is_canonical_word(word) {
         digits_of(10, most, word)
     } else {

@@ -13,7 +13,8 @@ returns-in-Some-clause-follows g c =
     let new = c.step.new.self.world in
     let made = c.step.ensures in
     λ names named place is has.
-    step_follows names (house_of old) named is place c.in-Some.ns (has ∙ c.in-Some.is) (house_of new)
+    rw c.new.ensures
+    (step_follows names (house_of old) named is place c.in-Some.ns (has ∙ c.in-Some.is) (house_of new)
     (told.Answer c.step.result) c.args.step.now
     (stepped_happens old new c.in-Some.ns c.args.step.now c.step.result (sym c.lives.ensures.living ∙ c.if-lives.true)
     (record {
@@ -25,16 +26,17 @@ returns-in-Some-clause-follows g c =
       others = made.others;
       succeeds = made.succeeds;
       covered = made.covered;
-    }))
+    })))
 
 pub returns-in_default-clause-follows : goal.returns-in_default-clause-follows
 returns-in_default-clause-follows g c = elim c.in_default.branch [
   | in_default-via-in-Some+else-lives w ↦
       λ names named place is has.
-      step_follows names (house_of c.args.hub.now.world) named is place w.in-Some.ns (has ∙ w.in-Some.is)
+      rw c.new-in_default.ensures (step_follows names (house_of c.args.hub.now.world) named is place w.in-Some.ns (has ∙ w.in-Some.is)
       (house_of c.args.hub.now.world) told.Gone c.args.step.now
-      (gone_happens c.args.hub.now.world w.in-Some.ns c.args.step.now (sym w.lives.ensures.living ∙ w.if-lives.false))
+      (gone_happens c.args.hub.now.world w.in-Some.ns c.args.step.now (sym w.lives.ensures.living ∙ w.if-lives.false)))
   | in_default-via-in_default w ↦
       λ names named place is has.
-      step_gone names (house_of c.args.hub.now.world) named is place c.args.step.now (has ∙ w.in_default.is)
+      rw c.new-in_default.ensures
+      (step_gone names (house_of c.args.hub.now.world) named is place c.args.step.now (has ∙ w.in_default.is))
 ]

@@ -5,18 +5,18 @@ use Rattle.pf_play.proofs.AnsweredLaws.{answered}
 use Rattle.pf_play.proofs.EngineLaws.{cut_short}
 use Rattle.pf_play.proofs.run.replay.Goals as goal
 
-pub print-requires : goal.print-requires
-print-requires g c =
+pub print_told-requires : goal.print_told-requires
+print_told-requires g c =
     subst (λ xs. IsAnswered c.in_ok-script.script xs c.in-Ok.only) (sym c.as_slice-2.ensures.value)
     (answered c.in_ok-script.script c.in-Ok.only c.in_ok-answers.answers.items c.in-Ok.ensures.exists c.in_ok-answers.ensures)
 
-pub returns-in_err-print-clause-fault : goal.returns-in_err-print-clause-fault
-returns-in_err-print-clause-fault g c =
-    let p = err_from_is_err_and c.from_residual-in_err-print.result c.from_residual-in_err-print.ensures.1 in
+pub returns-in_err-print_told-clause-fault : goal.returns-in_err-print_told-clause-fault
+returns-in_err-print_told-clause-fault g c =
+    let p = err_from_is_err_and c.from_residual-in_err-print_told.result c.from_residual-in_err-print_told.ensures.1 in
     let read = c.in_ok-script.ensures.read in
     rw (p.1, p.2) (
       read.0,
       read.1,
       cut_short false _ _ _ _ _ _ _ _ read.2 (λ e. absurd (cc)) c.in-Ok.ensures.names c.in_ok-answers.ensures
-          c.as_slice-2.ensures.value c.in_err-print.ensures.cut,
+          c.as_slice-2.ensures.value c.in_err-print_told.ensures.cut,
     )

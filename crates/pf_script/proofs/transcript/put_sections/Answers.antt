@@ -1,6 +1,7 @@
 use Rattle.std.proofs.Common.{◌<◌, ◌≤◌, [], ◌++◌, length, refl, subst, sym, ◌∙◌, arith}
 use Rattle.pf_script.specs.Puts.{Puts}
 use Rattle.pf_script.specs.Text.{section_at, answers_of}
+use Rattle.pf_script.specs.Answers.{answers_in}
 use Rattle.pf_script.proofs.PrinterPut.{put_more, failed_on, nothing}
 use Rattle.pf_script.proofs.Texts.{section_on, sections_end}
 use Rattle.pf_script.proofs.transcript.put_sections.Goals as goal
@@ -14,9 +15,9 @@ returns-then-has_failed g c = subst (λ t. Puts (g.W.Sink.output c.args.writer.n
 pub loop-ns-preserved : goal.loop-ns-preserved
 loop-ns-preserved g c =
     let high : c.loop-ns.ns < length c.args.script.now.spaces = omega arith in (
-      c.loop-ns.invariant.0 ++ section_at c.args.script.now (answers_of c.args.script.now.steps c.args.answers.now c.loop-ns.ns) c.loop-ns.ns,
-      put_more {y = section_at c.args.script.now (answers_of c.args.script.now.steps c.args.answers.now c.loop-ns.ns) c.loop-ns.ns} c.loop-ns.invariant.1 c.put_section.ensures,
-      section_on _ _ _ c.args.script.now c.args.answers.now high c.loop-ns.invariant.2,
+      c.loop-ns.invariant.0 ++ section_at c.args.script.now (answers_of c.args.script.now.steps (answers_in c.args.answers) c.loop-ns.ns) c.loop-ns.ns,
+      put_more {y = section_at c.args.script.now (answers_of c.args.script.now.steps (answers_in c.args.answers) c.loop-ns.ns) c.loop-ns.ns} c.loop-ns.invariant.1 c.put_section.ensures,
+      section_on _ _ _ c.args.script.now (answers_in c.args.answers) high c.loop-ns.invariant.2,
     )
 
 pub returns : goal.returns

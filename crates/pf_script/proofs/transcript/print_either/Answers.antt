@@ -1,5 +1,5 @@
 use Rattle.pf_script.proofs.PrinterPut.{ended_well, cut_off_by}
-use Rattle.pf_script.proofs.transcript.print.Goals as goal
+use Rattle.pf_script.proofs.transcript.print_either.Goals as goal
 
 pub returns-clause-written : goal.returns-clause-written
 returns-clause-written g c =
