@@ -12,11 +12,9 @@ use Rattle.pf_machine.specs.Progress.{Crossed, moved, is_empty, write_now, cross
 use Rattle.pf_machine.specs.Numbered.{at}
 use Rattle.pf_base.specs.declared.TheConstants.{PIPE_BUF, MAX_WRITE}
 use Rattle.pf_base.specs.declared.errno.Errno.{Errno}
-use Rattle.pf_base.specs.declared.errno.Errno.TheVariants.{ESRCH, EBUSY, EINVAL, EAGAIN, EPIPE}
+use Rattle.pf_base.specs.declared.errno.Errno.TheVariants.{ESRCH, EBUSY, EINVAL, EAGAIN}
 use Rattle.pf_base.specs.declared.progress.Crossing.{Crossing}
 use Rattle.pf_base.specs.declared.progress.Crossing.TheVariants.{Tee, Splice}
-use Rattle.pf_base.specs.declared.progress.Progress.{Progress}
-use Rattle.pf_base.specs.declared.progress.Progress.TheVariants.{Moved, WouldBlock, EndOfFile, NoReader}
 use Rattle.pf_base.specs.declared.step.Reply.{Reply}
 use Rattle.pf_base.specs.declared.step.Reply.TheVariants as replies
 use Rattle.pf_base.specs.declared.step.Step.{Step}
@@ -25,16 +23,17 @@ use Rattle.pf_machine.specs.Calls.{Transfer, Reading, Writing, Bringing, Call, O
 use Rattle.pf_machine.specs.State.{itself, State, Process, End, Outcome, opening, settle, living, ready, writing_end, change_process, waiting, told as outcome}
 use Rattle.pf_machine.specs.Counts.{readers, writers}
 use Rattle.pf_machine.specs.Transfers.{Tried, tried, try_write, two_ends, try_cross}
-use Rattle.pf_machine.specs.Attempts.{Attempt, Finished, Waits, write_told, cross_told, transfer_told, attempt, first, again, nonblocking, transfer, resume}
+use Rattle.pf_machine.specs.Attempts.{Attempt, Finished, Waits, transfer_told, attempt, first, again, nonblocking, transfer, resume}
 use Rattle.pf_machine.specs.Sweep.{sweep}
 use Rattle.pf_machine.specs.Machine.{call, act, step_of}
-use Rattle.pf_machine.proofs.HoldsLaws.{Holds, carries, passes}
+use Rattle.pf_machine.proofs.AttemptLaws.{with_written, Says, IsTold, told-is}
+use Rattle.pf_machine.proofs.HoldsLaws.{Holds, IsOk, carries, passes}
 use Rattle.pf_laws.specs.Streams.{transfer_of, tried_call, in_call, is_parked, call_at, beginning, Gift, gift_of, gifts, given, given_by, joined, Told, told_at, tells, told, told_to, Counts, gives, IsGiving}
 use Rattle.pf_laws.proofs.QueueTransfers.{branch}
 use Rattle.pf_laws.proofs.TransferLaws.{writes}
 use Rattle.pf_laws.proofs.OtherLaws.{Same, Stays, settle-stays, transfer-stays, InCall, in_call-parked, in_call-same, IsNoResumeOf, others-leave}
 use Rattle.pf_laws.proofs.PieceLaws.{put_any, member, by-gift_of, by-other, resume-none, step-none, at-change, apart-above, apart-below, began-next, began-kept, joined-member, ended-none, Alone, all-ended, Over, began-earlier, nobody_waits}
-use Rattle.pf_laws.proofs.WaitLaws.{IsOk, CanTry}
+use Rattle.pf_laws.proofs.WaitLaws.{CanTry}
 use Rattle.pf_laws.proofs.RefusalLaws.{Settled, step-settled, opening-settled}
 
 -- Numbers of bytes
@@ -100,42 +99,38 @@ module _ (s : State Segment ℕ) where
   Counted m (Ok (Waits t (Moving next))) = Giving next × ((went_in next ≡ m) × (t.processes ≡ s.processes))
   Counted m (Err e) = m ≡ 0
 
-  write-counted : (fd : ℕ) (x : List ℕ) (d : ℕ) (t : Tried) (r : Progress) → t.progress ≡ r → Gives s t
-      → Counted (d + length t.bytes) (write_told fd x d t r)
-  write-counted fd x d t (Moved n) e h = by_test (nat_eq (d + n) (length x)) refl
-    where
-      count : d + length t.bytes ≡ d + n
-      count = omega (arith, h.count, ap (λ (y : Progress). moved y) e)
+  -- a transfer that gives bytes is told their number
+  gives-says : (call : Transfer) (x : List ℕ) (k : ℕ) (reply : Reply) → Giving call → Says call x k reply
+      → reply ≡ replies.Num (went_in call + k)
+  gives-says (Reading fd n) x k reply g says = absurd g
+  gives-says (Writing fd y written) x k reply g says = says
+  gives-says (Bringing c source sink n) x k reply g says = says
 
-      by_test : (b : Bool) → nat_eq (d + n) (length x) ≡ b → Counted (d + length t.bytes)
-          (if b then Ok (Finished t.state (replies.Num (length x))) else Ok
-          (Waits t.state (Moving (Writing fd x (d + n)))))
-      by_test true f = (omega (arith, count, eqb-true (d + n) (length x) f), h.processes)
-      by_test false f = (tt, (sym count, h.processes))
-  write-counted fd x d t NoReader e h = by_test (nat_eq d 0) refl
-    where
-      by_test : (b : Bool) → nat_eq d 0 ≡ b → Counted (d + length t.bytes)
-          (if b then Err EPIPE else Ok (Finished t.state (replies.Num d)))
-      by_test true f = omega (arith, h.count, ap (λ (y : Progress). moved y) e, eqb-true d 0 f)
-      by_test false f = (omega (arith, h.count, ap (λ (y : Progress). moved y) e), h.processes)
-  write-counted fd x d t EndOfFile e h = (tt, (omega (arith, h.count, ap (λ (y : Progress). moved y) e), h.processes))
-  write-counted fd x d t WouldBlock e h = (tt, (omega (arith, h.count, ap (λ (y : Progress). moved y) e), h.processes))
-
-  cross-counted : (c : Crossing) (source sink n : ℕ) (t : Tried) (r : Progress) → t.progress ≡ r → Gives s t
-      → Counted (0 + length t.bytes) (cross_told (Moving (Bringing c source sink n)) t r)
-  cross-counted c source sink n t (Moved k) e h =
-      (omega (arith, h.count, ap (λ (y : Progress). moved y) e), h.processes)
-  cross-counted c source sink n t EndOfFile e h =
-      (omega (arith, h.count, ap (λ (y : Progress). moved y) e), h.processes)
-  cross-counted c source sink n t NoReader e h = omega (arith, h.count, ap (λ (y : Progress). moved y) e)
-  cross-counted c source sink n t WouldBlock e h =
-      (tt, (omega (arith, h.count, ap (λ (y : Progress). moved y) e), h.processes))
+  giving-on : (call : Transfer) (n : ℕ) → Giving call → Giving (with_written n call)
+  giving-on (Reading fd m) n g = g
+  giving-on (Writing fd x written) n g = g
+  giving-on (Bringing c source sink m) n g = g
 
   told-counted : (call : Transfer) → Giving call → (t : Tried) → Gives s t
       → Counted (went_in call + length t.bytes) (transfer_told call t t.progress)
-  told-counted (Reading fd n) g t h = absurd g
-  told-counted (Writing fd x d) g t h = write-counted fd x d t t.progress refl h
-  told-counted (Bringing c source sink n) g t h = cross-counted c source sink n t t.progress refl h
+  told-counted call g t h = by_told (transfer_told call t t.progress) (told-is call t t.progress)
+    where
+      m : ℕ
+      m = went_in call + length t.bytes
+
+      count : m ≡ went_in call + moved t.progress
+      count = omega (arith, h.count)
+
+      stays : (u : State Segment ℕ) → u ≡ t.state → u.processes ≡ s.processes
+      stays u e = ap (λ (v : State Segment ℕ). v.processes) e ∙ h.processes
+
+      by_told : (r : Result (Attempt Segment ℕ) Errno) → IsTold call t (moved t.progress) r → Counted m r
+      by_told (Ok (Finished u reply)) f =
+          (subst (Counts m) (sym (gives-says call t.bytes _ reply g f.says)) count, stays u f.state)
+      by_told (Ok (Waits u next)) w =
+          subst (λ (c : Call ℕ). Counted m (Ok (Waits u c))) (sym w.is)
+          (giving-on call w.written g, (w.count ∙ sym count, stays u w.state))
+      by_told (Err e) x = count ∙ x.none
 
   -- a call that is refused has given nothing before
   attempt-counted : (call : Transfer) → Giving call → (r : Result Tried Errno) → Holds (Gives s) r

@@ -20,7 +20,8 @@ use Rattle.pf_base.specs.declared.meta.Kind.{Kind}
 use Rattle.pf_base.specs.declared.step.Step.{Step}
 use Rattle.pf_machine.proofs.FileLaws.{same_path-eq, moded, find-insert, find-remove_same, find-remove_other, find-set_mode}
 use Rattle.pf_machine.proofs.HoldsLaws.{Holds, carries, passes, of_given}
-use Rattle.pf_laws.proofs.KeepLaws.{Kept, There, kept-run}
+use Rattle.pf_laws.proofs.KeepLaws.{Kept, kept-run}
+use Rattle.pf_machine.proofs.AttemptLaws.{There}
 use Rattle.pf_machine.proofs.StepLaws.{Refiled, Unlinked, Removed, Remoded}
 use Rattle.pf_laws.proofs.FifoLaws.{Pipes, file_at, changed, kept_file, pushed, found_at}
 

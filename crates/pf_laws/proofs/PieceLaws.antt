@@ -23,13 +23,14 @@ use Rattle.pf_machine.specs.Calls.{Writing, Call, Moving}
 use Rattle.pf_machine.specs.State.{itself, State, Process, End, Outcome, settle, vacant, opening, living, ready, writing_end, change_process, waiting, told}
 use Rattle.pf_machine.specs.Counts.{readers}
 use Rattle.pf_machine.specs.Transfers.{Tried, tried, try_write}
-use Rattle.pf_machine.specs.Attempts.{Finished, Waits, write_told, transfer_told, attempt, first, again, nonblocking, transfer, resume}
+use Rattle.pf_machine.specs.Attempts.{Attempt, Finished, Waits, write_told, transfer_told, attempt, first, again, nonblocking, transfer, resume}
 use Rattle.pf_machine.specs.Machine.{call, act, step_of}
 use Rattle.pf_laws.specs.Streams.{transfer_of, tried_call, in_call, is_parked, call_at, beginning, Gift, gift, gift_into, gift_of, gifts, given, given_by, joined, IsInOrder, IsWhole, IsWrite}
 use Rattle.pf_base.specs.declared.step.Reply.TheVariants as replies
 use Rattle.pf_base.specs.declared.step.Step.{Step}
 use Rattle.pf_base.specs.declared.step.Step.TheVariants as steps
 use Rattle.pf_laws.proofs.QueueTransfers.{branch}
+use Rattle.pf_machine.proofs.AttemptLaws.{IsTold, told-is}
 use Rattle.pf_machine.proofs.HoldsLaws.{Holds, carries, passes}
 use Rattle.pf_laws.proofs.OtherLaws.{Same, Stays, settle-stays, transfer-stays, InCall, in_call-parked, in_call-same, Left, others-leave}
 
@@ -174,60 +175,44 @@ module _ (s : State Segment ℕ) (i fd : ℕ) (x : List ℕ) (d : ℕ) (w : Wait
   goes_on : (t : State Segment ℕ) (n : ℕ) → at t.processes i ≡ Some w.who → Waiting (change_process (waiting (Some (Moving (Writing fd x n)))) t (suc i)) i fd x n
   goes_on t n e = record { who = waiting (Some (Moving (Writing fd x n))) w.who; stands = at-change (waiting (Some (Moving (Writing fd x n)))) t.processes i w.who e; waits = refl }
 
-  goes-still : (t : Tried) → moved t.progress ≡ 0 → Writes s x d t → Goes (change_process (waiting (Some (Moving (Writing fd x d)))) t.state (suc i)) i fd x d (member (put_any (Ok t)))
-  goes-still t none h =
-      let same : d ≡ d + 0 = omega arith in
-      record {
-        more = 0;
-        put = ap member (put_any-writes t h ∙ ap (λ m. take m (drop d x)) none);
-        next = inl (subst (λ n. Waiting (change_process (waiting (Some (Moving (Writing fd x d)))) t.state (suc i)) i fd x n) same (goes_on t.state d (ap (λ ps. at ps i) h.processes ∙ w.stands)));
-        whole = λ short start. inl refl;
-      }
-
-  -- it ends with nothing more put in
-  goes-ended : (t : Tried) (u : State Segment ℕ) → moved t.progress ≡ 0 → Writes s x d t → at u.processes i ≡ Some w.who → Goes (change_process (waiting None) u (suc i)) i fd x d (member (put_any (Ok t)))
-  goes-ended t u none h here = record {
-    more = 0;
-    put = ap member (put_any-writes t h ∙ ap (λ m. take m (drop d x)) none);
-    next = inr (ended u here);
-    whole = λ short start. inl refl;
-  }
-
-  goes-told : (t : Tried) (r : Progress) → t.progress ≡ r → Writes s x d t → Goes (again s (suc i) (write_told fd x d t r)).state i fd x d (member (put_any (Ok t)))
-  goes-told t (Moved n) e h = by_test (nat_eq (d + n) (length x)) refl
+  goes-told : (t : Tried) (r : Result (Attempt Segment ℕ) Errno) → IsTold (Writing fd x d) t (moved t.progress) r
+      → Writes s x d t → Goes (again s (suc i) r).state i fd x d (member (put_any (Ok t)))
+  goes-told t r is h = by_told r is
     where
-      still : at t.state.processes i ≡ Some w.who
-      still = ap (λ ps. at ps i) h.processes ∙ w.stands
+      piece : member (put_any (Ok t)) ≡ member (take (moved t.progress) (drop d x))
+      piece = ap member (put_any-writes t h)
 
-      piece : member (put_any (Ok t)) ≡ member (take n (drop d x))
-      piece = ap member (put_any-writes t h ∙ ap (λ (y : Progress). take (moved y) (drop d x)) e)
+      here : (u : State Segment ℕ) → u ≡ t.state → at u.processes i ≡ Some w.who
+      here u e = ap (λ (v : State Segment ℕ). at v.processes i) e ∙ ap (λ ps. at ps i) h.processes ∙ w.stands
 
-      all : length x ≤ PIPE_BUF → (n ≡ 0) ⊎ (n ≡ length (drop d x))
-      all short = subst (λ (y : Progress). (moved y ≡ 0) ⊎ (moved y ≡ length (drop d x))) e (h.whole short)
-
-      by_test : (b : Bool) → nat_eq (d + n) (length x) ≡ b → Goes (again s (suc i) (if b then Ok (Finished t.state (replies.Num (length x))) else Ok (Waits t.state (Moving (Writing fd x (d + n)))))).state i fd x d (member (put_any (Ok t)))
-      by_test true f = record {
-        more = n;
+      over : (u : State Segment ℕ) → at u.processes i ≡ Some w.who
+          → Goes (change_process (waiting None) u (suc i)) i fd x d (member (put_any (Ok t)))
+      over u e = record {
+        more = moved t.progress;
         put = piece;
-        next = inr (ended t.state still);
-        whole = λ short none. inr (omega (arith, eqb-true (d + n) (length x) f, none), ended t.state still);
+        next = inr (ended u e);
+        whole = λ short none. ⊎_elim (λ zero. inl zero)
+            (λ all. inr (omega (arith, all, none, length-drop d x), ended u e)) (h.whole short);
       }
-      by_test false f = record {
-        more = n;
-        put = piece;
-        next = inl (goes_on t.state (d + n) still);
-        whole = λ short none. ⊎_elim (λ zero. inl zero) (λ rest. absurd (eqb-false (d + n) (length x) f (omega (arith, rest, none, length-drop d x)))) (all short);
-      }
-  goes-told t EndOfFile e h = goes-still t (ap (λ (y : Progress). moved y) e) h
-  goes-told t WouldBlock e h = goes-still t (ap (λ (y : Progress). moved y) e) h
-  goes-told t NoReader e h = by_test (nat_eq d 0)
-    where
-      by_test : (b : Bool) → Goes (again s (suc i) (if b then Err EPIPE else Ok (Finished t.state (replies.Num d)))).state i fd x d (member (put_any (Ok t)))
-      by_test true = goes-ended t s (ap (λ (y : Progress). moved y) e) h w.stands
-      by_test false = goes-ended t t.state (ap (λ (y : Progress). moved y) e) h (ap (λ ps. at ps i) h.processes ∙ w.stands)
+
+      by_told : (r : Result (Attempt Segment ℕ) Errno) → IsTold (Writing fd x d) t (moved t.progress) r
+          → Goes (again s (suc i) r).state i fd x d (member (put_any (Ok t)))
+      by_told (Ok (Finished u reply)) f = over u (here u f.state)
+      by_told (Ok (Waits u next)) y =
+          subst (λ (c : Call ℕ). Goes (again s (suc i) (Ok (Waits u c))).state i fd x d (member (put_any (Ok t))))
+          (sym y.is) (record {
+            more = moved t.progress;
+            put = piece;
+            next = inl (subst
+                (λ n. Waiting (change_process (waiting (Some (Moving (Writing fd x y.written)))) u (suc i)) i fd x n)
+                y.count (goes_on u y.written (here u y.state)));
+            whole = λ short none. ⊎_elim (λ zero. inl zero) (λ all. ⊎_elim (λ zero. inl zero)
+                (λ more. absurd (more (omega (arith, all, none, length-drop d x)))) y.more) (h.whole short);
+          })
+      by_told (Err e) z = over s w.stands
 
   goes-tried : (r : Result Tried Errno) → Holds (Writes s x d) r → Goes (again s (suc i) (r >>= (λ t. transfer_told (Writing fd x d) t t.progress))).state i fd x d (member (put_any r))
-  goes-tried (Ok t) h = goes-told t t.progress refl h
+  goes-tried (Ok t) h = goes-told t _ (told-is (Writing fd x d) t t.progress) h
   goes-tried (Err e) h = record { more = 0; put = refl; next = inr (ended s w.stands); whole = λ short start. inl refl }
 
   goes-parked : (o : Option (Call ℕ)) → Some (Moving (Writing fd x d)) ≡ o → Goes (settle s (or_refuse EINVAL o >>= (λ call. Ok (again s (suc i) (attempt s (suc i) w.who call))))).state i fd x d (member (put_any (or_refuse EINVAL o >>= tried_call s w.who)))

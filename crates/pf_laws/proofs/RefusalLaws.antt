@@ -1,7 +1,7 @@
 -- A refusal leaves the state as it was, wherever a run leads from the opening state.
 
-use Rattle.std.proofs.Common.{◌≡◌, ℕ, zero, suc, ◌-◌, Bool, true, false, List, [], ◌∷◌, Option, Some, None, Ok, Err, refl, sym, ap, ◌∙◌, subst, arith, nat_lt, if◌then◌else◌}
-use Rattle.std.specs.Prelude.{Result}
+use Rattle.std.proofs.Common.{◌≡◌, ℕ, zero, suc, ◌-◌, Bool, true, false, List, ◌∷◌, Option, Some, None, Ok, Err, refl, sym, ap, ◌∙◌, subst, arith, nat_lt, if◌then◌else◌}
+use Rattle.std.specs.Prelude.{Result, ⊤}
 use Rattle.std.specs.Option.{option_map, option_and_then}
 use Rattle.pf_machine.specs.Refusals.{◌>>=◌, or_refuse}
 use Rattle.pf_base.specs.Limits.{Limits}
@@ -16,7 +16,6 @@ use Rattle.pf_machine.specs.Transfers.{tried}
 use Rattle.pf_machine.specs.Attempts.{Attempt, Finished, Waits, given, other_opens, open_told, attempt, again, resume}
 use Rattle.pf_machine.specs.Sweep.{live_descriptions, live_pipes, sweep}
 use Rattle.pf_machine.specs.Machine.{call_of, call, act, step_of}
-use Rattle.pf_machine.specs.Runs.{run_of}
 use Rattle.pf_laws.specs.Standing.{reached, AfterResume, RefusalsChangeNothing}
 use Rattle.pf_base.specs.declared.TheConstants.{MAX_PROCESSES}
 use Rattle.pf_base.specs.declared.errno.Errno.{Errno}
@@ -24,11 +23,13 @@ use Rattle.pf_base.specs.declared.errno.Errno.TheVariants.{ESRCH, EBADF, EINVAL}
 use Rattle.pf_base.specs.declared.step.Reply.TheVariants as replies
 use Rattle.pf_base.specs.declared.step.Step.{Step}
 use Rattle.pf_base.specs.declared.step.Step.TheVariants as steps
-use Rattle.pf_machine.proofs.HoldsLaws.{Holds}
+use Rattle.pf_machine.proofs.HoldsLaws.{Holds, IsOk}
 use Rattle.pf_laws.proofs.PieceLaws.{at-replicate}
-use Rattle.pf_laws.proofs.WaitLaws.{IsOk, CanTry, AllCanTry, sweep-all}
+use Rattle.pf_laws.proofs.WaitLaws.{CanTry, AllCanTry, sweep-all}
+use Rattle.pf_machine.proofs.AttemptLaws.{Told, attempt-told}
+use Rattle.pf_machine.proofs.RunLaws.{run-keeps}
 use Rattle.pf_machine.proofs.StepLaws.{IsNoError}
-use Rattle.pf_laws.proofs.WaitSteps.{Good, GoodOf, Told, attempt-told, good, can-try}
+use Rattle.pf_laws.proofs.WaitSteps.{Good, GoodOf, good, can-try}
 
 -- States that runs reach
 
@@ -125,17 +126,17 @@ module _ (s : State Segment ℕ) (is : Settled s) where
       by_end (Ok x) h f = absurd (by_came (nat_lt kept (other_opens x)) f)
       by_end (Err x) h f = absurd h
   told-resume i p (Moving call) here waits e told =
-      by_attempt (attempt s (suc i) p (Moving call)) (attempt-told s is.can_try p (suc i) call may) told
+      by_attempt (attempt s (suc i) p (Moving call)) (attempt-told s (λ t. ⊤) tt (λ t n q h. tt) p (suc i) call) told
     where
       may : IsOk (tried s p call)
       may = subst (λ (o : Option (Call ℕ)). CanTry s p o) waits (is.can_try.each i p here)
 
-      by_attempt : (r : Result (Attempt Segment ℕ) Errno) → Told s is.can_try p r
+      by_attempt : (r : Result (Attempt Segment ℕ) Errno) → Told s (λ t. ⊤) tt (λ t n q h. tt) p call r
           → (again s (suc i) r).reply ≡ replies.Err e
           → AfterResume s (suc i) e (sweep itself (again s (suc i) r).state) (Some (Moving call))
       by_attempt (Ok (Finished t reply)) h f = absurd (subst IsNoError f h.1)
       by_attempt (Ok (Waits t next)) h f = absurd (subst IsNoError f tt)
-      by_attempt (Err x) h f = (let same : x ≡ e = cc in sym same ∙ h, ended i p here (ap made_by waits))
+      by_attempt (Err x) h f = (let same : x ≡ e = cc in sym same ∙ h may, ended i p here (ap made_by waits))
 
   resumed : (pid : ℕ) (e : Errno) → (settle s (living s pid >>= (λ p. resume s pid p))).reply ≡ replies.Err e
       → AfterResume s pid e (sweep itself (settle s (living s pid >>= (λ p. resume s pid p))).state) (call_of s pid)
@@ -163,10 +164,6 @@ module _ (s : State Segment ℕ) (is : Settled s) where
 
 -- Runs
 
-run-settled : (c : Limits) (s : State Segment ℕ) (xs : List Step) → Settled s → Settled (run_of c s xs).state
-run-settled c s [] h = h
-run-settled c s (x ∷ xs) h = run-settled c (step_of c s x).state xs (step-settled s h c x)
-
 -- nobody lives
 pub opening-settled : Settled opening
 unfolding vacant
@@ -179,4 +176,5 @@ opening-settled = record {
 }
 
 pub refusals_change_nothing : (c : Limits) (xs : List Step) → RefusalsChangeNothing c (reached c xs)
-refusals_change_nothing c xs = step-refused (reached c xs) (run-settled c opening xs opening-settled) c
+refusals_change_nothing c xs =
+    step-refused (reached c xs) (run-keeps Settled c (λ s x h. step-settled s h c x) opening xs opening-settled) c

@@ -6,19 +6,19 @@ use Rattle.std.specs.Prelude.{Result, filter}
 use Rattle.pf_machine.specs.Refusals.{◌>>=◌, or_refuse}
 use Rattle.pf_base.specs.Limits.{Limits}
 use Rattle.pf_machine.specs.Queue.{Segment, bytes_of, empty, with_capacity}
-use Rattle.pf_machine.specs.Numbered.{at, change_at, keep}
+use Rattle.pf_machine.specs.Numbered.{at, keep}
 use Rattle.pf_machine.proofs.NumberedLaws.{at-keep, length-keep, at_past}
 use Rattle.pf_base.specs.declared.TheConstants.{PAGE_SIZE}
 use Rattle.pf_base.specs.declared.errno.Errno.{Errno}
 use Rattle.pf_base.specs.declared.errno.Errno.TheVariants.{EINVAL}
 use Rattle.pf_base.specs.declared.progress.Crossing.TheVariants as crossings
-use Rattle.pf_machine.specs.Calls.{Transfer, Reading, Writing, Bringing, Opening}
-use Rattle.pf_machine.specs.State.{itself, State, Process, Description, Pipe, End, Outcome, change_pipe, with_queue, told, done, opening, settle, living, ready, holding}
+use Rattle.pf_machine.specs.Calls.{Transfer, Reading, Writing, Bringing}
+use Rattle.pf_machine.specs.State.{itself, State, Process, Pipe, End, Outcome, with_queue, told, done, opening, settle, living, ready, holding}
 use Rattle.pf_machine.specs.Pipes.{new_pipe}
-use Rattle.pf_machine.specs.Counts.{readers, writers, ends}
+use Rattle.pf_machine.specs.Counts.{ends}
 use Rattle.pf_machine.specs.Transfers.{Tried, tried}
-use Rattle.pf_machine.specs.Attempts.{Attempt, Finished, Waits, given, first, transfer, resume}
-use Rattle.pf_machine.specs.Opens.{Access, Found, open_path, open_fifo, open_pipe, pipe_of, fifo_pipe, is_waiting, counted, kept_by}
+use Rattle.pf_machine.specs.Attempts.{transfer, resume}
+use Rattle.pf_machine.specs.Opens.{Access, Found, open_path, counted}
 use Rattle.pf_machine.specs.Sweep.{sweep}
 use Rattle.pf_machine.specs.Machine.{call, act, step_of}
 use Rattle.pf_machine.specs.Runs.{run_of}
@@ -26,7 +26,8 @@ use Rattle.pf_laws.specs.Streams.{transfer_of, tried_call, if_at, put_in, taken_
 use Rattle.pf_base.specs.declared.step.Step.{Step}
 use Rattle.pf_base.specs.declared.step.Reply.{Reply}
 use Rattle.pf_base.specs.declared.step.Step.TheVariants as steps
-use Rattle.pf_machine.proofs.HoldsLaws.{Holds, carries, goes, passes, of_given}
+use Rattle.pf_machine.proofs.HoldsLaws.{Holds, carries, of_given}
+use Rattle.pf_machine.proofs.AttemptLaws.{made, open-comes}
 use Rattle.pf_machine.proofs.StepLaws.{Still, step-keeps}
 use Rattle.pf_laws.proofs.PipeLaws.{Stands, end_of-stands, bytes_at, bytes_in, Keeps, keeps-same, keeps-trans, keeps-change, keeps-push, bytes_at-kept, bytes_at-push}
 use Rattle.pf_laws.proofs.TriedLaws.{Flows, flows-none, transfer-flows, resume-flows}
@@ -65,46 +66,20 @@ resized s e stands pages = record {
   keeps = keeps-change (holding (with_capacity pages e.pipe.queue)) s.pipes e.description.pipe;
 }
 
-abbrev Leaves : List (Option (Pipe Segment)) → Attempt Segment ℕ → Type 0
-Leaves ps (Finished s r) = SamePipes ps s.pipes
-Leaves ps (Waits s call) = SamePipes ps s.pipes
-
-first-quiet : (s : State Segment ℕ) (pid : ℕ) (a : Attempt Segment ℕ) → Leaves s.pipes a → Holds (Quiet s) (first pid false a)
-first-quiet s pid (Finished u r) h = record { same = h.same; keeps = h.keeps }
-first-quiet s pid (Waits u call) h = record { same = h.same; keeps = h.keeps }
-
--- the open counters are no bytes
-open_pipe-leaves : (name of : ℕ) (ps : List (Option (Pipe Segment))) (s : State Segment ℕ) (pid : ℕ) (p : Process ℕ) (a : Access) (n : ℕ) → SamePipes ps s.pipes → Leaves ps (open_pipe itself name of s pid p a n)
-open_pipe-leaves name of ps s pid p a n h = by_test (is_waiting a (readers itself s n) (writers itself s n))
+-- an open makes an empty pipe or none, and counts: the open counters are no bytes
+open_path-quiet : (c : Limits) (s : State Segment ℕ) (pid : ℕ) (p : Process ℕ) (path : List ℕ) (a : Access)
+    → Holds (Quiet s) (open_path itself (length s.descriptions) itself c s pid p path a)
+open_path-quiet c s pid p path a =
+    open-comes s (Quiet s) c pid p a (λ x. SamePipes s.pipes x.state.pipes)
+    (λ n file e. record { same = λ q. refl; keeps = keeps-same s.pipes })
+    (λ f there e slots. same-pushed s.pipes slots p.cred.uid (Some f.number))
+    (λ x h. quiet-pipes s _ _ (opened x h)) (λ x h kept. quiet-pipes s _ _ (opened x h)) path
   where
-    d : Description ℕ
-    d = record { pipe = of; reads = a.reads; writes = a.writes; nonblocking = a.nonblock }
-
-    made : State Segment ℕ
-    made = change_pipe (counted a) (record s { descriptions = s.descriptions ++ Some d ∷ [] }) n
-
-    same : SamePipes ps (change_at (counted a) s.pipes n)
-    same = record { same = λ q. bytes_at-kept (counted a) s.pipes n (λ x e. refl) q ∙ h.same q; keeps = keeps-trans h.keeps (keeps-change (counted a) s.pipes n) }
-
-    by_test : (b : Bool) → Leaves ps (if b then Waits made (Opening name (kept_by a (at s.pipes n))) else given made pid p name)
-    by_test true = same
-    by_test false = same
-
-pipe_of-same : (c : Limits) (s : State Segment ℕ) (p : Process ℕ) (file : ℕ) (o : Option ℕ) → Holds (λ (f : Found Segment ℕ). SamePipes s.pipes f.state.pipes) (pipe_of c s p file o)
-pipe_of-same c s p file (Some n) = record { same = λ q. refl; keeps = keeps-same s.pipes }
-pipe_of-same c s p file None = search (passes, carries, same-pushed)
-
--- an open makes an empty pipe or none, and counts
-open_fifo-quiet : (c : Limits) (s : State Segment ℕ) (pid : ℕ) (p : Process ℕ) (a : Access) (file : ℕ) → Holds (Quiet s) (open_fifo itself (length s.descriptions) itself c s pid p a file)
-open_fifo-quiet c s pid p a file = search (passes, ended)
-  where
-    ended : Holds (Quiet s) (pipe_of c s p file (fifo_pipe s file) >>= (λ found. first pid false (open_pipe itself (length s.descriptions) found.pipe found.state pid p a found.pipe)))
-    ended =
-        goes (λ (f : Found Segment ℕ). SamePipes s.pipes f.state.pipes) (Quiet s) (pipe_of c s p file (fifo_pipe s file)) (λ found. first pid false (open_pipe itself (length s.descriptions) found.pipe found.state pid p a found.pipe)) (pipe_of-same c s p file (fifo_pipe s file))
-        (λ found h. first-quiet s pid (open_pipe itself (length s.descriptions) found.pipe found.state pid p a found.pipe) (open_pipe-leaves (length s.descriptions) found.pipe s.pipes found.state pid p a found.pipe h))
-
-open_path-quiet : (c : Limits) (s : State Segment ℕ) (pid : ℕ) (p : Process ℕ) (path : List ℕ) (a : Access) → Holds (Quiet s) (open_path itself (length s.descriptions) itself c s pid p path a)
-open_path-quiet c s pid p path a = search (carries, open_fifo-quiet) depth 16
+    opened : (x : Found Segment ℕ) → SamePipes s.pipes x.state.pipes → SamePipes s.pipes (made a x).pipes
+    opened x h = record {
+      same = λ q. bytes_at-kept (counted a) x.state.pipes x.pipe (λ y e. refl) q ∙ h.same q;
+      keeps = keeps-trans h.keeps (keeps-change (counted a) x.state.pipes x.pipe);
+    }
 
 -- One step
 

@@ -1,6 +1,6 @@
 -- What a transfer that is tried moves: the bytes of each pipe before and after.
 
-use Rattle.std.proofs.Common.{◌≡◌, ℕ, ◌+◌, Bool, true, false, ◌||◌, List, [], ◌++◌, length, take, drop, Option, Some, None, Ok, Err, refl, sym, ap, ◌∙◌, subst, arith, nat_eq, nat_lt, nat_le, if◌then◌else◌, append-nil}
+use Rattle.std.proofs.Common.{◌≡◌, ℕ, Bool, true, false, ◌||◌, List, [], ◌++◌, length, take, drop, Option, Some, None, Ok, Err, refl, sym, ap, ◌∙◌, subst, arith, nat_eq, nat_lt, nat_le, if◌then◌else◌, append-nil}
 use Rattle.std.proofs.lemmas.Bool.{eqb-true, eqb-false}
 use Rattle.std.specs.Prelude.{Result}
 use Rattle.std.specs.Option.{option_map}
@@ -15,15 +15,14 @@ use Rattle.pf_machine.specs.State.{itself, State, Process, End, Outcome, settle,
 use Rattle.pf_machine.specs.Calls.{Transfer, Reading, Writing, Bringing, Call, Opening, Moving, written_of}
 use Rattle.pf_machine.specs.Transfers.{Ends, two_ends, try_read, try_write, try_cross, Tried, tried}
 use Rattle.pf_machine.specs.Counts.{readers, writers}
-use Rattle.pf_machine.specs.Attempts.{Attempt, Finished, Waits, read_told, write_told, cross_told, transfer_told, given, other_opens, open_told, attempt, first, again, nonblocking, transfer, resume}
+use Rattle.pf_machine.specs.Attempts.{Attempt, Finished, Waits, transfer_told, given, other_opens, open_told, attempt, first, again, nonblocking, transfer, resume}
 use Rattle.pf_laws.specs.Streams.{if_at, put_in, taken_out, tried_call}
 use Rattle.pf_base.specs.declared.TheConstants.{PIPE_BUF, MAX_WRITE}
 use Rattle.pf_base.specs.declared.errno.Errno.{Errno}
-use Rattle.pf_base.specs.declared.errno.Errno.TheVariants.{EBADF, EINVAL, EAGAIN, EPIPE}
+use Rattle.pf_base.specs.declared.errno.Errno.TheVariants.{EBADF, EINVAL, EAGAIN}
 use Rattle.pf_base.specs.declared.step.Reply.TheVariants.{Num}
-use Rattle.pf_base.specs.declared.progress.Progress.{Progress}
-use Rattle.pf_base.specs.declared.progress.Progress.TheVariants.{Moved, WouldBlock, EndOfFile, NoReader}
 use Rattle.pf_laws.proofs.QueueTransfers.{read_now-bytes, write_now-bytes, cross_now-sink, cross_now-teed, cross_now-spliced}
+use Rattle.pf_machine.proofs.AttemptLaws.{IsTold, told-is}
 use Rattle.pf_machine.proofs.HoldsLaws.{Holds, goes, passes, unless}
 use Rattle.pf_laws.proofs.PipeLaws.{Stands, reading_end-stands, writing_end-stands, bytes_at, Keeps, keeps-same, keeps-trans, keeps-change, goes_out, goes_in, bytes_at-kept}
 
@@ -121,36 +120,17 @@ abbrev pub Fair : Tried → Result (Attempt Segment ℕ) Errno → Type 0
 Fair t (Ok a) = Tells t a
 Fair t (Err e) = t.bytes ≡ []
 
-read_told-fair : (call : Call ℕ) (t : Tried) (r : Progress) → (moved r ≡ 0 → t.bytes ≡ []) → Fair t (read_told call t r)
-read_told-fair call t (Moved n) h = refl
-read_told-fair call t EndOfFile h = refl
-read_told-fair call t NoReader h = refl
-read_told-fair call t WouldBlock h = (refl, λ z. h refl)
-
-cross_told-fair : (call : Call ℕ) (t : Tried) (r : Progress) → (moved r ≡ 0 → t.bytes ≡ []) → Fair t (cross_told call t r)
-cross_told-fair call t (Moved n) h = refl
-cross_told-fair call t EndOfFile h = refl
-cross_told-fair call t NoReader h = h refl
-cross_told-fair call t WouldBlock h = (refl, λ z. h refl)
-
-write_told-fair : (fd : ℕ) (x : List ℕ) (written : ℕ) (t : Tried) (r : Progress) → (moved r ≡ 0 → t.bytes ≡ []) → Fair t (write_told fd x written t r)
-write_told-fair fd x written t (Moved n) h = by_test (nat_eq (written + n) (length x))
+pub transfer_told-fair : (s : State Segment ℕ) (call : Transfer) (t : Tried) → Moves s t
+    → Fair t (transfer_told call t t.progress)
+transfer_told-fair s call t m = by_told (transfer_told call t t.progress) (told-is call t t.progress)
   where
-    by_test : (b : Bool) → Fair t (if b then Ok (Finished t.state (Num (length x))) else Ok (Waits t.state (Moving (Writing fd x (written + n)))))
-    by_test true = refl
-    by_test false = (refl, λ z. h (omega (arith, z)))
-write_told-fair fd x written t NoReader h = by_test (nat_eq written 0)
-  where
-    by_test : (b : Bool) → Fair t (if b then Err EPIPE else Ok (Finished t.state (Num written)))
-    by_test true = h refl
-    by_test false = refl
-write_told-fair fd x written t EndOfFile h = (refl, λ z. h refl)
-write_told-fair fd x written t WouldBlock h = (refl, λ z. h refl)
-
-pub transfer_told-fair : (s : State Segment ℕ) (transfer : Transfer) (t : Tried) → Moves s t → Fair t (transfer_told transfer t t.progress)
-transfer_told-fair s (Reading fd n) t m = read_told-fair (Moving (Reading fd n)) t t.progress m.none
-transfer_told-fair s (Writing fd x written) t m = write_told-fair fd x written t t.progress m.none
-transfer_told-fair s (Bringing c source sink n) t m = cross_told-fair (Moving (Bringing c source sink n)) t t.progress m.none
+    by_told : (r : Result (Attempt Segment ℕ) Errno) → IsTold call t (moved t.progress) r → Fair t r
+    by_told (Ok (Finished u reply)) f = ap (λ (v : State Segment ℕ). v.pipes) f.state
+    by_told (Ok (Waits u next)) w = (
+        ap (λ (v : State Segment ℕ). v.pipes) w.state,
+        λ z. m.none (omega (arith, w.count, ap (λ (c : Call ℕ). written_of c) w.is, z))
+        )
+    by_told (Err e) x = m.none (omega (arith, x.none))
 
 -- What a step does by it
 

@@ -16,16 +16,12 @@ use Rattle.pf_machine.specs.Counts.{named_in, names_of, names, ends}
 use Rattle.pf_machine.specs.Sweep.{live_descriptions, sweep}
 use Rattle.pf_machine.specs.Descriptors.{with_nonblocking}
 use Rattle.pf_machine.specs.Transfers.{Ends, tried, try_read, try_write, two_ends, try_cross}
+use Rattle.pf_machine.proofs.HoldsLaws.{IsOk}
 use Rattle.pf_base.specs.declared.TheConstants.{MAX_WRITE}
 use Rattle.pf_base.specs.declared.errno.Errno.{Errno}
 use Rattle.pf_base.specs.declared.errno.Errno.TheVariants.{EBADF, EINVAL}
 
 -- Results
-
--- a result is no refusal
-abbrev pub IsOk : {A : Type 0} → Result A Errno → Type 0
-IsOk (Ok x) = ⊤
-IsOk (Err e) = ⊥
 
 -- where the first gives something, the second gives something like it
 abbrev pub Follows : {A B : Type 0} → (A → B → Type 0) → Result A Errno → Result B Errno → Type 0

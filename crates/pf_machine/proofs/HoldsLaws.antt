@@ -10,6 +10,11 @@ abbrev pub Holds : {A : Type 0} → (A → Type 0) → Result A Errno → Type 0
 Holds P (Ok x) = P x
 Holds P (Err e) = ⊤
 
+-- a result is no refusal
+abbrev pub IsOk : {A : Type 0} → Result A Errno → Type 0
+IsOk (Ok x) = ⊤
+IsOk (Err e) = ⊥
+
 -- what holds of the first part carries over to the second
 pub goes : {A B : Type 0} (P : A → Type 0) (Q : B → Type 0) (r : Result A Errno) (f : A → Result B Errno) → Holds P r → ((x : A) → P x → Holds Q (f x)) → Holds Q (r >>= f)
 goes P Q (Ok x) f p h = h x p

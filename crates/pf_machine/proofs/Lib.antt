@@ -18,6 +18,7 @@ pub mod NaturalTransfers
 pub mod NaturalCalls
 pub mod NaturalSteps
 pub mod StepLaws
+pub mod AttemptLaws
 pub mod ReplyLaws
 pub mod QueryLaws
 pub mod HouseLaws

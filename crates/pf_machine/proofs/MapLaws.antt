@@ -1,9 +1,9 @@
 -- How maps go through what stands by number, and through refusals.
 
-use Rattle.std.proofs.Common.{◌≡◌, ℕ, zero, suc, Bool, true, false, List, [], ◌∷◌, Option, Some, None, Result, Ok, Err, refl, ap, cond}
+use Rattle.std.proofs.Common.{◌≡◌, ◌≢◌, arith, set, ℕ, zero, suc, Bool, true, false, List, [], ◌∷◌, Option, Some, None, Result, Ok, Err, refl, ap, cond}
 use Rattle.std.specs.Option.{option_map}
 use Rattle.pf_machine.specs.Refusals.{◌>>=◌, ◌>>◌, or_refuse}
-use Rattle.pf_machine.specs.Numbered.{change_at, keep_from}
+use Rattle.pf_machine.specs.Numbered.{at, change_at, keep_from}
 use Rattle.pf_base.specs.declared.errno.Errno.{Errno}
 use Rattle.pf_machine.proofs.NumberedLaws.{first_free-map}
 use Rattle.pf_machine.specs.State.{vacant}
@@ -52,6 +52,23 @@ pub keep_from-same : {X : Type 0} (t u : ℕ → Bool) → ((n : ℕ) → t n �
     → keep_from t n xs ≡ keep_from u n xs
 keep_from-same t u same n [] = refl
 keep_from-same t u same n (x ∷ xs) = λ i. cond (same n i) x None ∷ keep_from-same t u same (suc n) xs i
+
+-- Two maps that agree on what stands, but at one number
+
+module _ {X Y : Type 0} (f g : X → Y) where
+  pub all-agree : (xs : List (Option X)) → ((k : ℕ) → option_map g (at xs k) ≡ option_map f (at xs k))
+      → each g xs ≡ each f xs
+  all-agree [] same = refl
+  all-agree (x ∷ xs) same = λ i. same 0 i ∷ all-agree xs (λ k. same (suc k)) i
+
+  pub set-agree : (xs : List (Option X)) (n : ℕ) (x : Option X)
+      → ((k : ℕ) → k ≢ n → option_map g (at xs k) ≡ option_map f (at xs k))
+      → each g (set xs n x) ≡ set (each f xs) n (option_map g x)
+  set-agree [] n x same = refl
+  set-agree (y ∷ xs) zero x same =
+      ap (λ ys. option_map g x ∷ ys) (all-agree xs (λ k. same (suc k) (λ (e : suc k ≡ 0). omega arith)))
+  set-agree (y ∷ xs) (suc n) x same = λ i. same 0 (λ (e : 0 ≡ suc n). omega arith) i
+      ∷ set-agree xs n x (λ k apart. same (suc k) (λ (e : suc k ≡ suc n). apart (omega arith))) i
 
 -- Refusals
 

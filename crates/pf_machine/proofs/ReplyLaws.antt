@@ -1,35 +1,32 @@
 -- What the machine's replies hand out, kind by kind: nothing but the bytes of a read and the names of a list.
 
-use Rattle.std.proofs.Common.{◌≡◌, ℕ, ◌+◌, ◌≤◌, Bool, true, false, not, ◌&&◌, ◌||◌, List, [], ◌∷◌, ◌++◌, length, Option, Some, None, Result, Ok, Err, refl, ap, ◌∙◌, arith, nat_eq, nat_le, nat_lt, if◌then◌else◌, length-take}
+use Rattle.std.proofs.Common.{◌≡◌, ℕ, ◌≤◌, Bool, true, false, ◌||◌, List, length, Option, Some, None, Result, Ok, Err, refl, ap, ◌∙◌, arith, nat_eq, nat_lt, if◌then◌else◌, length-take, subst, sym}
+use Rattle.pf_base.specs.declared.step.Reply.{Reply}
 use Rattle.std.specs.Prelude.{⊤, min}
 use Rattle.std.specs.Option.{option_and_then}
-use Rattle.pf_machine.specs.Refusals.{◌>>=◌, refuse_if, or_refuse}
+use Rattle.pf_machine.specs.Refusals.{◌>>=◌, or_refuse}
 use Rattle.pf_base.specs.Limits.{Limits}
 use Rattle.pf_machine.specs.FileCalls as calls
 use Rattle.pf_machine.specs.Queue.{Segment, Queue, bytes_of, after_take}
 use Rattle.pf_machine.specs.Progress.{Passed, moved, read_now}
-use Rattle.pf_machine.specs.Numbered.{at, first_free}
 use Rattle.pf_machine.specs.Calls.{Transfer, Reading, Writing, Bringing, Call, Opening, Moving, written_of}
-use Rattle.pf_machine.specs.State.{itself, State, Process, Description, End, Outcome, process, living, ready, settle, told, end_at, reading_end, change_pipe}
-use Rattle.pf_machine.specs.Counts.{readers, writers}
-use Rattle.pf_machine.specs.Pipes.{is_spent}
+use Rattle.pf_machine.specs.State.{itself, State, Process, End, Outcome, process, living, ready, settle, told, end_at, reading_end}
+use Rattle.pf_machine.specs.Counts.{writers}
 use Rattle.pf_machine.specs.Files.{list}
 use Rattle.pf_machine.specs.Transfers.{Tried, tried, try_read}
 use Rattle.pf_machine.specs.Attempts.{Attempt, Finished, Waits, transfer_told, given, other_opens, open_told, attempt, first, again, nonblocking, transfer, resume}
-use Rattle.pf_machine.specs.Opens.{Access, is_waiting, counted, kept_by, openable, fifo_pipe, fifo_readers, pipe_of, open_pipe, open_fifo, open_path}
+use Rattle.pf_machine.specs.Opens.{Access, open_path}
 use Rattle.pf_machine.specs.Machine.{call, call_of}
-use Rattle.pf_base.specs.declared.TheConstants.{MAX_DESCRIPTORS}
 use Rattle.pf_base.specs.declared.errno.Errno.{Errno}
-use Rattle.pf_base.specs.declared.errno.Errno.TheVariants.{EBADF, EPIPE, EAGAIN, EINVAL, EMFILE, ENXIO, ENFILE, ESRCH}
-use Rattle.pf_base.specs.declared.meta.File.{File}
+use Rattle.pf_base.specs.declared.errno.Errno.TheVariants.{EBADF, EAGAIN, EINVAL, ESRCH}
 use Rattle.pf_base.specs.declared.progress.Crossing.TheVariants as crossings
-use Rattle.pf_base.specs.declared.progress.Progress.{Progress}
-use Rattle.pf_base.specs.declared.progress.Progress.TheVariants.{Moved, WouldBlock, EndOfFile, NoReader}
+use Rattle.pf_base.specs.declared.progress.Progress.TheVariants.{Moved, WouldBlock, EndOfFile}
 use Rattle.pf_base.specs.declared.step.Reply.TheVariants.{Num}
 use Rattle.pf_base.specs.declared.step.Step.{Step}
 use Rattle.pf_base.specs.declared.step.Step.TheVariants.{Read, Write, Tee, Splice, List as Lists, Resume}
+use Rattle.pf_machine.proofs.AttemptLaws.{Says, IsTold, told-is, open-comes}
 use Rattle.pf_machine.proofs.StepLaws.{Still, step-keeps}
-use Rattle.pf_machine.proofs.HoldsLaws.{Holds, goes, carries, passes}
+use Rattle.pf_machine.proofs.HoldsLaws.{Holds, goes, carries}
 use Rattle.pf_machine.specs.Replies.{reply_length}
 
 -- a read by its three tests
@@ -75,30 +72,24 @@ module _ (s : State Segment ℕ) (m : ℕ) where
   Little (Writing fd x written) t = ⊤
   Little (Bringing c source sink n) t = ⊤
 
-  told-few : (call : Transfer) (t : Tried) (p : Progress) → Little call t → Holds Told (transfer_told call t p)
-  told-few (Reading fd n) t (Moved k) h = h
-  told-few (Reading fd n) t EndOfFile h = nothing
-  told-few (Reading fd n) t NoReader h = nothing
-  told-few (Reading fd n) t WouldBlock h = tt
-  told-few (Writing fd x written) t (Moved k) h = by_rest (nat_eq (written + k) (length x))
+  short : (call : Transfer) (t : Tried) (k : ℕ) (reply : Reply) → Little call t → Says call t.bytes k reply
+      → reply_length reply ≤ m
+  short (Reading fd n) t k reply l (true, e) = subst (λ y. reply_length y ≤ m) (sym e) l
+  short (Reading fd n) t k reply l (false, e) = subst (λ y. reply_length y ≤ m) (sym e) nothing
+  short (Writing fd x written) t k reply l e = subst (λ y. reply_length y ≤ m) (sym e) nothing
+  short (Bringing c source sink n) t k reply l e = subst (λ y. reply_length y ≤ m) (sym e) nothing
+
+  told-few : (call : Transfer) (t : Tried) → Little call t → Holds Told (transfer_told call t t.progress)
+  told-few call t l = by_told (transfer_told call t t.progress) (told-is call t t.progress)
     where
-      by_rest : (b : Bool) → Holds Told (if b then Ok (Finished t.state (Num (length x))) else Ok (Waits t.state (Moving (Writing fd x (written + k)))))
-      by_rest true = nothing
-      by_rest false = tt
-  told-few (Writing fd x written) t NoReader h = by_none (nat_eq written 0)
-    where
-      by_none : (b : Bool) → Holds Told (if b then Err EPIPE else Ok (Finished t.state (Num written)))
-      by_none true = tt
-      by_none false = nothing
-  told-few (Writing fd x written) t WouldBlock h = tt
-  told-few (Writing fd x written) t EndOfFile h = tt
-  told-few (Bringing c source sink n) t (Moved k) h = nothing
-  told-few (Bringing c source sink n) t EndOfFile h = nothing
-  told-few (Bringing c source sink n) t NoReader h = tt
-  told-few (Bringing c source sink n) t WouldBlock h = tt
+      by_told : (r : Result (Attempt Segment ℕ) Errno) → IsTold call t (moved t.progress) r → Holds Told r
+      by_told (Ok (Finished u reply)) f = short call t _ reply l f.says
+      by_told (Ok (Waits u next)) w = tt
+      by_told (Err e) x = tt
 
   attempt-few : (pid : ℕ) (p : Process ℕ) (call : Transfer) → Holds (Little call) (tried s p call) → Holds Told (attempt s pid p (Moving call))
-  attempt-few pid p call h = goes (Little call) Told (tried s p call) (λ t. transfer_told call t t.progress) h (λ t l. told-few call t t.progress l)
+  attempt-few pid p call h =
+      goes (Little call) Told (tried s p call) (λ t. transfer_told call t t.progress) h (λ t l. told-few call t l)
 
   first-few : (pid : ℕ) (nonblock : Bool) (a : Attempt Segment ℕ) → Told a → Holds Few (first pid nonblock a)
   first-few pid nonblock (Finished t reply) h = h
@@ -124,33 +115,15 @@ module _ (s : State Segment ℕ) (m : ℕ) where
 
   -- Opens
 
-  told_open : (t u : State Segment ℕ) (pid : ℕ) (p : Process ℕ) (n : ℕ) (call : Call ℕ) (b : Bool) → Told (if b then Waits t call else given u pid p n)
-  told_open t u pid p n call true = tt
-  told_open t u pid p n call false = nothing
-
   told_again : (t u : State Segment ℕ) (pid : ℕ) (p : Process ℕ) (n : ℕ) (call : Call ℕ) (b : Bool) → Told (if b then given u pid p n else Waits t call)
   told_again t u pid p n call true = nothing
   told_again t u pid p n call false = tt
 
-  open_pipe-few : (name of : ℕ) (t : State Segment ℕ) (pid : ℕ) (p : Process ℕ) (a : Access) (n : ℕ) → Told (open_pipe itself name of t pid p a n)
-  open_pipe-few name of t pid p a n = told_open made made pid p name (Opening name (kept_by a (at t.pipes n))) (is_waiting a (readers itself t n) (writers itself t n))
-    where
-      d : Description ℕ
-      d = record { pipe = of; reads = a.reads; writes = a.writes; nonblocking = a.nonblock }
-
-      made : State Segment ℕ
-      made = change_pipe (counted a) (record t { descriptions = t.descriptions ++ Some d ∷ [] }) n
-
-  open-few : (c : Limits) (pid : ℕ) (p : Process ℕ) (path : List ℕ) (a : Access) → Holds Few (open_path itself (length s.descriptions) itself c s pid p path a)
-  open-few c pid p path a = carries Few (openable s.files p.cred path a) (λ f. open_fifo itself (length s.descriptions) itself c s pid p a f.number) opened
-    where
-      opened : (f : File) → Holds Few (open_fifo itself (length s.descriptions) itself c s pid p a f.number)
-      opened f =
-          passes Few (refuse_if (nat_le MAX_DESCRIPTORS (first_free p.descriptors)) EMFILE) _
-          (passes Few (refuse_if (a.writes && not a.reads && a.nonblock && nat_eq (fifo_readers itself s (fifo_pipe s f.number)) 0) ENXIO) _
-          (passes Few (refuse_if (is_spent s.descriptions 1) ENFILE) _
-          (carries Few (pipe_of c s p f.number (fifo_pipe s f.number)) (λ found. first pid false (open_pipe itself (length s.descriptions) found.pipe found.state pid p a found.pipe))
-          (λ found. first-few pid false (open_pipe itself (length s.descriptions) found.pipe found.state pid p a found.pipe) (open_pipe-few (length s.descriptions) found.pipe found.state pid p a found.pipe)))))
+  open-few : (c : Limits) (pid : ℕ) (p : Process ℕ) (path : List ℕ) (a : Access)
+      → Holds Few (open_path itself (length s.descriptions) itself c s pid p path a)
+  open-few c pid p path a =
+      open-comes s Few c pid p a (λ x. ⊤) (λ n file e. tt) (λ f there e slots. tt) (λ x h. nothing)
+      (λ x h kept. nothing) path
 
   -- Calls that hand out nothing
 

@@ -38,3 +38,10 @@ run_of-answered c s old new xs x rs NoMemory so same =
     ap (run_of c s) (append-nil xs)
     ∙ so
     ∙ (λ i. record { state = sym same i; replies = sym (append-nil rs) i })
+
+-- what each step keeps, a run keeps
+pub run-keeps : (P : State Segment ℕ → Type 0) (c : Limits)
+    → ((s : State Segment ℕ) (x : Step) → P s → P (step_of c s x).state)
+    → (s : State Segment ℕ) (xs : List Step) → P s → P (run_of c s xs).state
+run-keeps P c keeps s [] m = m
+run-keeps P c keeps s (x ∷ xs) m = run-keeps P c keeps (step_of c s x).state xs (keeps s x m)

@@ -80,6 +80,7 @@ given s pid p n =
 abbrev pub open_told : {X N : Type 0} → State X N → ℕ → Process N → N → ℕ → End X N → Attempt X N
 open_told s pid p n kept e = if nat_lt kept (other_opens e) then given s pid p n else Waits s (Opening n kept)
 
+-- that open, tried again
 abbrev pub reopened : {X N : Type 0} → (N → ℕ) → State X N → ℕ → Process N → N → ℕ → Result (Attempt X N) Errno
 reopened number s pid p n kept = do
   e ← or_refuse EBADF (end_at number s (number n))
