@@ -108,8 +108,12 @@ impl ByteString {
         ensures { IfOk result (λ bytes. bytes ≡ self.now) }
     {
         match &self.kept {
+            // As they stand, and not byte by byte: it is the copy of nearly each step and reply.
+            Kept::InPlace(len, bytes) => Ok(ByteString {
+                kept: Kept::InPlace(*len, *bytes),
+            }),
             Kept::Shared(bytes) => Ok(ByteString::from_arc(Arc::try_clone(bytes)?)),
-            _ => ByteString::from_slice(alloc, self.as_slice()),
+            Kept::OnHeap(bytes) => ByteString::from_slice(alloc, bytes.as_slice()),
         }
     }
 }
