@@ -66,12 +66,50 @@ fn is_idle(step: &Step, reply: &Reply, before: u64, after: u64) -> bool
     }
 }
 
-/// One event of a namespace, whose lock is held: the step is made, the seat keeps it with its place and its reply, and
-/// those who wait are woken, but for an event that is of no use to them. Whether anybody waits is known behind the lock:
-/// from then on nobody does.
-///
-/// The gate is told directly before the step is made. All memory is taken before the step is made, and the transcript's end
-/// is looked at first of all.
+// One event of a namespace, whose lock is held: the step is made, and the seat keeps it with its place and its reply.
+//
+// The gate is told directly before the step is made. All memory is taken before the step is made, and the transcript's end
+// is looked at first of all.
+fn kept_event<A: Allocator + Clone, R: Wait, G: Gate, C: Ledger, H: Ledger>(
+    rt: &R,
+    gate: &G,
+    book: &Mutex<DepotBook<C, H>>,
+    living: &mut Living<A, C, H>,
+    seat: &mut Seat,
+    step: &Step,
+) -> Result<Receipt, ServiceFault>
+    ensures place { IfOk result (λ r. (r.ns ≡ seat.old.ns)
+        × (r.place ≡ length living.old.logged.transcript)) }
+    ensures kept { IfOk result (λ r.
+        Gains seat.old seat.new (event_at r.place step.now r.reply ∷ [])) }
+    ensures room { OnOk result (length living.old.logged.transcript < MAX_ENTRIES) }
+    ensures logged { IfOk result (λ r. IsLogged living.old.logged living.new.logged step.now r.reply) }
+    ensures told { IfOk result (λ r. Told step.now r.place r.reply) }
+    ensures passed { IfOk result (λ r. G.passed gate.now r.ns r.place) }
+    ensures fault { IfErr result (IsApplyFault living.old.logged.transcript) }
+    ensures refused { OnErr result (Gains seat.old seat.new []) }
+    ensures unchanged { OnErr result (living.new.logged ≡ living.old.logged) }
+{
+    let ns = seat.ns();
+    let place = living.get_ref().place()?;
+    seat.reserve()?;
+    let alloc = living.get_ref().alloc();
+    let asked = step.copy(alloc)?;
+    let bound = living.get_ref().reply_bound(step);
+    let room = ByteRoom::new(alloc, bound)?;
+    gate.pass(ns, place);
+    let reply = living.log(rt, gate, book, ns, step, bound)?;
+    let told = copy_into(alloc, room, &reply);
+    seat.keep(Event {
+        place,
+        step: asked,
+        reply: told,
+    });
+    Ok(Receipt { ns, place, reply })
+}
+
+/// One event of a namespace, whose lock is held: it is made and kept, and those who wait are woken, but for an event that
+/// is of no use to them. Whether anybody waits is known behind the lock: from then on nobody does.
 pub(crate) fn event<A: Allocator + Clone, R: Wait, G: Gate, C: Ledger, H: Ledger, W: Waiters>(
     rt: &R,
     gate: &G,
@@ -101,28 +139,14 @@ pub(crate) fn event<A: Allocator + Clone, R: Wait, G: Gate, C: Ledger, H: Ledger
     ensures unchanged { OnErr result (living.new.logged ≡ living.old.logged) }
     ensures waiting { OnErr result (is_awaited.new ≡ is_awaited.old) }
 {
-    let ns = seat.ns();
-    let place = living.get_ref().place()?;
-    seat.reserve()?;
-    let alloc = living.get_ref().alloc();
-    let asked = step.copy(alloc)?;
-    let bound = living.get_ref().reply_bound(step);
-    let room = ByteRoom::new(alloc, bound)?;
     let before = resumed_written(living.get_ref(), step);
-    gate.pass(ns, place);
-    let reply = living.log(rt, gate, book, ns, step, bound)?;
+    let receipt = kept_event(rt, gate, book, living, seat, step)?;
     let after = resumed_written(living.get_ref(), step);
-    if !is_idle(step, &reply, before, after) {
+    if !is_idle(step, &receipt.reply, before, after) {
         waiters.wake_all(*is_awaited);
         *is_awaited = false;
     }
-    let told = copy_into(alloc, room, &reply);
-    seat.keep(Event {
-        place,
-        step: asked,
-        reply: told,
-    });
-    Ok(Receipt { ns, place, reply })
+    Ok(receipt)
 }
 
 /// `event`, where the namespace lives. `Gone` where it is retired, first of all, and nothing changes.

@@ -6,7 +6,7 @@ use Rattle.pf_machine.specs.Machine.{step_of}
 use Rattle.pf_service.specs.Log.{Log}
 use Rattle.pf_service.specs.Told.{Told}
 use Rattle.pf_service.proofs.LogLaws.{told}
-use Rattle.pf_service.proofs.place.event.Goals as goal
+use Rattle.pf_service.proofs.place.kept_event.Goals as goal
 
 pub returns-clause-told : goal.returns-clause-told
 returns-clause-told g c =
