@@ -127,9 +127,9 @@ transfer_told-fair s call t m = by_told (transfer_told call t t.progress) (told-
     by_told : (r : Result (Attempt Segment ℕ) Errno) → IsTold call t (moved t.progress) r → Fair t r
     by_told (Ok (Finished u reply)) f = ap (λ (v : State Segment ℕ). v.pipes) f.state
     by_told (Ok (Waits u next)) w = (
-        ap (λ (v : State Segment ℕ). v.pipes) w.state,
-        λ z. m.none (omega (arith, w.count, ap (λ (c : Call ℕ). written_of c) w.is, z))
-        )
+      ap (λ (v : State Segment ℕ). v.pipes) w.state,
+      λ z. m.none (omega (arith, w.count, ap (λ (c : Call ℕ). written_of c) w.is, z)),
+    )
     by_told (Err e) x = m.none (omega (arith, x.none))
 
 -- What a step does by it

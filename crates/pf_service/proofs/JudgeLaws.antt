@@ -100,34 +100,35 @@ lone_at ts all n =
     ]
 
 -- a fault of what was compared, where it is handed on
-unlocked : (Lay : List OneTranscript → List ℕ → Type 0) (configs : List Limits) (seats : List OneSeat) (ts : List OneTranscript) (given : List ℕ) (fault : CloseFault)
-    → Lay ts given → IsCause configs ts given seats fault → IsUnlockedFault Lay configs seats fault
-unlocked Lay configs seats ts given (Disagree n) lay cause = (ts, given, lay, cause)
-unlocked Lay configs seats ts given SeatsMissing lay cause = (ts, given, lay, cause)
-unlocked Lay configs seats ts given NoMemory lay cause = tt
+module _ (Lay : List OneTranscript → List ℕ → Type 0) (configs : List Limits) (seats : List OneSeat) where
+  unlocked : (ts : List OneTranscript) (given : List ℕ) (fault : CloseFault) → Lay ts given
+      → IsCause configs ts given seats fault → IsUnlockedFault Lay configs seats fault
+  unlocked ts given (Disagree n) lay cause = (ts, given, lay, cause)
+  unlocked ts given SeatsMissing lay cause = (ts, given, lay, cause)
+  unlocked ts given NoMemory lay cause = tt
 
-pub unlocked_fault : {T : Type 0} (Lay : List OneTranscript → List ℕ → Type 0) (configs configs' : List Limits) (seats seats' : List OneSeat) (ts ts' : List OneTranscript) (given given' : List ℕ)
-    (fault : CloseFault) (r : Result T CloseFault)
-    → configs' ≡ configs → seats' ≡ seats → ts' ≡ ts → given' ≡ given → Lay ts given
-    → IsErrAnd r (λ x. x ≡ fault) → IsCause configs' ts' given' seats' fault → IfErr r (IsUnlockedFault Lay configs seats)
-unlocked_fault Lay configs configs' seats seats' ts ts' given given' fault (Ok x) c s t n lay is cause = tt
-unlocked_fault Lay configs configs' seats seats' ts ts' given given' fault (Err x) c s t n lay is cause =
-    let here : IsCause configs ts' given' seats' fault = subst (λ (cs : List Limits). IsCause cs ts' given' seats' fault) c cause in
-    let sat : IsCause configs ts' given' seats fault = subst (λ (ss : List OneSeat). IsCause configs ts' given' ss fault) s here in
-    let told : IsCause configs ts given' seats fault = subst (λ (us : List OneTranscript). IsCause configs us given' seats fault) t sat in
-    let all : IsCause configs ts given seats fault = subst (λ (ns : List ℕ). IsCause configs ts ns seats fault) n told in
-    unlocked Lay configs seats ts given x lay (subst (IsCause configs ts given seats) (sym is) all)
+  pub unlocked_fault : {T : Type 0} (configs' : List Limits) (seats' : List OneSeat) (ts ts' : List OneTranscript)
+      (given given' : List ℕ) (fault : CloseFault) (r : Result T CloseFault)
+      → configs' ≡ configs → seats' ≡ seats → ts' ≡ ts → given' ≡ given → Lay ts given → IsErrAnd r (λ x. x ≡ fault)
+      → IsCause configs' ts' given' seats' fault → IfErr r (IsUnlockedFault Lay configs seats)
+  unlocked_fault configs' seats' ts ts' given given' fault (Ok x) c s t n lay is cause = tt
+  unlocked_fault configs' seats' ts ts' given given' fault (Err x) c s t n lay is cause =
+      let here = subst (λ (cs : List Limits). IsCause cs ts' given' seats' fault) c cause in
+      let sat = subst (λ (ss : List OneSeat). IsCause configs ts' given' ss fault) s here in
+      let told = subst (λ (us : List OneTranscript). IsCause configs us given' seats fault) t sat in
+      let all = subst (λ (ns : List ℕ). IsCause configs ts ns seats fault) n told in
+      unlocked ts given x lay (subst (IsCause configs ts given seats) (sym is) all)
 
--- some seats and some numbers, where it isn't said which lay behind the locks
-some_fault : (Lay : List OneTranscript → List ℕ → Type 0) (configs : List Limits) (seats : List OneSeat) (fault : CloseFault) → IsUnlockedFault Lay configs seats fault → IsClosedFault configs seats fault
-some_fault Lay configs seats (Disagree n) (ts, given, lay, cause) = (ts, given, cause)
-some_fault Lay configs seats SeatsMissing (ts, given, lay, cause) = (ts, given, cause)
-some_fault Lay configs seats NoMemory is = ([], [], tt)
+  -- some seats and some numbers, where it isn't said which lay behind the locks
+  some_fault : (fault : CloseFault) → IsUnlockedFault Lay configs seats fault → IsClosedFault configs seats fault
+  some_fault (Disagree n) (ts, given, lay, cause) = (ts, given, cause)
+  some_fault SeatsMissing (ts, given, lay, cause) = (ts, given, cause)
+  some_fault NoMemory is = ([], [], tt)
 
-pub closed_fault : {T : Type 0} (Lay : List OneTranscript → List ℕ → Type 0) (configs : List Limits) (seats : List OneSeat) (r : Result T CloseFault)
-    → IfErr r (IsUnlockedFault Lay configs seats) → IfErr r (IsClosedFault configs seats)
-closed_fault Lay configs seats (Ok x) is = tt
-closed_fault Lay configs seats (Err e) is = some_fault Lay configs seats e is
+  pub closed_fault : {T : Type 0} (r : Result T CloseFault) → IfErr r (IsUnlockedFault Lay configs seats)
+      → IfErr r (IsClosedFault configs seats)
+  closed_fault (Ok x) is = tt
+  closed_fault (Err e) is = some_fault e is
 
 -- what was compared is what was given and what comes back
 pub closed : (configs configs' : List Limits) (seats seats' : List OneSeat) (ts ts' : List OneTranscript) (given : List ℕ) → configs' ≡ configs → seats' ≡ seats → ts' ≡ ts

@@ -44,4 +44,5 @@ IsClosedFault configs seats fault = (ts : List OneTranscript) × (given : List �
 -- these seats don't fit what lay behind the locks, or memory was wanted
 abbrev pub IsUnlockedFault : (List OneTranscript → List ℕ → Type 0) → List Limits → List OneSeat → CloseFault → Type 0
 IsUnlockedFault Lay configs seats NoMemory = Unit {0}
-IsUnlockedFault Lay configs seats fault = (ts : List OneTranscript) × (given : List ℕ) × Lay ts given × IsCause configs ts given seats fault
+IsUnlockedFault Lay configs seats fault =
+    (ts : List OneTranscript) × (given : List ℕ) × Lay ts given × IsCause configs ts given seats fault

