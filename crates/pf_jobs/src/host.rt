@@ -1,0 +1,154 @@
+//! A host of one hub, which digests each reply.
+
+use crate::digest::Digest;
+use pf_base::{Answer, Config, Errno, Groups, Reply, Step};
+use pf_frame::Frame;
+use pf_hub::Hub;
+use std::alloc::{AllocError, Global};
+
+/// A hub with what its host was told so far.
+#[derive(Drop)]
+pub(crate) struct Host {
+    pub(crate) hub: Hub<Global>,
+    pub(crate) digest: Digest,
+    pub(crate) steps: u64,
+}
+
+/// The limits of a tenant that reserves so many pages, with the allocator for its files.
+pub(crate) fn limits(alloc: Global, reserve: u32) -> Option<(Config, Global)> {
+    match Config::new(
+        reserve,
+        Config::DEFAULT_SOFT,
+        Config::DEFAULT_HARD,
+        Config::DEFAULT_MAX,
+    ) {
+        Ok(config) => Some((config, alloc)),
+        Err(_) => None,
+    }
+}
+
+/// So many frames, none of which is clear.
+fn frames(alloc: Global, count: u32) -> Result<Vec<Frame>, AllocError> {
+    let mut frames = Vec::with_capacity(alloc, count as usize)?;
+    for _ in 0..count {
+        frames.push(Frame::filled(alloc, 165)?)?;
+    }
+    Ok(frames)
+}
+
+/// The step by which a tenant's first process comes.
+pub(crate) fn spawn(uid: u32, groups: Groups) -> Step {
+    Step::Spawn {
+        uid,
+        gid: uid,
+        umask: 0o022,
+        groups,
+    }
+}
+
+impl Host {
+    /// A hub of so many tenants, each of which reserves so many pages, over all of these pages.
+    pub(crate) fn new(
+        alloc: Global,
+        tenants: u32,
+        reserve: u32,
+    ) -> Result<Option<Host>, AllocError> {
+        let mut configs = Vec::new(alloc);
+        for _ in 0..tenants {
+            let Some(config) = limits(alloc, reserve) else {
+                return Ok(None);
+            };
+            configs.push(config)?;
+        }
+        let frames = frames(alloc, tenants.saturating_mul(reserve))?;
+        match Hub::new(alloc, frames, configs) {
+            Ok(hub) => Ok(Some(Host {
+                hub,
+                digest: Digest::new(),
+                steps: 0,
+            })),
+            Err(_) => Ok(None),
+        }
+    }
+
+    /// Makes a step, and digests its reply. That there is no such tenant, or no memory, counts as an error.
+    pub(crate) fn tell(&mut self, ns: u32, step: &Step) -> Reply {
+        self.steps = self.steps.saturating_add(1);
+        if !self.hub.lives(ns) {
+            self.digest.add(8);
+            return Reply::Err(Errno::ESRCH);
+        }
+        match self.hub.step(ns, step) {
+            Answer::Done(reply) => {
+                self.digest.add_reply(&reply);
+                reply
+            }
+            Answer::NoMemory => {
+                self.digest.add(9);
+                Reply::Err(Errno::EAGAIN)
+            }
+        }
+    }
+
+    /// The next process of a tenant whose call would come further.
+    pub(crate) fn next_to_go_on(&mut self, ns: u32, after: u32) -> Option<u32> {
+        if !self.hub.lives(ns) {
+            return None;
+        }
+        self.hub.next_to_go_on(ns, after)
+    }
+
+    /// Asks what a descriptor is ready for, and digests the answer.
+    pub(crate) fn ask_readiness(&mut self, ns: u32, pid: u32, fd: u32) {
+        if !self.hub.lives(ns) {
+            return;
+        }
+        match self.hub.readiness(ns, pid, fd) {
+            Ok(ready) => {
+                self.digest.add(ready.bytes);
+                self.digest.add(ready.room);
+            }
+            Err(error) => self.digest.add(100 + u64::from(error.code())),
+        }
+    }
+
+    /// A pipe of a process, as its descriptors for reading and for writing.
+    pub(crate) fn pipe(&mut self, ns: u32, pid: u32) -> (u32, u32) {
+        match self.tell(
+            ns,
+            &Step::Pipe {
+                pid,
+                nonblock: false,
+            },
+        ) {
+            Reply::Fds(read, write) => (read, write),
+            _ => (255, 255),
+        }
+    }
+
+    /// A child of a process.
+    pub(crate) fn fork(&mut self, ns: u32, pid: u32) -> u32 {
+        match self.tell(ns, &Step::Fork { pid }) {
+            Reply::Pid(child) => child,
+            _ => 0,
+        }
+    }
+
+    /// Another descriptor for what one names, which goes: as dup2() moves it.
+    pub(crate) fn moved(&mut self, ns: u32, pid: u32, fd: u32) -> u32 {
+        let to = match self.tell(ns, &Step::Dup { pid, fd }) {
+            Reply::Num(to) if to < 256 => to as u32,
+            _ => fd,
+        };
+        self.close(ns, pid, fd);
+        to
+    }
+
+    pub(crate) fn close(&mut self, ns: u32, pid: u32, fd: u32) {
+        let _ = self.tell(ns, &Step::Close { pid, fd });
+    }
+
+    pub(crate) fn exit(&mut self, ns: u32, pid: u32) {
+        let _ = self.tell(ns, &Step::Exit { pid });
+    }
+}
