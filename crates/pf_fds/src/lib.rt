@@ -4,12 +4,13 @@
 #![tactic(auto)]
 
 pub mod descriptions;
-mod marks;
+pub mod marks;
 pub mod places;
 pub mod registry;
 pub mod table;
 
 pub use descriptions::{Descriptions, Named};
+pub use marks::Marks;
 pub use places::Places;
 pub use registry::{InsertFault, Key, Registry};
 pub use table::FdTable;

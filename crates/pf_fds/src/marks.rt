@@ -1,7 +1,7 @@
-//! A set of the numbers 0 to 255, whose least missing one is found in constant time.
+//! A set of the numbers 0 to 255, whose least missing one and next one are found in constant time.
 
 ghost use Rattle.std.specs.Prelude.{◌≡◌, ◌≢◌, ℕ, ◌<◌, ◌≤◌, true, false};
-ghost use Rattle.pf_fds.specs.Marks.{is_marked};
+ghost use Rattle.pf_fds.specs.Marks.{is_marked, IsCount};
 
 /// Which of the numbers from 0 to 255 are marked.
 #[derive(Clone, Copy, Debug)]
@@ -48,5 +48,34 @@ impl Marks {
             }
         }
         256
+    }
+
+    /// The least number from this one on that is marked, or 256 if none is.
+    pub fn next(&self, from: usize) -> usize
+        ensures within { result ≤ 256 }
+        ensures above { result < 256 → from ≤ result }
+        ensures marked { result < 256 → is_marked self.now result ≡ true }
+        ensures between { (k : ℕ) → from ≤ k → k < result → is_marked self.now k ≡ false }
+    {
+        let mut first = from;
+        while first < 256 {
+            let rest = self.words[first / 64] >> (first % 64);
+            if rest != 0 {
+                return first + rest.trailing_zeros() as usize;
+            }
+            // On with the first number of the next word.
+            first = 64 * (first / 64 + 1);
+        }
+        256
+    }
+
+    /// How many numbers are marked.
+    pub fn count(&self) -> usize
+        ensures { IsCount self.now result }
+    {
+        let [first, second, third, fourth] = self.words;
+        let low = first.count_ones() + second.count_ones();
+        let high = third.count_ones() + fourth.count_ones();
+        (low + high) as usize
     }
 }

@@ -1,6 +1,6 @@
-ghost use Rattle.std.specs.Prelude.{◌≡◌, ℕ, ◌<◌, ◌≤◌, List, Option, Some, IsSome, IfOk, option_copied};
+ghost use Rattle.std.specs.Prelude.{◌≡◌, ℕ, ◌-◌, ◌<◌, ◌≤◌, List, Option, Some, None, IsSome, IfOk, option_copied, ◌++◌, length, replicate, vec_len, vec_capacity};
 ghost use Rattle.std.specs.Borrow.{sem};
-ghost use Rattle.pf_machine.specs.Numbered.{at, put_at, clear_at, first_free};
+ghost use Rattle.pf_machine.specs.Numbered.{at, put_at, clear_at, first_free, sum_of};
 ghost use Rattle.pf_machine.specs.State.{vacant};
 ghost use Rattle.pf_fds.specs.declared.places.TheConstants.{PLACES};
 
@@ -17,24 +17,39 @@ pub const PLACES: usize = 256;
 /// A contract sees what stands at each number.
 #[derive(Drop)]
 pub struct Places<T> {
+    // What stands at the first numbers, up to the highest that ever had a value: most tables use few of their numbers, so
+    // no place is written, copied or dropped before it is used. There is room for all from the start.
     values: Vec<Option<T>>,
-    // The numbers that have a value, as bits: the lowest free one is found without a walk over all places.
+    // The numbers that have a value, as bits: the lowest free one, and the next that is taken, are found without a walk
+    // over all places.
     taken: Marks,
 }
 
 impl<T> Model for Places<T> {
-    ghost use Rattle.std.specs.Prelude.{List, Option};
+    ghost use Rattle.std.specs.Prelude.{List, Option, vec_capacity};
     ghost use Rattle.std.specs.Coded.{coded_list, coded_option};
 
     ghost Value = { List (Option T) };
 
     ghost coded = { coded_list (coded_option T.code) };
 
-    ghost view = { λ p. p.values.items };
+    ghost use Rattle.pf_fds.specs.Taken.{padded, AreWritten};
 
-    ghost use Rattle.pf_fds.specs.Taken.{IsTaken};
+    ghost view = { λ p. padded p.values.items };
 
-    ghost invariant = { λ p. IsTaken p.taken p.values.items };
+    ghost invariant = { λ p. AreWritten p.taken p.values.items (vec_capacity p.values) };
+}
+
+// Writes that nothing stands at each number below this one that isn't written yet.
+fn write_below<T>(values: &mut Vec<Option<T>>, n: usize)
+    requires room { n ≤ vec_capacity values.old }
+    ensures items { values.new.items
+        ≡ values.old.items ++ replicate (n - length values.old.items) None }
+    ensures capacity { vec_capacity values.new ≡ vec_capacity values.old }
+{
+    while values.len() < n {
+        values.push_reserved(None);
+    }
 }
 
 impl<T> Places<T> {
@@ -44,10 +59,7 @@ impl<T> Places<T> {
     pub fn new(alloc: Global) -> Result<Self, AllocError>
         ensures { IfOk result (λ p. p ≡ vacant PLACES) }
     {
-        let mut values = Vec::with_capacity(alloc, PLACES)?;
-        for n in 0..PLACES {
-            values.push_reserved(None);
-        }
+        let values = Vec::with_capacity(alloc, PLACES)?;
         Ok(Places {
             values,
             taken: Marks::new(),
@@ -60,7 +72,8 @@ impl<T> Places<T> {
         T: Copy,
         ensures { IfOk result (λ p. p ≡ self.now) }
     {
-        let values = Vec::from_slice(alloc, &self.values)?;
+        let mut values = Vec::with_capacity(alloc, PLACES)?;
+        values.extend_from_slice(&self.values)?;
         Ok(Places {
             values,
             taken: self.taken,
@@ -97,7 +110,12 @@ impl<T> Places<T> {
         ensures { self.new ≡ put_at self.old n value }
     {
         self.taken.mark(n);
-        self.values[n] = Some(value);
+        if n < self.values.len() {
+            self.values[n] = Some(value);
+            return;
+        }
+        write_below(&mut self.values, n);
+        self.values.push_reserved(Some(value));
     }
 
     /// Takes the value at a number away.
@@ -129,5 +147,23 @@ impl<T> Places<T> {
         let mut taken = self.taken;
         taken.mark(but);
         taken.lowest()
+    }
+
+    /// The least number from this one on that has a value, `PLACES` where none has.
+    pub fn next(&self, from: usize) -> usize
+        ensures most { result ≤ PLACES }
+        ensures above { result < PLACES → from ≤ result }
+        ensures stands { result < PLACES → IsSome (at self.now result) }
+        ensures between { (n : ℕ) → from ≤ n → n < result → at self.now n ≡ None }
+    {
+        self.taken.next(from)
+    }
+
+    /// How many numbers have a value.
+    pub fn count(&self) -> usize
+        ensures number { result ≡ sum_of (λ (value : T). 1) self.now }
+        ensures most { result ≤ PLACES }
+    {
+        self.taken.count()
     }
 }

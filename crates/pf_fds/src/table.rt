@@ -1,4 +1,4 @@
-ghost use Rattle.std.specs.Prelude.{◌≡◌, ℕ, ◌<◌, ◌≤◌, List, Option, Some, IfOk};
+ghost use Rattle.std.specs.Prelude.{◌≡◌, ℕ, ◌<◌, ◌≤◌, List, Option, Some, None, IsSome, IfOk};
 ghost use Rattle.pf_machine.specs.Numbered.{at, put_at, clear_at, first_free};
 ghost use Rattle.pf_machine.specs.State.{vacant};
 ghost use Rattle.pf_base.specs.declared.TheConstants.{MAX_DESCRIPTORS};
@@ -82,5 +82,15 @@ impl FdTable {
         ensures most { result ≤ MAX_DESCRIPTORS }
     {
         self.keys.next_lowest(but)
+    }
+
+    /// The least descriptor from this one on that has a key, `MAX_DESCRIPTORS` where none has.
+    pub fn next(&self, from: usize) -> usize
+        ensures most { result ≤ MAX_DESCRIPTORS }
+        ensures above { result < MAX_DESCRIPTORS → from ≤ result }
+        ensures stands { result < MAX_DESCRIPTORS → IsSome (at self.now result) }
+        ensures between { (fd : ℕ) → from ≤ fd → fd < result → at self.now fd ≡ None }
+    {
+        self.keys.next(from)
     }
 }
