@@ -5,7 +5,7 @@ use Rattle.std.specs.Option.{option_map, option_and_then}
 use Rattle.std.proofs.lemmas.Bool.{cases_eq, cases_lt, le-leb, lt-leb, leb-true, leb-false}
 use Rattle.std.proofs.lemmas.List.{length-map, set_past, set-set}
 use Rattle.pf_machine.specs.Numbered.{at, clear_at, change_at, first_free, sum_of, weight, keep, one_if}
-use Rattle.pf_machine.proofs.NumberedLaws.{at_past, at_within, at-put_same, at-put_other, same_at, length-keep, at-keep, is_kept, sum_of-set}
+use Rattle.pf_machine.proofs.NumberedLaws.{at-map, at_past, at_within, at-put_same, at-put_other, same_at, length-keep, at-keep, is_kept, sum_of-set}
 use Rattle.pf_machine.specs.Machine.{call_of}
 use Rattle.pf_machine.specs.State.{itself, State, Process}
 use Rattle.pf_machine.specs.Counts.{named_in, names_of, names}
@@ -19,7 +19,7 @@ use Rattle.pf_frame.specs.Live.{Live}
 use Rattle.pf_limits.specs.UserPages.{UserPages}
 use Rattle.pf_tables.specs.Meaning.{Namespace, meaning}
 use Rattle.pf_tables.specs.Rows as rows
-use Rattle.pf_tables.specs.Rows.{ProcessRows, DescriptionRows, PipeRows, Key, process_of, state_of, Kept, process_in}
+use Rattle.pf_tables.specs.Rows.{ProcessRows, DescriptionRows, PipeRows, Key, process_of, state_of, key_at, Kept, process_in}
 use Rattle.pf_tables.specs.Told.{Becomes}
 use Rattle.pf_tables.proofs.Callers.{place_of}
 use Rattle.pf_machine.specs.Calls.{Call, Opening, Moving}
@@ -50,6 +50,25 @@ keep_more n xs =
       | inl same ↦ ap (at (clear_at before n)) same ∙ at-cleared before n
       | inr differs ↦ at-put_other before n k None differs ∙ at_dropped n xs k (omega (arith, below, differs))
     ])
+
+keep_past : {X : Type 0} (n m : ℕ) (xs : List (Option X)) → n ≤ m → ((k : ℕ) → n ≤ k → k < m → at xs k ≡ None)
+    → keep (λ fd. nat_le n fd) xs ≡ keep (λ fd. nat_le m fd) xs
+keep_past {X} n m xs more none = same_at _ _ (length-keep (λ fd. nat_le n fd) xs ∙ sym (length-keep (λ fd. nat_le m fd) xs)) at_each
+  where
+    at_each : (k : ℕ) → at {X = X} (keep (λ fd. nat_le n fd) xs) k ≡ at (keep (λ fd. nat_le m fd) xs) k
+    at_each k =
+        elim (cases_lt k m) [
+          | inl before ↦
+              elim (cases_lt k n) [
+                | inl below ↦ at_dropped n xs k below ∙ sym (at_dropped m xs k before)
+                | inr from ↦ at_kept n xs k from ∙ none k from before ∙ sym (at_dropped m xs k before)
+              ]
+          | inr past ↦ at_kept n xs k (omega arith) ∙ sym (at_kept m xs k past)
+        ]
+
+-- the next descriptor that a process has is no lower than the number that it was looked for from
+pub on_from : (from next : ℕ) → from ≤ MAX_DESCRIPTORS → (next < MAX_DESCRIPTORS → from ≤ next) → from ≤ next
+on_from from next within above = elim (cases_lt next MAX_DESCRIPTORS) [ inl l ↦ above l | inr past ↦ omega arith ]
 
 -- a sum in which one thing falls
 sum_of-falls : {X : Type 0} (h : X → ℕ) (xs : List (Option X)) (i : ℕ) (y : Option X) → weight h y ≤ weight h (at xs i) → sum_of h (set xs i y) ≤ sum_of h xs
@@ -90,6 +109,23 @@ module _ {X : Type 0} where
       (λ k. names-change (without_descriptor n) (change_at (empty_first n) s.processes i) i k (λ p. sum_of-falls (λ m. one_if (nat_eq m k)) (names_of p) (suc n) None (omega arith)))
       ∙ ap (λ ps. sweep itself (with_processes s ps)) (change-change (without_descriptor n) (empty_first n) (empty_first (n + 1)) s.processes i l (λ p. ap (λ ds. record p { descriptors = ds }) (keep_more n p.descriptors)))
 
+  -- descriptors that the process doesn't have are passed over
+  pub first_skip : (s t : State X ℕ) (i n m : ℕ) → i < length s.processes → n ≤ m → t ≡ sweep itself (without_first s i n)
+      → ((fd : ℕ) → n ≤ fd → fd < m → descriptor t i fd ≡ None) → t ≡ sweep itself (without_first s i m)
+  first_skip s t i n m l more e none = e ∙ ap (λ o. sweep itself (with_processes s (set s.processes i o))) (same (at s.processes i) refl)
+    where
+      gap : (p : Process ℕ) → at s.processes i ≡ Some p → (k : ℕ) → n ≤ k → k < m → at p.descriptors k ≡ None
+      gap p h k from before =
+          sym (at_kept n p.descriptors k from)
+          ∙ sym (ap (λ o. option_and_then (λ (q : Process ℕ). at q.descriptors k) (option_map (empty_first n) o)) h)
+          ∙ sym (ap (option_and_then (λ (q : Process ℕ). at q.descriptors k)) (at-put_same s.processes i (option_map (empty_first n) (at s.processes i)) l))
+          ∙ sym (ap (λ (u : State X ℕ). descriptor u i k) e)
+          ∙ none k from before
+
+      same : (o : Option (Process ℕ)) → at s.processes i ≡ o → option_map (empty_first n) o ≡ option_map (empty_first m) o
+      same None h = refl
+      same (Some p) h = ap (λ ds. Some (record p { descriptors = ds })) (keep_past n m p.descriptors more (gap p h))
+
   pub first_end : (s t : State X ℕ) (i n : ℕ) → i < length s.processes → t ≡ sweep itself (without_first s i n) → sweep itself (without_place t i) ≡ sweep itself (without_place s i)
   first_end s t i n l e =
       ap (λ u. sweep itself (without_place u i)) e
@@ -108,6 +144,15 @@ module _ {X : Type 0} where
             | inl below ↦ at_dropped n p.descriptors fd below
             | inr past ↦ at_past (keep (λ fd. nat_le n fd) p.descriptors) fd (omega (arith, length-keep (λ fd. nat_le n fd) p.descriptors, short p h))
           ]
+
+-- a process without a key at a descriptor has none for the machine
+pub has_no_descriptor : (ps : ProcessRows) (ds : DescriptionRows) (pipes : PipeRows) (files : Files) (files_made i fd : ℕ)
+    → key_at fd (at ps i) ≡ None → descriptor (state_of ps ds pipes files files_made) i fd ≡ None
+has_no_descriptor ps ds pipes files files_made i fd none = ap (option_and_then (λ (p : Process ℕ). at p.descriptors fd)) (at-map process_of ps i) ∙ by_row (at ps i) none
+  where
+    by_row : (o : Option rows.Process) → key_at fd o ≡ None → option_and_then (λ (p : Process ℕ). at p.descriptors fd) (option_map process_of o) ≡ None
+    by_row None h = refl
+    by_row (Some p) h = at-map (λ (k : Key). k.serial) p.descriptors fd ∙ ap (option_map (λ (k : Key). k.serial)) h
 
 -- The same of a namespace, from what the tables find: its process waits in no call any more
 
@@ -137,12 +182,25 @@ module _ {files : Files} {files_made : ℕ} (f : Live) (limits : Limits) (charge
       let same : woken (process_of who) ≡ q = cc in
       omega (arith, ap (λ (x : Process ℕ). length x.descriptors) same, as_wide (process_of who).parked (process_of who), length-map who.descriptors (option_map (λ (k : Key). k.serial)), k.tied.wide (pid - 1) who (place_of ps pid who lives))
 
+  pub skipped : (g : Live) (m : Namespace) (fd next : ℕ) → fd ≤ next → Becomes f g n m (without_first base (pid - 1) fd)
+      → ((d : ℕ) → fd ≤ d → d < next → descriptor m.state (pid - 1) d ≡ None) → Becomes f g n m (without_first base (pid - 1) next)
+  skipped g m fd next more b none = record {
+    owns = b.owns;
+    limits = b.limits;
+    state = first_skip base (meaning g m.state) (pid - 1) fd next i_in more b.state none;
+  }
+
   pub none_first : (g : Live) (m : Namespace) → Becomes f g n m base → Becomes f g n m (without_first base (pid - 1) 0)
   none_first g m b = record { owns = b.owns; limits = b.limits; state = first_start base (meaning g m.state) (pid - 1) b.state }
 
   module _ (g : Live) (m : Namespace) (fd : ℕ) (b : Becomes f g n m (without_first base (pid - 1) fd)) (h : Live) (o : Namespace) where
     pub one_more : Becomes g h m o (emptied (meaning g m.state) (pid - 1) fd) → Becomes f h n o (without_first base (pid - 1) (fd + 1))
     one_more e = record { owns = e.owns; limits = e.limits ∙ b.limits; state = e.state ∙ first_next base (meaning g m.state) (pid - 1) fd i_in b.state }
+
+    -- on to the next descriptor that it has
+    pub one_more_next : Becomes g h m o (emptied (meaning g m.state) (pid - 1) fd) → (next : ℕ) → fd + 1 ≤ next
+        → ((d : ℕ) → fd + 1 ≤ d → d < next → descriptor o.state (pid - 1) d ≡ None) → Becomes f h n o (without_first base (pid - 1) next)
+    one_more_next e next above none = skipped h o (fd + 1) next above (one_more e) none
 
     pub all_gone : Becomes g h m o (without_place (meaning g m.state) (pid - 1)) → Becomes f h n o (without_place (meaning f n.state) (pid - 1))
     all_gone e = record {

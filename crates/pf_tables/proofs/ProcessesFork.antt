@@ -55,6 +55,33 @@ module _ {Y : Type 0} (g : Row → Y) (same : (e : Row) → g (one_more e) ≡ g
       by_key None = refl
       by_key (Some k) = changed (with_first_names n ks ds) k.serial
 
+-- where there is no key for some of them, nothing changes
+pub names_skip : (ks : List (Option Key)) (ds : DescriptionRows) (n d : ℕ) → ((k : ℕ) → n ≤ k → k < n + d → at ks k ≡ None)
+    → with_first_names n ks ds ≡ with_first_names (n + d) ks ds
+names_skip ks ds n zero none = let same : n ≡ n + 0 = omega arith in ap (λ m. with_first_names m ks ds) same
+names_skip ks ds n (suc d) none =
+    let same : suc (n + d) ≡ n + suc d = omega arith in
+    names_skip ks ds n d (λ k from before. none k from (omega arith))
+    ∙ ap (λ o. with_name o (with_first_names (n + d) ks ds)) (sym (none (n + d) (omega arith) (omega arith)))
+    ∙ ap (λ m. with_first_names m ks ds) same
+
+pub names_next : (ks : List (Option Key)) (ds : DescriptionRows) (n m : ℕ) → n ≤ m → ((k : ℕ) → n ≤ k → k < m → at ks k ≡ None)
+    → with_first_names n ks ds ≡ with_first_names m ks ds
+names_next ks ds n m more none =
+    let same : n + (m - n) ≡ m = omega arith in
+    names_skip ks ds n (m - n) (λ k from before. none k from (omega arith)) ∙ ap (λ j. with_first_names j ks ds) same
+
+-- the names of one key more
+pub one_named : (ks : List (Option Key)) (ds rows : DescriptionRows) (n : ℕ) (o : Option Key) → at ks n ≡ o
+    → rows ≡ with_first_names n ks ds → with_name o rows ≡ with_first_names (n + 1) ks ds
+one_named ks ds rows n o here is =
+    let same : suc n ≡ n + 1 = omega arith in
+    ap (with_name o) is ∙ ap (λ k. with_name k (with_first_names n ks ds)) (sym here) ∙ ap (λ m. with_first_names m ks ds) same
+
+pub no_key : (o : Option Key) → ((k : Key) → o ≡ Some k → ⊥) → o ≡ None
+no_key None h = refl
+no_key (Some k) h = absurd (h k refl)
+
 abbrev place_of : Row → ℕ
 place_of e = e.0
 

@@ -1,12 +1,12 @@
 //! The processes of a namespace, each with the call in which it waits.
 
-ghost use Rattle.std.specs.Prelude.{◌≡◌, ◌-◌, ◌<◌, ◌≤◌, None, Some, Ok, Err, IfOk, IsOk, MatchResult, option_copied, slice_set};
+ghost use Rattle.std.specs.Prelude.{◌≡◌, ℕ, ◌-◌, ◌<◌, ◌≤◌, None, Some, Ok, Err, IfOk, IsOk, MatchResult, option_copied, slice_set};
 ghost use Rattle.pf_machine.specs.Numbered.{at, put_at, clear_at, change_at, first_free, sum_of};
 ghost use Rattle.pf_machine.specs.State.{vacant};
 ghost use Rattle.pf_base.specs.declared.TheConstants.{MAX_DESCRIPTORS, MAX_PROCESSES};
 ghost use Rattle.pf_tables.specs.Rows.{process_at, process_in, ready_in, call_in, woken, HasSpare, MayWait, key_at, with_key, with_keys, without_key, with_call};
 
-use pf_base::{Cred, Errno, MAX_PROCESSES};
+use pf_base::{Cred, Errno, MAX_DESCRIPTORS, MAX_PROCESSES};
 use pf_fds::{FdTable, Key, Places};
 use pf_parked::Call;
 use std::alloc::{AllocError, Global};
@@ -153,6 +153,18 @@ impl ProcessTable {
         ensures { self.new ≡ clear_at self.old i }
     {
         self.places.take(i);
+    }
+
+    /// The least descriptor from this one on that the process in a place has, `MAX_DESCRIPTORS` where it has none.
+    pub fn next_key(&self, i: usize, from: usize) -> usize
+        ensures most { result ≤ MAX_DESCRIPTORS }
+        ensures above { result < MAX_DESCRIPTORS → from ≤ result }
+        ensures between { (fd : ℕ) → from ≤ fd → fd < result → key_at fd (at self.now i) ≡ None }
+    {
+        match self.places.get(i) {
+            Some(process) => process.descriptors.next(from),
+            None => MAX_DESCRIPTORS,
+        }
     }
 
     /// Empties a descriptor of the process in a place, and gives out the key that was there.

@@ -3,7 +3,7 @@
 //! are released, and its pages are charged no more.
 
 ghost use Rattle.std.specs.Prelude.{◌≡◌, ℕ, ◌+◌, ◌<◌, ◌≤◌, None, IsSome, IfSome, OnErr, length, slice_set};
-ghost use Rattle.pf_base.specs.declared.TheConstants.{MAX_PROCESSES};
+ghost use Rattle.pf_base.specs.declared.TheConstants.{MAX_DESCRIPTORS, MAX_PROCESSES};
 ghost use Rattle.pf_machine.specs.Machine.{call_of};
 ghost use Rattle.pf_machine.specs.Numbered.{at, one_if};
 ghost use Rattle.pf_fds.specs.Registry.{find};
@@ -166,6 +166,15 @@ impl<A: Allocator> Tables<A> {
         key_of(&self.processes, pid, fd)?;
         self.empty(door, pid as usize - 1, fd as usize);
         Ok(())
+    }
+
+    // The least descriptor from this one on that the process in a place has, MAX_DESCRIPTORS where it has none.
+    pub(super) fn next_descriptor(&self, i: usize, from: usize) -> usize
+        ensures most { result ≤ MAX_DESCRIPTORS }
+        ensures above { result < MAX_DESCRIPTORS → from ≤ result }
+        ensures between { (fd : ℕ) → from ≤ fd → fd < result → descriptor self.now.state i fd ≡ None }
+    {
+        self.processes.next_key(i, from)
     }
 
     // Takes a process away that has no descriptors, and waits in no call.

@@ -27,10 +27,12 @@ fn name_all(descriptions: &mut Descriptions<Description>, descriptors: &FdTable)
     requires few { AreFew descriptions.old.items }
     ensures { descriptions.new.items ≡ named_once_more descriptors.now descriptions.old.items }
 {
-    for fd in 0..MAX_DESCRIPTORS {
+    let mut fd = descriptors.next(0);
+    while fd < MAX_DESCRIPTORS {
         if let Some(key) = descriptors.get(fd) {
             descriptions.name(key);
         }
+        fd = descriptors.next(fd + 1);
     }
 }
 
@@ -126,8 +128,11 @@ impl<A: Allocator> Tables<A> {
         self.processes.living(pid)?;
         self.wake(door, pid);
         let i = pid as usize - 1;
-        for fd in 0..MAX_DESCRIPTORS {
+        // It costs what is open: the descriptors without a description are passed over.
+        let mut fd = self.next_descriptor(i, 0);
+        while fd < MAX_DESCRIPTORS {
             self.empty(door, i, fd);
+            fd = self.next_descriptor(i, fd + 1);
         }
         self.take_process(door, i);
         Ok(())

@@ -1,4 +1,4 @@
-use Rattle.std.proofs.Common.{refl, ◌∙◌}
+use Rattle.std.proofs.Common.{refl, ◌∙◌, arith}
 use Rattle.pf_tables.proofs.ProcessesDrop as lemmas
 use Rattle.pf_tables.proofs.DescriptorsDrop.{exited_is}
 use Rattle.pf_tables.proofs.tables.Tables.drop_process.Goals as goal
@@ -7,14 +7,19 @@ pub loop-fd-init : goal.loop-fd-init
 loop-fd-init g c = record {
   fact = c.requires.fact;
   rest = refl;
-  first = lemmas.none_first (g.F.Frames.live c.args.door.now) _ _ _ _ _ c.self.invariant.kept _ c.self.view_is c.args.pid c.in_ok-living.ensures _ _ c.wake.ensures.woken;
+  first =
+      lemmas.skipped (g.F.Frames.live c.args.door.now) _ _ _ _ _ c.self.invariant.kept _ c.self.view_is c.args.pid c.in_ok-living.ensures _ _ 0 _ (omega arith)
+      (lemmas.none_first (g.F.Frames.live c.args.door.now) _ _ _ _ _ c.self.invariant.kept _ c.self.view_is c.args.pid c.in_ok-living.ensures _ _ c.wake.ensures.woken)
+      c.next_descriptor-fd.ensures.between;
 }
 
 pub loop-fd-preserved : goal.loop-fd-preserved
 loop-fd-preserved g c = record {
   fact = c.empty.ensures.fact;
   rest = c.empty.ensures.rest ∙ c.loop-fd.invariant.rest;
-  first = lemmas.one_more (g.F.Frames.live c.args.door.now) _ _ _ _ _ c.self.invariant.kept _ c.self.view_is c.args.pid c.in_ok-living.ensures _ _ _ c.loop-fd.invariant.first _ _ c.empty.ensures.emptied;
+  first =
+      lemmas.one_more_next (g.F.Frames.live c.args.door.now) _ _ _ _ _ c.self.invariant.kept _ c.self.view_is c.args.pid c.in_ok-living.ensures _ _ _ c.loop-fd.invariant.first _ _ c.empty.ensures.emptied
+      _ (lemmas.on_from _ _ (omega (arith, c.loop-fd-test.true)) c.next_descriptor-fd-in-loop-fd.ensures.above) c.next_descriptor-fd-in-loop-fd.ensures.between;
 }
 
 pub take_process-requires-clause-bare : goal.take_process-requires-clause-bare

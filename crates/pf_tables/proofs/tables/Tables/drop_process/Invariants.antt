@@ -1,4 +1,4 @@
-use Rattle.std.proofs.Common.{◌≡◌}
+use Rattle.std.proofs.Common.{◌≡◌, ◌-◌}
 use Rattle.pf_tables.specs.Meaning.{meaning}
 use Rattle.pf_tables.specs.Tables.{awoken, without_first}
 use Rattle.pf_tables.specs.Told.{Becomes}
@@ -10,3 +10,6 @@ invariant-loop-fd g l = record {
   rest : g.F.Frames.rest l.door ≡ g.F.Frames.rest l.fn.door;
   first : Becomes (g.F.Frames.live l.fn.door) (g.F.Frames.live l.door) l.fn.self l.self (without_first (awoken (meaning (g.F.Frames.live l.fn.door) l.fn.self.state) l.fn.pid) l.i l.fd);
 }
+
+abbrev pub decreases-loop-fd : goal.decreases-loop-fd
+decreases-loop-fd g l = 256 - l.fd

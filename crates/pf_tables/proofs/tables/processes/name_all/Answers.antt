@@ -1,9 +1,40 @@
-use Rattle.std.proofs.Common.{◌≡◌, IsSome, subst, sym, ap, ◌∙◌, arith}
-use Rattle.pf_fds.specs.Descriptions.{names_of}
+use Rattle.std.proofs.Common.{◌≡◌, ◌+◌, ◌≤◌, Some, None, IsSome, subst, sym, ap, ◌∙◌, arith}
+use Rattle.pf_fds.specs.Descriptions.{Descriptions, names_of}
 use Rattle.pf_fds.specs.Registry.{find}
-use Rattle.pf_tables.specs.Rows.{DescriptionRows, with_first_names}
+use Rattle.pf_tables.specs.Rows.{Description, DescriptionRows, with_first_names}
+use Rattle.pf_tables.proofs.ProcessesDrop.{on_from}
 use Rattle.pf_tables.proofs.ProcessesFork as lemmas
+use Rattle.pf_tables.proofs.tables.processes.name_all.Goals.{in-Some, in_default}
 use Rattle.pf_tables.proofs.tables.processes.name_all.Goals as goal
+
+pub loop-fd-init : goal.loop-fd-init
+loop-fd-init c = record {
+  named = lemmas.names_next c.args.descriptors.now c.args.descriptions.now.items 0 _ (omega arith) c.next-fd.ensures.between;
+  within = c.next-fd.ensures.most;
+}
+
+pub loop-fd-preserved : goal.loop-fd-preserved
+loop-fd-preserved c =
+    let ks = c.args.descriptors.now in
+    let ds = c.args.descriptions.now.items in
+    let on : c.loop-fd.fd + 1 ≤ c.next-fd-in-loop-fd.result = on_from _ _ (omega (arith, c.loop-fd-test.true)) c.next-fd-in-loop-fd.ensures.above in
+    let passed = lemmas.names_next ks ds (c.loop-fd.fd + 1) c.next-fd-in-loop-fd.result on c.next-fd-in-loop-fd.ensures.between in
+    elim c.match-get.branch [
+      | in-Some w ↦
+          record {
+            named =
+                ap (λ (d : Descriptions Description). d.items) w.descriptions-is ∙ w.name.ensures.items
+                ∙ lemmas.one_named ks ds c.loop-fd.descriptions.items c.loop-fd.fd (Some w.in-Some.key) (sym c.get.ensures ∙ w.in-Some.is) c.loop-fd.invariant.named ∙ passed;
+            within = c.next-fd-in-loop-fd.ensures.most;
+          }
+      | in_default w ↦
+          record {
+            named =
+                ap (λ (d : Descriptions Description). d.items) w.descriptions-is
+                ∙ lemmas.one_named ks ds c.loop-fd.descriptions.items c.loop-fd.fd None (sym c.get.ensures ∙ lemmas.no_key c.get.result w.in_default.not-Some) c.loop-fd.invariant.named ∙ passed;
+            within = c.next-fd-in-loop-fd.ensures.most;
+          }
+    ]
 
 pub name-requires-clause-stands : goal.name-requires-clause-stands
 name-requires-clause-stands c =
@@ -17,5 +48,5 @@ name-requires-clause-below c =
 
 pub returns : goal.returns
 returns c =
-    let all : c.loop-fd.fd ≡ 256 = omega (arith, c.loop-fd-test.false, c.loop-fd.auto.fd-end) in
+    let all : c.loop-fd.fd ≡ 256 = omega (arith, c.loop-fd-test.false, c.loop-fd.invariant.within) in
     c.loop-fd.invariant.named ∙ ap (λ n. with_first_names n c.args.descriptors.now c.args.descriptions.now.items) (all ∙ sym c.requires.wide)
