@@ -1,18 +1,20 @@
--- The processes stay as many places, and an open that waits keeps a descriptor to come; and how many live.
+-- The processes stay as many places, and an open that waits keeps a descriptor to come; and those that wait in a call are
+-- marked.
 
-use Rattle.std.proofs.Common.{◌≡◌, Bor, true, false, option_copied, is_some, ℕ, zero, suc, ◌+◌, ◌-◌, ◌<◌, ◌≤◌, List}
-use Rattle.std.proofs.Common.{[], ◌∷◌, length, length-set, take, subst, Option, Some, None, Ok, IsOk, refl, sym, ap}
-use Rattle.std.proofs.Common.{◌∙◌, arith}
-use Rattle.std.proofs.lemmas.List.{take_more, take_all}
-use Rattle.pf_machine.specs.Numbered.{at, put_at, clear_at, first_free, weight, sum_of}
+use Rattle.std.proofs.Common.{◌≡◌, ◌≢◌, false, is_some, ℕ, zero, suc, ◌-◌, ◌<◌, ◌≤◌, List, [], ◌∷◌, length, set}
+use Rattle.std.proofs.Common.{length-set, subst, Option, Some, None, Ok, IsOk, refl, sym, ap, ◌∙◌, inl, inr, arith}
+use Rattle.std.proofs.lemmas.Bool.{cases_eq}
+use Rattle.pf_fds.specs.declared.marks.Marks.{Marks}
+use Rattle.pf_fds.specs.Marks.{is_marked}
+use Rattle.pf_machine.specs.Numbered.{at, put_at, clear_at, first_free}
 use Rattle.pf_machine.specs.Refusals.{◌>>=◌, ◌>>◌, refuse_if, or_refuse}
 use Rattle.pf_machine.specs.State.{vacant}
 use Rattle.pf_base.specs.declared.TheConstants.{MAX_PROCESSES}
 use Rattle.pf_base.specs.declared.errno.Errno.TheVariants.{ESRCH, EBUSY}
-use Rattle.pf_machine.proofs.NumberedLaws.{at_within, sum_of-push}
+use Rattle.pf_machine.proofs.NumberedLaws.{at_within, at-put_same, at-put_other}
 use Rattle.pf_parked.specs.declared.call.Call.TheVariants.{Open, Read, Write, Cross}
-use Rattle.pf_tables.specs.Rows.{Key, Call, Process, ProcessRows, IsSpare, IsSeated, MayWait}
-use Rattle.pf_tables.specs.Rows.{process_at, awake, ready_in, with_call}
+use Rattle.pf_tables.specs.Rows.{Key, Call, Process, ProcessRows, IsSpare, IsSeated, IsWatched, MayWait}
+use Rattle.pf_tables.specs.Rows.{process_at, awake, ready_in, waits, with_call}
 use Rattle.pf_tables.proofs.CountersTied.{by_set}
 use Rattle.pf_tables.proofs.ProcessTableEmpty.{vacant_at, length-vacant}
 
@@ -31,10 +33,6 @@ first_free-clear (Some x ∷ xs) (suc k) = omega (arith, first_free-clear xs k)
 
 abbrev Keys : Type 0
 Keys = List (Option Key)
-
--- how many live
-abbrev living : ProcessRows → ℕ
-living ps = sum_of (λ p. 1) ps
 
 module _ (ps : ProcessRows) (s : IsSeated ps) where
   -- another process in a place
@@ -92,25 +90,86 @@ module _ (ps : ProcessRows) (s : IsSeated ps) where
           by_pid zero h e m = absurd (cc)
           by_pid (suc k) h e m = by_call call (subst (MayWait call) (found k e) m)
 
-    -- counted place by place
-    one_place : (k : ℕ) → k < MAX_PROCESSES
-        → living (take (k + 1) rows) ≡ living (take k rows) + weight (λ (p : Process). 1) (at ps k)
-    one_place k less =
-        ap living (take_more rows k None (subst (λ n. k < n) (sym s.places ∙ ap length is) less))
-        ∙ sum_of-push (λ (p : Process). 1) (take k rows) (at rows k)
-        ∙ ap (λ xs. living (take k rows) + weight (λ (p : Process). 1) (at xs k)) (sym is)
+-- Just those are marked whose processes wait in a call
+module _ (m : Marks) (ps : ProcessRows) (s : IsWatched m ps) where
+  -- another process in a place, or none
+  reseated : (i : ℕ) (x : Option Process) → i < MAX_PROCESSES → ((p : Process) → x ≡ Some p → IsSpare p)
+      → IsSeated (set ps i x)
+  reseated i x l spare = record {
+    places = length-set ps i x ∙ s.seated.places;
+    spare = by_set (λ _ y. (r : Process) → y ≡ Some r → IsSpare r) ps i x (omega (arith, s.seated.places)) spare
+        (λ j _. s.seated.spare j);
+  }
 
-    pub one_alive : (k : ℕ) (r : Option (Bor Process)) → k < MAX_PROCESSES → option_copied r ≡ at ps k
-        → is_some r ≡ true → living (take (k + 1) rows) ≡ living (take k rows) + 1
-    one_alive k None less there some = absurd (cc)
-    one_alive k (Some b) less there some =
-        one_place k less ∙ ap (λ o. living (take k rows) + weight (λ (p : Process). 1) o) (sym there)
+  pub watched : (m' : Marks) (i : ℕ) (x : Option Process) → i < MAX_PROCESSES → IsSeated (set ps i x)
+      → is_marked m' i ≡ waits x
+      → ((k : ℕ) → k < MAX_PROCESSES → k ≢ i → is_marked m' k ≡ is_marked m k) → IsWatched m' (set ps i x)
+  watched m' i x l seated here others = record {
+    seated = seated;
+    marked = λ k within. elim (cases_eq k i) [
+      | inl same ↦
+          let there : at (set ps i x) k ≡ x = ap (at (set ps i x)) same ∙ at-put_same ps i x (omega (arith, s.seated.places)) in
+          ap (is_marked m') same ∙ here ∙ sym (ap waits there)
+      | inr other ↦ others k within other ∙ s.marked k within ∙ sym (ap waits (at-put_other ps i k x other))
+    ];
+  }
 
-    pub nobody_there : (k : ℕ) (r : Option (Bor Process)) → k < MAX_PROCESSES → option_copied r ≡ at ps k
-        → is_some r ≡ false → living (take (k + 1) rows) ≡ living (take k rows)
-    nobody_there k None less there none =
-        omega (arith, one_place k less ∙ ap (λ o. living (take k rows) + weight (λ (p : Process). 1) o) (sym there))
-    nobody_there k (Some b) less there none = absurd (cc)
+  -- who waits as what was there before
+  pub as_before : (i : ℕ) (x : Option Process) → i < MAX_PROCESSES → IsSeated (set ps i x)
+      → waits x ≡ waits (at ps i) → IsWatched m (set ps i x)
+  as_before i x l seated same = watched m i x l seated (s.marked i l ∙ sym same) (λ k within other. refl)
 
-    pub all_alive : living (take MAX_PROCESSES rows) ≡ living rows
-    all_alive = ap living (take_all MAX_PROCESSES rows (omega (arith, s.places, ap length is)))
+  place_in : (i : ℕ) (p : Process) → at ps i ≡ Some p → i < MAX_PROCESSES
+  place_in i p there = omega (arith, at_within ps i p there, s.seated.places)
+
+  -- with other descriptors
+  pub still_watched : (i : ℕ) (p : Process) → at ps i ≡ Some p → (ks : Keys)
+      → IsSeated (put_at ps i (record p { descriptors = ks })) → IsWatched m (put_at ps i (record p { descriptors = ks }))
+  still_watched i p there ks seated =
+      as_before i (Some (record p { descriptors = ks })) (place_in i p there) seated (sym (ap waits there))
+
+  -- with another call or none
+  pub call_watched : (m' : Marks) (i : ℕ) (p : Process) → at ps i ≡ Some p → (ks : Keys) (call : Option (Call Key))
+      → is_marked m' i ≡ is_some call → ((k : ℕ) → k < MAX_PROCESSES → k ≢ i → is_marked m' k ≡ is_marked m k)
+      → IsSeated (put_at ps i (record p { descriptors = ks; parked = call }))
+      → IsWatched m' (put_at ps i (record p { descriptors = ks; parked = call }))
+  call_watched m' i p there ks call here others seated =
+      watched m' i (Some (record p { descriptors = ks; parked = call })) (place_in i p there) seated here others
+
+  -- where one waited in no call, and does in none
+  pub quiet_watched : (i : ℕ) (p : Process) → at ps i ≡ Some p → (call : Option (Call Key)) → call ≡ None
+      → p.parked ≡ None → IsSeated (put_at ps i (record p { parked = call }))
+      → IsWatched m (put_at ps i (record p { parked = call }))
+  quiet_watched i p there call none idle seated =
+      as_before i (Some (record p { parked = call })) (place_in i p there) seated
+      (ap is_some none ∙ sym (ap waits there ∙ ap is_some idle))
+
+  -- who comes waits in no call
+  pub put_watched : (i : ℕ) (p : Process) → i < MAX_PROCESSES → at ps i ≡ None → p.parked ≡ None
+      → IsWatched m (put_at ps i p)
+  put_watched i p l free idle =
+      as_before i (Some p) l (reseated i (Some p) l spare) (ap is_some idle ∙ sym (ap waits free))
+    where
+      spare : (q : Process) → ◌≡◌ {A = Option Process} (Some p) (Some q) → IsSpare q
+      spare q e description kept parks =
+          let same : p ≡ q = cc in
+          let none : q.parked ≡ None = ap (λ (x : Process). x.parked) (sym same) ∙ idle in
+          absurd (cc)
+
+  -- who goes waits no more
+  pub gone_watched : (m' : Marks) (i : ℕ) → i < MAX_PROCESSES → is_marked m' i ≡ false
+      → ((k : ℕ) → k < MAX_PROCESSES → k ≢ i → is_marked m' k ≡ is_marked m k) → IsWatched m' (clear_at ps i)
+  gone_watched m' i l here others = watched m' i None l (reseated i None l (λ p e. absurd (cc))) here others
+
+  -- no one waits where none is marked
+  pub none_waits : (i : ℕ) → i < MAX_PROCESSES → is_marked m i ≡ false → waits (at ps i) ≡ false
+  none_waits i l unmarked = sym (s.marked i l) ∙ unmarked
+
+pub bare_watched : (m : Marks) (ps : ProcessRows) → ((k : ℕ) → k < MAX_PROCESSES → is_marked m k ≡ false)
+    → ps ≡ vacant MAX_PROCESSES → IsWatched m ps
+bare_watched m ps none bare = record {
+  seated = bare_seated ps bare;
+  marked = λ i l.
+      let gap : at ps i ≡ None = ap (λ xs. at xs i) bare ∙ vacant_at MAX_PROCESSES i in
+      none i l ∙ sym (ap waits gap);
+}

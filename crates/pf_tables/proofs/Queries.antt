@@ -1,6 +1,6 @@
 -- What a host asks, answered from the rows.
 
-use Rattle.std.proofs.Common.{◌≡◌, ℕ, zero, suc, ◌+◌, ◌-◌, ◌<◌, ◌≤◌, Bool, true, false, ◌||◌, length, drop, Option, Some, None, Result, Ok, Err, ◌≢◌, nat_eq, nat_lt, nat_le, length-drop, refl, sym, ap, subst, ◌∙◌, arith}
+use Rattle.std.proofs.Common.{◌≡◌, ℕ, zero, suc, ◌+◌, ◌-◌, ◌<◌, ◌≤◌, Bool, true, false, ◌||◌, length, drop, Option, Some, None, is_some, Result, Ok, Err, ◌≢◌, nat_eq, nat_lt, nat_le, length-drop, refl, sym, ap, subst, ◌∙◌, arith}
 use Rattle.std.specs.Option.{option_map, option_and_then}
 use Rattle.std.proofs.lemmas.Bool.Decides.{nat_tests}
 use Rattle.pf_base.specs.Limits.{Limits}
@@ -34,7 +34,7 @@ use Rattle.pf_tables.specs.Meaning.{Namespace, meaning}
 use Rattle.pf_tables.specs.Opened.{other_opens}
 use Rattle.pf_tables.specs.Owns.{Owns}
 use Rattle.pf_tables.specs.Queries.{GoesOn}
-use Rattle.pf_tables.specs.Rows.{ProcessRows, DescriptionRows, PipeRows, Key, Named, Process, Description, Pipe, Call, call_of, process_of, state_of, process_in, end_of_row, end_in, made_by, Kept}
+use Rattle.pf_tables.specs.Rows.{ProcessRows, DescriptionRows, PipeRows, Key, Named, Process, Description, Pipe, Call, call_of, process_of, state_of, process_in, waits, end_of_row, end_in, made_by, Kept}
 use Rattle.pf_tables.proofs.Callers.{lives, lives_not, place_of}
 use Rattle.pf_tables.proofs.Ends.{side_end, end_of_rows, Agrees, by_key, end_shown, counted, refused, found}
 use Rattle.pf_tables.proofs.CountersTied.{finds}
@@ -242,6 +242,25 @@ module _ {files : Files} {files_made : ℕ} (limits : Limits) (charges : UserPag
             answers (Open j kept) waits tt (nat_lt kept x) (λ f sound owns.
             ap (nat_lt kept) (x_is ∙ sym (λ i. other_opens (same_end i).reads (same i)))
             ∙ sym (ap (λ o. or_is_over (λ (e : End Segment ℕ). nat_lt kept (attempts.other_opens e)) (or_refuse EBADF o)) (end_shown f None ps ds pipes files files_made k.tied pid 0 j row.0 pipe_row.0 row.1 pipe_row.1)))
+
+  -- who waits in no call, and who doesn't live, can't go on
+  place_found : 0 < pid → process_in ps pid ≡ or_refuse ESRCH (at ps (pid - 1))
+  place_found above = by_pid pid above
+    where
+      by_pid : (m : ℕ) → 0 < m → process_in ps m ≡ or_refuse ESRCH (at ps (m - 1))
+      by_pid zero h = absurd (omega arith)
+      by_pid (suc i) h = let same : suc i - 1 ≡ i = omega arith in ap (λ j. or_refuse ESRCH (at ps j)) (sym same)
+
+  pub waits_nowhere : 0 < pid → waits (at ps (pid - 1)) ≡ false → GoesOn n pid false
+  waits_nowhere above idle = by_row (at ps (pid - 1)) refl idle
+    where
+      by_call : (o : Option (Call Key)) → is_some o ≡ false → ◌≡◌ {A = Option (Call Key)} None o
+      by_call None h = refl
+      by_call (Some call) h = absurd (cc)
+
+      by_row : (o : Option Process) → at ps (pid - 1) ≡ o → waits o ≡ false → GoesOn n pid false
+      by_row None e h = lives_not_on ESRCH (place_found above ∙ ap (or_refuse ESRCH) e)
+      by_row (Some p) e h = waits_not p (place_found above ∙ ap (or_refuse ESRCH) e) (by_call p.parked h)
 
   -- What an end is ready for
 

@@ -1,6 +1,6 @@
 -- What the tables mean to the lone machine, and how their counters are tied to it. No public clause cites this module.
 
-use Rattle.std.specs.Prelude.{◌≡◌, ℕ, zero, suc, ◌+◌, ◌-◌, ◌*◌, ◌<◌, ◌≤◌, Bool, true, not, ◌&&◌, List, [], ◌∷◌, length, map, Option, Some, None, is_some, nat_lt, nat_eq, ⊤, if◌then◌else◌, Result, Ok}
+use Rattle.std.specs.Prelude.{◌≡◌, ℕ, zero, suc, ◌+◌, ◌-◌, ◌*◌, ◌<◌, ◌≤◌, Bool, true, false, not, ◌&&◌, List, [], ◌∷◌, length, map, Option, Some, None, is_some, nat_lt, nat_eq, ⊤, if◌then◌else◌, Result, Ok}
 use Rattle.std.specs.Option.{option_map, option_and_then}
 use Rattle.std.specs.Map.{lookup}
 use Rattle.pf_ring.specs.declared.ring.Window.{Window}
@@ -16,7 +16,9 @@ use Rattle.pf_base.specs.declared.progress.Side.{Side}
 use Rattle.pf_base.specs.declared.progress.Side.TheVariants as sides
 pub use Rattle.pf_fds.specs.declared.registry.Key.{Key}
 pub use Rattle.pf_fds.specs.declared.descriptions.Named.{Named}
+use Rattle.pf_fds.specs.declared.marks.Marks.{Marks}
 use Rattle.pf_fds.specs.Descriptions.{one_more}
+use Rattle.pf_fds.specs.Marks.{is_marked}
 use Rattle.pf_fds.specs.Registry.{find}
 pub use Rattle.pf_ring.specs.Ring.{Ring}
 pub use Rattle.pf_pipe.specs.Pipe.{Opens}
@@ -80,6 +82,16 @@ IsSpare p = (description : Key) (kept : ℕ) → p.parked ≡ Some (Open descrip
 pub record IsSeated (ps : ProcessRows) : Type 0 where
   pub places : length ps ≡ MAX_PROCESSES
   pub spare : (i : ℕ) (p : Process) → at ps i ≡ Some p → IsSpare p
+
+-- whether a process waits in a call
+abbrev pub waits : Option Process → Bool
+waits None = false
+waits (Some p) = is_some p.parked
+
+-- the places, of which those are marked whose processes wait in a call
+pub record IsWatched (waiting : Marks) (ps : ProcessRows) : Type 0 where
+  pub seated : IsSeated ps
+  pub marked : (i : ℕ) → i < MAX_PROCESSES → is_marked waiting i ≡ waits (at ps i)
 
 abbrev pub HasSpare : ProcessRows → ℕ → Type 0
 HasSpare ps pid = (p : Process) → process_in ps pid ≡ Ok p → IsSpare p

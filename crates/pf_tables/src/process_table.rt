@@ -1,13 +1,13 @@
 //! The processes of a namespace, each with the call in which it waits.
 
-ghost use Rattle.std.specs.Prelude.{◌≡◌, ℕ, ◌-◌, ◌<◌, ◌≤◌, None, Some, Ok, Err, IfOk, IsOk, MatchResult, option_copied, slice_set};
+ghost use Rattle.std.specs.Prelude.{◌≡◌, ℕ, ◌-◌, ◌<◌, ◌≤◌, false, None, Some, Ok, Err, IfOk, IsOk, MatchResult, option_copied, slice_set};
 ghost use Rattle.pf_machine.specs.Numbered.{at, put_at, clear_at, change_at, first_free, sum_of};
 ghost use Rattle.pf_machine.specs.State.{vacant};
 ghost use Rattle.pf_base.specs.declared.TheConstants.{MAX_DESCRIPTORS, MAX_PROCESSES};
-ghost use Rattle.pf_tables.specs.Rows.{process_at, process_in, ready_in, call_in, woken, HasSpare, MayWait, key_at, with_key, with_keys, without_key, with_call};
+ghost use Rattle.pf_tables.specs.Rows.{process_at, process_in, ready_in, call_in, woken, HasSpare, MayWait, waits, key_at, with_key, with_keys, without_key, with_call};
 
-use pf_base::{Cred, Errno, MAX_DESCRIPTORS, MAX_PROCESSES};
-use pf_fds::{FdTable, Key, Places};
+use pf_base::{Cred, Errno, MAX_DESCRIPTORS};
+use pf_fds::{FdTable, Key, Marks, Places};
 use pf_parked::Call;
 use std::alloc::{AllocError, Global};
 use std::marker::Model;
@@ -28,16 +28,18 @@ pub struct Process {
 pub struct ProcessTable {
     // The process of a pid is in the place before it.
     places: Places<Process>,
+    // The places of those that wait in a call, as bits: who asks which of them can go on looks at no other.
+    waiting: Marks,
 }
 
 impl Model for ProcessTable {
-    ghost use Rattle.pf_tables.specs.Rows.{ProcessRows, IsSeated};
+    ghost use Rattle.pf_tables.specs.Rows.{ProcessRows, IsWatched};
 
     ghost Value = { ProcessRows };
 
     ghost view = { λ t. t.places };
 
-    ghost invariant = { λ t. IsSeated t.places };
+    ghost invariant = { λ t. IsWatched t.waiting t.places };
 }
 
 impl ProcessTable {
@@ -46,7 +48,8 @@ impl ProcessTable {
         ensures { IfOk result (λ table. table ≡ vacant MAX_PROCESSES) }
     {
         let places = Places::new(alloc)?;
-        Ok(ProcessTable { places })
+        let waiting = Marks::new();
+        Ok(ProcessTable { places, waiting })
     }
 
     /// The process of a pid, where it lives, also where it waits in a call. No other place of the code says that there
@@ -75,17 +78,21 @@ impl ProcessTable {
         Ok(process)
     }
 
-    /// How many processes live, also those that wait in a call. It looks at each place.
+    /// How many processes live, also those that wait in a call.
     pub fn alive(&self) -> u32
         ensures { result ≡ sum_of (λ p. 1) self.now }
     {
-        let mut alive = 0;
-        for i in 0..MAX_PROCESSES {
-            if self.places.get(i).is_some() {
-                alive += 1;
-            }
-        }
-        alive
+        self.places.count() as u32
+    }
+
+    /// The least place from this one on whose process waits in a call, `MAX_PROCESSES` where none does.
+    pub fn next_waiting(&self, from: usize) -> usize
+        ensures most { result ≤ MAX_PROCESSES }
+        ensures above { result < MAX_PROCESSES → from ≤ result }
+        ensures between { (i : ℕ) → from ≤ i → i < result → waits (at self.now i) ≡ false }
+    {
+        let _ = &self.places;
+        self.waiting.next(from)
     }
 
     /// The call in which a process waits, if it lives and waits.
@@ -104,7 +111,9 @@ impl ProcessTable {
         requires may { MayWait call (process_at self.old pid) }
         ensures { self.new ≡ change_at (with_call (Some call)) self.old (pid - 1) }
     {
-        self.places.value_mut(pid as usize - 1).parked = Some(call);
+        let i = pid as usize - 1;
+        self.places.value_mut(i).parked = Some(call);
+        self.waiting.mark(i);
     }
 
     /// The call in which a process waits is over, and is given out. A description that an open made gets the lowest free
@@ -116,8 +125,10 @@ impl ProcessTable {
         // There is one.
         ensures spare { HasSpare self.old pid }
     {
-        let process = self.places.value_mut(pid as usize - 1);
+        let i = pid as usize - 1;
+        let process = self.places.value_mut(i);
         let call = process.parked.take()?;
+        self.waiting.unmark(i);
         if let Call::Open {
             description,
             kept: _,
@@ -153,6 +164,7 @@ impl ProcessTable {
         ensures { self.new ≡ clear_at self.old i }
     {
         self.places.take(i);
+        self.waiting.unmark(i);
     }
 
     /// The least descriptor from this one on that the process in a place has, `MAX_DESCRIPTORS` where it has none.

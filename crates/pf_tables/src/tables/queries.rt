@@ -80,17 +80,19 @@ impl<A: Allocator> Tables<A> {
         }
     }
 
-    /// The least pid above `after` whose process can go on, if there is one. Each process that it looks at costs constant time.
+    /// The least pid above `after` whose process can go on, if there is one. It looks at those that wait in a call, each in
+    /// constant time.
     pub fn next_to_go_on(&self, after: u32) -> Option<u32>
         ensures { GoesOnNext self.now after result }
     {
-        // Whoever looks at a field knows the invariant: no pid is above the last.
-        let _ = &self.processes;
-        for i in after as usize..MAX_PROCESSES {
+        // Who waits in no call can't go on.
+        let mut i = self.processes.next_waiting(after as usize);
+        while i < MAX_PROCESSES {
             let pid = i as u32 + 1;
             if self.can_go_on(pid) {
                 return Some(pid);
             }
+            i = self.processes.next_waiting(i + 1);
         }
         None
     }
