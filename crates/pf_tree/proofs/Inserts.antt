@@ -7,12 +7,11 @@ use Rattle.std.specs.declared.cmp.Ordering.TheVariants.{Less, Equal, Greater}
 use Rattle.pf_base.specs.declared.meta.File.{File}
 use Rattle.pf_base.specs.declared.meta.Kind.TheVariants.{Directory as DirectoryKind}
 use Rattle.pf_tree.specs.declared.node.Body.TheVariants.{Directory}
-use Rattle.pf_tree.specs.declared.node.Entry.{Entry}
 use Rattle.pf_tree.specs.declared.node.Node.TheInside.{Inside}
 use Rattle.pf_tree.specs.Place.{IsPlace}
 use Rattle.pf_machine.specs.FileMap.{Name, Path, Files, name_cmp, path_cmp, find, insert, by_order, front, IsDirectory}
 use Rattle.pf_tree.specs.Subtrees.{under}
-use Rattle.pf_tree.specs.Node.{After, Before, Rises, below, all_below, IsSorted, Rooted, HasRoot, IsDeeper, file_of, files_of_body, files_of}
+use Rattle.pf_tree.specs.Node.{Boxed, After, Before, Rises, below, all_below, IsSorted, Rooted, HasRoot, IsDeeper, file_of, files_of_body, files_of}
 use Rattle.pf_tree.proofs.Names.{itself, later}
 use Rattle.pf_tree.proofs.Places.{IsAt, is_at, set_split}
 use Rattle.pf_tree.proofs.SubtreeLaws.{find_under}
@@ -28,15 +27,15 @@ insert_past n m p f ((q, g) ∷ v) ys e = rw e (ap (λ l. (m ∷ q, g) ∷ l) (i
 
 module _ {Z : Type 0} where
   -- and stands before those of later names
-  pub insert_before : (n : Name) (p : Path) (f : File) (es : List (Entry Z)) → After n es → insert (n ∷ p) f (all_below es) ≡ (n ∷ p, f) ∷ all_below es
+  pub insert_before : (n : Name) (p : Path) (f : File) (es : List (Boxed Z)) → After n es → insert (n ∷ p) f (all_below es) ≡ (n ∷ p, f) ∷ all_below es
   insert_before n p f [] a = refl
   insert_before n p f (e ∷ es) a =
-      elim e.node.value as (λ v. insert (n ∷ p) f (below e.name.items v ++ all_below es) ≡ (n ∷ p, f) ∷ (below e.name.items v ++ all_below es)) [
+      elim e.value.node as (λ v. insert (n ∷ p) f (below e.value.name.items v ++ all_below es) ≡ (n ∷ p, f) ∷ (below e.value.name.items v ++ all_below es)) [
         | [] ↦ insert_before n p f es a.1
         | ◌∷◌ x v ↦ rw a.0 refl
       ]
 
-  pub insert_within : (n : Name) (p : Path) (f : File) (v : Files) (es : List (Entry Z)) → After n es → insert (n ∷ p) f (below n v ++ all_below es) ≡ below n (insert p f v) ++ all_below es
+  pub insert_within : (n : Name) (p : Path) (f : File) (v : Files) (es : List (Boxed Z)) → After n es → insert (n ∷ p) f (below n v ++ all_below es) ≡ below n (insert p f v) ++ all_below es
   insert_within n p f [] es a = insert_before n p f es a
   insert_within n p f ((q, g) ∷ v) es a =
       rw (itself n)
@@ -46,79 +45,79 @@ module _ {Z : Type 0} where
         | Greater ↦ ap (λ l. (n ∷ q, g) ∷ l) (insert_within n p f v es a)
       ])
 
-  pub middle_same : (pre : List (Entry Z)) (e e' : Entry Z) (post : List (Entry Z)) → e'.name.items ≡ e.name.items → e'.node.value ≡ e.node.value → all_below (pre ++ e' ∷ post) ≡ all_below (pre ++ e ∷ post)
+  pub middle_same : (pre : List (Boxed Z)) (e e' : Boxed Z) (post : List (Boxed Z)) → e'.value.name.items ≡ e.value.name.items → e'.value.node ≡ e.value.node → all_below (pre ++ e' ∷ post) ≡ all_below (pre ++ e ∷ post)
   middle_same [] e e' post named valued = rw (named, valued) refl
-  middle_same (x ∷ pre) e e' post named valued = ap (λ l. below x.name.items x.node.value ++ l) (middle_same pre e e' post named valued)
+  middle_same (x ∷ pre) e e' post named valued = ap (λ l. below x.value.name.items x.value.node ++ l) (middle_same pre e e' post named valued)
 
-  pub insert_middle : (n : Name) (p : Path) (f : File) (pre : List (Entry Z)) (e e' : Entry Z) (post : List (Entry Z)) → Before n pre → After n post → e.name.items ≡ n → e'.name.items ≡ n → e'.node.value ≡ insert p f e.node.value → all_below (pre ++ e' ∷ post) ≡ insert (n ∷ p) f (all_below (pre ++ e ∷ post))
-  insert_middle n p f [] e e' post b a named named' valued = rw (named, named', valued) (sym (insert_within n p f e.node.value post a))
+  pub insert_middle : (n : Name) (p : Path) (f : File) (pre : List (Boxed Z)) (e e' : Boxed Z) (post : List (Boxed Z)) → Before n pre → After n post → e.value.name.items ≡ n → e'.value.name.items ≡ n → e'.value.node ≡ insert p f e.value.node → all_below (pre ++ e' ∷ post) ≡ insert (n ∷ p) f (all_below (pre ++ e ∷ post))
+  insert_middle n p f [] e e' post b a named named' valued = rw (named, named', valued) (sym (insert_within n p f e.value.node post a))
   insert_middle n p f (x ∷ pre) e e' post b a named named' valued =
-      ap (λ l. below x.name.items x.node.value ++ l) (insert_middle n p f pre e e' post b.1 a named named' valued)
-      ∙ sym (insert_past n x.name.items p f x.node.value (all_below (pre ++ e ∷ post)) (later x.name.items n b.0))
+      ap (λ l. below x.value.name.items x.value.node ++ l) (insert_middle n p f pre e e' post b.1 a named named' valued)
+      ∙ sym (insert_past n x.value.name.items p f x.value.node (all_below (pre ++ e ∷ post)) (later x.value.name.items n b.0))
 
-  pub insert_gap : (n : Name) (f : File) (pre : List (Entry Z)) (e : Entry Z) (post : List (Entry Z)) → Before n pre → After n post → e.name.items ≡ n → e.node.value ≡ ([], f) ∷ [] → all_below (pre ++ e ∷ post) ≡ insert (n ∷ []) f (all_below (pre ++ post))
+  pub insert_gap : (n : Name) (f : File) (pre : List (Boxed Z)) (e : Boxed Z) (post : List (Boxed Z)) → Before n pre → After n post → e.value.name.items ≡ n → e.value.node ≡ ([], f) ∷ [] → all_below (pre ++ e ∷ post) ≡ insert (n ∷ []) f (all_below (pre ++ post))
   insert_gap n f [] e post b a named valued = rw (named, valued) (sym (insert_before n [] f post a))
   insert_gap n f (x ∷ pre) e post b a named valued =
-      ap (λ l. below x.name.items x.node.value ++ l) (insert_gap n f pre e post b.1 a named valued)
-      ∙ sym (insert_past n x.name.items [] f x.node.value (all_below (pre ++ post)) (later x.name.items n b.0))
+      ap (λ l. below x.value.name.items x.value.node ++ l) (insert_gap n f pre e post b.1 a named valued)
+      ∙ sym (insert_past n x.value.name.items [] f x.value.node (all_below (pre ++ post)) (later x.value.name.items n b.0))
 
-  after_set : (m : Name) (pre : List (Entry Z)) (e e' : Entry Z) (post : List (Entry Z)) → e'.name.items ≡ e.name.items → After m (pre ++ e ∷ post) → After m (pre ++ e' ∷ post)
+  after_set : (m : Name) (pre : List (Boxed Z)) (e e' : Boxed Z) (post : List (Boxed Z)) → e'.value.name.items ≡ e.value.name.items → After m (pre ++ e ∷ post) → After m (pre ++ e' ∷ post)
   after_set m [] e e' post named a = (subst (λ k. name_cmp m k ≡ Less) (sym named) a.0, a.1)
   after_set m (x ∷ pre) e e' post named a = (a.0, after_set m pre e e' post named a.1)
 
-  pub rises_set : (pre : List (Entry Z)) (e e' : Entry Z) (post : List (Entry Z)) → e'.name.items ≡ e.name.items → Rises (pre ++ e ∷ post) → Rises (pre ++ e' ∷ post)
+  pub rises_set : (pre : List (Boxed Z)) (e e' : Boxed Z) (post : List (Boxed Z)) → e'.value.name.items ≡ e.value.name.items → Rises (pre ++ e ∷ post) → Rises (pre ++ e' ∷ post)
   rises_set [] e e' post named r = (subst (λ k. After k post) (sym named) r.0, r.1)
-  rises_set (x ∷ pre) e e' post named r = (after_set x.name.items pre e e' post named r.0, rises_set pre e e' post named r.1)
+  rises_set (x ∷ pre) e e' post named r = (after_set x.value.name.items pre e e' post named r.0, rises_set pre e e' post named r.1)
 
-  after_gap : (m : Name) (pre : List (Entry Z)) (e : Entry Z) (post : List (Entry Z)) → name_cmp m e.name.items ≡ Less → After m (pre ++ post) → After m (pre ++ e ∷ post)
+  after_gap : (m : Name) (pre : List (Boxed Z)) (e : Boxed Z) (post : List (Boxed Z)) → name_cmp m e.value.name.items ≡ Less → After m (pre ++ post) → After m (pre ++ e ∷ post)
   after_gap m [] e post lt a = (lt, a)
   after_gap m (x ∷ pre) e post lt a = (a.0, after_gap m pre e post lt a.1)
 
-  pub rises_gap : (n : Name) (pre : List (Entry Z)) (e : Entry Z) (post : List (Entry Z)) → Before n pre → After n post → e.name.items ≡ n → Rises (pre ++ post) → Rises (pre ++ e ∷ post)
+  pub rises_gap : (n : Name) (pre : List (Boxed Z)) (e : Boxed Z) (post : List (Boxed Z)) → Before n pre → After n post → e.value.name.items ≡ n → Rises (pre ++ post) → Rises (pre ++ e ∷ post)
   rises_gap n [] e post b a named r = (subst (λ k. After k post) (sym named) a, r)
-  rises_gap n (x ∷ pre) e post b a named r = (after_gap x.name.items pre e post (subst (λ k. name_cmp x.name.items k ≡ Less) (sym named) b.0) r.0, rises_gap n pre e post b.1 a named r.1)
+  rises_gap n (x ∷ pre) e post b a named r = (after_gap x.value.name.items pre e post (subst (λ k. name_cmp x.value.name.items k ≡ Less) (sym named) b.0) r.0, rises_gap n pre e post b.1 a named r.1)
 
-  pub rooted_set : (pre : List (Entry Z)) (e e' : Entry Z) (post : List (Entry Z)) → HasRoot e'.node.value → Rooted (pre ++ e ∷ post) → Rooted (pre ++ e' ∷ post)
+  pub rooted_set : (pre : List (Boxed Z)) (e e' : Boxed Z) (post : List (Boxed Z)) → HasRoot e'.value.node → Rooted (pre ++ e ∷ post) → Rooted (pre ++ e' ∷ post)
   rooted_set [] e e' post h r = (h, r.1)
   rooted_set (x ∷ pre) e e' post h r = (r.0, rooted_set pre e e' post h r.1)
 
-  pub rooted_gap : (pre : List (Entry Z)) (e : Entry Z) (post : List (Entry Z)) → HasRoot e.node.value → Rooted (pre ++ post) → Rooted (pre ++ e ∷ post)
+  pub rooted_gap : (pre : List (Boxed Z)) (e : Boxed Z) (post : List (Boxed Z)) → HasRoot e.value.node → Rooted (pre ++ post) → Rooted (pre ++ e ∷ post)
   rooted_gap [] e post h r = (h, r)
   rooted_gap (x ∷ pre) e post h r = (r.0, rooted_gap pre e post h r.1)
 
   -- a directory with another node for an entry
-  module _ (n : Name) (i : ℕ) (v : Vec (Entry Z) Z) (e e' : Entry Z) (sound : IsSorted (Directory v)) (place : IsPlace n v.items (Ok i)) (here : e ≡ slice_index_or v.items i e) (named : e'.name.items ≡ e.name.items) where
+  module _ (n : Name) (i : ℕ) (v : Vec (Boxed Z) Z) (e e' : Boxed Z) (sound : IsSorted (Directory v)) (place : IsPlace n v.items (Ok i)) (here : e ≡ slice_index_or v.items i e) (named : e'.value.name.items ≡ e.value.name.items) where
     at : IsAt n v.items i e
     at = is_at n v.items i e sound.0 place.0 (place.1 e)
 
     pub whole : v.items ≡ take i v.items ++ e ∷ drop (suc i) v.items
     whole = at.split ∙ ap (λ x. take i v.items ++ x ∷ drop (suc i) v.items) (sym here)
 
-    pub its_name : e.name.items ≡ n
-    its_name = ap (λ x. x.name.items) here ∙ place.1 e
+    pub its_name : e.value.name.items ≡ n
+    its_name = ap (λ x. x.value.name.items) here ∙ place.1 e
 
-    pub sound_found : HasRoot e'.node.value → Rises (slice_set v.items i e') × Rooted (slice_set v.items i e')
+    pub sound_found : HasRoot e'.value.node → Rises (slice_set v.items i e') × Rooted (slice_set v.items i e')
     sound_found h =
         rw (set_split v.items i e' place.0)
         (rises_set (take i v.items) e e' (drop (suc i) v.items) named (subst Rises whole sound.0), rooted_set (take i v.items) e e' (drop (suc i) v.items) h (subst Rooted whole sound.1))
 
-    pub insert_found : (p : Path) (f : File) → e'.node.value ≡ insert p f e.node.value → all_below (slice_set v.items i e') ≡ insert (n ∷ p) f (all_below v.items)
+    pub insert_found : (p : Path) (f : File) → e'.value.node ≡ insert p f e.value.node → all_below (slice_set v.items i e') ≡ insert (n ∷ p) f (all_below v.items)
     insert_found p f valued =
         ap all_below (set_split v.items i e' place.0)
         ∙ insert_middle n p f (take i v.items) e e' (drop (suc i) v.items) at.before at.after its_name (named ∙ its_name) valued
         ∙ ap (λ l. insert (n ∷ p) f (all_below l)) (sym whole)
 
-    pub same_found : e'.node.value ≡ e.node.value → all_below (slice_set v.items i e') ≡ all_below v.items
+    pub same_found : e'.value.node ≡ e.value.node → all_below (slice_set v.items i e') ≡ all_below v.items
     same_found valued =
         ap all_below (set_split v.items i e' place.0)
         ∙ middle_same (take i v.items) e e' (drop (suc i) v.items) named valued
         ∙ ap all_below (sym whole)
 
-  module _ (n : Name) (i : ℕ) (v : Vec (Entry Z) Z) (e : Entry Z) (sound : IsSorted (Directory v)) (place : IsPlace n v.items (Err i)) (named : e.name.items ≡ n) where
-    pub sound_new : HasRoot e.node.value → Rises (take i v.items ++ e ∷ drop i v.items) × Rooted (take i v.items ++ e ∷ drop i v.items)
+  module _ (n : Name) (i : ℕ) (v : Vec (Boxed Z) Z) (e : Boxed Z) (sound : IsSorted (Directory v)) (place : IsPlace n v.items (Err i)) (named : e.value.name.items ≡ n) where
+    pub sound_new : HasRoot e.value.node → Rises (take i v.items ++ e ∷ drop i v.items) × Rooted (take i v.items ++ e ∷ drop i v.items)
     sound_new h = (rises_gap n (take i v.items) e (drop i v.items) place.1 place.2 named (subst Rises (sym (take-append-drop i v.items)) sound.0), rooted_gap (take i v.items) e (drop i v.items) h (subst Rooted (sym (take-append-drop i v.items)) sound.1))
 
-    pub insert_new : (f : File) → e.node.value ≡ ([], f) ∷ [] → all_below (take i v.items ++ e ∷ drop i v.items) ≡ insert (n ∷ []) f (all_below v.items)
+    pub insert_new : (f : File) → e.value.node ≡ ([], f) ∷ [] → all_below (take i v.items ++ e ∷ drop i v.items) ≡ insert (n ∷ []) f (all_below v.items)
     insert_new f valued =
         insert_gap n f (take i v.items) e (drop i v.items) place.1 place.2 named valued
         ∙ ap (λ l. insert (n ∷ []) f (all_below l)) (take-append-drop i v.items)
@@ -162,24 +161,24 @@ module _ {Z : Type 0} where
   abbrev pub root : Inside Z → File
   root a = file_of DirectoryKind a.mode a.uid a.gid a.number
 
-  pub seen : (a : Inside Z) {S : Files} {v : Vec (Entry Z) Z} → files_of a ≡ S → a.body ≡ Directory v → ([], root a) ∷ all_below v.items ≡ S
+  pub seen : (a : Inside Z) {S : Files} {v : Vec (Boxed Z) Z} → files_of a ≡ S → a.body ≡ Directory v → ([], root a) ∷ all_below v.items ≡ S
   seen a view is = sym (ap (files_of_body a.mode a.uid a.gid a.number) is) ∙ view
 
   -- an insert below an entry
-  module _ (a : Inside Z) (n : Name) (p : Path) (i : ℕ) (f : File) {S : Files} {v : Vec (Entry Z) Z} {e : Entry Z} (e' : Entry Z) (view : files_of a ≡ S) (inv : IsSorted a.body) (is : a.body ≡ Directory v) (place : IsPlace n v.items (Ok i)) (here : e ≡ slice_index_or v.items i e) (named : e'.name.items ≡ e.name.items) where
-    pub insert_below : (ok : Bool) → e'.node.value ≡ cond ok (insert p f e.node.value) e.node.value → ([], root a) ∷ all_below (slice_set v.items i e') ≡ cond ok (insert (n ∷ p) f S) S
+  module _ (a : Inside Z) (n : Name) (p : Path) (i : ℕ) (f : File) {S : Files} {v : Vec (Boxed Z) Z} {e : Boxed Z} (e' : Boxed Z) (view : files_of a ≡ S) (inv : IsSorted a.body) (is : a.body ≡ Directory v) (place : IsPlace n v.items (Ok i)) (here : e ≡ slice_index_or v.items i e) (named : e'.value.name.items ≡ e.value.name.items) where
+    pub insert_below : (ok : Bool) → e'.value.node ≡ cond ok (insert p f e.value.node) e.value.node → ([], root a) ∷ all_below (slice_set v.items i e') ≡ cond ok (insert (n ∷ p) f S) S
     insert_below true valued = ap (λ l. ([], root a) ∷ l) (insert_found n i v e e' (subst IsSorted is inv) place here named p f valued) ∙ ap (insert (n ∷ p) f) (seen a view is)
     insert_below false valued = ap (λ l. ([], root a) ∷ l) (same_found n i v e e' (subst IsSorted is inv) place here named valued) ∙ seen a view is
 
-    child_root : HasRoot e.node.value
+    child_root : HasRoot e.value.node
     child_root = subst HasRoot (sym (child_found a n i view inv is place here)) (child_rooted a n i view inv is place here)
 
-    pub sound_below : (ok : Bool) → e'.node.value ≡ cond ok (insert p f e.node.value) e.node.value → Rises (slice_set v.items i e') × Rooted (slice_set v.items i e')
-    sound_below true valued = sound_found n i v e e' (subst IsSorted is inv) place here named (subst HasRoot (sym valued) (insert_rooted p f e.node.value child_root))
+    pub sound_below : (ok : Bool) → e'.value.node ≡ cond ok (insert p f e.value.node) e.value.node → Rises (slice_set v.items i e') × Rooted (slice_set v.items i e')
+    sound_below true valued = sound_found n i v e e' (subst IsSorted is inv) place here named (subst HasRoot (sym valued) (insert_rooted p f e.value.node child_root))
     sound_below false valued = sound_found n i v e e' (subst IsSorted is inv) place here named (subst HasRoot (sym valued) child_root)
 
   -- a new entry
-  module _ (a : Inside Z) (n : Name) (p : Path) (i : ℕ) (f : File) {S : Files} {v : Vec (Entry Z) Z} (e : Entry Z) (view : files_of a ≡ S) (inv : IsSorted a.body) (is : a.body ≡ Directory v) (place : IsPlace n v.items (Err i)) (named : e.name.items ≡ n) (valued : e.node.value ≡ ([], f) ∷ []) where
+  module _ (a : Inside Z) (n : Name) (p : Path) (i : ℕ) (f : File) {S : Files} {v : Vec (Boxed Z) Z} (e : Boxed Z) (view : files_of a ≡ S) (inv : IsSorted a.body) (is : a.body ≡ Directory v) (place : IsPlace n v.items (Err i)) (named : e.value.name.items ≡ n) (valued : e.value.node ≡ ([], f) ∷ []) where
     pub insert_here : IsDirectory (find (front (n ∷ p)) S) → ([], root a) ∷ all_below (take i v.items ++ e ∷ drop i v.items) ≡ insert (n ∷ p) f S
     insert_here parent =
         ap (λ l. ([], root a) ∷ l) (insert_new n i v e (subst IsSorted is inv) place named f valued)

@@ -3,11 +3,10 @@ use Rattle.std.proofs.Common.{◌≡◌, ℕ, zero, suc, ◌<◌, ◌≤◌, ◌
 use Rattle.std.specs.Option.{option_to_list}
 use Rattle.std.specs.declared.vec.Vec.{Vec}
 use Rattle.pf_tree.specs.declared.node.Body.TheVariants.{Directory}
-use Rattle.pf_tree.specs.declared.node.Entry.{Entry}
 use Rattle.pf_tree.specs.declared.node.Node.TheInside.{Inside}
 use Rattle.pf_machine.specs.FileMap.{Name, Path, Files, names_below, name_below, listed, same_name}
 use Rattle.pf_tree.specs.Subtrees.{under, subtree}
-use Rattle.pf_tree.specs.Node.{below, all_below, Rooted, HasRoot, IsDeeper, IsSorted, files_of}
+use Rattle.pf_tree.specs.Node.{Boxed, below, all_below, Rooted, HasRoot, IsDeeper, IsSorted, files_of}
 use Rattle.pf_tree.proofs.Inserts.{seen}
 
 names_deeper : (n : Name) (v ys : Files) → IsDeeper v → names_below [] (below n v ++ ys) ≡ names_below [] ys
@@ -21,33 +20,33 @@ names_of_entry n (([], f) ∷ v) ys h = ap (λ l. n ∷ l) (names_deeper n v ys 
 names_of_entry n ((m ∷ q, f) ∷ v) ys h = absurd h
 
 module _ {Z : Type 0} where
-  abbrev pub entry_names : List (Entry Z) → List Name
+  abbrev pub entry_names : List (Boxed Z) → List Name
   entry_names [] = []
-  entry_names (e ∷ es) = e.name.items ∷ entry_names es
+  entry_names (e ∷ es) = e.value.name.items ∷ entry_names es
 
-  pub names_all : (es : List (Entry Z)) → Rooted es → names_below [] (all_below es) ≡ entry_names es
+  pub names_all : (es : List (Boxed Z)) → Rooted es → names_below [] (all_below es) ≡ entry_names es
   names_all [] r = refl
-  names_all (e ∷ es) r = names_of_entry e.name.items e.node.value (all_below es) r.0 ∙ ap (λ l. e.name.items ∷ l) (names_all es r.1)
+  names_all (e ∷ es) r = names_of_entry e.value.name.items e.value.node (all_below es) r.0 ∙ ap (λ l. e.value.name.items ∷ l) (names_all es r.1)
 
-  pub names_seen : (a : Inside Z) {S : Files} {v : Vec (Entry Z) Z} → files_of a ≡ S → IsSorted a.body → a.body ≡ Directory v → names_below [] S ≡ entry_names v.items
+  pub names_seen : (a : Inside Z) {S : Files} {v : Vec (Boxed Z) Z} → files_of a ≡ S → IsSorted a.body → a.body ≡ Directory v → names_below [] S ≡ entry_names v.items
   names_seen a {v = v} view inv is = ap (names_below []) (sym (seen a view is)) ∙ names_all v.items (subst IsSorted is inv).1
 
-  pub from : (es : List (Entry Z)) (i : ℕ) (d : Entry Z) → i < length es → entry_names (drop i es) ≡ (slice_index_or es i d).name.items ∷ entry_names (drop (suc i) es)
+  pub from : (es : List (Boxed Z)) (i : ℕ) (d : Boxed Z) → i < length es → entry_names (drop i es) ≡ (slice_index_or es i d).value.name.items ∷ entry_names (drop (suc i) es)
   from [] i d lt = absurd (omega arith)
   from (e ∷ es) zero d lt = refl
   from (e ∷ es) (suc i) d lt = from es i d (omega arith)
 
-  pub past : (es : List (Entry Z)) (i : ℕ) → length es ≤ i → entry_names (drop i es) ≡ []
+  pub past : (es : List (Boxed Z)) (i : ℕ) → length es ≤ i → entry_names (drop i es) ≡ []
   past [] zero le = refl
   past [] (suc i) le = refl
   past (e ∷ es) zero le = absurd (omega arith)
   past (e ∷ es) (suc i) le = past es i (omega arith)
 
   -- one entry's name written
-  pub one_more : (out : List ℕ) (es : List (Entry Z)) (i : ℕ) (e : Entry Z) → i < length es → e ≡ slice_index_or es i e → ((out ++ e.name.items) ++ 47 ∷ []) ++ listed (entry_names (drop (i + 1) es)) ≡ out ++ listed (entry_names (drop i es))
+  pub one_more : (out : List ℕ) (es : List (Boxed Z)) (i : ℕ) (e : Boxed Z) → i < length es → e ≡ slice_index_or es i e → ((out ++ e.value.name.items) ++ 47 ∷ []) ++ listed (entry_names (drop (i + 1) es)) ≡ out ++ listed (entry_names (drop i es))
   one_more out es i e lt here =
       let next : i + 1 ≡ suc i = omega arith in
-      rw (next, from es i e lt, ← here) (append_assoc (out ++ e.name.items) (47 ∷ []) (listed (entry_names (drop (suc i) es))) ∙ append_assoc out e.name.items (47 ∷ listed (entry_names (drop (suc i) es))))
+      rw (next, from es i e lt, ← here) (append_assoc (out ++ e.value.name.items) (47 ∷ []) (listed (entry_names (drop (suc i) es))) ∙ append_assoc out e.value.name.items (47 ∷ listed (entry_names (drop (suc i) es))))
 
 names_under : (n : Name) (p : Path) (fs : Files) → names_below (n ∷ p) fs ≡ names_below p (under n fs)
 names_under n p [] = refl

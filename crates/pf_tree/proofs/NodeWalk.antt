@@ -3,10 +3,9 @@ use Rattle.std.proofs.Common.{◌≡◌, ℕ, zero, suc, ◌<◌, ◌≤◌, ◌
 use Rattle.std.specs.List.{FoldsTo}
 use Rattle.std.specs.Option.{unwrap_or}
 use Rattle.pf_base.specs.declared.meta.File.{File}
-use Rattle.pf_tree.specs.declared.node.Entry.{Entry}
 use Rattle.pf_machine.specs.FileMap.{Name, Files, find}
 use Rattle.pf_tree.specs.Visits.{visits, last_or, depth_from}
-use Rattle.pf_tree.specs.Node.{below, all_below}
+use Rattle.pf_tree.specs.Node.{Boxed, below, all_below}
 use Rattle.pf_tree.specs.NodeFalls.{length-below}
 
 pub folds_append : {P X : Type 0} (R : P → X → P → Type 0) (p j q : P) (xs ys : List X) → FoldsTo R p xs j → FoldsTo R j ys q → FoldsTo R p (xs ++ ys) q
@@ -24,18 +23,18 @@ first_file r f ys S is found =
     sym is ∙ ap (λ x. ([], x) ∷ ys) same
 
 module _ {Z : Type 0} where
-  pub below_from : (es : List (Entry Z)) (i : ℕ) (e : Entry Z) → i < length es → e ≡ slice_index_or es i e → all_below (drop i es) ≡ below e.name.items e.node.value ++ all_below (drop (suc i) es)
+  pub below_from : (es : List (Boxed Z)) (i : ℕ) (e : Boxed Z) → i < length es → e ≡ slice_index_or es i e → all_below (drop i es) ≡ below e.value.name.items e.value.node ++ all_below (drop (suc i) es)
   below_from [] i e lt here = absurd (omega arith)
-  below_from (x ∷ es) zero e lt here = ap (λ y. below y.name.items y.node.value ++ all_below es) (sym here)
+  below_from (x ∷ es) zero e lt here = ap (λ y. below y.value.name.items y.value.node ++ all_below es) (sym here)
   below_from (x ∷ es) (suc i) e lt here = below_from es i e (omega arith) here
 
-  pub past_below : (es : List (Entry Z)) (i : ℕ) → length es ≤ i → all_below (drop i es) ≡ []
+  pub past_below : (es : List (Boxed Z)) (i : ℕ) → length es ≤ i → all_below (drop i es) ≡ []
   past_below [] zero le = refl
   past_below [] (suc i) le = refl
   past_below (e ∷ es) zero le = absurd (omega arith)
   past_below (e ∷ es) (suc i) le = past_below es i (omega arith)
 
-  pub shorter_at : (es : List (Entry Z)) (i : ℕ) (e : Entry Z) → i < length es → e ≡ slice_index_or es i e → length e.node.value ≤ length (all_below es)
+  pub shorter_at : (es : List (Boxed Z)) (i : ℕ) (e : Boxed Z) → i < length es → e ≡ slice_index_or es i e → length e.value.node ≤ length (all_below es)
   shorter_at [] i e lt here = absurd (omega arith)
-  shorter_at (x ∷ es) zero e lt here = subst (λ y. length y.node.value ≤ length (all_below (x ∷ es))) (sym here) (omega (arith, length-append (below x.name.items x.node.value) (all_below es), length-below x.name.items x.node.value))
-  shorter_at (x ∷ es) (suc i) e lt here = omega (arith, shorter_at es i e (omega arith) here, length-append (below x.name.items x.node.value) (all_below es))
+  shorter_at (x ∷ es) zero e lt here = subst (λ y. length y.value.node ≤ length (all_below (x ∷ es))) (sym here) (omega (arith, length-append (below x.value.name.items x.value.node) (all_below es), length-below x.value.name.items x.value.node))
+  shorter_at (x ∷ es) (suc i) e lt here = omega (arith, shorter_at es i e (omega arith) here, length-append (below x.value.name.items x.value.node) (all_below es))

@@ -8,8 +8,7 @@ use Rattle.std.specs.Prelude.{IsSome}
 use Rattle.pf_base.specs.declared.meta.File.{File}
 use Rattle.pf_machine.specs.FileMap.{Name, Path, Files, name_cmp, path_cmp, remove, with_mode, set_mode, same_path, find}
 use Rattle.pf_tree.specs.Subtrees.{under, path_of}
-use Rattle.pf_tree.specs.Node.{below, HasRoot, IsDeeper, all_below, file_of, files_of_body}
-use Rattle.pf_tree.specs.declared.node.Entry.{Entry}
+use Rattle.pf_tree.specs.Node.{Boxed, below, HasRoot, IsDeeper, all_below, file_of, files_of_body}
 use Rattle.pf_tree.specs.declared.node.Body.{Body}
 use Rattle.pf_tree.specs.declared.node.Body.TheVariants.{Fifo, Directory}
 use Rattle.pf_base.specs.declared.meta.Kind.TheVariants.{Directory as DirectoryKind}
@@ -127,9 +126,9 @@ deeper_append n [] ys h = h
 deeper_append n ((p, f) ∷ v) ys h = deeper_append n v ys h
 
 module _ {Z : Type 0} where
-  pub all_deeper : (es : List (Entry Z)) → IsDeeper (all_below es)
+  pub all_deeper : (es : List (Boxed Z)) → IsDeeper (all_below es)
   all_deeper [] = tt
-  all_deeper (e ∷ es) = deeper_append e.name.items e.node.value (all_below es) (all_deeper es)
+  all_deeper (e ∷ es) = deeper_append e.value.name.items e.value.node (all_below es) (all_deeper es)
 
   -- a node with another mode
   pub mode_at_root : (m mode u g n : ℕ) (b : Body Z) → files_of_body mode u g n b ≡ set_mode [] mode (files_of_body m u g n b)

@@ -4,6 +4,7 @@ use Rattle.std.specs.declared.cmp.Ordering.TheVariants.{Less}
 use Rattle.pf_base.specs.declared.meta.File.{File}
 use Rattle.pf_base.specs.declared.meta.Kind.{Kind}
 use Rattle.pf_base.specs.declared.meta.Kind.TheVariants.{Fifo as FifoKind, Directory as DirectoryKind}
+use Rattle.std.specs.declared.boxed.Box.{Box}
 use Rattle.pf_tree.specs.declared.node.Body.{Body}
 use Rattle.pf_tree.specs.declared.node.Body.TheVariants.{Fifo, Directory}
 use Rattle.pf_tree.specs.declared.node.Entry.{Entry}
@@ -31,31 +32,35 @@ HasRoot ((n ∷ p, f) ∷ rest) = ⊥
 abbrev pub file_of : Kind → ℕ → ℕ → ℕ → ℕ → File
 file_of kind mode uid gid number = record { meta = record { kind = kind; mode = mode; uid = uid; gid = gid }; number = number }
 
+-- an entry in its box
+abbrev pub Boxed : Type 0 → Type 0
+Boxed Z = Box (Entry Z) Z
+
 module _ {Z : Type 0} where
   -- the files of all entries, each entry's below its name
-  abbrev pub all_below : List (Entry Z) → Files
+  abbrev pub all_below : List (Boxed Z) → Files
   all_below [] = []
-  all_below (e ∷ es) = below e.name.items e.node.value ++ all_below es
+  all_below (e ∷ es) = below e.value.name.items e.value.node ++ all_below es
 
   -- each name comes after n
-  abbrev pub After : Name → List (Entry Z) → Type 0
+  abbrev pub After : Name → List (Boxed Z) → Type 0
   After n [] = Unit {0}
-  After n (e ∷ es) = (name_cmp n e.name.items ≡ Less) × After n es
+  After n (e ∷ es) = (name_cmp n e.value.name.items ≡ Less) × After n es
 
   -- each name comes before n
-  abbrev pub Before : Name → List (Entry Z) → Type 0
+  abbrev pub Before : Name → List (Boxed Z) → Type 0
   Before n [] = Unit {0}
-  Before n (e ∷ es) = (name_cmp e.name.items n ≡ Less) × Before n es
+  Before n (e ∷ es) = (name_cmp e.value.name.items n ≡ Less) × Before n es
 
   -- the names rise
-  abbrev pub Rises : List (Entry Z) → Type 0
+  abbrev pub Rises : List (Boxed Z) → Type 0
   Rises [] = Unit {0}
-  Rises (e ∷ es) = After e.name.items es × Rises es
+  Rises (e ∷ es) = After e.value.name.items es × Rises es
 
   -- each entry's node has a file of its own
-  abbrev pub Rooted : List (Entry Z) → Type 0
+  abbrev pub Rooted : List (Boxed Z) → Type 0
   Rooted [] = Unit {0}
-  Rooted (e ∷ es) = HasRoot e.node.value × Rooted es
+  Rooted (e ∷ es) = HasRoot e.value.node × Rooted es
 
   abbrev pub IsSorted : Body Z → Type 0
   IsSorted Fifo = Unit {0}

@@ -25,12 +25,13 @@ pub struct Node<A: Allocator> {
     body: Body<A>,
 }
 
-// What tells a FIFO from a directory, whose entries rise by name.
+// What tells a FIFO from a directory, whose entries rise by name. Each entry stands in a box with its file, so that the
+// vector has one pointer for it: where an entry comes or goes among thousands, those behind it move, and little is moved.
 #[cycle(files)]
 #[derive(Drop)]
 enum Body<A: Allocator> {
     Fifo,
-    Directory(Vec<Entry<A>, A>),
+    Directory(Vec<Box<Entry<A>, A>, A>),
 }
 
 // A directory entry (POSIX.1-2017, 3.130): a name with its file.
@@ -38,7 +39,7 @@ enum Body<A: Allocator> {
 #[derive(Drop)]
 struct Entry<A: Allocator> {
     name: Vec<u8, A>,
-    node: Box<Node<A>, A>,
+    node: Node<A>,
 }
 
 impl<A: Allocator> Model for Node<A> {
@@ -62,7 +63,7 @@ impl<A: Allocator> Model for Node<A> {
 }
 
 // Where a name stands among entries, or where it would stand: by halves.
-fn locate<A: Allocator>(entries: &[Entry<A>], name: &[u8]) -> Result<usize, usize>
+fn locate<A: Allocator>(entries: &[Box<Entry<A>, A>], name: &[u8]) -> Result<usize, usize>
     requires rises { Rises entries.now }
     ensures { IsPlace name.now entries.now result }
 {
@@ -240,6 +241,7 @@ impl<A: Allocator> Node<A> {
             return;
         };
         for entry in entries {
+            let entry: &Entry<A> = entry;
             entry
                 .node
                 .for_each_depth_first(depth + 1, entry.name.as_slice(), f);
@@ -249,13 +251,14 @@ impl<A: Allocator> Node<A> {
 
 impl<A: Allocator + Clone> Entry<A> {
     // A file with nothing below it, under a name.
-    fn new(alloc: &A, name: &[u8], file: File) -> Result<Entry<A>, AllocError>
-        ensures name { IfOk result (λ e. e.name.items ≡ name.now) }
-        ensures file { IfOk result (λ e. e.node.value ≡ ([], file) ∷ []) }
+    fn new(alloc: &A, name: &[u8], file: File) -> Result<Box<Entry<A>, A>, AllocError>
+        ensures name { IfOk result (λ e. e.value.name.items ≡ name.now) }
+        ensures file { IfOk result (λ e. e.value.node ≡ ([], file) ∷ []) }
     {
         let name = Vec::from_slice(alloc.clone()?, name)?;
-        let node = Box::new(alloc.clone()?, Node::new(alloc.clone()?, file))?;
-        Ok(Entry { name, node })
+        let node = Node::new(alloc.clone()?, file);
+        let entry = Box::new(alloc.clone()?, Entry { name, node })?;
+        Ok(entry)
     }
 }
 

@@ -27,11 +27,11 @@ loop-entry-preserved g t c = (
       let i = c.loop-entry.entry-index in
       let e = c.entry-item.result in
       let next : i + 1 ≡ suc i = omega arith in
-      let cut : visits c.args.depth c.args.name.now (all_below (drop i es)) ≡ visits (c.args.depth + 1) e.name.items e.node.value ++ visits c.args.depth c.args.name.now (all_below (drop (i + 1) es)) =
-      ap (visits c.args.depth c.args.name.now) (below_from es i e c.loop-entry-test.true c.entry-item.is ∙ ap (λ k. below e.name.items e.node.value ++ all_below (drop k es)) (sym next))
-      ∙ visits_below c.args.depth c.args.name.now e.name.items e.node.value (all_below (drop (i + 1) es)) in
-      let here : FoldsTo (Visits (goal.F-step g)) c.loop-entry.f (visits (c.args.depth + 1) e.name.items e.node.value) c.for_each_depth_first.new.f =
-      subst (λ v. FoldsTo (Visits (goal.F-step g)) c.loop-entry.f (visits (c.args.depth + 1) e.name.items v) c.for_each_depth_first.new.f) c.deref.ensures
-      (subst (λ n. FoldsTo (Visits (goal.F-step g)) c.loop-entry.f (visits (c.args.depth + 1) n c.deref.result.now) c.for_each_depth_first.new.f) c.as_slice.ensures.value c.for_each_depth_first.ensures.visits) in
+      let cut : visits c.args.depth c.args.name.now (all_below (drop i es)) ≡ visits (c.args.depth + 1) e.value.name.items e.value.node ++ visits c.args.depth c.args.name.now (all_below (drop (i + 1) es)) =
+      ap (visits c.args.depth c.args.name.now) (below_from es i e c.loop-entry-test.true c.entry-item.is ∙ ap (λ k. below e.value.name.items e.value.node ++ all_below (drop k es)) (sym next))
+      ∙ visits_below c.args.depth c.args.name.now e.value.name.items e.value.node (all_below (drop (i + 1) es)) in
+      let here : FoldsTo (Visits (goal.F-step g)) c.loop-entry.f (visits (c.args.depth + 1) e.value.name.items e.value.node) c.for_each_depth_first.new.f =
+      subst (λ x. FoldsTo (Visits (goal.F-step g)) c.loop-entry.f (visits (c.args.depth + 1) x.name.items x.node) c.for_each_depth_first.new.f) c.deref-entry.ensures
+      (subst (λ n. FoldsTo (Visits (goal.F-step g)) c.loop-entry.f (visits (c.args.depth + 1) n c.deref-entry.result.now.node) c.for_each_depth_first.new.f) c.as_slice.ensures.value c.for_each_depth_first.ensures.visits) in
       subst (λ l. FoldsTo (Visits (goal.F-step g)) c.loop-entry.f l last) (sym cut) (folds_append (Visits (goal.F-step g)) _ _ _ _ _ here rest)),
 )

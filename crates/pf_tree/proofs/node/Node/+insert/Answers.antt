@@ -14,7 +14,7 @@ insert-requires g t c κs within =
     let p = path_of c.in-Some.rest.now in
     let whole : path_of c.args.path.now ≡ n ∷ p = ap path_of c.in-Some.ensures.cases.0 in
     let place : IsPlace n c.in-Directory.entries.items (Ok c.in-Ok.at) = subst (λ l. IsPlace n l (Ok c.in-Ok.at)) c.as_slice.ensures.value (subst (λ r. IsPlace n c.as_slice.result.now r) c.in-Ok.is c.locate.ensures) in
-    let value = c.deref_mut.ensures.value ∙ child_found c.self.inside n c.in-Ok.at c.self.view_is c.self.invariant c.in-Directory.is place c.index_mut-entry.ensures.value in
+    let value = ap (λ x. x.node) c.deref_mut.ensures.value ∙ child_found c.self.inside n c.in-Ok.at c.self.view_is c.self.invariant c.in-Directory.is place c.index_mut-entry.ensures.value in
     let root = child_rooted c.self.inside n c.in-Ok.at c.self.view_is c.self.invariant c.in-Directory.is place c.index_mut-entry.ensures.value in
     let absent = subst (λ q. find q c.args.self.now ≡ None) whole c.requires.absent in
     let parent = subst (λ q. IsDirectory (find (front q) c.args.self.now)) whole c.requires.parent in
@@ -25,7 +25,7 @@ invariant_of-self g t c =
     let n = c.in-Some.name.now.now in
     let p = path_of c.in-Some.rest.now in
     let place : IsPlace n c.in-Directory.entries.items (Ok c.in-Ok.at) = subst (λ l. IsPlace n l (Ok c.in-Ok.at)) c.as_slice.ensures.value (subst (λ r. IsPlace n c.as_slice.result.now r) c.in-Ok.is c.locate.ensures) in
-    sound_below c.self.inside n p c.in-Ok.at c.args.file _ c.self.view_is c.self.invariant c.in-Directory.is place c.index_mut-entry.ensures.value refl (is_ok c.insert.result) (c.insert.ensures ∙ ap (λ s. cond (is_ok c.insert.result) (insert p c.args.file s) s) c.deref_mut.ensures.value)
+    sound_below c.self.inside n p c.in-Ok.at c.args.file _ c.self.view_is c.self.invariant c.in-Directory.is place c.index_mut-entry.ensures.value (ap (λ x. x.name.items) c.deref_mut.ensures.value) (is_ok c.insert.result) (c.insert.ensures ∙ ap (λ x. cond (is_ok c.insert.result) (insert p c.args.file x.node) x.node) c.deref_mut.ensures.value)
 
 pub returns-in-Ok : goal.returns-in-Ok
 returns-in-Ok g t c =
@@ -33,7 +33,7 @@ returns-in-Ok g t c =
     let p = path_of c.in-Some.rest.now in
     let whole : path_of c.args.path.now ≡ n ∷ p = ap path_of c.in-Some.ensures.cases.0 in
     let place : IsPlace n c.in-Directory.entries.items (Ok c.in-Ok.at) = subst (λ l. IsPlace n l (Ok c.in-Ok.at)) c.as_slice.ensures.value (subst (λ r. IsPlace n c.as_slice.result.now r) c.in-Ok.is c.locate.ensures) in
-    insert_below c.self.inside n p c.in-Ok.at c.args.file _ c.self.view_is c.self.invariant c.in-Directory.is place c.index_mut-entry.ensures.value refl (is_ok c.insert.result) (c.insert.ensures ∙ ap (λ s. cond (is_ok c.insert.result) (insert p c.args.file s) s) c.deref_mut.ensures.value)
+    insert_below c.self.inside n p c.in-Ok.at c.args.file _ c.self.view_is c.self.invariant c.in-Directory.is place c.index_mut-entry.ensures.value (ap (λ x. x.name.items) c.deref_mut.ensures.value) (is_ok c.insert.result) (c.insert.ensures ∙ ap (λ x. cond (is_ok c.insert.result) (insert p c.args.file x.node) x.node) c.deref_mut.ensures.value)
     ∙ ap (λ q. cond (is_ok c.insert.result) (insert q c.args.file c.args.self.now) c.args.self.now) (sym whole)
 
 pub invariant_of-self-in-Err : goal.invariant_of-self-in-Err

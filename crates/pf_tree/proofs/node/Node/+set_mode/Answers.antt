@@ -34,7 +34,7 @@ set_mode-requires g t c κs within =
     let i = c.in-Ok.at in
     let whole : path_of c.args.path.now ≡ n ∷ p = ap path_of c.in-Some.ensures.cases.0 in
     let place : IsPlace n c.in-Directory.entries.items (Ok i) = subst (λ l. IsPlace n l (Ok i)) c.as_slice.ensures.value (subst (λ r. IsPlace n c.as_slice.result.now r) c.in-Ok.is c.locate.ensures) in
-    let value = c.deref_mut.ensures.value ∙ child_found c.self.inside n i c.self.view_is c.self.invariant c.in-Directory.is place c.index_mut-entry.ensures.value in
+    let value = ap (λ x. x.node) c.deref_mut.ensures.value ∙ child_found c.self.inside n i c.self.view_is c.self.invariant c.in-Directory.is place c.index_mut-entry.ensures.value in
     (omega (arith, c.decreases, c.in-Some.ensures.cases.1), (within, subst (λ s. IsSome (find p s)) (sym value) (present_under n p c.args.self.now (subst (λ q. IsSome (find q c.args.self.now)) whole c.requires.present))))
 
 pub invariant_of-self-2 : goal.invariant_of-self-2
@@ -44,9 +44,9 @@ invariant_of-self-2 g t c =
     let i = c.in-Ok.at in
     let place : IsPlace n c.in-Directory.entries.items (Ok i) = subst (λ l. IsPlace n l (Ok i)) c.as_slice.ensures.value (subst (λ r. IsPlace n c.as_slice.result.now r) c.in-Ok.is c.locate.ensures) in
     let sound = subst IsSorted c.in-Directory.is c.self.invariant in
-    let value = c.deref_mut.ensures.value ∙ child_found c.self.inside n i c.self.view_is c.self.invariant c.in-Directory.is place c.index_mut-entry.ensures.value in
+    let value = ap (λ x. x.node) c.deref_mut.ensures.value ∙ child_found c.self.inside n i c.self.view_is c.self.invariant c.in-Directory.is place c.index_mut-entry.ensures.value in
     let rooted = child_rooted c.self.inside n i c.self.view_is c.self.invariant c.in-Directory.is place c.index_mut-entry.ensures.value in
-    sound_found n i c.in-Directory.entries _ _ sound place c.index_mut-entry.ensures.value refl (subst HasRoot (sym c.set_mode.ensures) (mode_rooted c.args.mode p c.deref_mut.result.now (subst HasRoot (sym value) rooted)))
+    sound_found n i c.in-Directory.entries _ _ sound place c.index_mut-entry.ensures.value (ap (λ x. x.name.items) c.deref_mut.ensures.value) (subst HasRoot (sym c.set_mode.ensures) (mode_rooted c.args.mode p c.deref_mut.result.now.node (subst HasRoot (sym value) rooted)))
 
 pub returns : goal.returns
 returns g t c =
@@ -55,5 +55,5 @@ returns g t c =
     let i = c.in-Ok.at in
     let whole : path_of c.args.path.now ≡ n ∷ p = ap path_of c.in-Some.ensures.cases.0 in
     let place : IsPlace n c.in-Directory.entries.items (Ok i) = subst (λ l. IsPlace n l (Ok i)) c.as_slice.ensures.value (subst (λ r. IsPlace n c.as_slice.result.now r) c.in-Ok.is c.locate.ensures) in
-    local_below (to_mode c.args.mode) (mode_local c.args.mode) c.self.inside n p i c.self.view_is c.self.invariant c.in-Directory.is place c.index_mut-entry.ensures.value _ refl (c.set_mode.ensures ∙ ap (to_mode c.args.mode p) c.deref_mut.ensures.value)
+    local_below (to_mode c.args.mode) (mode_local c.args.mode) c.self.inside n p i c.self.view_is c.self.invariant c.in-Directory.is place c.index_mut-entry.ensures.value _ (ap (λ x. x.name.items) c.deref_mut.ensures.value) (c.set_mode.ensures ∙ ap (λ x. to_mode c.args.mode p x.node) c.deref_mut.ensures.value)
     ∙ ap (λ q. set_mode q c.args.mode c.args.self.now) (sym whole)

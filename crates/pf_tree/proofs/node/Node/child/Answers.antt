@@ -1,4 +1,4 @@
-use Rattle.std.proofs.Common.{[], sym, ◌∙◌, subst}
+use Rattle.std.proofs.Common.{[], sym, ap, ◌∙◌, subst}
 use Rattle.std.specs.declared.result.Result.TheVariants.{Ok, Err}
 use Rattle.pf_tree.specs.Place.{IsPlace}
 use Rattle.pf_tree.specs.Subtrees.{under}
@@ -10,7 +10,7 @@ use Rattle.pf_tree.proofs.node.Node.child.Goals as goal
 pub returns-in-Ok-clause-found : goal.returns-in-Ok-clause-found
 returns-in-Ok-clause-found g c =
     let place = subst (λ r. IsPlace c.args.name.now c.as_slice.result.now r) c.in-Ok.is c.locate.ensures in
-    c.deref.ensures ∙ child_found c.self.inside c.args.name.now c.in-Ok.at c.self.view_is c.self.invariant c.in-Directory.is (subst (λ l. IsPlace c.args.name.now l (Ok c.in-Ok.at)) c.as_slice.ensures.value place) c.index-entry.ensures
+    ap (λ x. x.node) c.deref.ensures ∙ child_found c.self.inside c.args.name.now c.in-Ok.at c.self.view_is c.self.invariant c.in-Directory.is (subst (λ l. IsPlace c.args.name.now l (Ok c.in-Ok.at)) c.as_slice.ensures.value place) c.index-entry.ensures
 
 pub returns-in-Err-clause-absent : goal.returns-in-Err-clause-absent
 returns-in-Err-clause-absent g c =
@@ -21,5 +21,5 @@ pub returns-in-Ok-clause-file : goal.returns-in-Ok-clause-file
 returns-in-Ok-clause-file g c =
     let n = c.args.name.now in
     let place = subst (λ l. IsPlace n l (Ok c.in-Ok.at)) c.as_slice.ensures.value (subst (λ r. IsPlace n c.as_slice.result.now r) c.in-Ok.is c.locate.ensures) in
-    subst (λ v. IsSome (find [] v)) (sym (c.deref.ensures ∙ child_found c.self.inside n c.in-Ok.at c.self.view_is c.self.invariant c.in-Directory.is place c.index-entry.ensures))
+    subst (λ v. IsSome (find [] v)) (sym (ap (λ x. x.node) c.deref.ensures ∙ child_found c.self.inside n c.in-Ok.at c.self.view_is c.self.invariant c.in-Directory.is place c.index-entry.ensures))
     (rooted_found (under n c.args.self.now) (child_rooted c.self.inside n c.in-Ok.at c.self.view_is c.self.invariant c.in-Directory.is place c.index-entry.ensures))

@@ -2,11 +2,11 @@ use Rattle.std.proofs.Common.{◌≡◌, List, [], ◌∷◌, sym, ap, ◌∙◌
 use Rattle.std.proofs.lemmas.Bool.Decides.{nat_tests}
 use Rattle.std.specs.Prelude.{◌==◌, not}
 use Rattle.pf_machine.specs.Paths.{is_nonempty}
-use Rattle.pf_tree.specs.declared.node.Entry.{Entry}
 use Rattle.pf_tree.proofs.NodeList.{entry_names, names_seen}
 use Rattle.pf_tree.proofs.node.Node.has_names.Goals as goal
+use Rattle.pf_tree.specs.Node.{Boxed}
 
-counted : {Z : Type 0} (es : List (Entry Z)) → not (length es == 0) ≡ is_nonempty (entry_names es)
+counted : {Z : Type 0} (es : List (Boxed Z)) → not (length es == 0) ≡ is_nonempty (entry_names es)
 counted [] = refl
 counted (e ∷ es) = grind (arith, nat_tests)
 

@@ -10,7 +10,7 @@ loop-entry-init g c =
 
 pub loop-entry-preserved : goal.loop-entry-preserved
 loop-entry-preserved g c =
-    ap (λ l. l ++ listed (entry_names (drop (c.loop-entry.entry-index + 1) c.deref-entry-items.result.now))) (c.in_ok-push.ensures.items ∙ ap (λ l. l ++ 47 ∷ []) (c.in_ok-extend_from_slice.ensures.items ∙ ap (λ l. c.loop-entry.names.items ++ l) c.as_slice.ensures.value))
+    ap (λ l. l ++ listed (entry_names (drop (c.loop-entry.entry-index + 1) c.deref-entry-items.result.now))) (c.in_ok-push.ensures.items ∙ ap (λ l. l ++ 47 ∷ []) (c.in_ok-extend_from_slice.ensures.items ∙ ap (λ l. c.loop-entry.names.items ++ l) (c.as_slice.ensures.value ∙ ap (λ x. x.name.items) c.deref.ensures)))
     ∙ one_more c.loop-entry.names.items c.deref-entry-items.result.now c.loop-entry.entry-index c.entry-item.result c.loop-entry-test.true c.entry-item.is
     ∙ c.loop-entry.invariant
 
