@@ -75,3 +75,20 @@ path_from (r ∷ rs) (suc i) d lt = path_from rs i d (omega arith)
 pub nonempty_path : (rs : List (Bor Name)) → is_nonempty (path_of rs) ≡ not (length rs == 0)
 nonempty_path [] = refl
 nonempty_path (r ∷ rs) = grind (arith, nat_tests)
+
+-- the path up to the next place has the name there behind the path up to this one
+pub path_to : (rs : List (Bor Name)) (i : ℕ) (d : Bor Name) → i < length rs → path_of (take (suc i) rs) ≡ path_of (take i rs) ++ (slice_index_or rs i d).now ∷ []
+path_to [] i d lt = absurd (omega arith)
+path_to (r ∷ rs) zero d lt = refl
+path_to (r ∷ rs) (suc i) d lt = ap (λ l. r.now ∷ l) (path_to rs i d (omega arith))
+
+pub path_whole : (rs : List (Bor Name)) (i : ℕ) → length rs ≤ i → path_of (take i rs) ≡ path_of rs
+path_whole [] zero le = refl
+path_whole [] (suc i) le = refl
+path_whole (r ∷ rs) zero le = absurd (omega arith)
+path_whole (r ∷ rs) (suc i) le = ap (λ l. r.now ∷ l) (path_whole rs i (omega arith))
+
+pub next_name : (rs : List (Bor Name)) (i : ℕ) → i < length rs → (r : Bor Name) × (path_of (drop i rs) ≡ r.now ∷ path_of (drop (suc i) rs))
+next_name [] i lt = absurd (omega arith)
+next_name (r ∷ rs) zero lt = (r, refl)
+next_name (r ∷ rs) (suc i) lt = next_name rs i (omega arith)

@@ -3,3 +3,4 @@ pub mod WalkLaws
 pub mod Steps
 pub mod Splits
 pub mod Reached
+pub mod Descents

@@ -1,13 +1,22 @@
 -- One component further, by what was found and tested on the way.
 use Rattle.std.proofs.Common.{◌≡◌, [], ◌∷◌, ◌++◌, refl, sym, ap, ◌∙◌, Some, None, Option, T, subst}
-use Rattle.std.specs.Prelude.{Ok, Err, true, false, IsSome, if◌then◌else◌}
+use Rattle.std.specs.Prelude.{Ok, Err, Bool, true, false, ◌||◌, IsSome, if◌then◌else◌}
 use Rattle.pf_machine.specs.Refusals.{◌>>=◌, ◌>>◌, or_refuse}
 use Rattle.pf_machine.specs.FileMap.{Name, Path, Files, find, front}
-use Rattle.pf_machine.specs.Paths.{is_dot, is_dot_dot, permitted, searched, step_to, stepped}
+use Rattle.pf_machine.specs.Paths.{is_dot, is_dot_dot, permitted, searched, step_to, stepped, reach}
 use Rattle.pf_base.specs.declared.cred.Cred.{Cred}
 use Rattle.pf_base.specs.declared.errno.Errno.{Errno}
 use Rattle.pf_base.specs.declared.errno.Errno.TheVariants.{ENOENT}
 use Rattle.pf_base.specs.declared.meta.File.{File}
+use Rattle.pf_walk.specs.Walks.{is_dotted}
+
+pub first_false : (a b : Bool) → (a || b) ≡ false → a ≡ false
+first_false true b e = e
+first_false false b e = refl
+
+pub second_false : (a b : Bool) → (a || b) ≡ false → b ≡ false
+second_false true b e = absurd (subst T e tt)
+second_false false b e = e
 
 module _ (fs : Files) (c : Cred) (p : Path) {f : File} (here : find p fs ≡ Some f) where
   pub searched_here : searched fs c p ≡ (permitted c f >> Ok f)
@@ -42,3 +51,14 @@ module _ (fs : Files) (c : Cred) (p : Path) {f : File} (here : find p fs ≡ Som
         by : (o : Option File) → IsSome o → (or_refuse ENOENT o >>= (λ g. Ok (p ++ n ∷ []))) ≡ Ok (p ++ n ∷ [])
         by None none = absurd (subst T (sym none) tt)
         by (Some g) there = refl
+
+  -- the same with more components behind it
+  pub reach_refused : (n : Name) (ns : Path) (e : Errno) → permitted c f ≡ Err e → reach fs c p (n ∷ ns) ≡ Err e
+  reach_refused n ns e no_way = ap (λ r. r >>= (λ next. reach fs c next ns)) (step_refused n e no_way)
+
+  module _ (n : Name) (ns : Path) (t : Unit {0}) (way : permitted c f ≡ Ok t) (plain : is_dotted n ≡ false) where
+    pub reach_lost : find (p ++ n ∷ []) fs ≡ None → reach fs c p (n ∷ ns) ≡ Err ENOENT
+    reach_lost none = ap (λ r. r >>= (λ next. reach fs c next ns)) (step_lost n t way (first_false (is_dot n) (is_dot_dot n) plain) (second_false (is_dot n) (is_dot_dot n) plain) none)
+
+    pub reach_down : IsSome (find (p ++ n ∷ []) fs) → reach fs c p (n ∷ ns) ≡ reach fs c (p ++ n ∷ []) ns
+    reach_down some = ap (λ r. r >>= (λ next. reach fs c next ns)) (step_down n t way (first_false (is_dot n) (is_dot_dot n) plain) (second_false (is_dot n) (is_dot_dot n) plain) some)

@@ -1,8 +1,6 @@
 -- What the types of this crate mean in the definitions' terms.
 
-use Rattle.std.specs.Prelude.{ℕ, List, Result, Vec}
-use Rattle.std.specs.Borrow.{Bor}
-use Rattle.std.specs.declared.alloc.Global.{Global}
+use Rattle.std.specs.Prelude.{ℕ, List, Result}
 use Rattle.pf_machine.specs.FileMap.{Name, Path, Files}
 use Rattle.pf_machine.specs.Paths.{Words as PathWords, Resolved as PathResolved, Last as PathLast, Nothing, Dot, DotDot, Named, target, entry}
 use Rattle.pf_machine.specs.FileCalls.{Place as EntryPlace}
@@ -17,6 +15,7 @@ use Rattle.pf_walk.specs.declared.resolution.Last.TheVariants.{Nothing as NoLast
 use Rattle.pf_walk.specs.declared.resolution.Purpose.{Purpose}
 use Rattle.pf_walk.specs.declared.resolution.Purpose.TheVariants.{Target, Entry}
 use Rattle.pf_walk.specs.declared.resolution.Resolved.{Resolved}
+use Rattle.pf_walk.specs.declared.resolution.Arrival.{Arrival}
 
 abbrev pub words : Words → PathWords
 words w = record { names = path_of w.names.items; slash = w.slash }
@@ -33,8 +32,11 @@ resolved r = record { path = path_of r.path.items; file = r.file; last = last r.
 abbrev pub placed : Place → EntryPlace
 placed l = record { path = path_of l.path.items; directory = l.directory; slash = l.slash }
 
-abbrev pub reached : Vec (Bor Name) Global × File → Path × File
-reached r = (path_of r.0.items, r.1)
+abbrev pub entry_resolved : {N : Type 0} → Resolved × N → PathResolved
+entry_resolved r = resolved r.0
+
+abbrev pub arrived : {A : Type 0} → Arrival A → Path × File
+arrived r = (path_of r.path.items, r.file)
 
 abbrev pub resolution : Purpose → Files → Cred → List ℕ → Result PathResolved Errno
 resolution Target files c bs = target files c bs

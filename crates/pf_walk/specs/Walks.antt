@@ -1,8 +1,9 @@
 -- How a walk stands in a tree.
 
-use Rattle.std.specs.Prelude.{◌≡◌, List, [], ◌∷◌, Result, Ok}
+use Rattle.std.specs.Prelude.{◌≡◌, List, [], ◌∷◌, Result, Ok, Bool, ◌||◌}
 use Rattle.std.specs.Borrow.{Bor}
 use Rattle.pf_machine.specs.FileMap.{Name, Path, Files, find}
+use Rattle.pf_machine.specs.Paths.{is_dot, is_dot_dot}
 use Rattle.pf_machine.specs.Refusals.{◌>>=◌, or_refuse}
 use Rattle.pf_base.specs.declared.errno.Errno.{Errno}
 use Rattle.pf_base.specs.declared.errno.Errno.TheVariants.{ENOENT}
@@ -19,3 +20,7 @@ Stands fs (n ∷ ns) (d ∷ ds) = (d.now ≡ under n.now fs) × Stands d.now ns 
 -- the file at a path that was arrived at
 abbrev pub file_at : Files → Result Path Errno → Result (Path × File) Errno
 file_at files r = r >>= (λ at. or_refuse ENOENT (find at files) >>= (λ f. Ok (at, f)))
+
+-- a name that is no entry's: `.` or `..`
+abbrev pub is_dotted : Name → Bool
+is_dotted n = is_dot n || is_dot_dot n

@@ -1,7 +1,7 @@
 //! The calls on files. Each walks the path, with the refusals of `resolve`, then refuses in the order of its definition,
 //! then makes its one change. A refusal, and want of memory, leaves the files as they were.
 
-ghost use Rattle.std.specs.Prelude.{◌≡◌, ◌<◌, ◌+◌, ◌^◌, false, length, IfOk};
+ghost use Rattle.std.specs.Prelude.{◌≡◌, ◌<◌, ◌+◌, ◌^◌, [], ◌∷◌, false, length, IfOk};
 ghost use Rattle.pf_machine.specs.FileMap.{find, front, IsDirectory};
 ghost use Rattle.pf_machine.specs.Opens.{openable};
 ghost use Rattle.pf_machine.specs.FileCalls.{place, permitted_change, permitted_removal, is_fifo, make, unlink, rmdir, chmod, stat, list};
@@ -9,20 +9,21 @@ ghost use Rattle.pf_tree.specs.Subtrees.{path_of};
 ghost use Rattle.pf_walk.specs.Told.{Told, Changed};
 ghost use Rattle.pf_walk.specs.Resolutions.{placed};
 
-use crate::resolution::{Last, Purpose, Resolved, resolve};
+use crate::resolution::{Last, Purpose, Resolved, resolve, resolve_entry};
 use crate::walk::{append, is_directory};
 use pf_base::{
     Cred, Errno, Fault, File, Kind, MAX_FILES, MAX_MADE, Meta, Mode, Want, may, may_remove,
 };
-use pf_tree::Tree;
+use pf_tree::{Node, Tree};
 use std::alloc::{Allocator, Global};
 
-// An entry: the names that lead to it, its directory, and whether the path ends in a slash.
+// An entry: the names that lead to it, its directory, whether the path ends in a slash, and the file, where there is one.
 #[derive(Drop)]
 pub(crate) struct Place<'a> {
     path: Vec<&'a [u8]>,
     directory: File,
     slash: bool,
+    file: Option<File>,
 }
 
 // A call's errors for the root, for `.` and for `..` in place of an entry's name.
@@ -31,6 +32,16 @@ pub(crate) struct Unnamed {
     root: Errno,
     dot: Errno,
     dot_dot: Errno,
+}
+
+// The file under a name right below, if there is one.
+fn entry_of<A: Allocator>(node: &Node<A>, name: &[u8]) -> Option<File>
+    ensures { result ≡ find (name.now ∷ []) node.now }
+{
+    match node.child(name) {
+        None => None,
+        Some(entry) => Some(entry.file()),
+    }
 }
 
 // The place of an entry.
@@ -45,8 +56,9 @@ fn find_place<'a, A: Allocator>(
         (place unnamed.root unnamed.dot unnamed.dot_dot tree.now cred.now path.now) }
     ensures below { IfOk result (λ l. 0 < length l.path.items) }
     ensures parent { IfOk result (λ l. IsDirectory (find (front (path_of l.path.items)) tree.now)) }
+    ensures file { IfOk result (λ l. l.file ≡ find (path_of l.path.items) tree.now) }
 {
-    let resolved = resolve(alloc, tree, cred, path, Purpose::Entry)?;
+    let (resolved, node) = resolve_entry(alloc, tree, cred, path)?;
     let Resolved {
         path: mut names,
         file: directory,
@@ -58,11 +70,13 @@ fn find_place<'a, A: Allocator>(
         Last::Dot => Err(Fault::Errno(unnamed.dot)),
         Last::DotDot => Err(Fault::Errno(unnamed.dot_dot)),
         Last::Name(name) => {
+            let file = entry_of(node, name);
             append(&mut names, name)?;
             Ok(Place {
                 path: names,
                 directory,
                 slash,
+                file,
             })
         }
     }
@@ -126,7 +140,7 @@ pub fn make<A: Allocator + Clone>(
         dot_dot: Errno::EEXIST,
     };
     let place = find_place(alloc, tree, cred, path, unnamed)?;
-    if tree.find(place.path.as_slice()).is_some() {
+    if place.file.is_some() {
         return Err(Fault::Errno(Errno::EEXIST));
     }
     if is_fifo(kind) && place.slash {
@@ -169,14 +183,14 @@ pub fn unlink<A: Allocator>(
         dot_dot: Errno::EPERM,
     };
     let place = find_place(alloc, tree, cred, path, unnamed)?;
-    let Some(file) = tree.find(place.path.as_slice()) else {
+    let Some(file) = &place.file else {
         return Err(Fault::Errno(Errno::ENOENT));
     };
-    if place.slash && !is_directory(&file) {
+    if place.slash && !is_directory(file) {
         return Err(Fault::Errno(Errno::ENOTDIR));
     }
-    may_take(cred, &place.directory, &file)?;
-    if is_directory(&file) {
+    may_take(cred, &place.directory, file)?;
+    if is_directory(file) {
         return Err(Fault::Errno(Errno::EPERM));
     }
     tree.remove(place.path.as_slice());
@@ -203,13 +217,13 @@ pub fn rmdir<A: Allocator>(
         dot_dot: Errno::EINVAL,
     };
     let place = find_place(alloc, tree, cred, path, unnamed)?;
-    let Some(file) = tree.find(place.path.as_slice()) else {
+    let Some(file) = &place.file else {
         return Err(Fault::Errno(Errno::ENOENT));
     };
-    if !is_directory(&file) {
+    if !is_directory(file) {
         return Err(Fault::Errno(Errno::ENOTDIR));
     }
-    may_take(cred, &place.directory, &file)?;
+    may_take(cred, &place.directory, file)?;
     if tree.has_names(place.path.as_slice()) {
         return Err(Fault::Errno(Errno::ENOTEMPTY));
     }

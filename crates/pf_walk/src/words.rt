@@ -7,6 +7,7 @@ ghost use Rattle.pf_machine.specs.Paths.{components, words_of, ends_in_slash};
 ghost use Rattle.pf_tree.specs.Subtrees.{path_of};
 ghost use Rattle.pf_walk.specs.Told.{Told};
 ghost use Rattle.pf_walk.specs.Resolutions.{words};
+ghost use Rattle.pf_walk.specs.Walks.{is_dotted};
 
 use pf_base::{Errno, Fault, MAX_NAME, MAX_PATH};
 use std::alloc::{AllocError, Global};
@@ -37,6 +38,25 @@ fn has_long_name(names: &[&[u8]]) -> bool
 {
     for name in names {
         if name.len() > MAX_NAME {
+            return true;
+        }
+    }
+    false
+}
+
+// Whether a name is `.` or `..`.
+fn is_dotted(name: &[u8]) -> bool
+    ensures { result ≡ is_dotted name.now }
+{
+    name == b".".as_slice() || name == b"..".as_slice()
+}
+
+/// Whether one of the names is `.` or `..`.
+pub(crate) fn has_dots(names: &[&[u8]]) -> bool
+    ensures { result ≡ list_any is_dotted (path_of names.now) }
+{
+    for name in names {
+        if is_dotted(name) {
             return true;
         }
     }

@@ -2,7 +2,7 @@ use Rattle.std.proofs.Common.{◌≡◌, drop, []}
 use Rattle.pf_machine.specs.Paths.{reach}
 use Rattle.pf_tree.specs.Subtrees.{path_of}
 use Rattle.pf_walk.specs.Walks.{Stands}
-use Rattle.pf_walk.proofs.resolution.follow.Given as goal
+use Rattle.pf_walk.proofs.resolution.wander.Given as goal
 
 abbrev pub invariant-loop-name : goal.invariant-loop-name
 invariant-loop-name g l =
