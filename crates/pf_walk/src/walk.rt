@@ -1,13 +1,16 @@
 //! A walk down a tree and up again, a component at a time.
 
-ghost use Rattle.std.specs.Prelude.{◌≡◌, [], ◌∷◌, ◌++◌, IfOk, OnOk};
+ghost use Rattle.std.specs.Prelude.{◌≡◌, [], ◌∷◌, ◌++◌, IfOk, OnOk, IsTrue, true};
+ghost use Rattle.pf_base.specs.Permissions.{grants};
+ghost use Rattle.pf_base.specs.declared.permissions.Class.{Class};
+ghost use Rattle.pf_base.specs.declared.permissions.Want.TheVariants.{Search};
 ghost use Rattle.pf_machine.specs.FileMap.{is_directory};
 ghost use Rattle.pf_machine.specs.Paths.{permitted, stepped};
 ghost use Rattle.pf_tree.specs.Subtrees.{subtree, path_of};
 ghost use Rattle.pf_walk.specs.Told.{Told};
 ghost use Rattle.pf_walk.specs.Walks.{Stands};
 
-use pf_base::{Cred, Errno, Fault, File, Kind, Want, may};
+use pf_base::{Class, Cred, Errno, Fault, File, Kind, Mode, Want, may};
 use pf_tree::Node;
 use std::alloc::{AllocError, Allocator, Global};
 
@@ -30,6 +33,15 @@ pub(crate) fn is_directory(file: &File) -> bool
     }
 }
 
+// Whether a mode lets each class search, as most directories' modes do: then no class and no group has to be looked for.
+fn lets_all_search(mode: Mode) -> bool
+    ensures { IsTrue result → (class : Class) → grants mode class Search ≡ true }
+{
+    mode.grants(Class::Owner, Want::Search)
+        && mode.grants(Class::Group, Want::Search)
+        && mode.grants(Class::Other, Want::Search)
+}
+
 /// Whether a walk may go on from a file: ENOTDIR where it is no directory, EACCES where it may not be searched
 /// (POSIX.1-2017, 4.13).
 pub(crate) fn search(cred: &Cred, file: &File) -> Result<(), Errno>
@@ -38,7 +50,7 @@ pub(crate) fn search(cred: &Cred, file: &File) -> Result<(), Errno>
     match file.meta.kind {
         Kind::Fifo => Err(Errno::ENOTDIR),
         Kind::Directory => {
-            if may(cred, &file.meta, Want::Search) {
+            if lets_all_search(file.meta.mode) || may(cred, &file.meta, Want::Search) {
                 Ok(())
             } else {
                 Err(Errno::EACCES)
