@@ -10,3 +10,4 @@ pub mod NodeList
 pub mod NodeWalk
 pub mod Alone
 pub mod Sendable
+pub mod WordOrder

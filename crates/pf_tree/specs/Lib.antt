@@ -3,3 +3,4 @@ pub mod Node
 pub mod NodeFalls
 pub mod Place
 pub mod Visits
+pub mod Words

@@ -3,6 +3,7 @@
 #![tactic(auto)]
 
 pub mod node;
+mod order;
 pub mod tree;
 
 pub use node::Node;

@@ -9,6 +9,7 @@ ghost use Rattle.pf_tree.specs.Place.{IsPlace};
 ghost use Rattle.pf_tree.specs.Subtrees.{under, subtree, path_of};
 ghost use Rattle.pf_tree.specs.Visits.{Visits, visits};
 
+use crate::order::compare;
 use pf_base::{File, Kind, Meta, Mode};
 use std::alloc::{AllocError, Allocator};
 use std::marker::Model;
@@ -67,7 +68,7 @@ fn locate<A: Allocator>(entries: &[Box<Entry<A>, A>], name: &[u8]) -> Result<usi
     requires rises { Rises entries.now }
     ensures { IsPlace name.now entries.now result }
 {
-    entries.binary_search_by(|entry| entry.name.as_slice().cmp(name))
+    entries.binary_search_by(|entry| compare(entry.name.as_slice(), name))
 }
 
 impl<A: Allocator> Node<A> {

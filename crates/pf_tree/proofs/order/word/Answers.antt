@@ -1,0 +1,4 @@
+use Rattle.pf_tree.proofs.order.word.Goals as goal
+
+pub returns-clause-bytes : goal.returns-clause-bytes
+returns-clause-bytes c = λ k. (c.type_inv.name k).fits
