@@ -6,6 +6,7 @@ pub mod Soundness
 pub mod Streams
 pub mod PrinterPut
 pub mod Texts
+pub mod DigitLaws
 pub mod Counting
 pub mod ScriptLemmas
 pub mod StepLineLaws

@@ -5,6 +5,7 @@
 mod adapters;
 mod answers;
 mod count;
+mod digits;
 mod fault;
 mod judge;
 mod laws;

@@ -3,11 +3,13 @@ ghost use Rattle.pf_script.specs.Text.{hex_text, octal_text, kind_text, number_o
 ghost use Rattle.pf_script.specs.Puts.{Puts};
 ghost use Rattle.pf_base.specs.declared.admission.EventAnswer.TheVariants.{NotAdmitted, NotRetired};
 ghost use Rattle.pf_base.specs.declared.step.Reply.TheVariants as replies;
-ghost use Rattle.pf_script.specs.declared.text.TheConstants.{PIECE};
+ghost use Rattle.pf_script.specs.declared.text.TheConstants.{FEW, PIECE};
 ghost use Rattle.hex.specs.Hex.{encode_lower};
 
+use crate::digits::{BYTES, block_digits, last_block_digits};
 use crate::port::Sink;
 use crate::printer::Printer;
+use arrayvec::ArrayVec;
 use itoa::Buffer;
 use memchr::memchr;
 use pf_base::{
@@ -15,15 +17,40 @@ use pf_base::{
 };
 use pf_words::cut_at;
 
-/// How many bytes are turned into digits at once.
+/// How few bytes are turned into digits one by one.
+const FEW: usize = 4;
+
+/// How many bytes' digits are put at once.
 const PIECE: usize = 64;
 
-/// Puts the digits of at most `PIECE` bytes.
+/// How many digits they have.
+const PIECE_DIGITS: usize = 128;
+
+/// Puts the digits of at most `PIECE` bytes, at once.
 fn put_piece<W: Sink>(out: &mut Printer, writer: &mut W, bytes: &[u8])
     requires { length bytes.now ≤ PIECE }
     ensures { Puts (W.output writer.old) out.old (W.output writer.new) out.new (encode_lower bytes.now) }
 {
-    let mut digits = [0u8; 2 * PIECE];
+    let mut digits: ArrayVec<u8, PIECE_DIGITS> = ArrayVec::new();
+    let mut rest = bytes;
+    while rest.len() >= BYTES {
+        let (block, behind) = rest.split_at(BYTES);
+        digits.try_extend_from_slice(&block_digits(block)).unwrap();
+        rest = behind;
+    }
+    let last = last_block_digits(rest);
+    digits
+        .try_extend_from_slice(&last[..2 * rest.len()])
+        .unwrap();
+    out.put(writer, digits.as_slice());
+}
+
+/// Puts the digits of few bytes, one by one.
+fn put_few<W: Sink>(out: &mut Printer, writer: &mut W, bytes: &[u8])
+    requires { length bytes.now ≤ FEW }
+    ensures { Puts (W.output writer.old) out.old (W.output writer.new) out.new (encode_lower bytes.now) }
+{
+    let mut digits = [0u8; 2 * FEW];
     let (room, _) = digits.split_at_mut(2 * bytes.len());
     match hex::encode_to_slice(bytes, room) {
         Ok(()) => out.put(writer, room),
@@ -35,6 +62,10 @@ fn put_piece<W: Sink>(out: &mut Printer, writer: &mut W, bytes: &[u8])
 fn put_digits<W: Sink>(out: &mut Printer, writer: &mut W, bytes: &[u8])
     ensures { Puts (W.output writer.old) out.old (W.output writer.new) out.new (encode_lower bytes.now) }
 {
+    if bytes.len() <= FEW {
+        put_few(out, writer, bytes);
+        return;
+    }
     let mut rest = bytes;
     while rest.len() > PIECE {
         let (front, back) = rest.split_at(PIECE);

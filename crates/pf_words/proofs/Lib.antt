@@ -2,6 +2,7 @@ pub mod CutLaws
 pub mod Digits
 pub mod Numbers
 pub mod Data
+pub mod BlockLaws
 pub mod NumberWords
 pub mod JoinLaws
 pub mod DataWords

@@ -4,3 +4,4 @@ pub mod Verbs
 pub mod Spelling
 pub mod Causes
 pub mod Faults
+pub mod Blocks

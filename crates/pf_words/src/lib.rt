@@ -3,6 +3,7 @@
 #![tactic(auto)]
 
 mod arguments;
+mod blocks;
 mod cause;
 mod cut;
 mod fault;

@@ -6,10 +6,10 @@ ghost use Rattle.pf_words.specs.Faults.{Gives};
 ghost use Rattle.pf_base.specs.declared.TheConstants.{BYTES_IN_PLACE};
 ghost use Rattle.hex.specs.Hex.{decode_of};
 
+use crate::blocks::{DIGITS, block_of, last_block_of};
 use crate::cause::Cause;
 use crate::cut::cut_at;
 use crate::fault::LineFault;
-use hex::FromHexError;
 use memchr::memchr;
 use pf_base::{BYTES_IN_PLACE, ByteString, Groups};
 use std::alloc::Global;
@@ -137,6 +137,30 @@ fn few_hex_of(word: &[u8]) -> Result<ByteString, LineFault>
     }
 }
 
+// Hexadecimal digits in pairs, of many bytes: whole blocks are read at once, and what is left behind them digit by digit.
+fn many_hex_of(alloc: Global, word: &[u8]) -> Result<ByteString, LineFault>
+    ensures { Gives result (or_cause (decoded (decode_of word.now)) Cause.BadData) }
+{
+    if word.len() % 2 != 0 {
+        return Err(LineFault::Refused(Cause::BadData));
+    }
+    let mut bytes = Vec::with_capacity(alloc, word.len() / 2)?;
+    let mut rest = word;
+    while rest.len() >= DIGITS {
+        let (block, behind) = rest.split_at(DIGITS);
+        let Some(decoded) = block_of(block) else {
+            return Err(LineFault::Refused(Cause::BadData));
+        };
+        bytes.extend_from_slice(&decoded)?;
+        rest = behind;
+    }
+    let Some(last) = last_block_of(rest) else {
+        return Err(LineFault::Refused(Cause::BadData));
+    };
+    bytes.extend_from_slice(&last[..rest.len() / 2])?;
+    Ok(ByteString::new(alloc, bytes)?)
+}
+
 /// Hexadecimal digits in pairs, at least one.
 fn hex_of(alloc: Global, word: &[u8]) -> Result<ByteString, LineFault>
     ensures { Gives result (or_cause (hex_bytes word.now) Cause.BadData) }
@@ -147,11 +171,7 @@ fn hex_of(alloc: Global, word: &[u8]) -> Result<ByteString, LineFault>
     if word.len() <= 2 * BYTES_IN_PLACE {
         return few_hex_of(word);
     }
-    match hex::decode(alloc, word) {
-        Ok(bytes) => Ok(ByteString::new(alloc, bytes)?),
-        Err(FromHexError::OutOfMemory) => Err(LineFault::NoMemory),
-        Err(_) => Err(LineFault::Refused(Cause::BadData)),
-    }
+    many_hex_of(alloc, word)
 }
 
 /// The byte of two hexadecimal digits.
