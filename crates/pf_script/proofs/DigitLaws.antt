@@ -1,6 +1,8 @@
 -- The hexadecimal digits of bytes in blocks.
 
-use Rattle.std.proofs.Common.{◌≡◌, ℕ, zero, suc, ◌+◌, ◌-◌, ◌*◌, ◌/◌, ◌%◌, ◌^◌, ◌<◌, ◌≤◌, true, cond, ltb, eqb, List, [], ◌∷◌, ◌++◌, length, take, drop, get_or, map, replicate, slice_index, bit_and, refl, ap, ◌∙◌, arith, append_assoc}
+use Rattle.std.proofs.Common.{◌≡◌, ℕ, zero, suc, ◌+◌, ◌-◌, ◌*◌, ◌/◌, ◌%◌, ◌^◌, ◌<◌, ◌≤◌, true, cond, ltb, eqb, List}
+use Rattle.std.proofs.Common.{[], ◌∷◌, ◌++◌, length, take, drop, get_or, map, replicate, slice_index, bit_and, refl}
+use Rattle.std.proofs.Common.{ap, ◌∙◌, arith, append_assoc}
 use Rattle.std.proofs.lemmas.Bool.{eqb-true, agree_below_at}
 use Rattle.std.proofs.lemmas.List.{get_or_append_left, get_or-append_right, take-append-le, take_all, length-map}
 use Rattle.std.proofs.Math.ListN.{drop_of_length-le}
@@ -27,7 +29,8 @@ by_turns [] lows = []
 by_turns (high ∷ highs) [] = []
 by_turns (high ∷ highs) (low ∷ lows) = high ∷ low ∷ by_turns highs lows
 
-pub encoded_by_turns : (bytes : List ℕ) → by_turns (map (λ x. digit (x / 16)) bytes) (map (λ x. digit (x % 16)) bytes) ≡ encode_lower bytes
+pub encoded_by_turns : (bytes : List ℕ) →
+    by_turns (map (λ x. digit (x / 16)) bytes) (map (λ x. digit (x % 16)) bytes) ≡ encode_lower bytes
 unfolding encode_with
 encoded_by_turns [] = refl
 encoded_by_turns (b ∷ bytes) = rw (encoded_by_turns bytes) refl
@@ -47,11 +50,18 @@ picked_by_turns k (suc n) highs lows long_highs long_lows all =
     let back : 16 + k - 16 ≡ k = omega arith in
     let low = get_or-append_right highs lows 16 (16 + k) 0 long_highs (omega arith) ∙ ap (λ j. get_or lows j 0) back in
     let rest = picked_by_turns (k + 1) n highs lows long_highs long_lows (omega (arith, all)) in
-    rw (next_of highs k 0 (omega (arith, long_highs, all)), next_of lows k 0 (omega (arith, long_lows, all)), high, low, rest) refl
+    rw (
+      next_of highs k 0 (omega (arith, long_highs, all)),
+      next_of lows k 0 (omega (arith, long_lows, all)),
+      high,
+      low,
+      rest,
+    ) refl
 
 -- zeros fill a block up
 pub filled_up : (bytes copied digits : List ℕ) → length bytes < 16 → copied ≡ bytes →
-    digits ≡ encode_lower (copied ++ drop (length bytes) (replicate 16 0)) → take (2 * length bytes) digits ≡ encode_lower bytes
+    digits ≡ encode_lower (copied ++ drop (length bytes) (replicate 16 0)) → take (2 * length bytes) digits
+    ≡ encode_lower bytes
 filled_up bytes copied digits few is made =
     let long = length-encode_with lower_digits bytes in
     let zeros : List ℕ = drop (length bytes) (replicate 16 0) in
@@ -68,7 +78,8 @@ abbrev pub below : ℕ → ℕ → ℕ
 below a b = cond (ltb a b) 255 0
 
 abbrev pub chosen : ℕ → List ℕ → List ℕ
-chosen n v = sel_l (map (top 7) (zip2 below v (replicate n 10))) (zip2 plus v (replicate n 48)) (zip2 plus v (replicate n 87))
+chosen n v = sel_l (map (top 7) (zip2 below v (replicate n 10))) (zip2 plus v (replicate n 48))
+    (zip2 plus v (replicate n 87))
 
 abbrev one_chosen : ℕ → ℕ
 one_chosen x = cond (top 7 (below x 10)) (plus x 48) (plus x 87)
@@ -91,7 +102,8 @@ high_digits : (xs : List ℕ) → map (λ x. digit x) (map (λ x. down x 4) xs) 
 high_digits [] = refl
 high_digits (x ∷ xs) = rw (high_digits xs) refl
 
-low_digits : (xs : List ℕ) → Each1 (Fits w8) xs → map (λ x. digit x) (map (λ x. bit_and x 15) xs) ≡ map (λ x. digit (x % 16)) xs
+low_digits : (xs : List ℕ) → Each1 (Fits w8) xs →
+    map (λ x. digit x) (map (λ x. bit_and x 15) xs) ≡ map (λ x. digit (x % 16)) xs
 low_digits [] fits = refl
 low_digits (x ∷ xs) fits = rw (low_half x fits.0.fits, low_digits xs fits.1) refl
 
@@ -103,9 +115,11 @@ pub block_is : (bytes highs lows : List ℕ) → length bytes ≡ 16 → Each1 (
 block_is bytes highs lows long fits is_highs is_lows =
     let whole : chunk 0 16 bytes ≡ bytes = take_all 16 bytes (omega (arith, long)) in
     let first : highs ≡ map (λ x. digit (x / 16)) bytes =
-    is_highs ∙ ap (λ xs. map (λ x. digit x) (zip2 down xs (replicate 16 4))) whole ∙ ap (map (λ x. digit x)) (zip2_splat down bytes 16 4 long) ∙ high_digits bytes in
+    is_highs ∙ ap (λ xs. map (λ x. digit x) (zip2 down xs (replicate 16 4))) whole
+    ∙ ap (map (λ x. digit x)) (zip2_splat down bytes 16 4 long) ∙ high_digits bytes in
     let second : lows ≡ map (λ x. digit (x % 16)) bytes =
-    is_lows ∙ ap (λ xs. map (λ x. digit x) (zip2 bit_and xs (replicate 16 15))) whole ∙ ap (map (λ x. digit x)) (zip2_splat bit_and bytes 16 15 long) ∙ low_digits bytes fits in
+    is_lows ∙ ap (λ xs. map (λ x. digit x) (zip2 bit_and xs (replicate 16 15))) whole
+    ∙ ap (map (λ x. digit x)) (zip2_splat bit_and bytes 16 15 long) ∙ low_digits bytes fits in
     let long_first = ap length first ∙ length-map bytes (λ x. digit (x / 16)) ∙ long in
     let long_second = ap length second ∙ length-map bytes (λ x. digit (x % 16)) ∙ long in
     picked_by_turns 0 16 highs lows long_first long_second refl

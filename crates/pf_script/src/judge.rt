@@ -6,8 +6,7 @@ ghost use Rattle.pf_script.specs.Faults.{Reads};
 use crate::fault::ScriptFault;
 use crate::refusal::Refusal;
 use crate::script::Script;
-use memchr::memchr;
-use pf_words::{LineFault, cut_at};
+use pf_words::{LineFault, cut_at, find_near};
 use std::alloc::{AllocError, Global};
 
 /// Judges a script's lines one after another, until one is faulty.
@@ -51,7 +50,7 @@ impl Judge {
     {
         let mut words = Vec::new(alloc);
         let mut rest = text;
-        while let Some(k) = memchr(b'\n', rest) {
+        while let Some(k) = find_near(b'\n', rest) {
             let (line, after) = cut_at(rest, k);
             match self.script.line(alloc, &mut words, line) {
                 Ok(()) => {}

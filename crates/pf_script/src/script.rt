@@ -1,5 +1,4 @@
 ghost use Rattle.std.specs.Prelude.{◌≡◌, ◌≤◌, ◌<◌, map, take, length, slice_get, IfOk, OnOk, IfSome, Some, None, Ok, true, option_copied};
-ghost use Rattle.std.specs.List.{list_any};
 ghost use Rattle.pf_base.specs.declared.TheConstants.{MAX_FRAMES};
 ghost use Rattle.pf_script.specs.Script as grammar;
 ghost use Rattle.pf_script.specs.Script.{blank, place_of, reserved, number_or};
@@ -11,7 +10,7 @@ use crate::line::Line;
 use crate::steps::Steps;
 use indexmap::IndexMap;
 use pf_base::{Config, MAX_FRAMES, MAX_NAMESPACES, MAX_RESERVE};
-use pf_words::{Cause, LineFault, cut_into, is_name_word, number_32, small_number, step_of};
+use pf_words::{Cause, LineFault, cut_line, is_name_word, number_32, small_number, step_of};
 use std::alloc::{AllocError, Global};
 use std::marker::Model;
 
@@ -61,17 +60,6 @@ fn is_skipped(text: &[u8]) -> bool
         [] => true,
         [first, ..] => *first == b'#',
     }
-}
-
-fn has_empty(words: &[&[u8]]) -> bool
-    ensures { result ≡ list_any grammar.is_empty_word (map (λ w. w.now) words.now) }
-{
-    for word in words {
-        if word.is_empty() {
-            return true;
-        }
-    }
-    false
 }
 
 /// A number of 32 bits, or this one where the word is left out.
@@ -512,8 +500,8 @@ impl Script {
         if is_skipped(text) {
             return Ok(());
         }
-        cut_into(words, b' ', text)?;
-        if has_empty(words.as_slice()) {
+        let full = cut_line(words, text)?;
+        if !full {
             return Err(LineFault::Refused(Cause::BadSpacing));
         }
         self.words_line(alloc, words.as_slice())

@@ -5,3 +5,4 @@ pub mod Spelling
 pub mod Causes
 pub mod Faults
 pub mod Blocks
+pub mod Marks

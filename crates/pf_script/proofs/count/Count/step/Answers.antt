@@ -1,5 +1,5 @@
 -- The last digit alone changes, where it isn't a nine.
-use Rattle.std.proofs.Common.{◌≡◌, ◌+◌, ◌<◌, ◌≤◌, ◌^◌, length, ap, sym, ◌∙◌, arith, decimal}
+use Rattle.std.proofs.Common.{◌≤◌, length, sym, ◌∙◌, arith}
 use Rattle.pf_script.proofs.Counting.{grown, short}
 use Rattle.pf_script.proofs.count.Count.step.Goals as goal
 

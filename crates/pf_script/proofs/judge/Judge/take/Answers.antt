@@ -19,4 +19,4 @@ loop-k-preserved c = (
 )
 
 pub returns-clause-one_line : goal.returns-clause-one_line
-returns-clause-one_line c = whole _ _ (rw c.in_default.is at c.memchr.ensures)
+returns-clause-one_line c = whole _ _ (rw c.in_default.is at c.find_near.ensures)

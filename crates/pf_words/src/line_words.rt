@@ -1,0 +1,61 @@
+//! The words of a line, and whether each of them has a byte.
+ghost use Rattle.std.specs.Prelude.{◌≡◌, ◌≤◌, true, not, length, map, IfOk};
+ghost use Rattle.std.specs.List.{list_any};
+ghost use Rattle.pf_words.specs.Words.{words_of};
+ghost use Rattle.pf_words.specs.Marks.{is_no_word};
+ghost use Rattle.pf_words.specs.declared.marks.TheConstants.{MARKED};
+
+use crate::cut::{cut_at, cut_into};
+use crate::marks::{MARKED, marks_in};
+use std::alloc::AllocError;
+
+fn has_empty(words: &[&[u8]]) -> bool
+    ensures { result ≡ list_any is_no_word (map (λ w. w.now) words.now) }
+{
+    for word in words {
+        if word.is_empty() {
+            return true;
+        }
+    }
+    false
+}
+
+/// The same of a short line: its spaces are all marked first.
+fn cut_short_line<'a>(words: &mut Vec<&'a [u8]>, line: &'a [u8]) -> Result<bool, AllocError>
+    requires { length line.now ≤ MARKED }
+    ensures words { IfOk result (λ full. full ≡ true → map (λ w. w.now) words.new.items ≡ words_of line.now) }
+    ensures full { IfOk result (λ full. full ≡ not (list_any is_no_word (words_of line.now))) }
+{
+    words.clear();
+    let mut rest = line;
+    // Those of `rest`.
+    let mut spaces = marks_in(b' ', line);
+    while spaces != 0 {
+        let k = spaces.trailing_zeros() as usize;
+        if k == 0 {
+            return Ok(false);
+        }
+        let (word, after) = cut_at(rest, k);
+        words.push(word)?;
+        rest = after;
+        spaces >>= k + 1;
+    }
+    if rest.is_empty() {
+        return Ok(false);
+    }
+    words.push(rest)?;
+    Ok(true)
+}
+
+/// Whether each word of a line has a byte. If so, the words are put in place of what `words` had; else what it has then
+/// isn't specified. They are parts of `line`.
+pub fn cut_line<'a>(words: &mut Vec<&'a [u8]>, line: &'a [u8]) -> Result<bool, AllocError>
+    ensures words { IfOk result (λ full. full ≡ true → map (λ w. w.now) words.new.items ≡ words_of line.now) }
+    ensures full { IfOk result (λ full. full ≡ not (list_any is_no_word (words_of line.now))) }
+{
+    if line.len() <= MARKED {
+        return cut_short_line(words, line);
+    }
+    cut_into(words, b' ', line)?;
+    Ok(!has_empty(words.as_slice()))
+}
