@@ -1,9 +1,9 @@
 -- A walk down by names of which none is `.` or `..`: one name further.
-use Rattle.std.proofs.Common.{◌≡◌, ℕ, zero, suc, ◌+◌, ◌<◌, List, [], ◌∷◌, ◌++◌, length, take, drop, slice_index_or, refl, sym, ap, ◌∙◌, subst, arith, false, Some, None}
+use Rattle.std.proofs.Common.{◌≡◌, ℕ, suc, ◌<◌, List, [], ◌∷◌, ◌++◌, length, take, drop, slice_index_or, refl, sym, ap, ◌∙◌, subst, false, Some, None}
 use Rattle.std.specs.Prelude.{Ok, Err, IsSome}
 use Rattle.std.specs.Borrow.{Bor}
 use Rattle.std.specs.List.{list_any}
-use Rattle.pf_machine.specs.FileMap.{Name, Path, Files, find}
+use Rattle.pf_machine.specs.FileMap.{Name, Files, find}
 use Rattle.pf_machine.specs.Paths.{permitted, reach}
 use Rattle.pf_base.specs.declared.cred.Cred.{Cred}
 use Rattle.pf_base.specs.declared.errno.Errno.{Errno}

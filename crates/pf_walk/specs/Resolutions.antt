@@ -1,7 +1,7 @@
 -- What the types of this crate mean in the definitions' terms.
 
 use Rattle.std.specs.Prelude.{ℕ, List, Result}
-use Rattle.pf_machine.specs.FileMap.{Name, Path, Files}
+use Rattle.pf_machine.specs.FileMap.{Path, Files}
 use Rattle.pf_machine.specs.Paths.{Words as PathWords, Resolved as PathResolved, Last as PathLast, Nothing, Dot, DotDot, Named, target, entry}
 use Rattle.pf_machine.specs.FileCalls.{Place as EntryPlace}
 use Rattle.pf_base.specs.declared.cred.Cred.{Cred}

@@ -1,6 +1,6 @@
 //! Paths as bytes: the names between their slashes.
 
-ghost use Rattle.std.specs.Prelude.{◌≡◌, IfOk, length, nat_lt};
+ghost use Rattle.std.specs.Prelude.{◌≡◌, ◌+◌, ◌≤◌, IfOk, length, nat_lt};
 ghost use Rattle.std.specs.List.{list_any};
 ghost use Rattle.pf_base.specs.declared.TheConstants.{MAX_NAME};
 ghost use Rattle.pf_machine.specs.Paths.{components, words_of, ends_in_slash};
@@ -23,13 +23,30 @@ pub struct Words<'a> {
     pub slash: bool,
 }
 
+// How many names a path has at most: none where it has slashes alone, and else one more than slashes.
+fn most_names(path: &[u8]) -> usize
+    ensures { result ≤ length path.now + 1 }
+{
+    if path.iter().all(|byte| *byte == b'/') {
+        return 0;
+    }
+    path.iter()
+        .filter(|byte| **byte == b'/')
+        .count()
+        .saturating_add(1)
+}
+
 // What lies between slashes, but for nothing.
 fn components(alloc: Global, path: &[u8]) -> Result<Vec<&[u8]>, AllocError>
     ensures { IfOk result (λ names. path_of names.items ≡ components path.now) }
 {
-    path.split(|byte| *byte == b'/')
-        .filter(|name| !name.is_empty())
-        .collect(alloc)
+    // Room for all of them is asked for at once.
+    let mut names = Vec::with_capacity(alloc, most_names(path))?;
+    let each = path
+        .split(|byte| *byte == b'/')
+        .filter(|name| !name.is_empty());
+    names.extend(each)?;
+    Ok(names)
 }
 
 // Whether a name has more bytes than a name may have.
