@@ -4,3 +4,4 @@ pub mod Steps
 pub mod Splits
 pub mod Reached
 pub mod Descents
+pub mod SlashLaws

@@ -6,6 +6,7 @@
 
 pub mod calls;
 pub mod resolution;
+mod slashes;
 mod walk;
 pub mod words;
 

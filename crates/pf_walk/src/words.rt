@@ -9,6 +9,7 @@ ghost use Rattle.pf_walk.specs.Told.{Told};
 ghost use Rattle.pf_walk.specs.Resolutions.{words};
 ghost use Rattle.pf_walk.specs.Walks.{is_dotted};
 
+use crate::slashes::slashes;
 use pf_base::{Errno, Fault, MAX_NAME, MAX_PATH};
 use std::alloc::{AllocError, Global};
 
@@ -30,10 +31,7 @@ fn most_names(path: &[u8]) -> usize
     if path.iter().all(|byte| *byte == b'/') {
         return 0;
     }
-    path.iter()
-        .filter(|byte| **byte == b'/')
-        .count()
-        .saturating_add(1)
+    slashes(path).saturating_add(1)
 }
 
 // What lies between slashes, but for nothing.
