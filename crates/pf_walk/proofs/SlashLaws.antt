@@ -1,8 +1,16 @@
--- How many slashes the parts of a text have.
-use Rattle.std.proofs.Common.{◌≡◌, ℕ, zero, suc, ◌-◌, List, ◌++◌, length, drop, replicate, nat_eq, refl, ap, ◌∙◌, arith, cond}
-use Rattle.std.specs.List.{count_by}
-use Rattle.std.proofs.lemmas.List.{drop-replicate}
-use Rattle.std.proofs.lemmas.List.Sums.{sum_by-append}
+-- How many slashes the parts of a text have, and what stands before the first.
+use Rattle.std.proofs.Common.{◌≡◌, ℕ, zero, suc, ◌+◌, ◌-◌, ◌*◌, ◌<◌, ◌≤◌, Bool, true, false, not, List, [], ◌∷◌, ◌++◌, length, take, drop, map, replicate, nat_eq, refl, sym, ap, ◌∙◌, subst, arith, cond, append_assoc, Bor}
+use Rattle.std.specs.List.{count_by, prefix_len, position_or_len, slice_split, onto_first}
+use Rattle.std.specs.Prelude.{filter}
+use Rattle.std.specs.Simd.Lanes.{mask_l}
+use Rattle.std.proofs.Math.Seq.{drop-cons}
+use Rattle.std.proofs.lemmas.List.{drop-replicate, length-drop, take_all}
+use Rattle.std.proofs.lemmas.List.Elements.{filter-append}
+use Rattle.std.proofs.lemmas.List.Splits.{slice_split_first}
+use Rattle.std.proofs.lemmas.List.Sums.{sum_by-append, prefix_len-le-length}
+use Rattle.pf_machine.specs.FileMap.{Name, Path}
+use Rattle.pf_machine.specs.Paths.{is_component}
+use Rattle.pf_tree.specs.Subtrees.{path_of}
 
 abbrev pub count : List ℕ → ℕ
 count xs = count_by (λ b. nat_eq b 47) xs
@@ -17,3 +25,59 @@ padded text copied is =
     let none : count (drop (length text) (replicate 16 0)) ≡ 0 = ap count (drop-replicate {X = ℕ} (length text) 16 0) ∙ no_slash (16 - length text) in
     let both = sum_by-append (λ b. cond (nat_eq b 47) 1 0) copied (drop (length text) (replicate 16 0)) in
     omega (arith, none, both, ap count is)
+
+-- a mark is at a place
+pub some_place : (xs : List ℕ) → 0 < mask_l (map (λ b. nat_eq b 47) xs) → prefix_len (λ b. not (nat_eq b 47)) xs < length xs
+some_place [] some = absurd (omega arith)
+some_place (x ∷ xs) some =
+    elim (nat_eq x 47) as (λ b. 0 < cond b 1 0 + 2 * mask_l (map (λ b. nat_eq b 47) xs) → cond (not b) (1 + prefix_len (λ b. not (nat_eq b 47)) xs) 0 < suc (length xs)) [
+      | true ↦ λ _. omega arith
+      | false ↦ λ more. omega (arith, some_place xs (omega arith))
+    ] some
+
+-- the first place in a text's front is the first in the text
+pub in_front : (n : ℕ) (xs : List ℕ) → prefix_len (λ b. not (nat_eq b 47)) (take n xs) < length (take n xs) → prefix_len (λ b. not (nat_eq b 47)) (take n xs) ≡ prefix_len (λ b. not (nat_eq b 47)) xs
+in_front zero xs lt = absurd (omega arith)
+in_front (suc n) [] lt = absurd (omega arith)
+in_front (suc n) (x ∷ xs) lt =
+    elim (not (nat_eq x 47)) as (λ b. cond b (1 + prefix_len (λ b. not (nat_eq b 47)) (take n xs)) 0 < suc (length (take n xs)) → cond b (1 + prefix_len (λ b. not (nat_eq b 47)) (take n xs)) 0 ≡ cond b (1 + prefix_len (λ b. not (nat_eq b 47)) xs) 0) [
+      | true ↦ λ low. ap (λ k. 1 + k) (in_front n xs (omega (arith, low)))
+      | false ↦ λ _. refl
+    ] lt
+
+-- a text without a slash is one piece
+lone : (xs : List ℕ) → position_or_len (λ b. nat_eq b 47) xs ≡ length xs → slice_split (λ b. nat_eq b 47) xs ≡ xs ∷ []
+lone [] e = refl
+lone (x ∷ xs) e =
+    elim (nat_eq x 47) as (λ b. cond (not b) (1 + position_or_len (λ b. nat_eq b 47) xs) 0 ≡ suc (length xs) → cond b ([] ∷ slice_split (λ b. nat_eq b 47) xs) (onto_first x (slice_split (λ b. nat_eq b 47) xs)) ≡ (x ∷ xs) ∷ []) [
+      | true ↦ λ is. absurd (omega (arith, is))
+      | false ↦ λ is. ap (onto_first x) (lone xs (omega (arith, is)))
+    ] e
+
+module _ (ns new : List (Bor Name)) (rest name behind : Name) (k : ℕ) (all : Path) (at : k ≡ position_or_len (λ b. nat_eq b 47) rest) (is_name : name ≡ take k rest) (is_behind : behind ≡ drop k rest)
+    (put : path_of new ≡ path_of ns ++ filter is_component (name ∷ [])) (so : path_of ns ++ filter is_component (slice_split (λ b. nat_eq b 47) rest) ≡ all) where
+  -- behind a slash it goes on
+  pub goes_on : (y : ℕ) (after : Name) → behind ≡ y ∷ after → path_of new ++ filter is_component (slice_split (λ b. nat_eq b 47) after) ≡ all
+  goes_on y after is_after =
+      let low : k < length rest = omega (arith, length-drop k rest, ap length is_behind, ap length is_after) in
+      let step : suc k ≡ k + 1 = omega arith in
+      let tail : after ≡ drop (k + 1) rest = ap (drop 1) (sym is_after ∙ is_behind ∙ drop-cons rest k 0 low) ∙ ap (λ n. drop n rest) step in
+      let cut : slice_split (λ b. nat_eq b 47) rest ≡ name ∷ slice_split (λ b. nat_eq b 47) after =
+      slice_split_first (λ b. nat_eq b 47) rest 0 (subst (λ n. n < length rest) at low)
+      ∙ ap (λ n. take n rest ∷ slice_split (λ b. nat_eq b 47) (drop (n + 1) rest)) (sym at)
+      ∙ ap (λ l. l ∷ slice_split (λ b. nat_eq b 47) (drop (k + 1) rest)) (sym is_name)
+      ∙ ap (λ l. name ∷ slice_split (λ b. nat_eq b 47) l) (sym tail) in
+      ap (λ l. l ++ filter is_component (slice_split (λ b. nat_eq b 47) after)) put
+      ∙ append_assoc (path_of ns) (filter is_component (name ∷ [])) (filter is_component (slice_split (λ b. nat_eq b 47) after))
+      ∙ ap (λ l. path_of ns ++ l) (sym (filter-append is_component (name ∷ []) (slice_split (λ b. nat_eq b 47) after)))
+      ∙ ap (λ l. path_of ns ++ filter is_component l) (sym cut)
+      ∙ so
+
+  -- with no slash left it ends
+  pub ends : length behind ≡ 0 → path_of new ≡ all
+  ends none =
+      let gone : length rest ≤ k = omega (arith, length-drop k rest, ap length is_behind, none) in
+      let most = prefix_len-le-length (λ b. not (nat_eq b 47)) rest in
+      let whole : name ≡ rest = is_name ∙ take_all k rest gone in
+      let one : slice_split (λ b. nat_eq b 47) rest ≡ name ∷ [] = lone rest (omega (arith, at, gone, most)) ∙ ap (λ l. l ∷ []) (sym whole) in
+      put ∙ ap (λ l. path_of ns ++ filter is_component l) (sym one) ∙ so

@@ -1,15 +1,15 @@
 //! Paths as bytes: the names between their slashes.
 
-ghost use Rattle.std.specs.Prelude.{◌≡◌, ◌+◌, ◌≤◌, IfOk, length, nat_lt};
+ghost use Rattle.std.specs.Prelude.{◌≡◌, ◌+◌, ◌≤◌, ◌++◌, [], ◌∷◌, IfOk, OnOk, filter, length, nat_lt};
 ghost use Rattle.std.specs.List.{list_any};
 ghost use Rattle.pf_base.specs.declared.TheConstants.{MAX_NAME};
-ghost use Rattle.pf_machine.specs.Paths.{components, words_of, ends_in_slash};
+ghost use Rattle.pf_machine.specs.Paths.{components, is_component, words_of, ends_in_slash};
 ghost use Rattle.pf_tree.specs.Subtrees.{path_of};
 ghost use Rattle.pf_walk.specs.Told.{Told};
 ghost use Rattle.pf_walk.specs.Resolutions.{words};
 ghost use Rattle.pf_walk.specs.Walks.{is_dotted};
 
-use crate::slashes::slashes;
+use crate::slashes::{before_slash, slashes};
 use pf_base::{Errno, Fault, MAX_NAME, MAX_PATH};
 use std::alloc::{AllocError, Global};
 
@@ -34,17 +34,32 @@ fn most_names(path: &[u8]) -> usize
     slashes(path).saturating_add(1)
 }
 
+// Puts a name behind those before it, unless it is empty.
+fn keep<'a>(names: &mut Vec<&'a [u8]>, name: &'a [u8]) -> Result<(), AllocError>
+    ensures { OnOk result (path_of names.new.items
+        ≡ path_of names.old.items ++ filter is_component (name.now ∷ [])) }
+{
+    if !name.is_empty() {
+        names.push(name)?;
+    }
+    Ok(())
+}
+
 // What lies between slashes, but for nothing.
 fn components(alloc: Global, path: &[u8]) -> Result<Vec<&[u8]>, AllocError>
     ensures { IfOk result (λ names. path_of names.items ≡ components path.now) }
 {
     // Room for all of them is asked for at once.
     let mut names = Vec::with_capacity(alloc, most_names(path))?;
-    let each = path
-        .split(|byte| *byte == b'/')
-        .filter(|name| !name.is_empty());
-    names.extend(each)?;
-    Ok(names)
+    let mut rest = path;
+    loop {
+        let (name, behind) = rest.split_at(before_slash(rest));
+        keep(&mut names, name)?;
+        let Some((_, after)) = behind.split_first() else {
+            return Ok(names);
+        };
+        rest = after;
+    }
 }
 
 // Whether a name has more bytes than a name may have.

@@ -1,19 +1,13 @@
-use Rattle.std.proofs.Common.{rules, ap, ◌∙◌, map, ◌++◌}
-use borrow.Author.Tests.{tests}
-use Rattle.std.specs.Prelude.{nat_eq}
-use Rattle.std.proofs.lemmas.Iterator.Splits.{YieldsList-from_slice_split}
-use Rattle.std.proofs.lemmas.Iterator.Consumers.{YieldsList-at, YieldsList-from_filter}
-use Rattle.pf_machine.specs.Paths.{is_component}
-use Rattle.pf_walk.proofs.Cuts.{path_of-map}
-use Rattle.pf_walk.proofs.Splits.{all_taken}
+use Rattle.std.proofs.Common.{not, arith, nat_eq}
+use Rattle.std.proofs.lemmas.List.Sums.{prefix_len-le-length}
+use Rattle.pf_walk.proofs.SlashLaws.{goes_on, ends}
 use Rattle.pf_walk.proofs.words.components.Goals as goal
 
-pub returns : goal.returns
-returns c =
-    let ran = c.extend.ensures.ran in
-    path_of-map c.extend.new.self.items
-    ∙ ap (map (λ r. r.now)) (ran.3.0 ∙ ap (λ l. l ++ ran.1) c.in_ok-names.ensures.items)
-    ∙ all_taken ran.1 _ c.extend.result c.in_ok-extend.field-0 c.in_ok-extend.was ran.4 ran.2
-    (YieldsList-from_filter _ is_component
-    (YieldsList-at c.filter-each.ensures.source (YieldsList-from_slice_split _ (λ b. nat_eq b 47) c.args.path.now c.split.ensures.rest c.split.ensures.done c.split.ensures.closure (λ x r q k. search (rules, tests))))
-    c.filter-each.ensures.closure (λ x r q k. search (rules, tests)))
+pub split_at-requires : goal.split_at-requires
+split_at-requires c = omega (arith, c.before_slash.ensures, prefix_len-le-length (λ b. not (nat_eq b 47)) c.loop-names.rest.now)
+
+pub returns-in_default : goal.returns-in_default
+returns-in_default c = ends c.loop-names.names.items c.keep.new.names.items c.loop-names.rest.now c.split_at.result.0.now c.split_at.result.1.now c.before_slash.result _ c.before_slash.ensures c.split_at.ensures.front c.split_at.ensures.back c.in_ok-keep.ensures c.loop-names.invariant c.in_default.ensures.cases
+
+pub loop-names-preserved : goal.loop-names-preserved
+loop-names-preserved c = goes_on c.loop-names.names.items c.keep.new.names.items c.loop-names.rest.now c.split_at.result.0.now c.split_at.result.1.now c.before_slash.result _ c.before_slash.ensures c.split_at.ensures.front c.split_at.ensures.back c.in_ok-keep.ensures c.loop-names.invariant c.in-Some.field-0-0.now c.in-Some.after.now c.in-Some.ensures.cases.0
