@@ -1,7 +1,7 @@
 -- The processes stay as many places, and an open that waits keeps a descriptor to come; and those that wait in a call are
 -- marked.
 
-use Rattle.std.proofs.Common.{◌≡◌, ◌≢◌, false, is_some, ℕ, zero, suc, ◌-◌, ◌<◌, ◌≤◌, List, [], ◌∷◌, length, set}
+use Rattle.std.proofs.Common.{◌≡◌, ◌≢◌, true, false, is_some, ℕ, zero, suc, ◌-◌, ◌<◌, ◌≤◌, List, [], ◌∷◌, length, set}
 use Rattle.std.proofs.Common.{length-set, subst, Option, Some, None, Ok, IsOk, refl, sym, ap, ◌∙◌, inl, inr, arith}
 use Rattle.std.proofs.lemmas.Bool.{cases_eq}
 use Rattle.pf_fds.specs.declared.marks.Marks.{Marks}
@@ -164,6 +164,10 @@ module _ (m : Marks) (ps : ProcessRows) (s : IsWatched m ps) where
   -- no one waits where none is marked
   pub none_waits : (i : ℕ) → i < MAX_PROCESSES → is_marked m i ≡ false → waits (at ps i) ≡ false
   none_waits i l unmarked = sym (s.marked i l) ∙ unmarked
+
+  -- and one waits where one is
+  pub one_waits : (i : ℕ) → i < MAX_PROCESSES → is_marked m i ≡ true → waits (at ps i) ≡ true
+  one_waits i l marked = sym (s.marked i l) ∙ marked
 
 pub bare_watched : (m : Marks) (ps : ProcessRows) → ((k : ℕ) → k < MAX_PROCESSES → is_marked m k ≡ false)
     → ps ≡ vacant MAX_PROCESSES → IsWatched m ps

@@ -1,6 +1,6 @@
 -- Exit as a loop over descriptors: what the state is on the way.
 
-use Rattle.std.proofs.Common.{◌≡◌, ℕ, ◌+◌, ◌-◌, ◌<◌, ◌≤◌, List, length, set, Option, Some, None, Ok, refl, sym, ap, ◌∙◌, inl, inr, arith, nat_le, nat_eq, length-set, if◌then◌else◌, zero, suc, [], ◌∷◌}
+use Rattle.std.proofs.Common.{◌≡◌, ℕ, ◌+◌, ◌-◌, ◌<◌, ◌≤◌, List, length, set, Option, Some, None, IsSome, is_some, Ok, refl, sym, ap, ◌∙◌, inl, inr, arith, nat_le, nat_eq, length-set, if◌then◌else◌, zero, suc, [], ◌∷◌}
 use Rattle.std.specs.Option.{option_map, option_and_then}
 use Rattle.std.proofs.lemmas.Bool.{cases_eq, cases_lt, le-leb, lt-leb, leb-true, leb-false}
 use Rattle.std.proofs.lemmas.List.{length-map, set_past, set-set}
@@ -153,6 +153,20 @@ has_no_descriptor ps ds pipes files files_made i fd none = ap (option_and_then (
     by_row : (o : Option rows.Process) → key_at fd o ≡ None → option_and_then (λ (p : Process ℕ). at p.descriptors fd) (option_map process_of o) ≡ None
     by_row None h = refl
     by_row (Some p) h = at-map (λ (k : Key). k.serial) p.descriptors fd ∙ ap (option_map (λ (k : Key). k.serial)) h
+
+-- and one with a key has a descriptor for the machine
+pub has_descriptor : (ps : ProcessRows) (ds : DescriptionRows) (pipes : PipeRows) (files : Files) (files_made i fd : ℕ)
+    → IsSome (key_at fd (at ps i)) → IsSome (descriptor (state_of ps ds pipes files files_made) i fd)
+has_descriptor ps ds pipes files files_made i fd some =
+    ap (λ o. is_some (option_and_then (λ (p : Process ℕ). at p.descriptors fd) o)) (at-map process_of ps i) ∙ by_row (at ps i) some
+  where
+    by_key : (o : Option Key) → is_some (option_map (λ (k : Key). k.serial) o) ≡ is_some o
+    by_key None = refl
+    by_key (Some k) = refl
+
+    by_row : (o : Option rows.Process) → IsSome (key_at fd o) → IsSome (option_and_then (λ (p : Process ℕ). at p.descriptors fd) (option_map process_of o))
+    by_row None h = h
+    by_row (Some p) h = ap is_some (at-map (λ (k : Key). k.serial) p.descriptors fd) ∙ by_key (at p.descriptors fd) ∙ h
 
 -- The same of a namespace, from what the tables find: its process waits in no call any more
 

@@ -1,6 +1,6 @@
 //! The processes of a namespace, each with the call in which it waits.
 
-ghost use Rattle.std.specs.Prelude.{◌≡◌, ℕ, ◌-◌, ◌<◌, ◌≤◌, false, None, Some, Ok, Err, IfOk, IsOk, MatchResult, option_copied, slice_set};
+ghost use Rattle.std.specs.Prelude.{◌≡◌, ℕ, ◌-◌, ◌<◌, ◌≤◌, true, false, None, Some, Ok, Err, IfOk, IsOk, IsSome, MatchResult, option_copied, slice_set};
 ghost use Rattle.pf_machine.specs.Numbered.{at, put_at, clear_at, change_at, first_free, sum_of};
 ghost use Rattle.pf_machine.specs.State.{vacant};
 ghost use Rattle.pf_base.specs.declared.TheConstants.{MAX_DESCRIPTORS, MAX_PROCESSES};
@@ -89,8 +89,10 @@ impl ProcessTable {
     pub fn next_waiting(&self, from: usize) -> usize
         ensures most { result ≤ MAX_PROCESSES }
         ensures above { result < MAX_PROCESSES → from ≤ result }
+        ensures stands { result < MAX_PROCESSES → waits (at self.now result) ≡ true }
         ensures between { (i : ℕ) → from ≤ i → i < result → waits (at self.now i) ≡ false }
     {
+        // Whoever looks at a field knows the invariant: just those are marked whose processes wait.
         let _ = &self.places;
         self.waiting.next(from)
     }
@@ -171,6 +173,7 @@ impl ProcessTable {
     pub fn next_key(&self, i: usize, from: usize) -> usize
         ensures most { result ≤ MAX_DESCRIPTORS }
         ensures above { result < MAX_DESCRIPTORS → from ≤ result }
+        ensures stands { result < MAX_DESCRIPTORS → IsSome (key_at result (at self.now i)) }
         ensures between { (fd : ℕ) → from ≤ fd → fd < result → key_at fd (at self.now i) ≡ None }
     {
         match self.places.get(i) {

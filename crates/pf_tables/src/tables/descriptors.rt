@@ -172,6 +172,7 @@ impl<A: Allocator> Tables<A> {
     pub(super) fn next_descriptor(&self, i: usize, from: usize) -> usize
         ensures most { result ≤ MAX_DESCRIPTORS }
         ensures above { result < MAX_DESCRIPTORS → from ≤ result }
+        ensures stands { result < MAX_DESCRIPTORS → IsSome (descriptor self.now.state i result) }
         ensures between { (fd : ℕ) → from ≤ fd → fd < result → descriptor self.now.state i fd ≡ None }
     {
         self.processes.next_key(i, from)
