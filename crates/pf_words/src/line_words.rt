@@ -9,6 +9,7 @@ use crate::cut::{cut_at, cut_into};
 use crate::marks::{MARKED, marks_in};
 use std::alloc::AllocError;
 
+// Whether one of these has no byte.
 fn has_empty(words: &[&[u8]]) -> bool
     ensures { result ≡ list_any is_no_word (map (λ w. w.now) words.now) }
 {
@@ -20,7 +21,7 @@ fn has_empty(words: &[&[u8]]) -> bool
     false
 }
 
-/// The same of a short line: its spaces are all marked first.
+// What `cut_line` does, of a short line: its spaces are all marked first.
 fn cut_short_line<'a>(words: &mut Vec<&'a [u8]>, line: &'a [u8]) -> Result<bool, AllocError>
     requires { length line.now ≤ MARKED }
     ensures words { IfOk result (λ full. full ≡ true → map (λ w. w.now) words.new.items ≡ words_of line.now) }

@@ -137,7 +137,8 @@ fn few_hex_of(word: &[u8]) -> Result<ByteString, LineFault>
     }
 }
 
-// Hexadecimal digits in pairs, of many bytes: whole blocks are read at once, and what is left behind them digit by digit.
+// Hexadecimal digits in pairs, of many bytes: whole blocks are read at once, and what is left behind them as a block
+// that is filled up with zeros.
 fn many_hex_of(alloc: Global, word: &[u8]) -> Result<ByteString, LineFault>
     ensures { Gives result (or_cause (decoded (decode_of word.now)) Cause.BadData) }
 {
