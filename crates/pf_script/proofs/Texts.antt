@@ -13,7 +13,7 @@ use Rattle.pf_script.specs.declared.line.Line.{Line}
 use Rattle.pf_base.specs.Limits.{Limits}
 use Rattle.pf_script.specs.Script.{Draft}
 use Rattle.memchr.specs.Find.{IsFirstByte, is_byte}
-use Rattle.pf_script.specs.Text.{names_text, line_text, lines_text, answers_of, section, section_at, section_of, sections, chosen}
+use Rattle.pf_script.specs.Text.{names_text, line_text, lines_text, answers_of, section, section_at, section_of, sections, sections_apart, chosen, print, AreApart}
 use Rattle.pf_words.proofs.CutLaws.{next_of}
 
 encode_append : (t xs ys : List ℕ) → encode_with t (xs ++ ys) ≡ encode_with t xs ++ encode_with t ys
@@ -140,6 +140,49 @@ section_on done all i script answers high same =
     let here = rw (next_of script.spaces i other high) at same in
     rw (slice_get-get_or script.spaces i other high)
     (append_assoc done (section (get_or script.spaces i other).0 (answers_of script.steps answers i)) (sections (i + 1) (drop (i + 1) script.spaces) script.steps answers) ∙ here)
+
+-- a section was put, of a namespace whose answers stand apart
+pub apart_on : (done all : List ℕ) (i : ℕ) (script : Draft) (own : List (List EventAnswer)) →
+    length own ≡ length script.spaces → i < length own →
+    done ++ sections_apart (drop i script.spaces) (drop i own) ≡ all →
+    (done ++ section_at script (get_or own i []) i) ++ sections_apart (drop (i + 1) script.spaces) (drop (i + 1) own) ≡ all
+unfolding sections_apart
+apart_on done all i script own many high same =
+    let other : List ℕ × Limits = ([], record { reserve = 0; soft = 0; hard = 0; max = 0 }) in
+    let exists : i < length script.spaces = omega (arith, many, high) in
+    let here = rw (next_of script.spaces i other exists, next_of own i [] high) at same in
+    rw (slice_get-get_or script.spaces i other exists)
+    (append_assoc done (section (get_or script.spaces i other).0 (get_or own i [])) (sections_apart (drop (i + 1) script.spaces) (drop (i + 1) own)) ∙ here)
+
+pub apart_end : (text all : List ℕ) (i : ℕ) (spaces : List (List ℕ × Limits)) (own : List (List EventAnswer)) →
+    length own ≡ length spaces → length own ≤ i →
+    text ++ sections_apart (drop i spaces) (drop i own) ≡ all → text ≡ all
+unfolding sections_apart
+apart_end text all i spaces own many past same =
+    let end : length spaces ≤ i = omega (arith, many, past) in
+    let here = rw (drop_of_length-le spaces end) at same in
+    sym (append-nil text) ∙ here
+
+-- the sections of answers that stand apart are the text of the answers in the order of the steps
+apart_from : (n : ℕ) (spaces : List (List ℕ × Limits)) (steps : List (ℕ × Line)) (answers : List EventAnswer)
+    (own : List (List EventAnswer)) → length own ≡ length spaces →
+    ((k : ℕ) → k < length spaces → get_or own k [] ≡ answers_of steps answers (n + k)) →
+    sections_apart spaces own ≡ sections n spaces steps answers
+unfolding sections_apart sections
+apart_from n [] steps answers own many each = refl
+apart_from n (space ∷ spaces) steps answers [] many each = absurd (omega (arith, many))
+apart_from n (space ∷ spaces) steps answers (first ∷ own) many each =
+    let here : first ≡ answers_of steps answers n = each 0 (omega arith) ∙ ap (answers_of steps answers) (omega arith) in
+    let more = apart_from (n + 1) spaces steps answers own (omega (arith, many))
+    (λ k low. each (suc k) (omega (arith, low)) ∙ ap (answers_of steps answers) (omega arith)) in
+    λ j. section space.0 (here j) ++ more j
+
+pub apart_are : (script : Draft) (answers : List EventAnswer) (own : List (List EventAnswer)) →
+    length own ≡ length script.spaces → AreApart script answers own →
+    sections_apart script.spaces own ≡ print script answers
+apart_are script answers own many each =
+    apart_from 0 script.spaces script.steps answers own many
+    (λ k low. each k low ∙ ap (answers_of script.steps answers) (omega arith))
 
 pub sections_end : (text all : List ℕ) (i : ℕ) (spaces : List (List ℕ × Limits)) (steps : List (ℕ × Line)) (answers : List EventAnswer) → length spaces ≤ i →
     text ++ sections i (drop i spaces) steps answers ≡ all → text ≡ all

@@ -112,6 +112,17 @@ section_of (Some space) own = section space.0 own
 abbrev pub section_at : Draft → List EventAnswer → ℕ → List ℕ
 section_at script own n = section_of (slice_get script.spaces n) own
 
+-- the answers of each namespace apart: those to its own steps
+abbrev pub AreApart : Draft → List EventAnswer → List (List EventAnswer) → Type 0
+AreApart script answers own = (n : ℕ) → n < length script.spaces →
+    slice_index_or own n [] ≡ answers_of script.steps answers n
+
+-- the sections of these namespaces, where each has the answers at its place
+unfoldable pub sections_apart : List (List ℕ × Limits) → List (List EventAnswer) → List ℕ
+sections_apart [] own = []
+sections_apart (space ∷ spaces) [] = []
+sections_apart (space ∷ spaces) (answers ∷ own) = section space.0 answers ++ sections_apart spaces own
+
 -- the text, or with one namespace chosen its section alone
 abbrev pub text : Draft → List EventAnswer → Option ℕ → List ℕ
 text script answers None = print script answers

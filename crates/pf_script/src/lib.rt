@@ -34,4 +34,4 @@ pub use read::read_script;
 pub use refusal::{Refusal, first_fault_decides};
 pub use script::Script;
 pub use told::Told;
-pub use transcript::{print, print_told};
+pub use transcript::{print, print_apart, print_told};

@@ -1,9 +1,10 @@
-ghost use Rattle.std.specs.Prelude.{◌≡◌, ◌+◌, ◌<◌, ◌^◌, length, slice_index_or, OnOk, OnErr};
+ghost use Rattle.std.specs.Prelude.{◌≡◌, ◌+◌, ◌<◌, ◌^◌, List, length, map, slice_index_or, OnOk, OnErr};
 ghost use Rattle.std.specs.List.{All};
+ghost use Rattle.pf_base.specs.declared.admission.EventAnswer.{EventAnswer};
 ghost use Rattle.pf_base.specs.declared.admission.EventAnswer.TheVariants.{Gone};
 ghost use Rattle.pf_script.specs.Ports.{IsWritten, IsCut};
 ghost use Rattle.pf_script.specs.Puts.{Puts};
-ghost use Rattle.pf_script.specs.Text.{line_text, lines_text, section, sections, section_at, answers_of, chosen, print, text, IsAnswered};
+ghost use Rattle.pf_script.specs.Text.{line_text, lines_text, section, sections, section_at, answers_of, chosen, print, text, sections_apart, AreApart, IsAnswered};
 ghost use Rattle.pf_script.specs.Answers.{answers_in};
 
 use crate::answers::{Answers, put_at};
@@ -112,6 +113,20 @@ fn put_alone<W: Sink>(
     put_lines(out, writer, answers);
 }
 
+/// Puts the sections of all namespaces, where these are the answers to the steps of each.
+fn put_apart<W: Sink>(out: &mut Printer, writer: &mut W, script: &Script, own: &[Vec<Told>])
+    requires { length own.now ≡ length script.now.spaces }
+    ensures { Puts (W.output writer.old) out.old (W.output writer.new) out.new
+        (sections_apart script.now.spaces (map (λ v. v.items) own.now)) }
+{
+    for ns in 0..own.len() {
+        if out.has_failed() {
+            return;
+        }
+        put_alone(out, writer, script, ns, Answers::Short(own[ns].as_slice()));
+    }
+}
+
 /// Puts the text of these answers, or the section of the namespace that is chosen.
 fn put_text<W: Sink>(
     out: &mut Printer,
@@ -182,4 +197,22 @@ pub fn print_told<W: Sink>(
         (IsCut (W.output writer.old) (W.output writer.new) (text script.now answers.now only)) }
 {
     print_either(writer, script, Answers::Short(answers), only)
+}
+
+/// `print` of all answers, where those to the steps of each namespace stand side by side: each is read once, from front to
+/// back, and not with the answers of the other namespaces between.
+pub fn print_apart<W: Sink>(
+    writer: &mut W,
+    script: &Script,
+    own: &[Vec<Told>],
+) -> Result<(), WriteFault>
+    requires { length own.now ≡ length script.now.spaces }
+    ensures written { (answers : List EventAnswer) → AreApart script.now answers (map (λ v. v.items) own.now) → OnOk result
+        (IsWritten (W.output writer.old) (W.output writer.new) (print script.now answers)) }
+    ensures cut { (answers : List EventAnswer) → AreApart script.now answers (map (λ v. v.items) own.now) → OnErr result
+        (IsCut (W.output writer.old) (W.output writer.new) (print script.now answers)) }
+{
+    let mut out = Printer::new();
+    put_apart(&mut out, writer, script, own);
+    out.finish(writer)
 }
