@@ -17,7 +17,7 @@ use Rattle.pf_machine.specs.Houses.{House, Guest, Event, Stepping, Admitting, Re
 use Rattle.pf_machine.specs.Houses.{retire_turn, retire_fault, turn_of, admit_fault, slack, number_living, given as numbers}
 use Rattle.pf_machine.specs.Houses.{begun, begun_by, begun_in, reserved}
 use Rattle.pf_machine.specs.Numbered.{at}
-use Rattle.pf_machine.proofs.NumberedLaws.{at_past, at_within, at-push_new}
+use Rattle.pf_machine.proofs.NumberedLaws.{at_past, at-push_new}
 use Rattle.pf_script.specs.Places.{lines_of}
 use Rattle.pf_script.specs.Sound.{AreGiven}
 use Rattle.pf_script.specs.Text.{answers_of, event_text}

@@ -1,12 +1,11 @@
 -- Each line that is run has its answer.
 
-use Rattle.std.proofs.Common.{◌≡◌, ℕ, Bool, true, false, List, [], ◌∷◌, length, map, refl, ap, sym, ◌∙◌}
+use Rattle.std.proofs.Common.{◌≡◌, ℕ, Bool, true, false, List, [], ◌∷◌, length, refl, ap, sym, ◌∙◌}
 use Rattle.std.proofs.Common.{suc}
 use Rattle.std.specs.Prelude.{Option, Some, None}
 use Rattle.std.proofs.lemmas.List.{length-map}
 use Rattle.pf_base.specs.declared.admission.EventAnswer.{EventAnswer}
 use Rattle.pf_base.specs.declared.admission.EventAnswer.TheVariants as told
-use Rattle.pf_base.specs.declared.step.Answer.{Answer}
 use Rattle.pf_machine.specs.Events.{mine}
 use Rattle.pf_machine.specs.Houses.{House, Event}
 use Rattle.pf_script.specs.Places.{lines_of}

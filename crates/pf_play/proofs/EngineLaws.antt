@@ -20,11 +20,11 @@ use Rattle.pf_machine.specs.Events.{keep_step, keep_reply}
 use Rattle.pf_machine.specs.Runs.{run_of}
 use Rattle.pf_script.specs.Script.{Draft}
 use Rattle.pf_script.specs.Text.{text}
-use Rattle.pf_script.specs.Ports.{Output, IsCut}
+use Rattle.pf_script.specs.Ports.{Output, IsCut, IsWritten}
 use Rattle.pf_script.specs.declared.refusal.Refusal.{Refusal}
 use Rattle.pf_hub.proofs.NeedLemmas.{at_grown}
 use Rattle.pf_play.specs.Played.{kept_alone, replies_alone, met_alone, NoWantAlone}
-use Rattle.pf_play.specs.Plays.{IsPlayedFor}
+use Rattle.pf_play.specs.Plays.{IsPlayedFor, nomem_of}
 use Rattle.pf_play.specs.Replays.{IfAccepted, Names, Suits}
 
 -- limits with an allocator beside each are those limits
@@ -88,6 +88,16 @@ pub cut_short : (threads : Bool) (old new : Output) (script : Draft) (read : Res
     × IsCut old new (text s xs o))
 cut_short threads old new script read name only answers told is suits names played same cut =
     rw is (suits, only, answers, names, played, subst (λ xs. IsCut old new (text script xs only)) same cut)
+
+-- and one that was written whole
+pub told_whole : (threads : Bool) (old new : Output) (script : Draft) (read : Result Draft Refusal)
+    (name : Option (List ℕ)) (only : Option ℕ) (answers : List EventAnswer) (nomem : ℕ) →
+    read ≡ Ok script → Suits threads script → Names script name only → IsPlayedFor script only answers →
+    IsWritten old new (text script answers only) → nomem ≡ nomem_of answers →
+    IfAccepted read (λ s. Suits threads s × (o : Option ℕ) × (xs : List EventAnswer) × Names s name o × IsPlayedFor s o xs
+    × IsWritten old new (text s xs o) × (nomem ≡ nomem_of xs))
+told_whole threads old new script read name only answers nomem is suits names played written many =
+    rw is (suits, only, answers, names, played, written, many)
 
 -- so many elements are all
 pub take_all : {A : Type 0} (xs : List A) {i : ℕ} → length xs ≤ i → take i xs ≡ xs

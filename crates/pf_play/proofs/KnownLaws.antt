@@ -1,8 +1,8 @@
 -- A script that was read speaks of no name before it is given.
 
-use Rattle.std.proofs.Common.{◌≡◌, ℕ, zero, suc, ◌+◌, ◌<◌, Bool, true, false, List, [], ◌∷◌, ◌++◌, length}
-use Rattle.std.proofs.Common.{refl, ap, sym, ◌∙◌, subst, arith, length-append}
-use Rattle.std.specs.Prelude.{Option, Some, None, Result, Ok, Err, ◌==◌, nat_le, nat_lt, bytes_eq, codes, if◌then◌else◌}
+use Rattle.std.proofs.Common.{◌≡◌, ℕ, ◌+◌, ◌<◌, Bool, true, false, List, [], ◌∷◌, ◌++◌, length}
+use Rattle.std.proofs.Common.{refl, ap, sym, subst, arith, length-append}
+use Rattle.std.specs.Prelude.{Option, Some, None, Result, Ok, Err, ◌==◌, nat_lt, bytes_eq, codes, if◌then◌else◌}
 use Rattle.std.specs.List.{list_any, position_from}
 use Rattle.std.proofs.lemmas.Bool.{eqb-true}
 use Rattle.pf_base.specs.Limits.{Limits}
@@ -12,7 +12,6 @@ use Rattle.pf_words.specs.declared.cause.Cause.TheVariants as causes
 use Rattle.pf_words.specs.Arguments.{◌>>=◌, or_cause, number_at}
 use Rattle.pf_words.specs.Verbs.{step_words}
 use Rattle.pf_words.specs.Words.{pieces_of, words_of}
-use Rattle.pf_base.specs.declared.step.Step.{Step}
 use Rattle.pf_script.specs.Script.{Draft, blank, pool_with, pool_line, with_limits, fresh_limits, space_with, space_words}
 use Rattle.pf_script.specs.Script.{space_line, admitted, admit_with, admit_line, retire_with, retire_line, step_line}
 use Rattle.pf_script.specs.Script.{first_word_line, words_line, is_skipped, is_empty_word, line_of, rest_of, numbered}

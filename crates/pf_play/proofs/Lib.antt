@@ -14,6 +14,7 @@ pub mod ProgramLaws
 pub mod TextLaws
 pub mod TreeHeapLaws
 pub mod WorkLaws
+pub mod ApartLaws
 pub mod MergeLaws
 pub mod AnsweredLaws
 pub mod Sendable

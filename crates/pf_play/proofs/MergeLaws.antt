@@ -1,13 +1,14 @@
--- The answers that each namespace has alone, put in the order of the script.
+-- The answers that each namespace has alone, as answers to all lines of the script.
 
-use Rattle.std.proofs.Common.{◌≡◌, ℕ, zero, suc, ◌+◌, ◌<◌, ◌≤◌, Bool, true, false, List, [], ◌∷◌, ◌++◌, length, take}
-use Rattle.std.proofs.Common.{drop, get_or, slice_set, inl, inr, Option, Some, None, refl, ap, subst, sym, ◌∙◌, arith}
-use Rattle.std.proofs.Common.{length-append, append-nil, append_assoc}
+use Rattle.std.proofs.Common.{◌≡◌, ℕ, zero, suc, ◌+◌, ◌<◌, Bool, true, false, List, [], ◌∷◌, length, map, take}
+use Rattle.std.proofs.Common.{get_or, inl, inr, Option, Some, None, refl, ap, subst, sym, ◌∙◌, arith}
 use Rattle.std.specs.Prelude.{nat_eq, nat_le, not, slice_get, IfSome, if◌then◌else◌}
 use Rattle.std.specs.List.{list_any, position_from}
-use Rattle.std.proofs.lemmas.Bool.{eq-eqb, ne_eqb, cases_eq, leb-false}
-use Rattle.std.proofs.lemmas.List.{take-append-drop, take_more, get_or-set_same, get_or-set_other}
+use Rattle.std.proofs.lemmas.Bool.{eq-eqb, ne_eqb, cases_eq, cases_lt, leb-false}
+use Rattle.std.proofs.lemmas.List.{length-map}
 use Rattle.pf_base.specs.Limits.{Limits}
+use Rattle.pf_base.specs.declared.admission.EventAnswer.{EventAnswer}
+use Rattle.pf_base.specs.declared.admission.EventAnswer.TheVariants as told
 use Rattle.pf_base.specs.declared.step.Step.{Step}
 use Rattle.pf_base.specs.declared.step.Reply.{Reply}
 use Rattle.pf_base.specs.declared.step.Answer.{Answer}
@@ -16,14 +17,16 @@ use Rattle.pf_machine.specs.Machine.{may_want_memory}
 use Rattle.pf_machine.specs.State.{opening}
 use Rattle.pf_machine.specs.Events.{mine, kept, replies, keep_step, keep_reply}
 use Rattle.pf_machine.specs.Runs.{run_of, lone}
-use Rattle.pf_machine.proofs.EventLaws.{mine-append}
 use Rattle.pf_script.specs.Script.{Draft}
 use Rattle.pf_script.specs.Sound.{first_stray}
+use Rattle.pf_script.specs.Text.{AreApart, answers_of}
 use Rattle.pf_script.specs.declared.line.Line.{Line}
 use Rattle.pf_script.specs.declared.line.Line.TheVariants as lines
-use Rattle.pf_play.proofs.EngineLaws.{take_all}
+use Rattle.pf_play.proofs.StayLaws.{as_lines}
 use Rattle.pf_play.specs.Played.{IsPlayed, IsPlayedAlone, IsTold, IsToldAlone, kept_alone}
 use Rattle.pf_play.specs.Played.{comes_and_goes, is_step, replies_alone, steps_among, steps_of}
+use Rattle.pf_play.specs.Plays.{IsPlayedFor}
+use Rattle.pf_play.specs.Workers.{AreToldAlone}
 
 pub some_low : {X : Type 0} (xs : List X) (n : ℕ) (x : X) → slice_get xs n ≡ Some x → n < length xs
 some_low [] n x is = absurd (cc)
@@ -122,71 +125,7 @@ own_told c es answers n alone = (
       ∙ alone.1 there.place step there.asked there.told,
 )
 
--- Lists of answers that are taken from their fronts
-
-many_of : (es : List (ℕ × Step)) (answers : List Answer) (n : ℕ) → length answers ≡ length es →
-    length (own_of es answers n) ≡ length (mine es n)
-many_of [] answers n many = refl
-many_of (e ∷ es) [] n many = absurd (omega (arith, many))
-many_of (e ∷ es) (a ∷ answers) n many =
-    let more = many_of es answers n (omega (arith, many)) in
-    elim (nat_eq e.0 n) as
-    (λ b. length (if b then a ∷ own_of es answers n else own_of es answers n) ≡ length
-    (if b then e.1 ∷ mine es n else mine es n)) [
-      | true ↦ ap suc more
-      | false ↦ more
-    ]
-
-answers_push : (es : List (ℕ × Step)) (e : ℕ × Step) (answers : List Answer) (a : Answer) (n : ℕ) →
-    length answers ≡ length es
-    → own_of (es ++ e ∷ []) (answers ++ a ∷ []) n ≡ own_of es answers n ++ (if nat_eq e.0 n then a ∷ [] else [])
-answers_push [] e [] a n many = refl
-answers_push [] e (b ∷ answers) a n many = absurd (omega (arith, many))
-answers_push (f ∷ es) e [] a n many = absurd (omega (arith, many))
-answers_push (f ∷ es) e (b ∷ answers) a n many = by (nat_eq f.0 n) (answers_push es e answers a n (omega (arith, many)))
-  where
-    by : (t : Bool) →
-        own_of (es ++ e ∷ []) (answers ++ a ∷ []) n ≡ own_of es answers n ++ (if nat_eq e.0 n then a ∷ [] else [])
-        → (if t then b ∷ own_of (es ++ e ∷ []) (answers ++ a ∷ []) n
-        else own_of (es ++ e ∷ []) (answers ++ a ∷ []) n)
-        ≡ (if t then b ∷ own_of es answers n else own_of es answers n) ++ (if nat_eq e.0 n then a ∷ [] else [])
-    by true more = ap (λ (r : List Answer). b ∷ r) more
-    by false more = more
-
--- own: each namespace's answers;  rests: those of them that are left, once the first so many steps have theirs
-pub record Merging (es : List (ℕ × Step)) (own rests : List (List Answer)) (done : ℕ) (answers : List Answer) : Type 0
-  where
-    pub many : length answers ≡ length (take done es)
-    pub each : (n : ℕ) → own_of (take done es) answers n ++ get_or rests n [] ≡ get_or own n []
-
-pub merging_none : (es : List (ℕ × Step)) (own : List (List Answer)) (answers : List Answer) → answers ≡ [] →
-    Merging es own own 0 answers
-merging_none es own answers none = rw none (record { many = refl; each = λ n. refl })
-
 -- Where no namespace comes or goes each line is a step
-
--- at the same place
-pub record StepAt (es : List (ℕ × Line)) (k : ℕ) (e : ℕ × Line) : Type 0 where
-  pub step : ℕ × Step
-  pub number : step.0 ≡ e.0
-  pub low : k < length (steps_among es)
-  pub is : step ≡ get_or (steps_among es) k step
-
-pub step_at : (es : List (ℕ × Line)) (k : ℕ) (e : ℕ × Line) →
-    list_any (λ (e : ℕ × Line). not (is_step e.1)) es ≡ false →
-    k < length es → e ≡ get_or es k e → StepAt es k e
-step_at [] k e only low is = absurd (omega (arith, low))
-step_at ((n, lines.Step s) ∷ es) zero e only low is = record {
-  step = (n, s);
-  number = ap (λ (x : ℕ × Line). x.0) (sym is);
-  low = omega arith;
-  is = refl;
-}
-step_at ((n, lines.Step s) ∷ es) (suc k) e only low is =
-    let more = step_at es k e only (omega (arith, low)) is in
-    record { step = more.step; number = more.number; low = omega (arith, more.low); is = more.is }
-step_at ((n, lines.Admit) ∷ es) k e only low is = absurd (cc)
-step_at ((n, lines.Retire) ∷ es) k e only low is = absurd (cc)
 
 pub many_steps : (es : List (ℕ × Line)) → list_any (λ (e : ℕ × Line). not (is_step e.1)) es ≡ false →
     length (steps_among es) ≡ length es
@@ -195,124 +134,135 @@ many_steps ((n, lines.Step s) ∷ es) only = ap suc (many_steps es only)
 many_steps ((n, lines.Admit) ∷ es) only = absurd (cc)
 many_steps ((n, lines.Retire) ∷ es) only = absurd (cc)
 
--- the next line's namespace exists
-none_passes : {K : Type 0} (test : K → Bool) (xs : List K) (from i : ℕ) (d : K) → position_from test from xs ≡ None →
-    i < length xs → test (get_or xs i d) ≡ false
-none_passes test [] from i d none h = absurd (omega (arith, h))
-none_passes test (x ∷ xs) from i d none h = by (test x) refl i none h (λ j more low. none_passes test xs (from + 1) j d more low)
+-- Each line's answer is the next of its namespace's own
+
+-- these answers to the steps are each namespace's own, for the first so many namespaces
+pub record Woven (m : ℕ) (es : List (ℕ × Step)) (own : ℕ → List Answer) : Type 0 where
+  pub answers : List Answer
+  pub many : length answers ≡ length es
+  pub each : (n : ℕ) → n < m → own_of es answers n ≡ own n
+
+weave_on : (m : ℕ) (k : ℕ) (s : Step) (es : List (ℕ × Step)) (own : ℕ → List Answer) (a : Answer) (more : List Answer) →
+    own k ≡ a ∷ more → Woven m es (λ n. if nat_eq k n then more else own n) → Woven m ((k, s) ∷ es) own
+weave_on m k s es own a more front rest = record {
+  answers = a ∷ rest.answers;
+  many = ap suc rest.many;
+  each = λ n low. elim (cases_eq k n) [
+    | inl is ↦
+        let same : nat_eq k n ≡ true = eq-eqb k n is in
+        let behind : own_of es rest.answers n ≡ more
+        = rest.each n low ∙ ap (λ (b : Bool). if b then more else own n) same in
+        ap (λ (b : Bool). if b then a ∷ own_of es rest.answers n else own_of es rest.answers n) same
+        ∙ ap (λ (r : List Answer). a ∷ r) behind ∙ sym front ∙ ap own is
+    | inr ne ↦
+        let other : nat_eq k n ≡ false = ne_eqb k n ne in
+        ap (λ (b : Bool). if b then a ∷ own_of es rest.answers n else own_of es rest.answers n) other
+        ∙ rest.each n low ∙ ap (λ (b : Bool). if b then more else own n) other
+  ];
+}
+
+-- each line's namespace is one of the first so many
+abbrev Within : ℕ → ℕ → List (ℕ × Line) → Type 0
+Within m from es = position_from (λ (e : ℕ × Line). nat_le m e.0) from es ≡ None
+
+abbrev Weaves : ℕ → ℕ → List (ℕ × Line) → Type 0
+Weaves m from es = (own : ℕ → List Answer) → Within m from es →
+    ((n : ℕ) → n < m → length (own n) ≡ length (mine (steps_among es) n)) → Woven m (steps_among es) own
+
+weave : (m from : ℕ) (es : List (ℕ × Line)) (own : ℕ → List Answer) →
+    list_any (λ (e : ℕ × Line). not (is_step e.1)) es ≡ false → Within m from es →
+    ((n : ℕ) → n < m → length (own n) ≡ length (mine (steps_among es) n)) →
+    Woven m (steps_among es) own
+weave m from [] own only none each =
+    record { answers = []; many = refl; each = λ n low. sym (no_length (own n) (each n low)) }
+weave m from ((k, lines.Admit) ∷ es) own only none each = absurd (cc)
+weave m from ((k, lines.Retire) ∷ es) own only none each = absurd (cc)
+weave m from ((k, lines.Step s) ∷ es) own only none each =
+    by (nat_le m k) refl none (λ own' within each'. weave m (from + 1) es own' only within each')
   where
-    by : (t : Bool) → test x ≡ t → (i : ℕ) → (if t then Some from else position_from test (from + 1) xs) ≡ None →
-        i < length (x ∷ xs) →
-        ((j : ℕ) → position_from test (from + 1) xs ≡ None → j < length xs → test (get_or xs j d) ≡ false) →
-        test (get_or (x ∷ xs) i d) ≡ false
-    by true is i none h rest = absurd (cc)
-    by false is zero none h rest = is
-    by false is (suc i) none h rest = rest i none (omega (arith, h))
+    left : ℕ → List Step
+    left n = mine (steps_among es) n
 
-pub next_exists : (number : ℕ) (es : List (ℕ × Line)) (k : ℕ) (e : ℕ × Line) → first_stray number es ≡ None →
-    k < length es → e ≡ get_or es k e → e.0 < number
-next_exists number es k e none low is =
-    subst (λ (x : ℕ × Line). x.0 < number) (sym is)
-    (leb-false number (get_or es k e).0 (none_passes (λ (x : ℕ × Line). nat_le number x.0) es 0 k e none low))
+    own_many : (n : ℕ) (b : Bool) → nat_eq k n ≡ b → n < m → length (own n) ≡ length (if b then s ∷ left n else left n)
+    own_many n b is low = each n low ∙ ap (λ (b : Bool). length (if b then s ∷ left n else left n)) is
 
--- one more
-pub merging_on : (es : List (ℕ × Step)) (own rests lefts : List (List Answer)) (k : ℕ) (answers : List Answer)
-    (e : ℕ × Step) (a : Answer) (more : List Answer) →
-    Merging es own rests k answers → k < length es → e ≡ get_or es k e → e.0 < length rests →
-    get_or rests e.0 [] ≡ a ∷ more → lefts ≡ slice_set rests e.0 more →
-    Merging es own lefts (k + 1) (answers ++ a ∷ [])
-merging_on es own rests lefts k answers e a more merging low is exists front after =
-    let taken : take (k + 1) es ≡ take k es ++ e ∷ [] = take_more es k e low
-    ∙ ap (λ (x : ℕ × Step). take k es ++ x ∷ []) (sym is) in
-    let push : (n : ℕ) →
-    own_of (take (k + 1) es) (answers ++ a ∷ []) n ≡ own_of (take k es) answers n ++
-    (if nat_eq e.0 n then a ∷ [] else [])
-    = λ n. ap (λ (xs : List (ℕ × Step)). own_of xs (answers ++ a ∷ []) n) taken
-    ∙ answers_push (take k es) e answers a n merging.many in
-    rw after (record {
-      many =
-          length-append answers (a ∷ []) ∙ ap (λ m. m + 1) merging.many ∙ sym (length-append (take k es) (e ∷ []))
-          ∙ ap (λ (xs : List (ℕ × Step)). length xs) (sym taken);
-      each = λ n. elim (cases_eq n e.0) [
-        | inl own' ↦
-            ap (λ (r : List Answer). r ++ get_or (slice_set rests e.0 more) n []) (push n
-            ∙ ap (λ (t : Bool). own_of (take k es) answers n ++ (if t then a ∷ [] else []))
-            (eq-eqb e.0 n (sym own')))
-            ∙ ap (λ (r : List Answer). (own_of (take k es) answers n ++ a ∷ []) ++ r)
-            (ap (λ m. get_or (slice_set rests e.0 more) m []) own' ∙ get_or-set_same rests e.0 more [] exists)
-            ∙ append_assoc (own_of (take k es) answers n) (a ∷ []) more
-            ∙ ap (λ (r : List Answer). own_of (take k es) answers n ++ r) (sym front
-            ∙ ap (λ m. get_or rests m []) (sym own'))
-            ∙ merging.each n
-        | inr other ↦
-            ap (λ (r : List Answer). r ++ get_or (slice_set rests e.0 more) n []) (push n
-            ∙ ap (λ (t : Bool). own_of (take k es) answers n ++ (if t then a ∷ [] else []))
-            (ne_eqb e.0 n (λ (o : e.0 ≡ n). other (sym o))) ∙ append-nil (own_of (take k es) answers n))
-            ∙ ap (λ (r : List Answer). own_of (take k es) answers n ++ r)
-            (get_or-set_other rests e.0 n more [] other)
-            ∙ merging.each n
-      ];
-    })
-
--- as long as a step of a namespace is left, so is an answer
-pub merging_left : (es : List (ℕ × Step)) (own rests : List (List Answer)) (k : ℕ) (answers : List Answer)
-    (e : ℕ × Step) →
-    Merging es own rests k answers → k < length es → e ≡ get_or es k e →
-    length (get_or own e.0 []) ≡ length (mine es e.0) → get_or rests e.0 [] ≡ [] → ⊥
-merging_left es own rests k answers e merging low is each none =
-    let taken : take (k + 1) es ≡ take k es ++ e ∷ [] = take_more es k e low
-    ∙ ap (λ (x : ℕ × Step). take k es ++ x ∷ []) (sym is) in
-    let split : mine es e.0 ≡ mine (take (k + 1) es) e.0 ++ mine (drop (k + 1) es) e.0
-    = ap (λ (xs : List (ℕ × Step)). mine xs e.0) (sym (take-append-drop (k + 1) es))
-    ∙ mine-append (take (k + 1) es) (drop (k + 1) es) e.0 in
-    let here : mine (take (k + 1) es) e.0 ≡ mine (take k es) e.0 ++ e.1 ∷ []
-    = ap (λ (xs : List (ℕ × Step)). mine xs e.0) taken ∙ mine-append (take k es) (e ∷ []) e.0
-    ∙ ap (λ (t : Bool). mine (take k es) e.0 ++ (if t then e.1 ∷ [] else [])) (eq-eqb e.0 e.0 refl) in
-    let whole : own_of (take k es) answers e.0 ≡ get_or own e.0 []
-    = sym (append-nil (own_of (take k es) answers e.0))
-    ∙ ap (λ (r : List Answer). own_of (take k es) answers e.0 ++ r) (sym none) ∙ merging.each e.0 in
-    omega (
+    found : k < m → Within m (from + 1) es → Weaves m (from + 1) es → (first : List Answer) → own k ≡ first → Woven m ((k, s) ∷ steps_among es) own
+    found low none rest [] front = absurd (omega (
       arith,
-      ap (λ (r : List Answer). length r) whole,
-      many_of (take k es) answers e.0 merging.many,
-      each,
-      ap (λ (r : List Step). length r) split,
-      length-append (mine (take (k + 1) es) e.0) (mine (drop (k + 1) es) e.0),
-      ap (λ (r : List Step). length r) here,
-      length-append (mine (take k es) e.0) (e.1 ∷ []),
-    )
+      ap (λ (r : List Answer). length r) front,
+      own_many k true (eq-eqb k k refl) low,
+    ))
+    found low none rest (a ∷ more) front =
+        weave_on m k s (steps_among es) own a more front
+        (rest (λ n. if nat_eq k n then more else own n) none (λ n within. elim (cases_eq k n) [
+          | inl is ↦
+              let same : nat_eq k n ≡ true = eq-eqb k n is in
+              let first : length (own n) ≡ length (a ∷ more)
+              = ap (λ j. length (own j)) (sym is) ∙ ap (λ (r : List Answer). length r) front in
+              ap (λ (b : Bool). length (if b then more else own n)) same
+              ∙ omega (arith, own_many n true same within, first)
+          | inr ne ↦
+              let other : nat_eq k n ≡ false = ne_eqb k n ne in
+              ap (λ (b : Bool). length (if b then more else own n)) other ∙ own_many n false other within
+        ]))
 
--- all have theirs
-pub merged : (script : Draft) (own rests : List (List Answer)) (k : ℕ) (answers : List Answer) →
-    comes_and_goes script ≡ false → Merging (steps_of script) own rests k answers → length script.steps ≤ k →
-    ((n : ℕ) → n < length script.spaces → IsPlayedAlone script n (get_or own n [])) → IsPlayed script answers
-merged script own rests k answers only merging past alone =
-    let past' : length (steps_of script) ≤ k = omega (arith, many_steps script.steps only, past) in
-    let all = take_all (steps_of script) past' in
-    let many : length answers ≡ length (steps_of script) = merging.many ∙ ap (λ (xs : List (ℕ × Step)). length xs) all in
-    let each : (n : ℕ) → own_of (steps_of script) answers n ++ get_or rests n [] ≡ get_or own n []
-    = λ n. ap (λ (xs : List (ℕ × Step)). own_of xs answers n ++ get_or rests n []) (sym all) ∙ merging.each n in
-    (many, λ n. by n (slice_get script.spaces n) refl (each n) many)
-  where
-    by : (n : ℕ) (r : Option (List ℕ × Limits)) → slice_get script.spaces n ≡ r →
-        own_of (steps_of script) answers n ++ get_or rests n [] ≡ get_or own n []
-        → length answers ≡ length (steps_of script) → IfSome r (λ space. IsTold space.1 (steps_of script) answers n)
-    by n None is each many = tt
-    by n (Some space) is each many =
-        let told = alone n (some_low script.spaces n space is) in
-        let none : length (get_or rests n []) ≡ 0
-        = omega (
-          arith,
-          ap (λ (r : List Answer). length r) each,
-          length-append (own_of (steps_of script) answers n)
-              (get_or rests n []),
-          many_of (steps_of script) answers n many,
-          told.0,
-        ) in
-        let same : own_of (steps_of script) answers n ≡ get_or own n []
-        = sym (append-nil (own_of (steps_of script) answers n))
-        ∙ ap (λ (r : List Answer). own_of (steps_of script) answers n ++ r) (sym (no_length (get_or rests n []) none))
-        ∙ each in
-        let here = rw is at told.1 in
-        own_told space.1 (steps_of script) answers n
-        (subst (λ (r : List Answer). IsToldAlone space.1 (mine (steps_of script) n) r) (sym same) here)
+    by : (b : Bool) → nat_le m k ≡ b →
+        (if b then Some from else position_from (λ (e : ℕ × Line). nat_le m e.0) (from + 1) es) ≡ None → Weaves m (from + 1) es →
+        Woven m ((k, s) ∷ steps_among es) own
+    by true is none rest = absurd (cc)
+    by false is none rest = found (leb-false m k is) none rest (own k) refl
+
+-- answers to steps are those to the lines, which are steps
+told_apart : (es : List (ℕ × Line)) (answers : List Answer) (n : ℕ) →
+    list_any (λ (e : ℕ × Line). not (is_step e.1)) es ≡ false →
+    answers_of es (map told.Answer answers) n ≡ map told.Answer (own_of (steps_among es) answers n)
+unfolding answers_of
+told_apart [] answers n only = refl
+told_apart ((k, lines.Step s) ∷ es) [] n only = refl
+told_apart ((k, lines.Step s) ∷ es) (a ∷ answers) n only =
+    let more = told_apart es answers n only in
+    elim (nat_eq k n) as (λ b. (if b then told.Answer a ∷ answers_of es (map told.Answer answers) n
+    else answers_of es (map told.Answer answers) n)
+    ≡ map told.Answer (if b then a ∷ own_of (steps_among es) answers n else own_of (steps_among es) answers n)) [
+      | true ↦ ap (λ (r : List EventAnswer). told.Answer a ∷ r) more
+      | false ↦ more
+    ]
+told_apart ((k, lines.Admit) ∷ es) answers n only = absurd (cc)
+told_apart ((k, lines.Retire) ∷ es) answers n only = absurd (cc)
+
+-- what each namespace is told alone, as answers to all lines
+module _ (script : Draft) (own : List (List EventAnswer)) (only : comes_and_goes script ≡ false)
+    (exist : first_stray (length script.spaces) script.steps ≡ None)
+    (alone : (n : ℕ) → n < length script.spaces → AreToldAlone script n (get_or own n [])) where
+  pub at_place : (n : ℕ) → (xs : List Answer) × (n < length script.spaces → (get_or own n [] ≡ map told.Answer xs) × IsPlayedAlone script n xs)
+  at_place n = elim (cases_lt n (length script.spaces)) [
+    | inl low ↦ let here = alone n low in (here.0, λ _. (here.1, here.2))
+    | inr past ↦ ([], λ low. absurd (omega (arith, low, past)))
+  ]
+
+  pub woven : Woven (length script.spaces) (steps_of script) (λ n. (at_place n).0)
+  woven = weave (length script.spaces) 0 script.steps (λ n. (at_place n).0) only exist (λ n low. ((at_place n).1 low).1.0)
+
+  told_each : (n : ℕ) (r : Option (List ℕ × Limits)) → slice_get script.spaces n ≡ r →
+      IfSome r (λ space. IsTold space.1 (steps_of script) woven.answers n)
+  told_each n None is = tt
+  told_each n (Some space) is =
+      let low = some_low script.spaces n space is in
+      let here = rw is at ((at_place n).1 low).1.1 in
+      own_told space.1 (steps_of script) woven.answers n
+      (subst (λ (r : List Answer). IsToldAlone space.1 (mine (steps_of script) n) r) (sym (woven.each n low)) here)
+
+  pub all_told : IsPlayed script woven.answers
+  all_told = (woven.many, λ n. told_each n (slice_get script.spaces n) refl)
+
+  pub all_run : (answers : List EventAnswer) × (length answers ≡ length script.steps) × AreApart script answers own
+      × IsPlayedFor script None answers
+  all_run =
+      let answers : List EventAnswer = map told.Answer woven.answers in (
+        answers,
+        length-map woven.answers (λ a. told.Answer a) ∙ woven.many ∙ many_steps script.steps only,
+        λ n low.
+            ((at_place n).1 low).0 ∙ ap (λ (r : List Answer). map told.Answer r) (sym (woven.each n low))
+            ∙ sym (told_apart script.steps woven.answers n only),
+        as_lines script None woven.answers answers only all_told refl,
+      )

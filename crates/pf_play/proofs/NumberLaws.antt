@@ -1,8 +1,8 @@
 -- A hub gives numbers only to those that it admits: what its house is by name.
 
-use Rattle.std.proofs.Common.{◌≡◌, ℕ, zero, suc, ◌+◌, ◌-◌, ◌<◌, ◌≤◌, Bool, true, false, List, [], ◌∷◌, ◌++◌, length}
+use Rattle.std.proofs.Common.{◌≡◌, ℕ, zero, suc, ◌+◌, ◌-◌, ◌<◌, ◌≤◌, true, List, [], ◌∷◌, ◌++◌, length}
 use Rattle.std.proofs.Common.{refl, ap, sym, ◌∙◌}
-use Rattle.std.proofs.Common.{subst, set, arith, inl, inr, length-append, length-set}
+use Rattle.std.proofs.Common.{subst, set, arith, inl, inr}
 use Rattle.std.specs.Prelude.{Option, Some, None, nat_lt, if◌then◌else◌}
 use Rattle.std.proofs.lemmas.Bool.{lt-ltb}
 use Rattle.pf_base.specs.Limits.{Limits}
@@ -14,14 +14,13 @@ use Rattle.pf_base.specs.declared.admission.EventAnswer.{EventAnswer}
 use Rattle.pf_base.specs.declared.admission.EventAnswer.TheVariants as told
 use Rattle.pf_base.specs.declared.step.Answer.TheVariants.{Done, NoMemory}
 use Rattle.pf_base.specs.declared.step.Step.{Step}
-use Rattle.pf_machine.specs.Houses.{House, Guest, Event, Turn, Stepping, Admitting, Retiring, Happens, MayWant}
+use Rattle.pf_machine.specs.Houses.{House, Guest, Turn, Stepping, Admitting, Retiring, Happens, MayWant}
 use Rattle.pf_machine.specs.Houses.{newcomer}
 use Rattle.pf_machine.specs.Houses.{step_turn, admit_turn, retire_turn, admit_fault, retire_fault, slack, given}
 use Rattle.pf_machine.specs.Houses.{number_living, reserved}
 use Rattle.pf_machine.specs.Machine.{step_of}
 use Rattle.pf_machine.specs.Numbered.{at, put_at, clear_at, sum_of, weight}
-use Rattle.pf_machine.proofs.NumberedLaws.{at_past}
-use Rattle.pf_play.specs.Houses.{keep_place, Falls}
+use Rattle.pf_play.specs.Houses.{keep_place}
 use Rattle.pf_play.specs.Numbers.{IsSpread, IsNamed, Follows, numbers_from}
 
 -- as many places by name as names, and no more numbers

@@ -1,15 +1,13 @@
 -- A script's lines in turn.
 
-use Rattle.std.proofs.Common.{◌≡◌, ℕ, zero, suc, ◌+◌, ◌<◌, ◌≤◌, true, false, List, [], ◌∷◌, ◌++◌, length, map, take}
+use Rattle.std.proofs.Common.{◌≡◌, ℕ, zero, suc, ◌+◌, ◌<◌, ◌≤◌, List, [], ◌∷◌, ◌++◌, length, map, take}
 use Rattle.std.proofs.Common.{refl, ap, sym, ◌∙◌}
 use Rattle.std.proofs.Common.{subst, arith}
-use Rattle.std.specs.Prelude.{Option, Some, None, IfSome, slice_get, slice_index_or}
+use Rattle.std.specs.Prelude.{Option, Some, None, IfSome, slice_get}
 use Rattle.std.proofs.lemmas.List.{map_push, length-map}
 use Rattle.pf_base.specs.Limits.{Limits}
 use Rattle.pf_base.specs.declared.admission.EventAnswer.{EventAnswer}
-use Rattle.pf_base.specs.declared.step.Answer.{Answer}
-use Rattle.pf_machine.specs.Houses.{House, Event, newcomer, steps_in, answers_in}
-use Rattle.pf_machine.specs.Events.{kept, replies}
+use Rattle.pf_machine.specs.Houses.{House, newcomer, steps_in, answers_in}
 use Rattle.pf_machine.specs.Runs.{Run}
 use Rattle.std.specs.Option.{option_map}
 use Rattle.pf_machine.specs.Numbered.{sum_of}

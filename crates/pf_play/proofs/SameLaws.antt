@@ -1,10 +1,7 @@
 -- Without want of memory what happens is a function of the house and of the events.
 
-use Rattle.std.proofs.Common.{◌≡◌, ℕ, ◌+◌, List, [], ◌∷◌, ap, sym, ◌∙◌, subst, arith, inl, inr, refl}
-use Rattle.pf_base.specs.declared.admission.AdmitFault.TheVariants as admission
+use Rattle.std.proofs.Common.{◌≡◌, List, [], ◌∷◌, ap, sym, ◌∙◌, subst, arith, inl, inr, refl}
 use Rattle.pf_base.specs.declared.admission.EventAnswer.{EventAnswer}
-use Rattle.pf_base.specs.declared.admission.EventAnswer.TheVariants as told
-use Rattle.pf_base.specs.declared.step.Answer.TheVariants.{NoMemory}
 use Rattle.pf_machine.specs.Houses.{House, Event, Turn, Stepping, Admitting, Retiring, Happens, Wants, turn_of}
 use Rattle.pf_play.specs.Houses.{Falls, Fall, keep_place}
 use Rattle.pf_play.specs.Plays.{nomem_in, nomem_of}

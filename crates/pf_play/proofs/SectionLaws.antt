@@ -1,6 +1,6 @@
 -- One name alone in a house is told what it is told among others, wherever these let it in.
 
-use Rattle.std.proofs.Common.{◌≡◌, ℕ, ◌<◌, [], ◌∷◌, ◌++◌, length, refl, sym, ◌∙◌}
+use Rattle.std.proofs.Common.{◌≡◌, ℕ, ◌<◌, [], ◌∷◌, length, refl, sym, ◌∙◌}
 use Rattle.std.proofs.Common.{subst, set, arith, length-set, length-append}
 use Rattle.std.specs.Prelude.{Option, Some, None}
 use Rattle.pf_base.specs.declared.admission.RetireFault.{RetireFault}
@@ -12,7 +12,7 @@ use Rattle.pf_machine.specs.Houses.{retire_fault, turn_of}
 use Rattle.pf_machine.specs.Machine.{step_of}
 use Rattle.pf_machine.specs.Numbered.{at}
 use Rattle.pf_machine.proofs.NumberedLaws.{at-put_same, at-put_other, at-push_old}
-use Rattle.std.specs.Prelude.{List, map, nat_eq, if◌then◌else◌}
+use Rattle.std.specs.Prelude.{List, map}
 use Rattle.std.proofs.Common.{ap, ◌+◌}
 use Rattle.std.proofs.lemmas.Bool.{ne_eqb, eq-eqb}
 use Rattle.pf_base.specs.declared.admission.EventAnswer.{EventAnswer}
@@ -22,7 +22,6 @@ use Rattle.pf_script.specs.Sound.{AreGiven}
 use Rattle.pf_script.specs.Text.{answers_of}
 use Rattle.pf_script.specs.declared.line.Line.{Line}
 use Rattle.pf_script.specs.declared.line.Line.TheVariants as lines
-use Rattle.std.specs.Prelude.{◌⊎◌}
 use Rattle.std.proofs.Common.{inl, inr, subst}
 use Rattle.std.proofs.lemmas.Bool.{cases_eq}
 use Rattle.pf_play.specs.Houses.{Falls, Fall, keep_place, said, said_of, limits_of_name}

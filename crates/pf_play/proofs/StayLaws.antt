@@ -1,6 +1,6 @@
 -- A script in which no namespace comes or goes: each line is a step, and it is answered as one.
 
-use Rattle.std.proofs.Common.{◌≡◌, ℕ, zero, suc, ◌+◌, ◌<◌, ◌≤◌, Bool, true, false, List, [], ◌∷◌, ◌++◌, length, map}
+use Rattle.std.proofs.Common.{◌≡◌, ℕ, zero, suc, ◌+◌, ◌<◌, ◌≤◌, Bool, true, false, List, [], ◌∷◌, length, map}
 use Rattle.std.proofs.Common.{refl, ap, sym, ◌∙◌}
 use Rattle.std.proofs.Common.{subst, arith, inl, inr, length-set}
 use Rattle.std.specs.Prelude.{Option, Some, None, IfSome, not, nat_eq, nat_lt, slice_get, take, if◌then◌else◌}
@@ -14,13 +14,13 @@ use Rattle.pf_base.specs.declared.admission.EventAnswer.TheVariants as told
 use Rattle.pf_base.specs.declared.step.Answer.{Answer}
 use Rattle.pf_base.specs.declared.step.Answer.TheVariants.{Done, NoMemory}
 use Rattle.pf_base.specs.declared.step.Step.{Step}
-use Rattle.pf_machine.specs.Houses.{House, Guest, Event, Turn, Stepping, newcomer, step_turn, steps_in, answers_in}
+use Rattle.pf_machine.specs.Houses.{House, Guest, Turn, Stepping, newcomer, step_turn, steps_in, answers_in}
 use Rattle.pf_machine.specs.Events.{mine, kept, replies, keep_step, keep_reply}
 use Rattle.pf_machine.specs.Machine.{step_of, may_want_memory}
 use Rattle.pf_machine.specs.Runs.{run_of, lone}
 use Rattle.pf_machine.specs.State.{opening}
 use Rattle.pf_machine.specs.Numbered.{at, put_at}
-use Rattle.pf_machine.proofs.NumberedLaws.{at-put_same, at-put_other, at_within}
+use Rattle.pf_machine.proofs.NumberedLaws.{at-put_same, at-put_other}
 use Rattle.pf_script.specs.Script.{Draft}
 use Rattle.pf_script.specs.Sound.{AreGiven, IsGiven, given}
 use Rattle.pf_script.specs.declared.line.Line.{Line}

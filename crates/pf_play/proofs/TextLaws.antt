@@ -1,6 +1,6 @@
 -- What a text depends on: without want of memory the answers to a namespace's steps are its lone machine's replies.
 
-use Rattle.std.proofs.Common.{◌≡◌, ℕ, zero, suc, ◌+◌, ◌<◌, List, [], ◌∷◌, ◌++◌, length, map, Option, Some, None}
+use Rattle.std.proofs.Common.{◌≡◌, ℕ, zero, suc, ◌+◌, List, [], ◌∷◌, ◌++◌, length, map, Option, Some, None}
 use Rattle.std.proofs.Common.{Bool, true, false, refl, ap, subst, sym, ◌∙◌, arith, append-nil, append_assoc}
 use Rattle.std.specs.Prelude.{Result, Ok, Err, nat_eq, not, bytes_eq, codes, decimal, slice_get, if◌then◌else◌}
 use Rattle.std.specs.List.{position_from, list_any}

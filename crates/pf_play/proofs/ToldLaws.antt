@@ -1,8 +1,8 @@
 -- What one name is told of a script's events: from its admission to its retirement, what its lone machine is.
 
-use Rattle.std.proofs.Common.{◌≡◌, ◌≢◌, ℕ, zero, suc, ◌+◌, ◌<◌, ◌≤◌, Bool, true, false, List, [], ◌∷◌, ◌++◌, length}
+use Rattle.std.proofs.Common.{◌≡◌, ◌≢◌, ℕ, zero, suc, ◌+◌, ◌<◌, ◌≤◌, true, List, [], ◌∷◌, ◌++◌, length}
 use Rattle.std.proofs.Common.{refl, ap, sym, ◌∙◌}
-use Rattle.std.proofs.Common.{subst, set, arith, inl, inr, length-append, length-set, append-nil}
+use Rattle.std.proofs.Common.{subst, arith, inl, inr, length-append, length-set, append-nil}
 use Rattle.std.specs.Prelude.{Option, Some, None, map, slice_get}
 use Rattle.std.proofs.lemmas.Bool.{cases_eq, cases_lt}
 use Rattle.pf_base.specs.Limits.{Limits}
@@ -15,7 +15,7 @@ use Rattle.pf_base.specs.declared.step.Answer.{Answer}
 use Rattle.pf_base.specs.declared.step.Answer.TheVariants.{Done, NoMemory}
 use Rattle.pf_base.specs.declared.step.Step.{Step}
 use Rattle.pf_machine.specs.Events.{kept, replies}
-use Rattle.pf_machine.specs.Houses.{House, Guest, Event, Turn, Stepping, Admitting, Retiring, Happens, MayWant}
+use Rattle.pf_machine.specs.Houses.{House, Guest, Event, Turn, Stepping, Admitting, Retiring, MayWant}
 use Rattle.pf_machine.specs.Houses.{IsLeft, newcomer}
 use Rattle.pf_machine.specs.Houses.{step_turn, admit_turn, retire_turn, turn_of, admit_fault, retire_fault, given}
 use Rattle.pf_machine.specs.Houses.{Wants}

@@ -10,6 +10,8 @@ use Rattle.std.specs.List.{All, list_any}
 use Rattle.std.specs.Option.{option_to_list}
 use Rattle.pf_base.specs.Limits.{Limits}
 use Rattle.pf_base.specs.declared.step.Step.{Step}
+use Rattle.pf_base.specs.declared.admission.EventAnswer.{EventAnswer}
+use Rattle.pf_base.specs.declared.admission.EventAnswer.TheVariants as told
 use Rattle.pf_base.specs.declared.step.Answer.{Answer}
 use Rattle.pf_machine.specs.Machine.{Answers, may_want_memory}
 use Rattle.pf_machine.specs.Queue.{Segment}
@@ -55,7 +57,7 @@ lines_are : (es : List (ℕ × Line)) (d : ℕ × Line) (n : ℕ) →
 lines_are es d n = lines_from es d 0 es n refl
 
 -- as many
-many_from : (i : ℕ) (es : List (ℕ × Line)) (n : ℕ) → length (lines_of es n) ≡ length (places_from i es n)
+pub many_from : (i : ℕ) (es : List (ℕ × Line)) (n : ℕ) → length (lines_of es n) ≡ length (places_from i es n)
 many_from i [] n = refl
 many_from i (e ∷ es) n =
     let more = many_from (i + 1) es n in
@@ -273,7 +275,7 @@ one_opened {Z} script z n limits workers only at_place is = rw is by
 
 -- there is a list of answers for each
 pub many_lists : {Z : Type 0} (passed : Passed) (script : Draft) (z : Z) (workers : List (OneWorker Z))
-    (own : List (List Answer)) →
+    (own : List (List EventAnswer)) →
     workers ≡ new_workers (configs_of z script.spaces) → AreWorked passed script workers own →
     length own ≡ length script.spaces
 many_lists passed script z workers own is worked =
@@ -281,7 +283,7 @@ many_lists passed script z workers own is worked =
     ∙ ap (λ ws. length ws) is ∙ many_workers 0 (configs_of z script.spaces) ∙ many_configs z script.spaces
 
 worked_from : {Z : Type 0} (passed : Passed) (script : Draft) (m : ℕ) (configs : List (Limits × Z))
-    (own : List (List Answer)) →
+    (own : List (List EventAnswer)) →
     AreWorked passed script (new_workers_from m configs) own → (i : ℕ) → i < length configs →
     IsWorked passed script (m + i) (get_or own i [])
 worked_from passed script m [] own worked i low = absurd (omega (arith, low))
@@ -296,7 +298,7 @@ worked_from passed script m (e ∷ es) (answers ∷ own) worked (suc i) low =
 
 -- at its place
 pub each_worked : {Z : Type 0} (passed : Passed) (script : Draft) (z : Z) (workers : List (OneWorker Z))
-    (own : List (List Answer)) →
+    (own : List (List EventAnswer)) →
     workers ≡ new_workers (configs_of z script.spaces) → AreWorked passed script workers own →
     (n : ℕ) → n < length script.spaces → IsWorked passed script n (get_or own n [])
 each_worked passed script z workers own is worked n low =
@@ -307,12 +309,14 @@ each_worked passed script z workers own is worked n low =
     (omega (arith, low, many_configs z script.spaces)))
 
 -- so the gate was told of each step
-pub worked_passed : (passed : Passed) (script : Draft) (n : ℕ) (answers : List Answer) →
+pub worked_passed : (passed : Passed) (script : Draft) (n : ℕ) (answers : List EventAnswer) →
     IsWorked passed script n answers → IsPassed passed script n
-worked_passed passed script n answers worked = subst (λ number. ArePassed passed n number) worked.0.0 worked.1
+worked_passed passed script n answers worked =
+    subst (λ number. ArePassed passed n number)
+    (ap (λ (xs : List EventAnswer). length xs) worked.0.1 ∙ length-map worked.0.0 (λ a. told.Answer a) ∙ worked.0.2.0) worked.1
 
 -- The last of what one worker alone is told is all that it is told
-alone_at : {Z : Type 0} (passed : Passed) (script : Draft) (worker : OneWorker Z) {V : Type 0} (f : V → List Answer) (own left : List V) (last : V)
+alone_at : {Z : Type 0} (passed : Passed) (script : Draft) (worker : OneWorker Z) {V : Type 0} (f : V → List EventAnswer) (own left : List V) (last : V)
     → AreWorked passed script (worker ∷ []) (map f own) → own ≡ left ++ last ∷ [] → IsWorked passed script worker.number (f last)
 alone_at passed script worker f [] left last worked is = absurd worked
 alone_at passed script worker f (v ∷ w ∷ more) left last worked is = absurd worked.1
@@ -322,7 +326,7 @@ alone_at passed script worker f (v ∷ []) [] last worked is =
 alone_at passed script worker f (v ∷ []) (x ∷ []) last worked is = absurd (cc)
 alone_at passed script worker f (v ∷ []) (x ∷ y ∷ more) last worked is = absurd (cc)
 
-pub alone_worked : {Z : Type 0} (passed : Passed) (script : Draft) (worker : OneWorker Z) (workers : List (OneWorker Z)) {V : Type 0} (f : V → List Answer) (own left : List V) (last : Option V) (v : V)
+pub alone_worked : {Z : Type 0} (passed : Passed) (script : Draft) (worker : OneWorker Z) (workers : List (OneWorker Z)) {V : Type 0} (f : V → List EventAnswer) (own left : List V) (last : Option V) (v : V)
     → workers ≡ worker ∷ [] → AreWorked passed script workers (map f own) → own ≡ left ++ option_to_list last → last ≡ Some v → IsWorked passed script worker.number (f v)
 alone_worked passed script worker workers f own left last v one worked is some =
     alone_at passed script worker f own left v (subst (λ ws. AreWorked passed script ws (map f own)) one worked) (is ∙ ap (λ o. left ++ option_to_list o) some)

@@ -7,7 +7,7 @@ use Rattle.pf_base.specs.Limits.{Limits}
 use Rattle.pf_base.specs.declared.step.Step.{Step}
 use Rattle.pf_base.specs.declared.step.Reply.{Reply}
 use Rattle.pf_base.specs.declared.step.Answer.{Answer}
-use Rattle.pf_base.specs.declared.step.Answer.TheVariants.{Done, NoMemory}
+use Rattle.pf_base.specs.declared.step.Answer.TheVariants.{NoMemory}
 use Rattle.pf_machine.specs.Events.{mine, kept, replies, keep_step, keep_reply}
 use Rattle.pf_machine.specs.Machine.{may_want_memory}
 use Rattle.pf_machine.specs.Queue.{Segment}

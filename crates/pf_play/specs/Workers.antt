@@ -2,6 +2,8 @@
 
 use Rattle.std.specs.Prelude.{◌≡◌, ℕ, false, ◌<◌, List, length, map, slice_get, Option, Some, None}
 use Rattle.std.specs.List.{AllZip}
+use Rattle.pf_base.specs.declared.admission.EventAnswer.{EventAnswer}
+use Rattle.pf_base.specs.declared.admission.EventAnswer.TheVariants as told
 use Rattle.pf_base.specs.declared.step.Answer.{Answer}
 use Rattle.pf_hub.specs.Opening.{new_tenant}
 use Rattle.pf_machine.specs.Events.{mine}
@@ -25,12 +27,16 @@ IsOpened script worker =
 abbrev pub ArePassed : Passed → ℕ → ℕ → Type 0
 ArePassed passed n number = (place : ℕ) → place < number → passed n place
 
+-- these answers to lines are those to the steps of namespace n, which is told what its lone machine is
+abbrev pub AreToldAlone : Draft → ℕ → List EventAnswer → Type 0
+AreToldAlone script n all = (answers : List Answer) × (all ≡ map told.Answer answers) × IsPlayedAlone script n answers
+
 -- namespace n is told what its lone machine is, and the gate was told of each of its steps
-abbrev pub IsWorked : Passed → Draft → ℕ → List Answer → Type 0
-IsWorked passed script n answers = IsPlayedAlone script n answers × ArePassed passed n (length answers)
+abbrev pub IsWorked : Passed → Draft → ℕ → List EventAnswer → Type 0
+IsWorked passed script n all = AreToldAlone script n all × ArePassed passed n (length all)
 
 -- so it is of each worker
-abbrev pub AreWorked : {Z : Type 0} → Passed → Draft → List (OneWorker Z) → List (List Answer) → Type 0
+abbrev pub AreWorked : {Z : Type 0} → Passed → Draft → List (OneWorker Z) → List (List EventAnswer) → Type 0
 AreWorked passed script workers own =
     AllZip (λ worker answers. IsWorked passed script worker.number answers) workers own
 

@@ -1,19 +1,24 @@
 ghost use Rattle.std.specs.Prelude.{false, ◌≡◌, ◌+◌, ◌<◌, ◌≤◌, ◌⊎◌, ◌++◌, ℕ, List, [], ◌∷◌, length, map, take, slice_get, Option, Some, None, IfOk};
-ghost use Rattle.std.specs.Prelude.{not};
-ghost use Rattle.std.specs.List.{list_any};
+ghost use Rattle.std.specs.Prelude.{not, nat_eq, slice_index_or, if◌then◌else◌};
+ghost use Rattle.std.specs.List.{All, list_any};
 ghost use Rattle.std.specs.Vec.{vec_capacity};
+ghost use Rattle.std.specs.declared.alloc.Global.{Global};
+ghost use Rattle.std.specs.declared.vec.Vec.{Vec};
+ghost use Rattle.pf_script.specs.declared.told.Told.{Told};
 ghost use Rattle.pf_base.specs.Limits.{Limits};
 ghost use Rattle.pf_machine.specs.Houses.{House, Stepping, Admitting, Retiring};
 ghost use Rattle.pf_machine.specs.Numbered.{at};
 ghost use Rattle.pf_hub.specs.Opening.{new_hub, new_allocators, limits_of, allocators_of, first_fault};
 ghost use Rattle.pf_hub.specs.Tenants.{house_of};
 ghost use Rattle.pf_script.specs.Sound.{given};
+ghost use Rattle.pf_play.specs.Answered.{IsRun, HaveRoom};
 ghost use Rattle.pf_play.specs.Filled.{AreFilled};
 ghost use Rattle.pf_play.specs.Houses.{said_of, lone_limits};
 ghost use Rattle.pf_play.specs.Numbers.{IsNamed, Follows, numbers_from};
 ghost use Rattle.pf_play.specs.Played.{IsChosen, comes_and_goes, is_step};
-ghost use Rattle.pf_play.specs.Plays.{IsPlayedFor, nomem_of};
+ghost use Rattle.pf_play.specs.Plays.{nomem_of};
 
+use crate::answered::Answered;
 use linked_list_allocator::LocalHeap;
 use pf_base::{Config, EventAnswer, RetireFault, Step};
 use pf_frame::{Frame, PoolFault};
@@ -207,6 +212,35 @@ fn tell<A: Allocator + Clone>(
     }
 }
 
+/// Room for the answers to the lines of each name.
+fn no_answers(alloc: Global, script: &Script) -> Result<Vec<Vec<Told>>, AllocError>
+    ensures many { IfOk result (λ own. length own.items ≡ length script.now.spaces) }
+    ensures none { IfOk result (λ own. All (λ v. v.items ≡ []) own.items) }
+    ensures room { IfOk result (λ own. HaveRoom script.now own.items) }
+{
+    let mut own = Vec::with_capacity(alloc, script.count_spaces())?;
+    for ns in 0..script.count_spaces() {
+        own.push_reserved(Vec::with_capacity(alloc, script.places(ns).len())?);
+    }
+    Ok(own)
+}
+
+/// Puts an answer behind those to the lines of the name at this place, where there is room.
+fn keep(own: &mut Vec<Vec<Told>>, ns: usize, answer: Told)
+    requires exists { ns < length own.old.items }
+    requires room { (d : Vec Told Global) →
+        length (slice_index_or own.old.items ns d).items < vec_capacity (slice_index_or own.old.items ns d) }
+    ensures many { length own.new.items ≡ length own.old.items }
+    ensures kept { (n : ℕ) (d : Vec Told Global) → n < length own.old.items →
+        (slice_index_or own.new.items n d).items ≡ (if nat_eq ns n
+        then (slice_index_or own.old.items n d).items ++ answer ∷ []
+        else (slice_index_or own.old.items n d).items) }
+    ensures room { (n : ℕ) (d : Vec Told Global) → n < length own.old.items →
+        vec_capacity (slice_index_or own.new.items n d) ≡ vec_capacity (slice_index_or own.old.items n d) }
+{
+    own[ns].push_reserved(answer);
+}
+
 /// Runs all of a script's lines over these frames, whatever they hold. Each namespace's files stand in memory of the
 /// allocator at its place.
 fn play_all<A: Allocator + Copy>(
@@ -214,24 +248,24 @@ fn play_all<A: Allocator + Copy>(
     script: &Script,
     trees: &[A],
     frames: Vec<Frame>,
-) -> Result<Vec<Told>, AllocError>
+) -> Result<Answered, AllocError>
     requires frames { length frames.items ≡ script.now.frames }
     requires trees { length trees.now ≡ length script.now.spaces }
-    ensures { IfOk result (λ answers. IsPlayedFor script.now None answers.items) }
+    ensures { IfOk result (IsRun script.now None) }
 {
     let limits = script.configs(alloc)?;
     let configs = with_trees(alloc, limits.as_slice(), trees)?;
     let mut hub = hub_of(alloc, configs, frames)?;
     let mut numbers = first_numbers(alloc, script.opening(), script.count_spaces())?;
     let lines = script.steps();
-    let mut answers = Vec::with_capacity(alloc, lines.len())?;
+    let mut own = no_answers(alloc, script)?;
     for event in lines {
         let ns = event.0;
         let tree = trees[ns as usize];
         let answer = tell(&mut hub, &mut numbers, script, ns, ns, &event.1, tree);
-        answers.push_reserved(answer);
+        keep(&mut own, ns as usize, answer);
     }
-    Ok(answers)
+    Ok(Answered::All(own))
 }
 
 /// Runs all of a script's lines, with all files in the global allocator's memory.
@@ -239,9 +273,9 @@ fn play_all_in_global(
     alloc: Global,
     script: &Script,
     frames: Vec<Frame>,
-) -> Result<Vec<Told>, AllocError>
+) -> Result<Answered, AllocError>
     requires { length frames.items ≡ script.now.frames }
-    ensures { IfOk result (λ answers. IsPlayedFor script.now None answers.items) }
+    ensures { IfOk result (IsRun script.now None) }
 {
     let trees = Vec::from_elem(alloc, alloc, script.count_spaces())?;
     play_all(alloc, script, trees.as_slice(), frames)
@@ -253,9 +287,9 @@ fn play_all_in_heaps(
     script: &Script,
     bytes: u32,
     frames: Vec<Frame>,
-) -> Result<Vec<Told>, AllocError>
+) -> Result<Answered, AllocError>
     requires { length frames.items ≡ script.now.frames }
-    ensures { IfOk result (λ answers. IsPlayedFor script.now None answers.items) }
+    ensures { IfOk result (IsRun script.now None) }
 {
     let heaps = heaps_of(alloc, script.count_spaces(), bytes)?;
     let trees: Vec<&LocalHeap> = heaps.iter().collect(alloc)?;
@@ -295,10 +329,10 @@ fn play_alone<A: Allocator + Copy>(
     ns: u32,
     tree: A,
     frames: Vec<Frame>,
-) -> Result<Vec<Told>, AllocError>
+) -> Result<Answered, AllocError>
     requires frames { length frames.items ≡ script.now.frames }
     requires exists { ns < length script.now.spaces }
-    ensures { IfOk result (λ answers. IsPlayedFor script.now (Some ns) answers.items) }
+    ensures { IfOk result (IsRun script.now (Some ns)) }
 {
     let configs = lone_configs(alloc, script, ns, tree)?;
     let count = configs.len();
@@ -312,7 +346,7 @@ fn play_alone<A: Allocator + Copy>(
             answers.push(answer)?;
         }
     }
-    Ok(answers)
+    Ok(Answered::Alone(ns, answers))
 }
 
 /// The same, with its files in a heap of this many bytes.
@@ -322,10 +356,10 @@ fn play_alone_in_heap(
     ns: u32,
     bytes: u32,
     frames: Vec<Frame>,
-) -> Result<Vec<Told>, AllocError>
+) -> Result<Answered, AllocError>
     requires frames { length frames.items ≡ script.now.frames }
     requires exists { ns < length script.now.spaces }
-    ensures { IfOk result (λ answers. IsPlayedFor script.now (Some ns) answers.items) }
+    ensures { IfOk result (IsRun script.now (Some ns)) }
 {
     let heap = LocalHeap::new(alloc, bytes as usize)?;
     play_alone(alloc, script, ns, &heap, frames)
@@ -339,10 +373,10 @@ pub fn play(
     only: Option<u32>,
     tree_heap: Option<u32>,
     frames: Vec<Frame>,
-) -> Result<Vec<Told>, AllocError>
+) -> Result<Answered, AllocError>
     requires frames { length frames.items ≡ script.now.frames }
     requires chosen { IsChosen script.now only }
-    ensures { IfOk result (λ answers. IsPlayedFor script.now only answers.items) }
+    ensures { IfOk result (IsRun script.now only) }
 {
     match (only, tree_heap) {
         (None, None) => play_all_in_global(alloc, script, frames),

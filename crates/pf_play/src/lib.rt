@@ -1,6 +1,7 @@
 //! The replayer: a script is read and judged, its steps are run, and the text of the answers is written.
 #![tactic(auto)]
 
+mod answered;
 mod command_line;
 mod engine;
 pub mod laws;

@@ -2,8 +2,8 @@ ghost use Rattle.std.specs.Prelude.{◌≡◌, false, IfOk, IfErr, OnErr, option
 ghost use Rattle.pf_play.specs.Played.{IsChosen};
 ghost use Rattle.pf_play.specs.Replays.{IsReplayed, IsFault, Names, NamesNone};
 
-use crate::engine::{Options, count_nomem, frames_of, play};
-use pf_script::{Refusal, Script, ScriptFault, Sink, Source, WriteFault, print_told, read_script};
+use crate::engine::{Options, frames_of, play};
+use pf_script::{Refusal, Script, ScriptFault, Sink, Source, WriteFault, read_script};
 use std::alloc::{AllocError, Global};
 use thiserror::Error;
 
@@ -113,8 +113,8 @@ pub fn replay<R: Source, W: Sink>(
         return Err(ReplayFault::NoSuchName);
     };
     let frames = frames_of(alloc, script.frames(), options.fill)?;
-    let answers = play(alloc, &script, only, options.tree_heap, frames)?;
-    let nomem = count_nomem(answers.as_slice());
-    print_told(writer, &script, answers.as_slice(), only)?;
+    let answered = play(alloc, &script, only, options.tree_heap, frames)?;
+    let nomem = answered.count_nomem(&script);
+    answered.print(writer, &script)?;
     Ok(Replayed { nomem })
 }

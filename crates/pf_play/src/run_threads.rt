@@ -2,10 +2,10 @@ ghost use Rattle.std.specs.Prelude.{◌≡◌, true, None, IfOk, IfErr, IsOk, op
 ghost use Rattle.pf_play.specs.Replays.{IsReplayed, IsFault};
 ghost use Rattle.pf_play.specs.Workers.{IsGated};
 
-use crate::engine::{Options, comes_and_goes, count_nomem, frames_of};
+use crate::engine::{Options, comes_and_goes, frames_of};
 use crate::run::{ReplayFault, Replayed, chosen};
 use crate::threads::play_threads;
-use pf_script::{Sink, Source, print_told, read_script};
+use pf_script::{Sink, Source, read_script};
 use pf_worker::Gate;
 use std::alloc::Global;
 use std::sync::Wait;
@@ -44,8 +44,8 @@ pub fn replay_threads<T: Threads + Wait + Sync, R: Source, W: Sink, G: Gate + Sy
         return Err(ReplayFault::NoSuchName);
     };
     let frames = frames_of(alloc, script.frames(), options.fill)?;
-    let answers = play_threads(rt, alloc, &script, only, frames, gate)?;
-    let nomem = count_nomem(answers.as_slice());
-    print_told(writer, &script, answers.as_slice(), only)?;
+    let answered = play_threads(rt, alloc, &script, only, frames, gate)?;
+    let nomem = answered.count_nomem(&script);
+    answered.print(writer, &script)?;
     Ok(Replayed { nomem })
 }

@@ -1,16 +1,16 @@
 //! A script's namespaces on threads of their own, over a depot that they share.
 
-ghost use Rattle.std.specs.Prelude.{◌≡◌, ◌≤◌, ◌<◌, ℕ, false, [], length, map, slice_index_or, None, IfOk, IsOk};
+ghost use Rattle.std.specs.Prelude.{◌≡◌, ◌≤◌, ◌<◌, ℕ, false, [], length, map, slice_index_or, Some, None, IfOk, IsOk};
 ghost use Rattle.std.specs.List.{All};
 ghost use Rattle.pf_base.specs.declared.TheConstants.{MAX_FRAMES, MAX_NAMESPACES};
 ghost use Rattle.pf_machine.specs.Events.{IsDone};
 ghost use Rattle.pf_machine.specs.Machine.{Answers, may_want_memory};
-ghost use Rattle.pf_base.specs.declared.admission.EventAnswer.TheVariants as events;
-ghost use Rattle.pf_play.specs.Played.{IsPlayed, IsPlayedAlone, IsRunFor, IsChosen, comes_and_goes};
-ghost use Rattle.pf_play.specs.Plays.{IsPlayedFor};
-ghost use Rattle.pf_play.specs.Workers.{IsOpened, IsPassed, IsPassedFor, IsWorked, AreWorked};
+ghost use Rattle.pf_play.specs.Answered.{IsRun};
+ghost use Rattle.pf_play.specs.Played.{IsChosen, comes_and_goes};
+ghost use Rattle.pf_play.specs.Workers.{IsOpened, IsPassed, IsPassedFor, IsWorked, AreWorked, AreToldAlone};
 ghost use Rattle.pf_worker.specs.Workers.{new_worker};
 
+use crate::answered::Answered;
 use pf_base::{Answer, Config, EventAnswer, MAX_NAMESPACES, Step};
 use pf_depot::DepotBook;
 use pf_frame::{Frame, PoolFault};
@@ -22,7 +22,6 @@ use std::sync::ledger::{Blank, Ledger};
 use std::sync::{Mutex, Wait};
 use std::thread;
 use std::thread::{Promise, PromisedHandle, Scope, Threads};
-use std::vec::IntoIter;
 
 // A worker's step, of which the gate was told.
 fn step_told<R: Wait, G: Gate, C: Ledger, H: Ledger>(
@@ -54,7 +53,7 @@ fn make_steps<R: Wait, G: Gate, C: Ledger, H: Ledger>(
     book: &Mutex<DepotBook<C, H>>,
     gate: &G,
     worker: &mut Worker<Global, C, H>,
-) -> Result<Vec<Answer>, AllocError>
+) -> Result<Vec<Told>, AllocError>
     requires { IsOpened script.now worker.old }
     ensures { IfOk result (λ answers. IsWorked (G.passed gate.now) script.now worker.old.number answers.items) }
 {
@@ -68,7 +67,8 @@ fn make_steps<R: Wait, G: Gate, C: Ledger, H: Ledger>(
         let Line::Step(step) = &steps[*at as usize].1 else {
             unreachable!()
         };
-        answers.push_reserved(step_told(rt, book, gate, place, worker, step));
+        let answer = step_told(rt, book, gate, place, worker, step);
+        answers.push_reserved(Told::new(EventAnswer::Answer(answer)));
     }
     Ok(answers)
 }
@@ -81,7 +81,7 @@ fn work<R: Wait, G: Gate, C: Ledger, H: Ledger>(
     book: &Mutex<DepotBook<C, H>>,
     gate: &G,
     worker: Worker<Global, C, H>,
-) -> Result<Vec<Answer>, AllocError>
+) -> Result<Vec<Told>, AllocError>
     requires { IsOpened script.now worker }
     ensures { IfOk result (λ answers. IsWorked (G.passed gate.now) script.now worker.number answers.items) }
 {
@@ -90,7 +90,7 @@ fn work<R: Wait, G: Gate, C: Ledger, H: Ledger>(
 }
 
 /// What a thread ends with.
-type Ended = Result<Vec<Answer>, AllocError>;
+type Ended = Result<Vec<Told>, AllocError>;
 
 /// What a thread promises: its namespace is told what the lone machine is, and the gate was told of each of its steps.
 #[derive(Clone, Copy)]
@@ -156,7 +156,7 @@ fn work_each<
     book: &'s Mutex<DepotBook<C, H>>,
     gate: &'s G,
     workers: Vec<Worker<Global, C, H>>,
-) -> Result<Vec<Vec<Answer>>, AllocError>
+) -> Result<Vec<Vec<Told>>, AllocError>
     requires { All (IsOpened script.now) workers.items }
     ensures { IfOk result (λ own. AreWorked (G.passed gate.now) script.now workers.items (map (λ v. v.items) own.items)) }
 {
@@ -185,49 +185,31 @@ fn work_all<
     book: &Mutex<DepotBook<C, H>>,
     gate: &G,
     workers: Vec<Worker<Global, C, H>>,
-) -> Result<Vec<Vec<Answer>>, AllocError>
+) -> Result<Vec<Vec<Told>>, AllocError>
     requires { All (IsOpened script.now) workers.items }
     ensures { IfOk result (λ own. AreWorked (G.passed gate.now) script.now workers.items (map (λ v. v.items) own.items)) }
 {
     thread::scope(
         thread::scope_env(),
         rt,
-        |scope| -> Result<Vec<Vec<Answer>>, AllocError>
+        |scope| -> Result<Vec<Vec<Told>>, AllocError>
             requires { All (IsOpened script.now) workers.items }
             ensures { IfOk result (λ own. AreWorked (G.passed gate.entry.now) script.entry.now workers.items (map (λ v. v.items) own.items)) }
         { work_each(rt, alloc, scope, script, book, gate, workers) },
     )
 }
 
-/// The answers of all namespaces, in the order of the script's steps.
-fn merge(alloc: Global, script: &Script, own: Vec<Vec<Answer>>) -> Result<Vec<Answer>, AllocError>
+/// The answers of all namespaces, of each its own.
+fn all_of(script: &Script, own: Vec<Vec<Told>>) -> Answered
     requires only { comes_and_goes script.now ≡ false }
     requires number { length own.items ≡ length script.now.spaces }
     requires alone { (n : ℕ) → n < length script.now.spaces
-        → IsPlayedAlone script.now n (slice_index_or (map (λ v. v.items) own.items) n []) }
-    ensures { IfOk result (λ answers. IsPlayed script.now answers.items) }
+        → AreToldAlone script.now n (slice_index_or (map (λ v. v.items) own.items) n []) }
+    ensures { IsRun script.now None result }
 {
-    let steps = script.steps();
-    let mut answers = Vec::with_capacity(alloc, steps.len())?;
-    let mut left = left_of(alloc, own)?;
-    for event in steps {
-        let Some(answer) = left[event.0 as usize].next() else {
-            unreachable!()
-        };
-        answers.push_reserved(answer);
-    }
-    Ok(answers)
-}
-
-// Each of these lists, to be taken from its front.
-fn left_of(alloc: Global, own: Vec<Vec<Answer>>) -> Result<Vec<IntoIter<Answer>>, AllocError>
-    ensures { IfOk result (λ left. map (λ i. i.rest.items) left.items ≡ map (λ v. v.items) own.items) }
-{
-    let mut left = Vec::with_capacity(alloc, own.len())?;
-    for answers in own {
-        left.push_reserved(answers.into_iter());
-    }
-    Ok(left)
+    // The namespace of each step is one of these.
+    let _steps = script.steps();
+    Answered::All(own)
 }
 
 /// Limits, each with an allocator for its namespace's files: the global one.
@@ -251,14 +233,14 @@ fn play_all<
     gate: &G,
     credits: Blank,
     held: Blank,
-) -> Result<Vec<Answer>, AllocError>
+) -> Result<Answered, AllocError>
     requires names { (credits.name ≡ C.name) × (held.name ≡ H.name) }
     requires cut { (credits.parts ≡ C.parts) × (held.parts ≡ H.parts) }
     requires parts { (MAX_NAMESPACES ≤ credits.parts) × (MAX_NAMESPACES ≤ held.parts) }
     requires only { comes_and_goes script.now ≡ false }
     requires whole { script.now.opening ≡ length script.now.spaces }
     requires frames { length frames.items ≡ script.now.frames }
-    ensures played { IfOk result (λ answers. IsPlayed script.now answers.items) }
+    ensures played { IfOk result (IsRun script.now None) }
     ensures passed { IsOk result → IsPassedFor (G.passed gate.now) script.now None }
 {
     let limits = script.configs(alloc)?;
@@ -270,7 +252,7 @@ fn play_all<
     };
     let book = Mutex::new(book);
     let own = work_all(rt, alloc, script, &book, gate, workers)?;
-    merge(alloc, script, own)
+    Ok(all_of(script, own))
 }
 
 /// The worker of one namespace alone over these frames, which are enough for it.
@@ -315,7 +297,7 @@ fn play_alone<
     gate: &G,
     credits: Blank,
     held: Blank,
-) -> Result<Vec<Answer>, AllocError>
+) -> Result<Answered, AllocError>
     requires names { (credits.name ≡ C.name) × (held.name ≡ H.name) }
     requires cut { (credits.parts ≡ C.parts) × (held.parts ≡ H.parts) }
     requires parts { (MAX_NAMESPACES ≤ credits.parts) × (MAX_NAMESPACES ≤ held.parts) }
@@ -323,7 +305,7 @@ fn play_alone<
     requires whole { script.now.opening ≡ length script.now.spaces }
     requires frames { length frames.items ≡ script.now.frames }
     requires exists { ns < length script.now.spaces }
-    ensures played { IfOk result (λ answers. IsPlayedAlone script.now ns answers.items) }
+    ensures played { IfOk result (IsRun script.now (Some ns)) }
     ensures passed { IsOk result → IsPassed (G.passed gate.now) script.now ns }
 {
     let config = script.config(ns as usize);
@@ -331,7 +313,7 @@ fn play_alone<
     let workers = vec![in alloc; worker]?;
     let book = Mutex::new(book);
     let mut own = work_all(rt, alloc, script, &book, gate, workers)?;
-    Ok(own.pop().unwrap())
+    Ok(Answered::Alone(ns, own.pop().unwrap()))
 }
 
 /// The same for all steps, or for those of one namespace that is chosen.
@@ -349,7 +331,7 @@ fn play_for<
     gate: &G,
     credits: Blank,
     held: Blank,
-) -> Result<Vec<Answer>, AllocError>
+) -> Result<Answered, AllocError>
     requires names { (credits.name ≡ C.name) × (held.name ≡ H.name) }
     requires cut { (credits.parts ≡ C.parts) × (held.parts ≡ H.parts) }
     requires parts { (MAX_NAMESPACES ≤ credits.parts) × (MAX_NAMESPACES ≤ held.parts) }
@@ -357,23 +339,13 @@ fn play_for<
     requires whole { script.now.opening ≡ length script.now.spaces }
     requires frames { length frames.items ≡ script.now.frames }
     requires chosen { IsChosen script.now only }
-    ensures played { IfOk result (λ answers. IsRunFor script.now only answers.items) }
+    ensures played { IfOk result (IsRun script.now only) }
     ensures passed { IsOk result → IsPassedFor (G.passed gate.now) script.now only }
 {
     match only {
         None => play_all::<R, G, C, H>(rt, alloc, script, frames, gate, credits, held),
         Some(ns) => play_alone::<R, G, C, H>(rt, alloc, script, ns, frames, gate, credits, held),
     }
-}
-
-// Answers to steps as answers to a script's lines.
-fn as_told(alloc: Global, answers: Vec<Answer>) -> Result<Vec<Told>, AllocError>
-    ensures { IfOk result (λ told. told.items ≡ map (λ a. events.Answer a) answers.items) }
-{
-    answers
-        .into_iter()
-        .map(|answer| Told::new(EventAnswer::Answer(answer)))
-        .collect(alloc)
 }
 
 /// Runs the steps of a script in which no namespace comes or goes over these frames, or those of one namespace alone: each
@@ -385,16 +357,16 @@ pub fn play_threads<R: Threads + Wait + Sync, G: Gate + Sync>(
     only: Option<u32>,
     frames: Vec<Frame>,
     gate: &G,
-) -> Result<Vec<Told>, AllocError>
+) -> Result<Answered, AllocError>
     requires only { comes_and_goes script.now ≡ false }
     requires whole { script.now.opening ≡ length script.now.spaces }
     requires frames { length frames.items ≡ script.now.frames }
     requires chosen { IsChosen script.now only }
-    ensures played { IfOk result (λ answers. IsPlayedFor script.now only answers.items) }
+    ensures played { IfOk result (IsRun script.now only) }
     ensures passed { IsOk result → IsPassedFor (G.passed gate.now) script.now only }
 {
     let most = MAX_NAMESPACES as u64;
-    let answers = play_for::<R, G, Brand, Brand>(
+    play_for::<R, G, Brand, Brand>(
         rt,
         alloc,
         script,
@@ -403,7 +375,5 @@ pub fn play_threads<R: Threads + Wait + Sync, G: Gate + Sync>(
         gate,
         Blank::new(most),
         Blank::new(most),
-    )?;
-    let told = as_told(alloc, answers)?;
-    Ok(told)
+    )
 }

@@ -1,4 +1,4 @@
-use Rattle.std.proofs.Common.{rules, ◌≡◌, ◌+◌, ap, sym, ◌∙◌, arith, length, length-append, [], ◌∷◌, ◌++◌, Some}
+use Rattle.std.proofs.Common.{rules, sym}
 use Rattle.pf_play.proofs.NumberLaws.{numbers_more}
 use Rattle.pf_play.proofs.engine.first_numbers.Goals as goal
 

@@ -1,13 +1,14 @@
 -- The name's lines are told as those of the one name that there is, and the others are passed by.
-use Rattle.std.proofs.Common.{rules, ◌≡◌, ◌<◌, ◌≤◌, ◌+◌, ℕ, List, [], ◌∷◌, ◌++◌, length, take, drop, ap, sym, ◌∙◌, arith}
+use Rattle.std.proofs.Common.{rules, ◌≡◌, ◌+◌, List, [], ◌∷◌, ◌++◌, length, take, drop, ap, sym, ◌∙◌, arith, refl}
+use Rattle.std.specs.Prelude.{Some}
 use Rattle.std.proofs.lemmas.List.{length-map}
 use Rattle.std.proofs.Math.ListN.{drop_of_length-le}
 use Rattle.pf_base.specs.Limits.{Limits}
 use Rattle.pf_hub.specs.Opening.{new_hub, limits_of}
 use Rattle.pf_hub.specs.Tenants.{house_of}
-use Rattle.pf_script.specs.declared.line.Line.{Line}
 use Rattle.pf_play.specs.Houses.{alone, limits_of_name}
 use Rattle.pf_play.specs.Numbers.{numbers_from}
+use Rattle.pf_play.proofs.AnsweredLaws.{answered}
 use Rattle.pf_play.proofs.EngineLaws.{take_all, next_of, taken_of}
 use Rattle.pf_play.proofs.PlayLaws.{given_next, housed}
 use Rattle.pf_play.proofs.StayLaws.{settled_alone}
@@ -94,5 +95,10 @@ returns g c =
     take_all lines c.loop-event-test.false ∙ c.steps-lines.ensures.steps in
     let none : drop c.loop-event.event-index lines ≡ [] = drop_of_length-le lines c.loop-event-test.false in
     let running = rw (all, none) at c.loop-event.invariant.running in
-    settled_alone script c.args.ns c.loop-event.answers.items (housed (alone script c.args.ns) _ _ _ running)
-    (rw c.steps-lines.ensures.steps at c.steps-lines.ensures.known) c.requires.exists
+    let answers = c.loop-event.answers.items in
+    let played = settled_alone script c.args.ns answers (housed (alone script c.args.ns) _ _ _ running)
+    (rw c.steps-lines.ensures.steps at c.steps-lines.ensures.known) c.requires.exists in (
+      answers,
+      (refl, refl, answered script (Some c.args.ns) answers c.requires.exists played),
+      played,
+    )

@@ -1,5 +1,5 @@
 -- What the hub does by number is what happens by name.
-use Rattle.std.proofs.Common.{sym, ◌∙◌}
+use Rattle.std.proofs.Common.{◌∙◌}
 use Rattle.pf_base.specs.declared.admission.EventAnswer.TheVariants as told
 use Rattle.pf_hub.specs.Tenants.{house_of}
 use Rattle.pf_hub.proofs.HouseLemmas.{retired_happens, kept_happens}

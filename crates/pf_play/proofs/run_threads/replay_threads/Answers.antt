@@ -1,23 +1,35 @@
 use Rattle.std.proofs.lemmas.Result.{err_from_is_err_and}
-use Rattle.std.proofs.Common.{true, sym, subst, ◌∙◌}
-use Rattle.pf_script.specs.Text.{IsAnswered}
-use Rattle.pf_play.proofs.AnsweredLaws.{answered}
-use Rattle.pf_play.proofs.EngineLaws.{cut_short}
+use Rattle.std.proofs.Common.{true, refl, sym, ◌∙◌}
+use Rattle.pf_play.proofs.EngineLaws.{cut_short, told_whole}
 use Rattle.pf_play.proofs.run_threads.replay_threads.Goals as goal
 
-pub print_told-requires : goal.print_told-requires
-print_told-requires g c =
-    subst (λ xs. IsAnswered c.in_ok-script.script xs c.in-Ok.only) (sym c.as_slice-2.ensures.value)
-    (answered c.in_ok-script.script c.in-Ok.only c.in_ok-answers.answers.items c.in-Ok.ensures.exists c.in_ok-answers.ensures.played)
+pub count_nomem-nomem-requires : goal.count_nomem-nomem-requires
+count_nomem-nomem-requires g c =
+    let run = c.in_ok-answered.ensures.played in (c.in-Ok.only, run.0, run.1)
 
-pub returns-in_err-print_told-clause-fault : goal.returns-in_err-print_told-clause-fault
-returns-in_err-print_told-clause-fault g c =
-    let p = err_from_is_err_and c.from_residual-in_err-print_told.result c.from_residual-in_err-print_told.ensures.1 in
+pub print-requires : goal.print-requires
+print-requires g c = let run = c.in_ok-answered.ensures.played in (c.in-Ok.only, run.0, run.1)
+
+pub returns-clause-played : goal.returns-clause-played
+returns-clause-played g c =
     let read = c.in_ok-script.ensures.read in
+    let run = c.in_ok-answered.ensures.played in (
+      read.0,
+      read.1,
+      told_whole true _ _ _ _ _ _ _ _ read.2 (λ e. sym c.comes_and_goes.ensures.comes ∙ c.if-comes_and_goes.false)
+          c.in-Ok.ensures.names run.2
+          (c.in_ok-print.ensures.written c.in-Ok.only run.0 run.1)
+          (c.count_nomem-nomem.ensures c.in-Ok.only run.0 run.1),
+    )
+
+pub returns-in_err-print-clause-fault : goal.returns-in_err-print-clause-fault
+returns-in_err-print-clause-fault g c =
+    let p = err_from_is_err_and c.from_residual-in_err-print.result c.from_residual-in_err-print.ensures.1 in
+    let read = c.in_ok-script.ensures.read in
+    let run = c.in_ok-answered.ensures.played in
     rw (p.1, p.2) (
       read.0,
       read.1,
       cut_short true _ _ _ _ _ _ _ _ read.2 (λ e. sym c.comes_and_goes.ensures.comes ∙ c.if-comes_and_goes.false)
-          c.in-Ok.ensures.names c.in_ok-answers.ensures.played c.as_slice-2.ensures.value
-          c.in_err-print_told.ensures.cut,
+          c.in-Ok.ensures.names run.2 refl (c.in_err-print.ensures.cut c.in-Ok.only run.0 run.1),
     )

@@ -1,4 +1,7 @@
-use Rattle.std.proofs.Common.{rules, ◌≡◌, ◌<◌, ◌≤◌, length, sym, ap, ◌∙◌, subst, arith, below_more, ℕ, List, get_or}
+use Rattle.std.proofs.Common.{rules, ◌≡◌, ◌<◌, ◌≤◌, [], ◌∷◌, ◌++◌, length, refl, sym, ap, ◌∙◌, subst, arith, below_more, ℕ, List, get_or}
+use Rattle.std.proofs.lemmas.List.{map_push}
+use Rattle.pf_base.specs.declared.admission.EventAnswer.{EventAnswer}
+use Rattle.pf_base.specs.declared.admission.EventAnswer.TheVariants as told
 use Rattle.std.specs.Prelude.{false, not, slice_index}
 use Rattle.std.specs.List.{list_any}
 use Rattle.pf_play.specs.Played.{is_step}
@@ -13,8 +16,9 @@ use Rattle.pf_play.proofs.threads.make_steps.Goals as goal
 pub loop-at-init : goal.loop-at-init
 loop-at-init g c = record {
   passed = λ place low. absurd (omega (arith, low));
-  works = works_none c.args.script.now c.args.worker.now c.in_ok-answers.answers.items c.requires
-      c.in_ok-answers.ensures.items;
+  own = [];
+  told = c.in_ok-answers.ensures.items;
+  works = works_none c.args.script.now c.args.worker.now [] c.requires refl;
   many = search rules;
   room = search rules;
 }
@@ -65,15 +69,18 @@ loop-at-preserved g c =
     = ap (λ (es : List (ℕ × Line)). (get_or es at e).1) (sym c.steps-steps.ensures.steps) ∙ c.in-Step.is in
     let passed = g.G.Gate.passed c.args.gate.now in
     let placed : c.len-place.result ≡ c.loop-at.at-index = omega (arith, c.loop-at.answers.ok.0) in
-    let told = subst (λ place. passed n place) placed
+    let gated = subst (λ place. passed n place) placed
     (subst (λ m. passed m c.len-place.result) c.number-ns.ensures c.pass.ensures) in
     record {
-      passed = below_more _ _ c.loop-at.invariant.passed told;
-      works = rw c.push_reserved.ensures.items
-          (works_on c.args.script.now n c.loop-at.at-index e c.loop-at.answers.items c.step_told.result c.loop-at.worker
-          c.step_told.new.worker at step c.requires.0 c.loop-at.invariant.works low same_at here
-          c.step_told.ensures.number c.step_told.ensures.limits c.step_told.ensures.answers
-          c.step_told.ensures.succeeds);
+      passed = below_more _ _ c.loop-at.invariant.passed gated;
+      own = c.loop-at.invariant.own ++ c.step_told-answer.result ∷ [];
+      told = rw (c.push_reserved.ensures.items, c.new.ensures)
+          (ap (λ (xs : List EventAnswer). xs ++ told.Answer c.step_told-answer.result ∷ []) c.loop-at.invariant.told
+          ∙ sym (map_push told.Answer c.loop-at.invariant.own c.step_told-answer.result));
+      works = works_on c.args.script.now n c.loop-at.at-index e c.loop-at.invariant.own c.step_told-answer.result
+          c.loop-at.worker c.step_told-answer.new.worker at step c.requires.0 c.loop-at.invariant.works low same_at here
+          c.step_told-answer.ensures.number c.step_told-answer.ensures.limits c.step_told-answer.ensures.answers
+          c.step_told-answer.ensures.succeeds;
       many = search rules;
       room = search rules;
     }
@@ -82,10 +89,10 @@ pub returns : goal.returns
 returns g c =
     let at_place : c.places-places.result.now ≡ places_of c.args.script.now.steps c.args.worker.now.number
     = c.places-places.ensures ∙ ap (λ m. places_of c.args.script.now.steps m) c.number-ns.ensures in
-    let all = works_all c.args.script.now c.args.worker.now.number c.loop-at.at-index c.loop-at.answers.items
+    let all = works_all c.args.script.now c.args.worker.now.number c.loop-at.at-index c.loop-at.invariant.own
     c.loop-at.worker c.requires.0 c.loop-at.invariant.works
     (subst (λ (ps : List ℕ). length ps ≤ c.loop-at.at-index) at_place c.loop-at-test.false) in (
-      all,
+      (c.loop-at.invariant.own, c.loop-at.invariant.told, all),
       subst (λ number. ArePassed (g.G.Gate.passed c.args.gate.now) c.args.worker.now.number number)
           (sym c.loop-at.invariant.many) c.loop-at.invariant.passed,
     )

@@ -4,7 +4,7 @@ use Rattle.std.specs.declared.alloc.Global.{Global}
 use Rattle.std.specs.declared.vec.Vec.{Vec}
 use Rattle.std.proofs.lemmas.List.{length-map}
 use Rattle.pf_base.specs.Limits.{Limits}
-use Rattle.pf_base.specs.declared.step.Answer.{Answer}
+use Rattle.pf_script.specs.declared.told.Told.{Told}
 use Rattle.pf_worker.specs.Workers.{new_workers}
 use Rattle.pf_play.proofs.EngineLaws.{all_taken}
 use Rattle.pf_play.proofs.WorkLaws.{configs_of, all_opened, many_lists, each_worked, worked_passed}
@@ -20,20 +20,20 @@ work_all-requires-after_bounds g c κs within =
     ∙ ap new_workers (c.in_ok-configs.ensures ∙ ap (λ (ls : List Limits). map (λ l. (l, c.args.alloc)) ls) limits) in
     all_opened c.args.script.now c.args.alloc c.in-Ok.opened.1.items c.requires.only workers
 
-pub merge-requires-clause-number : goal.merge-requires-clause-number
-merge-requires-clause-number g c =
+pub all_of-requires-clause-number : goal.all_of-requires-clause-number
+all_of-requires-clause-number g c =
     let limits : c.as_slice.result.now ≡ map (λ s. s.1) c.args.script.now.spaces = c.as_slice.ensures.value
     ∙ c.in_ok-limits.ensures.limits
     ∙ ap (λ (ss : List (List ℕ × Limits)). map (λ s. s.1) ss) (all_taken c.args.script.now.spaces c.args.script.now.opening c.requires.whole) in
     let workers : c.in-Ok.opened.1.items ≡ new_workers (configs_of c.args.alloc c.args.script.now.spaces)
     = c.in-Ok.ensures.2
     ∙ ap new_workers (c.in_ok-configs.ensures ∙ ap (λ (ls : List Limits). map (λ l. (l, c.args.alloc)) ls) limits) in
-    sym (length-map c.in_ok-own.own.items (λ (v : Vec Answer Global). v.items))
+    sym (length-map c.in_ok-own.own.items (λ (v : Vec Told Global). v.items))
     ∙ many_lists (g.G.Gate.passed c.args.gate.now) c.args.script.now c.args.alloc c.in-Ok.opened.1.items
     (map (λ v. v.items) c.in_ok-own.own.items) workers c.in_ok-own.ensures
 
-pub merge-requires-clause-alone : goal.merge-requires-clause-alone
-merge-requires-clause-alone g c =
+pub all_of-requires-clause-alone : goal.all_of-requires-clause-alone
+all_of-requires-clause-alone g c =
     let limits : c.as_slice.result.now ≡ map (λ s. s.1) c.args.script.now.spaces = c.as_slice.ensures.value
     ∙ c.in_ok-limits.ensures.limits
     ∙ ap (λ (ss : List (List ℕ × Limits)). map (λ s. s.1) ss) (all_taken c.args.script.now.spaces c.args.script.now.opening c.requires.whole) in
@@ -53,6 +53,6 @@ returns-clause-passed g c =
     = c.in-Ok.ensures.2
     ∙ ap new_workers (c.in_ok-configs.ensures ∙ ap (λ (ls : List Limits). map (λ l. (l, c.args.alloc)) ls) limits) in
     let passed = g.G.Gate.passed c.args.gate.now in
-    let own = map (λ (v : Vec Answer Global). v.items) c.in_ok-own.own.items in
+    let own = map (λ (v : Vec Told Global). v.items) c.in_ok-own.own.items in
     λ ok n low. worked_passed passed c.args.script.now n (get_or own n [])
     (each_worked passed c.args.script.now c.args.alloc c.in-Ok.opened.1.items own workers c.in_ok-own.ensures n low)
