@@ -1,15 +1,15 @@
 -- How many slashes the parts of a text have, and what stands before the first.
-use Rattle.std.proofs.Common.{◌≡◌, ℕ, zero, suc, ◌+◌, ◌-◌, ◌*◌, ◌<◌, ◌≤◌, Bool, true, false, not, List, [], ◌∷◌, ◌++◌, length, take, drop, map, replicate, nat_eq, refl, sym, ap, ◌∙◌, subst, arith, cond, append_assoc, Bor}
+use Rattle.std.proofs.Common.{◌≡◌, ℕ, zero, suc, ◌+◌, ◌-◌, ◌*◌, ◌<◌, ◌≤◌, true, false, not, List, [], ◌∷◌, ◌++◌, length, take, drop, map, replicate, nat_eq, refl, sym, ap, ◌∙◌, subst, arith, cond, append_assoc, Bor}
 use Rattle.std.specs.List.{count_by, prefix_len, position_or_len, slice_split, onto_first}
 use Rattle.std.specs.Prelude.{filter}
 use Rattle.std.specs.Simd.Lanes.{mask_l}
 use Rattle.std.proofs.Math.Seq.{drop-cons}
 use Rattle.std.proofs.lemmas.List.{drop-replicate, length-drop, take_all}
 use Rattle.std.proofs.lemmas.List.Elements.{filter-append}
-use Rattle.std.proofs.lemmas.List.Splits.{slice_split_first}
-use Rattle.std.proofs.lemmas.List.Sums.{sum_by-append, prefix_len-le-length}
+use Rattle.std.proofs.lemmas.List.Splits.{slice_split_first, length-slice_split}
+use Rattle.std.proofs.lemmas.List.Sums.{sum_by-append, sum_by-cons, prefix_len-le-length, count_by-le-length, length-filter}
 use Rattle.pf_machine.specs.FileMap.{Name, Path}
-use Rattle.pf_machine.specs.Paths.{is_component}
+use Rattle.pf_machine.specs.Paths.{is_component, components}
 use Rattle.pf_tree.specs.Subtrees.{path_of}
 
 abbrev pub count : List ℕ → ℕ
@@ -81,3 +81,18 @@ module _ (ns new : List (Bor Name)) (rest name behind : Name) (k : ℕ) (all : P
       let whole : name ≡ rest = is_name ∙ take_all k rest gone in
       let one : slice_split (λ b. nat_eq b 47) rest ≡ name ∷ [] = lone rest (omega (arith, at, gone, most)) ∙ ap (λ l. l ∷ []) (sym whole) in
       put ∙ ap (λ l. path_of ns ++ filter is_component l) (sym one) ∙ so
+
+-- between slashes alone is no name
+pub slashes_alone : (path : Name) → count path ≡ length path → length (components path) ≤ 0
+slashes_alone [] all = omega arith
+slashes_alone (b ∷ path) all =
+    elim (nat_eq b 47) as (λ s. cond s 1 0 + count path ≡ suc (length path) → length (filter is_component (cond s ([] ∷ slice_split (λ x. nat_eq x 47) path) (onto_first b (slice_split (λ x. nat_eq x 47) path)))) ≤ 0) [
+      | true ↦ λ same. slashes_alone path (omega (arith, same))
+      | false ↦ λ same. absurd (omega (arith, same, count_by-le-length (λ x. nat_eq x 47) path))
+    ] (sym (sum_by-cons (λ x. cond (nat_eq x 47) 1 0) b path) ∙ all)
+
+-- no more names than one more than slashes
+pub at_most : (path : Name) → length (components path) ≤ count path + 1
+at_most path =
+    let pieces = slice_split (λ b. nat_eq b 47) path in
+    omega (arith, length-filter is_component pieces, count_by-le-length is_component pieces, length-slice_split (λ b. nat_eq b 47) path)

@@ -1,10 +1,6 @@
 -- What is refused before a walk, test by test.
-use Rattle.std.proofs.Common.{◌≡◌, ℕ, List, Option, length, map, sym, ap, ◌∙◌, subst}
-use Rattle.std.proofs.lemmas.Iterator.{YieldsList, items_from_drains}
-use Rattle.std.proofs.lemmas.Iterator.Consumers.{YieldsList-at}
-use Rattle.std.specs.Iterator.{Drains}
-use Rattle.std.specs.Result.{MatchResult}
-use Rattle.std.specs.Prelude.{Bool, Result, false, ◌||◌, ◌&&◌, nat_eq, nat_lt, Ok}
+use Rattle.std.proofs.Common.{◌≡◌, ℕ, List, length, sym, ap, ◌∙◌}
+use Rattle.std.specs.Prelude.{Bool, false, ◌||◌, ◌&&◌, nat_eq, nat_lt, Ok}
 use Rattle.std.specs.List.{list_any}
 use Rattle.pf_machine.specs.Refusals.{◌>>◌, refuse_if}
 use Rattle.pf_machine.specs.FileMap.{Name}
@@ -25,10 +21,3 @@ all_pass bs ns zero empty long cut names =
     ∙ ap (λ b. refuse_if (b || long_names (components bs)) ENAMETOOLONG >> Ok (cut_words bs (components bs))) long
     ∙ ap (λ l. refuse_if (long_names l) ENAMETOOLONG >> Ok (cut_words bs l)) (sym cut)
     ∙ ap (λ b. refuse_if b ENAMETOOLONG >> Ok (cut_words bs ns)) names
-
--- what an `extend` took that found memory, which is all of what its iterator gives
-pub all_taken : {S A B E : Type 0} {steps : S → Option A → S → Type 0} {v : A → B} {it s : S} {all : List B} (xs : List A) (Q : E → Type 0) (r : Result (Unit {0}) E) (x : Unit {0}) → r ≡ Ok x
-    → MatchResult r (λ _. Drains steps it xs) Q → it ≡ s → YieldsList steps v s all → map v xs ≡ all
-all_taken {S} {A} {B} {E} {steps} {v} {it} {s} {all} xs Q r x ok m same road =
-    let d = subst (λ q. MatchResult q (λ _. Drains steps it xs) Q) ok m in
-    items_from_drains xs (d.1.0, d.1.1, λ _. (d.0, d.1.2)) (YieldsList-at same road)

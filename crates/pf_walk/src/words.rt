@@ -26,12 +26,14 @@ pub struct Words<'a> {
 
 // How many names a path has at most: none where it has slashes alone, and else one more than slashes.
 fn most_names(path: &[u8]) -> usize
-    ensures { result ≤ length path.now + 1 }
+    ensures enough { length (components path.now) ≤ result }
+    ensures most { result ≤ length path.now + 1 }
 {
-    if path.iter().all(|byte| *byte == b'/') {
+    let slashes = slashes(path);
+    if slashes == path.len() {
         return 0;
     }
-    slashes(path).saturating_add(1)
+    slashes + 1
 }
 
 // Puts a name behind those before it, unless it is empty.
