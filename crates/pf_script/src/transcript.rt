@@ -199,8 +199,8 @@ pub fn print_told<W: Sink>(
     print_either(writer, script, Answers::Short(answers), only)
 }
 
-/// `print` of all answers, where those to the steps of each namespace stand side by side: each is read once, from front to
-/// back, and not with the answers of the other namespaces between.
+/// `print` of all answers, where those to the steps of each namespace stand side by side: each is read once, from front
+/// to back, and not with the answers of the other namespaces between.
 pub fn print_apart<W: Sink>(
     writer: &mut W,
     script: &Script,

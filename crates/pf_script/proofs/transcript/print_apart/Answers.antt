@@ -1,9 +1,8 @@
-use Rattle.std.proofs.Common.{◌≡◌, List, map, subst, ◌∙◌}
+use Rattle.std.proofs.Common.{map, subst, ◌∙◌}
 use Rattle.std.specs.Prelude.{OnOk, OnErr}
 use Rattle.std.specs.declared.alloc.Global.{Global}
 use Rattle.std.specs.declared.vec.Vec.{Vec}
 use Rattle.std.proofs.lemmas.List.{length-map}
-use Rattle.pf_base.specs.declared.admission.EventAnswer.{EventAnswer}
 use Rattle.pf_script.specs.declared.told.Told.{Told}
 use Rattle.pf_script.specs.Ports.{IsWritten, IsCut}
 use Rattle.pf_script.proofs.PrinterPut.{ended_well, cut_off_by}
