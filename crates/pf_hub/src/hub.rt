@@ -17,6 +17,9 @@ use std::marker::Model;
 
 mod coming;
 pub mod events;
+mod transfers;
+
+pub use transfers::write_over;
 
 /// Many namespaces over one pool of frames: a depot has the free ones, and each namespace the others on loan, as a
 /// value of its own.

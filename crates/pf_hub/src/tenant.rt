@@ -5,7 +5,7 @@ ghost use Rattle.pf_depot.specs.Loans.{loans_live};
 ghost use Rattle.pf_hub.specs.Stepped.{Lodges};
 ghost use Rattle.pf_tables.specs.Owns.{Owns};
 
-use crate::hub::step_over;
+use crate::hub::{step_over, write_over};
 use pf_base::{Answer, Step};
 use pf_depot::{Depot, Loans};
 use pf_space::Placed;
@@ -35,5 +35,23 @@ impl<A: Allocator + Clone> Tenant<A> {
         ensures unchanged { result ≡ Answer.NoMemory → (self.new ≡ self.old) × (depot.new ≡ depot.old) }
     {
         step_over(&mut self.placed, depot, &mut self.loans, step)
+    }
+
+    /// The step that writes these bytes, likewise.
+    #[inline(always)]
+    pub(crate) fn write_from(
+        &mut self,
+        depot: &mut Depot,
+        pid: u32,
+        fd: u32,
+        bytes: &[u8],
+    ) -> Answer
+        requires covered { IsCovered (loans_live self.old.loans) (free_of depot.old)
+            (frames_of depot.old - free_of depot.old) }
+        requires owns { Owns (loans_live self.old.loans) self.old.placed.space }
+        ensures lodges { Lodges depot.old depot.new self.old self.new (Step.Write pid fd bytes.now) result }
+        ensures unchanged { result ≡ Answer.NoMemory → (self.new ≡ self.old) × (depot.new ≡ depot.old) }
+    {
+        write_over(&mut self.placed, depot, &mut self.loans, pid, fd, bytes)
     }
 }

@@ -106,4 +106,23 @@ impl<A: Allocator + Clone> Placed<A> {
     {
         self.space.step(door, step)
     }
+
+    /// The step that writes these bytes, as `Space::write_from` says. The files stay with the same allocator.
+    #[inline(always)]
+    pub fn write_from<F: Frames>(&mut self, door: &mut F, pid: u32, fd: u32, bytes: &[u8]) -> Answer
+        requires fact { F.fact door.old }
+        requires owns { Owns (F.live door.old) self.old.space }
+        ensures fact { F.fact door.new }
+        ensures rest { F.rest door.new ≡ F.rest door.old }
+        ensures owns { Owns (F.live door.new) self.new.space }
+        ensures limits { self.new.space.limits ≡ self.old.space.limits }
+        ensures answers { Answers self.old.space.limits result (meaning (F.live door.old) self.old.space.state)
+            (Step.Write pid fd bytes.now) (meaning (F.live door.new) self.new.space.state) }
+        ensures unchanged { result ≡ Answer.NoMemory → (self.new ≡ self.old) × (door.new ≡ door.old) }
+        ensures succeeds { may_want_memory self.old.space.limits (meaning (F.live door.old) self.old.space.state)
+            (Step.Write pid fd bytes.now) ≡ false → IsDone result }
+        ensures allocator { self.new.allocator ≡ self.old.allocator }
+    {
+        self.space.write_from(door, pid, fd, bytes)
+    }
 }

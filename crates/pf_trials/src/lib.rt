@@ -19,4 +19,6 @@ mod replay;
 #[cfg(test)]
 mod scripts;
 #[cfg(test)]
+mod slices;
+#[cfg(test)]
 mod spaces;

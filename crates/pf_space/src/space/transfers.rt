@@ -1,16 +1,17 @@
 //! Bytes into pipes, out of them and between them: write(2), read(2), tee(2) and splice(2), as pipe(7) says of O_NONBLOCK. A
 //! call that would wait parks, or is told EAGAIN where the step or a description says nonblocking.
 
-ghost use Rattle.std.specs.Prelude.{◌≡◌, ◌≢◌, Err, IsOk, not, ◌&&◌, ◌||◌, false, true};
+ghost use Rattle.std.specs.Prelude.{◌≡◌, ◌≢◌, ◌≤◌, Err, IsOk, not, ◌&&◌, ◌||◌, false, true};
 ghost use Rattle.pf_machine.specs.Calls.{Reading, Writing, Bringing};
 ghost use Rattle.pf_machine.specs.State.{ready};
-ghost use Rattle.pf_machine.specs.Machine.{call};
-ghost use Rattle.pf_tables.specs.Meaning.{meaning};
+ghost use Rattle.pf_machine.specs.Machine.{Answers, call, may_want_memory};
+ghost use Rattle.pf_machine.specs.Events.{IsDone};
+ghost use Rattle.pf_tables.specs.Meaning.{meaning, occupied, AreEmpty};
 ghost use Rattle.pf_tables.specs.Owns.{Owns};
 ghost use Rattle.pf_tables.specs.Told.{Told, tried_call, is_nonblocking_at, write_ended, Parks};
 
 use super::Space;
-use pf_base::{ByteString, Crossing, Errno, Fault, Progress, Reply, Step};
+use pf_base::{Answer, ByteString, Crossing, Errno, Fault, Progress, Reply, Step};
 use pf_frame::Frames;
 use pf_parked::{Call, UnfinishedWrite};
 use std::alloc::Allocator;
@@ -28,6 +29,37 @@ fn write_ended(progress: Progress) -> Result<Reply, Fault>
 // A step and its resume share `write_on`, `read_on` and `cross`. They are inlined in both, or a reply goes through memory
 // at each call above them: a write and a read of a byte through a hub then take 97 ns in place of 56.
 impl<A: Allocator + Clone> Space<A> {
+    /// The step that writes these bytes into the pipe that a process's descriptor names (write(2)): its answer and what it
+    /// leaves are those of `step` with a `Step::Write` of them. A copy of them is made only where the write waits.
+    #[inline(always)]
+    pub fn write_from<F: Frames>(&mut self, door: &mut F, pid: u32, fd: u32, bytes: &[u8]) -> Answer
+        requires fact { F.fact door.old }
+        requires owns { Owns (F.live door.old) self.old }
+        // The door is left as it is to be, and the live frames are those of this namespace.
+        ensures fact { F.fact door.new }
+        ensures rest { F.rest door.new ≡ F.rest door.old }
+        ensures owns { Owns (F.live door.new) self.new }
+
+        // The step is the lone machine's, or want of memory, which has changed nothing.
+        ensures limits { self.new.limits ≡ self.old.limits }
+        ensures answers { Answers self.old.limits result (meaning (F.live door.old) self.old.state)
+            (Step.Write pid fd bytes.now) (meaning (F.live door.new) self.new.state) }
+        ensures unchanged { result ≡ Answer.NoMemory → (self.new ≡ self.old) × (door.new ≡ door.old) }
+        ensures succeeds { may_want_memory self.old.limits (meaning (F.live door.old) self.old.state)
+            (Step.Write pid fd bytes.now) ≡ false → IsDone result }
+
+        // No more frames are live than slots in use, and none only where no pipe has a byte.
+        ensures spread { (F.live door.new).held ≤ occupied self.new.state }
+        ensures none { (F.live door.new).held ≡ 0 → AreEmpty (F.live door.new) self.new.state }
+    {
+        self.tables.settled();
+        match self.write(door, pid, fd, bytes) {
+            Ok(reply) => Answer::Done(reply),
+            Err(Fault::Errno(errno)) => Answer::Done(Reply::Err(errno)),
+            Err(Fault::NoMemory) => Answer::NoMemory,
+        }
+    }
+
     /// Writes bytes into the pipe that a process's descriptor names (write(2)).
     pub(super) fn write<F: Frames>(
         &mut self,

@@ -1,0 +1,143 @@
+//! Writes of bytes that stand in a slice: each is told what the same write as a step is told, and leaves the same.
+
+use crate::scripts::spawn;
+use pf_base::{Answer, ByteString, Config, Errno, Reply, Step};
+use pf_frame::{Frame, PoolFault};
+use pf_hub::Hub;
+use std::alloc::{AllocError, Global};
+use std::test::Fail;
+
+// One namespace writes by steps, and the other one from slices.
+const BY_STEPS: u32 = 0;
+
+const FROM_SLICES: u32 = 1;
+
+// A byte more than a write may have.
+const TOO_MANY: usize = 1_048_577;
+
+// A write: the process and its descriptor, how many bytes, and what it is told.
+type Write = (u32, u32, usize, Reply);
+
+// What goes in, then what is refused, and then what waits, with a part that goes in and with none.
+fn all_writes() -> [Write; 12] {
+    [
+        (1, 1, 0, Reply::Num(0)),
+        (1, 1, 1, Reply::Num(1)),
+        (1, 1, 14, Reply::Num(14)),
+        (1, 1, 15, Reply::Num(15)),
+        (2, 1, 4_096, Reply::Num(4_096)),
+        (1, 1, TOO_MANY, Reply::Err(Errno::EINVAL)),
+        (1, 0, TOO_MANY, Reply::Err(Errno::EBADF)),
+        (1, 2, 5, Reply::Err(Errno::EBADF)),
+        (4, 1, 5, Reply::Err(Errno::ESRCH)),
+        (1, 1, 65_536, Reply::Parked),
+        (1, 1, 5, Reply::Err(Errno::EBUSY)),
+        (2, 1, 5, Reply::Parked),
+    ]
+}
+
+// So many frames of zeros.
+fn frames(alloc: Global, count: u32) -> Result<Vec<Frame>, AllocError> {
+    let mut frames = Vec::new(alloc);
+    for _ in 0..count {
+        frames.push(Frame::filled(alloc, 0)?)?;
+    }
+    Ok(frames)
+}
+
+// A hub of the two namespaces.
+fn opened(alloc: Global, limits: Config) -> Result<Hub<Global>, PoolFault> {
+    let Ok(frames) = frames(alloc, 64) else {
+        return Err(PoolFault::NoMemory);
+    };
+    let Ok(configs) = Vec::from_elem(alloc, (limits, alloc), 2) else {
+        return Err(PoolFault::NoMemory);
+    };
+    Hub::new(alloc, frames, configs)
+}
+
+// Whether both namespaces are told the same of these steps, and memory suffices.
+fn alike(hub: &mut Hub<Global>, steps: &[Step]) -> bool {
+    for step in steps {
+        if !hub.lives(BY_STEPS) {
+            return false;
+        }
+        let told = hub.step(BY_STEPS, step);
+        if !hub.lives(FROM_SLICES) || told == Answer::NoMemory {
+            return false;
+        }
+        if hub.step(FROM_SLICES, step) != told {
+            return false;
+        }
+    }
+    true
+}
+
+// Whether both are told this of a write.
+fn writes(
+    alloc: Global,
+    hub: &mut Hub<Global>,
+    write: Write,
+    all: &[u8],
+) -> Result<bool, AllocError> {
+    let (pid, fd, count, reply) = write;
+    let bytes = &all[..count.min(all.len())];
+    let told = Answer::Done(reply);
+    let step = Step::Write {
+        pid,
+        fd,
+        payload: ByteString::from_slice(alloc, bytes)?,
+    };
+    if !hub.lives(BY_STEPS) || hub.step(BY_STEPS, &step) != told {
+        return Ok(false);
+    }
+    Ok(hub.lives(FROM_SLICES) && hub.write_from(FROM_SLICES, pid, fd, bytes) == told)
+}
+
+// Whether all writes are told what stands there, and the bytes come out alike.
+fn plays(alloc: Global, hub: &mut Hub<Global>) -> Result<bool, AllocError> {
+    let all: Vec<u8> = (0..TOO_MANY).map(|i| (i % 251) as u8).collect(alloc)?;
+    let (pipe, fork) = (
+        Step::Pipe {
+            pid: 1,
+            nonblock: false,
+        },
+        Step::Fork { pid: 1 },
+    );
+    if !alike(hub, &[spawn(), pipe, fork, Step::Fork { pid: 1 }]) {
+        return Ok(false);
+    }
+    for write in all_writes() {
+        if !writes(alloc, hub, write, &all)? {
+            return Ok(false);
+        }
+    }
+    let read = Step::Read {
+        pid: 3,
+        fd: 0,
+        n: 100_000,
+    };
+    let again = read.copy(alloc)?;
+    Ok(alike(
+        hub,
+        &[
+            read,
+            Step::Resume { pid: 1 },
+            Step::Resume { pid: 2 },
+            again,
+        ],
+    ))
+}
+
+#[test]
+fn a_write_from_a_slice_is_the_step(rt: HostRuntime) -> Result<(), Fail> {
+    let limits = Config::new(
+        32,
+        Config::DEFAULT_SOFT,
+        Config::DEFAULT_HARD,
+        Config::DEFAULT_MAX,
+    )?;
+    let mut hub = opened(rt.alloc(), limits)?;
+    assert!(rt; plays(rt.alloc(), &mut hub) == Ok(true));
+    Ok(())
+}
