@@ -133,7 +133,8 @@ int64_t sag_pipe(sag_hub *h, uint32_t ns, uint32_t pid, bool nonblock, uint32_t 
 /* Reads at most `count` bytes, and tells how many; 0 at the end. (read(2), pipe(7)) */
 int64_t sag_read(sag_hub *h, uint32_t ns, uint32_t pid, uint32_t fd, void *into, size_t count);
 
-/* Writes bytes, and tells how many. At most 1,048,576 in a call. No signal is sent with -EPIPE. (write(2), pipe(7)) */
+/* Writes bytes, and tells how many. At most 1,048,576 in a call. No signal is sent with -EPIPE. Memory of the heap is
+ * wanted only where it waits, for a copy of the bytes. (write(2), pipe(7)) */
 int64_t sag_write(sag_hub *h, uint32_t ns, uint32_t pid, uint32_t fd, const void *bytes, size_t count);
 
 /* Copies at most n bytes of the pipe `source` to the end of the pipe `sink`, and tells how many. `nonblock` is

@@ -1,12 +1,13 @@
 //! Steps on pipes.
-ghost use Rattle.std.specs.Prelude.{◌≡◌, true, length};
+ghost use Rattle.std.specs.Prelude.{◌≡◌, Bool, true, length};
 ghost use Rattle.pf_base.specs.declared.step.Step.TheVariants as steps;
 ghost use Rattle.pf_c.specs.Handle.{hub_of};
-ghost use Rattle.pf_c.specs.Told.{Told, Filled, Paired, fds_of, fds_or, fits_in_place};
+ghost use Rattle.pf_c.specs.Told.{Answered, IsAnswered, Told, Filled, Paired, fds_of, fds_or};
 
 use crate::handle::SagHub;
-use crate::told::{answer_of, code_of, copied, fill, told, told_wanted};
+use crate::told::{answer_of, code_of, fill, told};
 use pf_base::{Answer, Reply, Step};
+use pf_hub::Hub;
 use std::alloc::Global;
 
 // The descriptors of an answer, the one for reading first.
@@ -57,7 +58,30 @@ pub extern "C" fn sag_read(h: &mut SagHub, ns: u32, pid: u32, fd: u32, into: &mu
     code_of(&answer)
 }
 
-/// write(2).
+// A write of a namespace's process, if there is one of this number.
+#[inline(always)]
+fn write_in(hub: &mut Hub<Global>, ns: u32, pid: u32, fd: u32, bytes: &[u8]) -> Option<Answer>
+    ensures { (fits : Bool) → Answered hub.old hub.new ns (steps.Write pid fd bytes.now) fits result }
+{
+    if !hub.lives(ns) {
+        return None;
+    }
+    Some(hub.write_from(ns, pid, fd, bytes))
+}
+
+// The same of a handle, where it is open.
+#[inline(always)]
+fn write_of(h: &mut SagHub, ns: u32, pid: u32, fd: u32, bytes: &[u8]) -> Option<Answer>
+    ensures { (fits : Bool) → IsAnswered (hub_of h.old) (hub_of h.new) ns (steps.Write pid fd bytes.now) fits
+        result }
+{
+    if !h.is_open {
+        return None;
+    }
+    write_in(h.place.hub(), ns, pid, fd, bytes)
+}
+
+/// write(2). The bytes are copied only where the write waits.
 #[unsafe(no_mangle)]
 pub extern "C" fn sag_write(
     alloc: Global,
@@ -67,12 +91,12 @@ pub extern "C" fn sag_write(
     fd: u32,
     bytes: &[u8],
 ) -> i64
-    ensures { Told (hub_of h.old) (hub_of h.new) ns (steps.Write pid fd bytes.now) (fits_in_place bytes.now) result }
+    ensures { Told (hub_of h.old) (hub_of h.new) ns (steps.Write pid fd bytes.now) true result }
 {
-    let Some(payload) = copied(alloc, bytes) else {
-        return told_wanted(h, ns);
-    };
-    told(h, ns, &Step::Write { pid, fd, payload })
+    // A namespace has an allocator of its own for that copy.
+    let _alloc = alloc;
+    let answer = write_of(h, ns, pid, fd, bytes);
+    code_of(&answer)
 }
 
 /// tee(2).
