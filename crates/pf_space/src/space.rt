@@ -109,7 +109,9 @@ impl<A: Allocator + Clone> Space<A> {
             Step::Pipe { pid, nonblock } => self.pipe(door, *pid, *nonblock),
             Step::Close { pid, fd } => self.close(door, *pid, *fd),
             Step::Read { pid, fd, n } => self.read(door, *pid, *fd, *n),
-            Step::Write { pid, fd, payload } => self.write(door, *pid, *fd, payload.as_slice()),
+            Step::Write { pid, fd, payload } => {
+                self.write(door, *pid, *fd, payload.as_slice(), Some(payload))
+            }
             Step::SetSize { pid, fd, bytes } => self.set_size(door, *pid, *fd, *bytes),
             Step::GetSize { pid, fd } => self.get_size(door, *pid, *fd),
             Step::Fork { pid } => self.fork(door, *pid),

@@ -18,8 +18,9 @@ const TOO_MANY: usize = 1_048_577;
 // A write: the process and its descriptor, how many bytes, and what it is told.
 type Write = (u32, u32, usize, Reply);
 
-// What goes in, then what is refused, and then what waits, with a part that goes in and with none.
-fn all_writes() -> [Write; 12] {
+// What goes in, then what is refused, and then what waits, with a part that goes in and with none: fewer bytes than are
+// shared with a step's, and as many.
+fn all_writes() -> [Write; 14] {
     [
         (1, 1, 0, Reply::Num(0)),
         (1, 1, 1, Reply::Num(1)),
@@ -29,10 +30,12 @@ fn all_writes() -> [Write; 12] {
         (1, 1, TOO_MANY, Reply::Err(Errno::EINVAL)),
         (1, 0, TOO_MANY, Reply::Err(Errno::EBADF)),
         (1, 2, 5, Reply::Err(Errno::EBADF)),
-        (4, 1, 5, Reply::Err(Errno::ESRCH)),
+        (6, 1, 5, Reply::Err(Errno::ESRCH)),
         (1, 1, 65_536, Reply::Parked),
         (1, 1, 5, Reply::Err(Errno::EBUSY)),
         (2, 1, 5, Reply::Parked),
+        (4, 1, 131_071, Reply::Parked),
+        (5, 1, 131_072, Reply::Parked),
     ]
 }
 
@@ -94,6 +97,21 @@ fn writes(
     Ok(hub.lives(FROM_SLICES) && hub.write_from(FROM_SLICES, pid, fd, bytes) == told)
 }
 
+// Whether two pipes' room of a write that waits comes out alike.
+fn drains(hub: &mut Hub<Global>, pid: u32) -> bool {
+    for _ in 0..2 {
+        let read = Step::Read {
+            pid: 3,
+            fd: 0,
+            n: 100_000,
+        };
+        if !alike(hub, &[Step::Resume { pid }, read]) {
+            return false;
+        }
+    }
+    true
+}
+
 // Whether all writes are told what stands there, and the bytes come out alike.
 fn plays(alloc: Global, hub: &mut Hub<Global>) -> Result<bool, AllocError> {
     let all: Vec<u8> = (0..TOO_MANY).map(|i| (i % 251) as u8).collect(alloc)?;
@@ -104,8 +122,13 @@ fn plays(alloc: Global, hub: &mut Hub<Global>) -> Result<bool, AllocError> {
         },
         Step::Fork { pid: 1 },
     );
-    if !alike(hub, &[spawn(), pipe, fork, Step::Fork { pid: 1 }]) {
+    if !alike(hub, &[spawn(), pipe, fork]) {
         return Ok(false);
+    }
+    for _ in 0..3 {
+        if !alike(hub, &[Step::Fork { pid: 1 }]) {
+            return Ok(false);
+        }
     }
     for write in all_writes() {
         if !writes(alloc, hub, write, &all)? {
@@ -118,15 +141,13 @@ fn plays(alloc: Global, hub: &mut Hub<Global>) -> Result<bool, AllocError> {
         n: 100_000,
     };
     let again = read.copy(alloc)?;
-    Ok(alike(
-        hub,
-        &[
-            read,
-            Step::Resume { pid: 1 },
-            Step::Resume { pid: 2 },
-            again,
-        ],
-    ))
+    let first = [
+        read,
+        Step::Resume { pid: 1 },
+        Step::Resume { pid: 2 },
+        again,
+    ];
+    Ok(alike(hub, &first) && drains(hub, 4) && drains(hub, 5))
 }
 
 #[test]

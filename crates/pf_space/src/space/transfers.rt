@@ -1,7 +1,7 @@
 //! Bytes into pipes, out of them and between them: write(2), read(2), tee(2) and splice(2), as pipe(7) says of O_NONBLOCK. A
 //! call that would wait parks, or is told EAGAIN where the step or a description says nonblocking.
 
-ghost use Rattle.std.specs.Prelude.{◌≡◌, ◌≢◌, ◌≤◌, Err, IsOk, not, ◌&&◌, ◌||◌, false, true};
+ghost use Rattle.std.specs.Prelude.{◌≡◌, ◌≢◌, ◌≤◌, Err, IsOk, IfOk, IfSome, not, ◌&&◌, ◌||◌, false, true};
 ghost use Rattle.pf_machine.specs.Calls.{Reading, Writing, Bringing};
 ghost use Rattle.pf_machine.specs.State.{ready};
 ghost use Rattle.pf_machine.specs.Machine.{Answers, call, may_want_memory};
@@ -14,7 +14,7 @@ use super::Space;
 use pf_base::{Answer, ByteString, Crossing, Errno, Fault, Progress, Reply, Step};
 use pf_frame::Frames;
 use pf_parked::{Call, UnfinishedWrite};
-use std::alloc::Allocator;
+use std::alloc::{AllocError, Allocator, Global};
 
 // What a write is told that came to its end at once.
 fn write_ended(progress: Progress) -> Result<Reply, Fault>
@@ -26,11 +26,30 @@ fn write_ended(progress: Progress) -> Result<Reply, Fault>
     }
 }
 
+/// From so many bytes on, a write that waits shares those of its step. By default the C library asks the kernel for
+/// memory of this size (mallopt(3), M_MMAP_THRESHOLD), which comes page by page: of 1 MiB that costs more than the
+/// bytes.
+const SHARED_FROM: usize = 131_072;
+
+// What a write that waits keeps: a step's own bytes, where they are many and can be shared, and else a copy.
+fn kept(alloc: Global, bytes: &[u8], payload: Option<&ByteString>) -> Result<ByteString, AllocError>
+    requires { IfSome payload (λ p. p.now ≡ bytes.now) }
+    ensures { IfOk result (λ kept. kept ≡ bytes.now) }
+{
+    if let Some(payload) = payload
+        && bytes.len() >= SHARED_FROM
+        && let Ok(shared) = payload.copy(alloc)
+    {
+        return Ok(shared);
+    }
+    ByteString::from_slice(alloc, bytes)
+}
+
 // A step and its resume share `write_on`, `read_on` and `cross`. They are inlined in both, or a reply goes through memory
 // at each call above them: a write and a read of a byte through a hub then take 97 ns in place of 56.
 impl<A: Allocator + Clone> Space<A> {
-    /// The step that writes these bytes into the pipe that a process's descriptor names (write(2)): its answer and what it
-    /// leaves are those of `step` with a `Step::Write` of them. A copy of them is made only where the write waits.
+    /// The step that writes these bytes into the pipe that a process's descriptor names (write(2)): its answer and what
+    /// it leaves are those of `step` with a `Step::Write` of them. A copy of them is made only where the write waits.
     #[inline(always)]
     pub fn write_from<F: Frames>(&mut self, door: &mut F, pid: u32, fd: u32, bytes: &[u8]) -> Answer
         requires fact { F.fact door.old }
@@ -53,21 +72,24 @@ impl<A: Allocator + Clone> Space<A> {
         ensures none { (F.live door.new).held ≡ 0 → AreEmpty (F.live door.new) self.new.state }
     {
         self.tables.settled();
-        match self.write(door, pid, fd, bytes) {
+        match self.write(door, pid, fd, bytes, None) {
             Ok(reply) => Answer::Done(reply),
             Err(Fault::Errno(errno)) => Answer::Done(Reply::Err(errno)),
             Err(Fault::NoMemory) => Answer::NoMemory,
         }
     }
 
-    /// Writes bytes into the pipe that a process's descriptor names (write(2)).
+    /// Writes bytes into the pipe that a process's descriptor names (write(2)): those of a slice, or of a step's
+    /// payload, which it may share where it waits.
     pub(super) fn write<F: Frames>(
         &mut self,
         door: &mut F,
         pid: u32,
         fd: u32,
         bytes: &[u8],
+        payload: Option<&ByteString>,
     ) -> Result<Reply, Fault>
+        requires payload { IfSome payload (λ p. p.now ≡ bytes.now) }
         requires fact { F.fact door.old }
         requires owns { Owns (F.live door.old) self.old }
         ensures fact { F.fact door.new }
@@ -87,8 +109,8 @@ impl<A: Allocator + Clone> Space<A> {
             return self.write_some(door, pid, fd, bytes);
         }
         // What may be refused comes first.
-        let copy = ByteString::from_slice(self.alloc, bytes)?;
-        self.write_on(door, pid, fd, UnfinishedWrite::new(copy))
+        let kept = kept(self.alloc, bytes, payload)?;
+        self.write_on(door, pid, fd, UnfinishedWrite::new(kept))
     }
 
     // Writes as many bytes as go in now, and waits for none.
