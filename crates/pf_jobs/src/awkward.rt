@@ -21,6 +21,12 @@ fn read(pid: u32, fd: u32, n: u64) -> Step {
     Step::Read { pid, fd, n }
 }
 
+/// From here on no call waits by this descriptor.
+fn wait_no_more(host: &mut Host, ns: u32, pid: u32, fd: u32) {
+    let on = true;
+    let _ = host.tell(ns, &Step::SetNonblock { pid, fd, on });
+}
+
 /// Resumes whoever can go on, as often as somebody can, but so many times at most.
 fn resume_all(host: &mut Host, ns: u32, most: u32) {
     let mut after = 0;
@@ -37,7 +43,7 @@ fn resume_all(host: &mut Host, ns: u32, most: u32) {
     }
 }
 
-/// A writer waits with 1 MiB, and gets on as a reader makes room, a page or less at a time.
+/// A writer waits with 1 MiB, and gets on as a reader makes room, a page or less at a time, until the reader waits.
 fn drip(
     alloc: Global,
     host: &mut Host,
@@ -45,19 +51,20 @@ fn drip(
     store: &Store,
 ) -> Result<(), AllocError> {
     let (reading, writing) = host.pipe(0, 1);
-    let writer = host.fork(0, 1);
+    let (writer, reader) = (host.fork(0, 1), host.fork(0, 1));
     let first = store.cut(alloc, random, 61_000)?;
     let _ = host.tell(0, &write(1, writing, first));
     let all = store.cut(alloc, random, MIB)?;
     let _ = host.tell(0, &write(writer, writing, all));
     for _ in 0..600 {
         let n = 1_024 + u64::from(below(random, 3_072));
-        if let Reply::Parked = host.tell(0, &read(1, reading, n)) {
+        if let Reply::Parked = host.tell(0, &read(reader, reading, n)) {
             break;
         }
         let _ = host.tell(0, &Step::Resume { pid: writer });
     }
     host.exit(0, writer);
+    host.exit(0, reader);
     host.close(0, 1, reading);
     host.close(0, 1, writing);
     Ok(())
@@ -71,6 +78,7 @@ fn cross(
     store: &Store,
 ) -> Result<(), AllocError> {
     let (reading, writing) = host.pipe(1, 1);
+    wait_no_more(host, 1, 1, writing);
     let (other_reading, other_writing) = host.pipe(1, 1);
     let _ = host.tell(
         1,
@@ -221,6 +229,7 @@ fn use_up(
         if reading == 255 {
             break;
         }
+        wait_no_more(host, 0, owner, writing);
         ends.push((reading, writing))?;
     }
     for (_, writing) in &ends {
@@ -248,7 +257,7 @@ fn use_up(
     Ok(())
 }
 
-/// A directory with as many names as there can be, listed after each name that comes.
+/// A directory with as many names as there can be, listed after each 250th name that comes.
 fn list(alloc: Global, host: &mut Host, random: &mut Pcg32, names: u32) -> Result<(), AllocError> {
     let first = below(random, 1_000_000);
     for place in 0..names {

@@ -37,7 +37,7 @@ fn play(
         return files::play(alloc, seed, trees, scale);
     }
     if job == "awkward" {
-        let (hubs, rounds) = if is_whole { (20, 80) } else { (1, 1) };
+        let (hubs, rounds) = if is_whole { (6, 80) } else { (1, 1) };
         return awkward::play(alloc, seed, hubs, rounds);
     }
     Ok(None)
