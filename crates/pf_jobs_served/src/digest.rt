@@ -1,0 +1,94 @@
+//! A digest of what is told. Bytes go into it by words of eight and by four words at once, so that it costs little
+//! beside the calls.
+
+use pf_base::{Kind, Reply};
+
+/// What the digest is multiplied with for each number.
+const PRIME: u64 = 0x9E37_79B9_7F4A_7C15;
+
+/// A digest of numbers, in their order.
+#[derive(Clone, Copy, Drop)]
+pub(crate) struct Digest(u64);
+
+fn mixed(digest: u64, number: u64) -> u64 {
+    (digest ^ number).wrapping_mul(PRIME).rotate_left(29)
+}
+
+impl Digest {
+    /// The digest of no number.
+    pub(crate) fn new() -> Digest {
+        Digest(PRIME)
+    }
+
+    /// The digest as a number.
+    pub(crate) fn number(self) -> u64 {
+        self.0
+    }
+
+    /// One number more.
+    pub(crate) fn add(&mut self, number: u64) {
+        self.0 = mixed(self.0, number);
+    }
+
+    fn add_rows(&mut self, rows: &[[[u8; 8]; 4]]) {
+        let mut lanes = [self.0, 1, 2, 3];
+        for row in rows {
+            lanes = [
+                mixed(lanes[0], u64::from_le_bytes(row[0])),
+                mixed(lanes[1], u64::from_le_bytes(row[1])),
+                mixed(lanes[2], u64::from_le_bytes(row[2])),
+                mixed(lanes[3], u64::from_le_bytes(row[3])),
+            ];
+        }
+        self.0 = mixed(mixed(lanes[0], lanes[1]), mixed(lanes[2], lanes[3]));
+    }
+
+    fn add_words(&mut self, words: &[[u8; 8]]) {
+        for word in words {
+            self.add(u64::from_le_bytes(*word));
+        }
+    }
+
+    fn add_bytes(&mut self, bytes: &[u8]) {
+        self.add(bytes.len() as u64);
+        let (words, rest) = bytes.as_chunks::<8>();
+        let (rows, words) = words.as_chunks::<4>();
+        if !rows.is_empty() {
+            self.add_rows(rows);
+        }
+        self.add_words(words);
+        let mut last = [0; 8];
+        last[..rest.len()].copy_from_slice(rest);
+        self.add(u64::from_le_bytes(last));
+    }
+
+    /// A reply: each kind begins with a number of its own.
+    pub(crate) fn add_reply(&mut self, reply: &Reply) {
+        match reply {
+            Reply::Num(number) => {
+                self.add(1);
+                self.add(*number);
+            }
+            Reply::Pid(pid) => self.add(1_000 + u64::from(*pid)),
+            Reply::Fds(read, write) => {
+                self.add(2);
+                self.add(u64::from(*read));
+                self.add(u64::from(*write));
+            }
+            Reply::Bytes(bytes) => {
+                self.add(3);
+                self.add_bytes(bytes.as_slice());
+            }
+            Reply::Names(names) => {
+                self.add(4);
+                self.add_bytes(names.as_slice());
+            }
+            Reply::Meta(meta) => {
+                self.add(if meta.kind == Kind::Directory { 5 } else { 6 });
+                self.add(u64::from(meta.mode.bits()));
+            }
+            Reply::Parked => self.add(7),
+            Reply::Err(error) => self.add(100 + u64::from(error.code())),
+        }
+    }
+}
