@@ -29,6 +29,7 @@ use Rattle.pf_worker.specs.contracts.gate.NoGate as NoGate
 use Rattle.pf_worker.specs.contracts.gate.NoGateGate.TheImpl.{ghosts as no_gate}
 use Rattle.pf_worker.specs.declared.gate.Gate as Gate
 use Rattle.pf_service.proofs.seated.Tenant.TheSendSync as tenant
+use Rattle.pf_service.proofs.spare.Spare.TheSendSync as spare
 use Rattle.pf_service.proofs.transcript.Transcript.TheSendSync as transcript
 use Rattle.pf_service.proofs.waiters.NextEvent.TheSendSync as next
 use Rattle.pf_service.specs.contracts.guests.Guests as Guests
@@ -56,7 +57,7 @@ module _ (C H : RattleType) (c : Ledger.Ghosts C.Denot) (h : Ledger.Ghosts H.Den
 
   module _ (A : RattleType) (g : Allocator.Ghosts A.Denot) (s : IsSend A) (f : Frees g g.dealloc_token) where
     in_logged_send : IsSend (in_logged.the_row A g)
-    in_logged_send = declared_send (in_logged.the_type A g) (search (sendable, crosses) depth 20, (placed_send A g s f, (loans.the_send, (transcript.the_send, tt))))
+    in_logged_send = declared_send (in_logged.the_type A g) (search (sendable, crosses) depth 20, (placed_send A g s f, (loans.the_send, (transcript.the_send, (spare.the_send, tt)))))
 
     logged_send : IsSend (Logged.the_row A g)
     logged_send = view_send (in_logged.the_row A g) _ _ _ _ in_logged_send
@@ -66,7 +67,7 @@ module _ (C H : RattleType) (c : Ledger.Ghosts C.Denot) (h : Ledger.Ghosts H.Den
         let logged = as_row_send (Logged.the_field A g) logged_send in
         let credits = as_row_send (Share.the_field C c) (share.the_send C c) in
         let held = as_row_send (Share.the_field H h) (share.the_send H h) in
-        declared_send (Living.the_type A C H g c h) (logged, (credits, (held, (stock.the_send, tt))))
+        declared_send (Living.the_type A C H g c h) (logged, (credits, (held, (stock.the_send, (spare.the_send, tt)))))
 
     tenant_send : IsSend (Tenant.the_row (Living.the_row A C H g c h))
     tenant_send = tenant.the_send (Living.the_row A C H g c h) living_send

@@ -3,6 +3,7 @@ pub mod Faults
 pub mod Log
 pub mod Told
 pub mod Merge
+pub mod Rooms
 pub mod Seats
 pub mod Marks
 pub mod Judged

@@ -2,7 +2,6 @@
 //! callers were told, calls that wait, and at the end a comparison of all seats with all transcripts.
 #![tactic(auto)]
 
-mod copies;
 pub mod event;
 pub mod fault;
 pub mod given;
@@ -18,6 +17,7 @@ mod retired;
 pub mod seat;
 mod seated;
 pub mod service;
+mod spare;
 pub mod transcript;
 mod unlocks;
 mod waiters;

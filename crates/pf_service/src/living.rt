@@ -2,6 +2,7 @@ ghost use Rattle.std.specs.Prelude.{◌≡◌, ◌+◌, ◌<◌};
 
 use crate::logged::Logged;
 use crate::retired::Retired;
+use crate::spare::{ReplyRoom, Spare};
 use crate::transcript::Transcript;
 use pf_base::{Config, Reply, Step};
 use pf_depot::{Allotment, DepotBook, Stock};
@@ -21,6 +22,8 @@ pub(crate) struct Living<A: Allocator, C: Ledger, H: Ledger> {
     credits: Share<C>,
     held: Share<H>,
     stock: Stock,
+    // For the copy of a reply that a seat gets.
+    spare: Spare,
 
     /// For each frame that the namespace may still take, one is in stock or there is a credit.
     pub ghost unspent: { credits.amount + stock + logged.held ≡ logged.limits.reserve },
@@ -67,6 +70,7 @@ impl<A: Allocator + Clone, C: Ledger, H: Ledger> Living<A, C, H> {
             credits,
             held,
             stock,
+            spare: Spare::new(),
         }
     }
 
@@ -75,6 +79,21 @@ impl<A: Allocator + Clone, C: Ledger, H: Ledger> Living<A, C, H> {
         ensures { result.now ≡ self.now.logged }
     {
         &self.logged
+    }
+
+    /// Memory for the copy of a reply of at most so many bytes, for one event.
+    pub(crate) fn take_room(&mut self, bound: usize) -> Result<ReplyRoom, AllocError>
+        ensures room { IfOk result (λ room. bound ≤ room) }
+        ensures logged { self.new.logged ≡ self.old.logged }
+    {
+        self.spare.take(self.logged.alloc(), bound)
+    }
+
+    /// What is left of it is kept for the events that follow.
+    pub(crate) fn keep_room(&mut self, left: ReplyRoom)
+        ensures logged { self.new.logged ≡ self.old.logged }
+    {
+        self.spare.keep(left);
     }
 
     /// One event, of which the gate was told: the namespace, and the place where it will stand. The transcript isn't full,
@@ -100,6 +119,7 @@ impl<A: Allocator + Clone, C: Ledger, H: Ledger> Living<A, C, H> {
             credits,
             held,
             stock,
+            spare: _,
         } = self;
         let mut depot = GatedDepot::new(rt, gate, ns, book, credits, held, stock);
         logged.log(&mut depot, step, bound)
@@ -123,7 +143,9 @@ impl<A: Allocator + Clone, C: Ledger, H: Ledger> Living<A, C, H> {
             credits,
             held,
             stock,
+            spare,
         } = self;
+        drop(spare);
         let (transcript, loans) = logged.into_parts();
         way.give_back(rt, book, loans, credits, held, stock);
         Retired::new(transcript)
@@ -140,10 +162,12 @@ impl<A: Allocator + Clone, C: Ledger, H: Ledger> Living<A, C, H> {
             credits,
             held,
             stock,
+            spare,
         } = self;
         drop(credits);
         drop(held);
         drop(stock);
+        drop(spare);
         let (transcript, loans) = logged.into_parts();
         drop(loans);
         transcript

@@ -1,9 +1,9 @@
 use crate::MAX_ENTRIES;
-use crate::copies::copy_into;
 use crate::fault::ServiceFault;
 use crate::retired::Retired;
+use crate::spare::Spare;
 use crate::transcript::Transcript;
-use pf_base::{Answer, ByteRoom, Config, Reply, Step};
+use pf_base::{Answer, Config, Reply, Step};
 use pf_depot::{Lender, Loans};
 use pf_hub::step_over;
 use pf_space::Placed;
@@ -20,6 +20,8 @@ pub struct Logged<A: Allocator> {
     placed: Placed<A>,
     loans: Loans,
     transcript: Transcript,
+    // For the copy of a reply that the transcript gets.
+    spare: Spare,
 }
 
 impl<A: Allocator> Model for Logged<A> {
@@ -71,6 +73,7 @@ impl<A: Allocator + Clone> Logged<A> {
             placed,
             loans,
             transcript: Transcript::new(alloc, config),
+            spare: Spare::new(),
         }
     }
 
@@ -186,12 +189,13 @@ impl<A: Allocator + Clone> Logged<A> {
         let entries = &mut self.transcript.entries;
         entries.reserve(1)?;
         let asked = step.copy(self.alloc)?;
-        let room = ByteRoom::new(self.alloc, bound)?;
+        let mut room = self.spare.take(self.alloc, bound)?;
         let Answer::Done(reply) = step_over(&mut self.placed, lender, &mut self.loans, step) else {
             return Err(AllocError);
         };
-        let told = copy_into(self.alloc, room, &reply);
+        let told = room.copy(self.alloc, &reply);
         entries.push_reserved((asked, told));
+        self.spare.keep(room);
         Ok(reply)
     }
 
@@ -208,8 +212,10 @@ impl<A: Allocator + Clone> Logged<A> {
             placed,
             loans,
             transcript,
+            spare,
         } = self;
         drop(placed);
+        drop(spare);
         (transcript, loans)
     }
 }

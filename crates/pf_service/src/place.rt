@@ -8,7 +8,6 @@ ghost use Rattle.pf_service.specs.Transcripts.{IsLone};
 ghost use Rattle.pf_service.specs.declared.TheConstants.{MAX_ENTRIES};
 ghost use Rattle.pf_service.specs.Woken.{is_parked_again, written_by, is_idle};
 
-use crate::copies::copy_into;
 use crate::event::Event;
 use crate::fault::ServiceFault;
 use crate::living::Living;
@@ -18,7 +17,7 @@ use crate::seat::Seat;
 use crate::seated::{Seated, Tenant};
 use crate::transcript::Transcript;
 use crate::waiters::{NextEvent, Waiters};
-use pf_base::{ByteRoom, Reply, RetireFault, Step};
+use pf_base::{Reply, RetireFault, Step};
 use pf_depot::DepotBook;
 use pf_worker::{Gate, Returns};
 use std::alloc::{AllocError, Allocator, Global};
@@ -96,10 +95,11 @@ fn kept_event<A: Allocator + Clone, R: Wait, G: Gate, C: Ledger, H: Ledger>(
     let alloc = living.get_ref().alloc();
     let asked = step.copy(alloc)?;
     let bound = living.get_ref().reply_bound(step);
-    let room = ByteRoom::new(alloc, bound)?;
+    let mut room = living.take_room(bound)?;
     gate.pass(ns, place);
     let reply = living.log(rt, gate, book, ns, step, bound)?;
-    let told = copy_into(alloc, room, &reply);
+    let told = room.copy(alloc, &reply);
+    living.keep_room(room);
     seat.keep(Event {
         place,
         step: asked,

@@ -16,4 +16,4 @@ returns-clause-told g c =
     subst (λ (place : ℕ). Told step place reply) (sym c.in_ok-place.ensures.place)
     (told l.limits l.state l.transcript step reply c.in_ok-place.ensures.ran
     (ap (λ (o : Outcome Segment ℕ). o.reply) c.in_ok-reply.ensures.logged.told
-    ∙ ap (λ (m : Log g.row.A.Denot). (step_of m.limits m.state step).reply) (sym c.get_ref.ensures)))
+    ∙ ap (λ (m : Log g.row.A.Denot). (step_of m.limits m.state step).reply) (c.take_room.ensures.logged ∙ sym c.get_ref.ensures)))

@@ -32,8 +32,8 @@ returns-in_default-clause-unchanged g c =
     let same = c.step_over.ensures.unchanged c.in_default.is in
     (stays c.self-inside.inside.0.1.0 c.step_over.new.placed c.self-inside.inside.0.1.1.0 c.step_over.new.loans c.self-inside.inside.0.1.1.1.0.config c.self-inside.inside.0.1.1.1.0.entries.items c.reserve.new.self.items same.0 same.2 c.reserve.ensures.items ∙ was, same.1)
 
-pub copy_into-told-requires : goal.copy_into-told-requires
-copy_into-told-requires g c =
+pub copy-told-requires : goal.copy-told-requires
+copy-told-requires g c =
     let step = c.args.step.now in
     let was = ap (λ (i : Inside g.row.A.Denot). log_of i.placed i.loans i.transcript) c.self-inside.view_is ∙ c.self.view_is in
     let log = subst (λ (i : Inside g.row.A.Denot). IsLog i.placed.space i.loans i.transcript) (sym c.self-inside.view_is) c.self.invariant in
@@ -49,9 +49,9 @@ invariant_of-self-2 g c =
     let log = subst (λ (i : Inside g.row.A.Denot). IsLog i.placed.space i.loans i.transcript) (sym c.self-inside.view_is) c.self.invariant in
     let more =
     c.push_reserved.ensures.items
-    ∙ ap (λ (es : List (Step × Reply)). es ++ (c.in_ok-asked.asked, c.copy_into-told.result) ∷ []) c.reserve.ensures.items
-    ∙ ap (λ (s : Step). c.self-inside.inside.0.1.1.1.0.entries.items ++ (s, c.copy_into-told.result) ∷ []) c.in_ok-asked.ensures
-    ∙ ap (λ (r : Reply). c.self-inside.inside.0.1.1.1.0.entries.items ++ (step, r) ∷ []) c.copy_into-told.ensures in
+    ∙ ap (λ (es : List (Step × Reply)). es ++ (c.in_ok-asked.asked, c.copy-told.result) ∷ []) c.reserve.ensures.items
+    ∙ ap (λ (s : Step). c.self-inside.inside.0.1.1.1.0.entries.items ++ (s, c.copy-told.result) ∷ []) c.in_ok-asked.ensures
+    ∙ ap (λ (r : Reply). c.self-inside.inside.0.1.1.1.0.entries.items ++ (step, r) ∷ []) c.copy-told.ensures in
     next c.self-inside.inside.0.1.0.space c.step_over.new.placed.space c.self-inside.inside.0.1.1.0 c.step_over.new.loans (record { limits = c.self-inside.inside.0.1.1.1.0.config; entries = c.self-inside.inside.0.1.1.1.0.entries.items }) c.push_reserved.new.self.items step reply log c.in-Done.ensures.moved.owns c.in-Done.ensures.moved.limits c.in-Done.ensures.moved.answers more
 
 pub returns-clause-logged : goal.returns-clause-logged
@@ -66,9 +66,9 @@ returns-clause-logged g c =
       allocator = c.in-Done.ensures.allocator ∙ ap (λ (l : Log g.row.A.Denot). l.allocator) was;
       transcript =
           c.push_reserved.ensures.items
-          ∙ ap (λ (es : List (Step × Reply)). es ++ (c.in_ok-asked.asked, c.copy_into-told.result) ∷ []) c.reserve.ensures.items
-          ∙ ap (λ (s : Step). c.self-inside.inside.0.1.1.1.0.entries.items ++ (s, c.copy_into-told.result) ∷ []) c.in_ok-asked.ensures
-          ∙ ap (λ (r : Reply). c.self-inside.inside.0.1.1.1.0.entries.items ++ (step, r) ∷ []) c.copy_into-told.ensures
+          ∙ ap (λ (es : List (Step × Reply)). es ++ (c.in_ok-asked.asked, c.copy-told.result) ∷ []) c.reserve.ensures.items
+          ∙ ap (λ (s : Step). c.self-inside.inside.0.1.1.1.0.entries.items ++ (s, c.copy-told.result) ∷ []) c.in_ok-asked.ensures
+          ∙ ap (λ (r : Reply). c.self-inside.inside.0.1.1.1.0.entries.items ++ (step, r) ∷ []) c.copy-told.ensures
           ∙ ap (λ (l : Log g.row.A.Denot). l.transcript ++ (step, reply) ∷ []) was;
       told = answers ∙ ap (λ (l : Log g.row.A.Denot). step_of l.limits l.state step) was;
     }
