@@ -97,7 +97,7 @@ fn writes(
     Ok(hub.lives(FROM_SLICES) && hub.write_from(FROM_SLICES, pid, fd, bytes) == told)
 }
 
-// Whether two pipes' room of a write that waits comes out alike.
+// Whether twice a pipe's room of a write that waits comes out alike.
 fn drains(hub: &mut Hub<Global>, pid: u32) -> bool {
     for _ in 0..2 {
         let read = Step::Read {

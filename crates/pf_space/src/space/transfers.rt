@@ -26,9 +26,9 @@ fn write_ended(progress: Progress) -> Result<Reply, Fault>
     }
 }
 
-/// From so many bytes on, a write that waits shares those of its step. By default the C library asks the kernel for
-/// memory of this size (mallopt(3), M_MMAP_THRESHOLD), which comes page by page: of 1 MiB that costs more than the
-/// bytes.
+/// From so many bytes on, a write that waits shares those of its step. By default the C library may ask the kernel for
+/// memory of this size (mallopt(3), M_MMAP_THRESHOLD), which then comes page by page: of 1 MiB that costs more than
+/// the bytes.
 const SHARED_FROM: usize = 131_072;
 
 // What a write that waits keeps: a step's own bytes, where they are many and can be shared, and else a copy.
