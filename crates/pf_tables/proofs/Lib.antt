@@ -2,6 +2,7 @@ pub mod MeaningLaws
 pub mod OwnsLaws
 mod OpensTests
 pub mod Bounds
+mod Buffers
 mod Callers
 mod DescriptorsLetGo
 mod TransfersCross

@@ -1,6 +1,6 @@
 -- A transfer through one pipe, in the meaning of the state that it leaves.
 
-use Rattle.std.proofs.Common.{◌≡◌, ℕ, ◌+◌, ◌-◌, ◌<◌, ◌≤◌, Bool, List, [], length, take, drop, set, Option, Some, IsSome, IsOk, is_some, Result, Ok, Err, nat_le, nat_lt, refl, sym, ap, subst, ◌∙◌, arith}
+use Rattle.std.proofs.Common.{◌≡◌, ℕ, ◌+◌, ◌-◌, ◌<◌, ◌≤◌, Bool, List, [], ◌++◌, length, take, drop, set, Option, Some, IsSome, IsOk, is_some, Result, Ok, Err, nat_le, nat_lt, refl, sym, ap, subst, ◌∙◌, arith}
 use Rattle.std.specs.Option.{option_map}
 use Rattle.std.proofs.lemmas.Bool.{lt-ltb, le-ltb}
 use Rattle.std.proofs.lemmas.List.{map-set, take_all, length-drop}
@@ -35,7 +35,9 @@ use Rattle.pf_tables.proofs.MeaningLaws.{meaning-with_queue, settled-meaning}
 use Rattle.pf_tables.specs.Owns.{Owns}
 use Rattle.pf_tables.proofs.OwnsLaws.{ring_at-pipe, stands_at, credits_at, others_written, joined_written, charged-with_queue}
 use Rattle.pf_tables.specs.Rows.{ProcessRows, DescriptionRows, PipeRows, Process, Description, Pipe, pipe_of, processes_of, descriptions_of, pipes_of, state_of, pipe_with, ready_in, end_in, Kept}
+use Rattle.pf_tables.specs.Buffers.{Lies}
 use Rattle.pf_tables.specs.Told.{attempted, Came}
+use Rattle.pf_tables.proofs.Buffers as buffers
 use Rattle.pf_tables.proofs.Callers.{shown_in, ready_shown}
 use Rattle.pf_tables.proofs.Ends.{side_end, end_of_rows, refused, found, counted}
 use Rattle.pf_tables.proofs.RowsShown.{shown, find_at, find_was, set_same}
@@ -200,3 +202,11 @@ module _ {files : Files} {files_made : ℕ} (f : Live) (limits : Limits) (charge
               bytes_are = ap (λ p. taken (queue_of f r.ring) (moved p)) told ∙ sym are;
               state = passed-state d r handed g r' progress machine (subst (Passes r r' f g progress) same passes);
             })
+
+        -- into a buffer, the bytes of which lie at its front
+        pub was_read_into : (before bytes : List ℕ) → end_in (Some sides.Read) ps ds pid fd ≡ Ok d → bytes ≡ taken (queue_of f r.ring) (moved progress) ++ drop (moved progress) before
+            → Passes r r' f g progress (read_now (queue_of f r.ring) r.writers (length before)) → Came g after (attempted (meaning f n.state) pid (Reading fd (length before))) progress (take (moved progress) bytes) × Lies (moved progress) before bytes
+        was_read_into before bytes h lie passes =
+            let is : moved (read_now (queue_of f r.ring) r.writers (length before)).progress ≡ moved progress = ap (λ (p : Passed). moved p.progress) passes.told in
+            let front : take (moved progress) bytes ≡ taken (queue_of f r.ring) (moved progress) = buffers.front (queue_of f r.ring) r.writers (moved progress) before bytes is lie in
+            (was_read (length before) (take (moved progress) bytes) h front passes, buffers.lies (queue_of f r.ring) r.writers (moved progress) before bytes is lie)

@@ -1,4 +1,5 @@
 pub mod Bounds
+pub mod Buffers
 pub mod Held
 pub mod Meaning
 pub mod Opened
