@@ -72,10 +72,11 @@ impl<A: Allocator> Placed<A> {
 }
 
 impl<A: Allocator + Clone> Placed<A> {
-    ghost use Rattle.std.specs.Prelude.{◌≡◌, IfOk, false};
+    ghost use Rattle.std.specs.Prelude.{◌≡◌, length, IfOk, false};
     ghost use Rattle.pf_machine.specs.State.{opening};
     ghost use Rattle.pf_machine.specs.Machine.{Answers, may_want_memory};
     ghost use Rattle.pf_machine.specs.Events.{IsDone};
+    ghost use Rattle.pf_tables.specs.Buffers.{Lies, answer_in, number_in};
     ghost use Rattle.pf_tables.specs.Meaning.{meaning};
     ghost use Rattle.pf_tables.specs.Owns.{Owns};
 
@@ -124,5 +125,29 @@ impl<A: Allocator + Clone> Placed<A> {
         ensures allocator { self.new.allocator ≡ self.old.allocator }
     {
         self.space.write_from(door, pid, fd, bytes)
+    }
+
+    /// The step that reads into this buffer, as `Space::read_into` says. The files stay with the same allocator.
+    #[inline(always)]
+    pub fn read_into<F: Frames>(
+        &mut self,
+        door: &mut F,
+        pid: u32,
+        fd: u32,
+        buffer: &mut [u8],
+    ) -> Result<Option<usize>, Errno>
+        requires fact { F.fact door.old }
+        requires owns { Owns (F.live door.old) self.old.space }
+        ensures fact { F.fact door.new }
+        ensures rest { F.rest door.new ≡ F.rest door.old }
+        ensures owns { Owns (F.live door.new) self.new.space }
+        ensures limits { self.new.space.limits ≡ self.old.space.limits }
+        ensures answers { Answers self.old.space.limits (answer_in buffer.new result)
+            (meaning (F.live door.old) self.old.space.state) (Step.Read pid fd (length buffer.old))
+            (meaning (F.live door.new) self.new.space.state) }
+        ensures lies { Lies (number_in result) buffer.old buffer.new }
+        ensures allocator { self.new.allocator ≡ self.old.allocator }
+    {
+        self.space.read_into(door, pid, fd, buffer)
     }
 }

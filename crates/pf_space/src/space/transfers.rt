@@ -1,11 +1,12 @@
 //! Bytes into pipes, out of them and between them: write(2), read(2), tee(2) and splice(2), as pipe(7) says of O_NONBLOCK. A
 //! call that would wait parks, or is told EAGAIN where the step or a description says nonblocking.
 
-ghost use Rattle.std.specs.Prelude.{◌≡◌, ◌≢◌, ◌≤◌, Err, IsOk, IfOk, IfSome, not, ◌&&◌, ◌||◌, false, true};
+ghost use Rattle.std.specs.Prelude.{◌≡◌, ◌≢◌, ◌≤◌, length, Err, IsOk, IfOk, IfSome, not, ◌&&◌, ◌||◌, false, true};
 ghost use Rattle.pf_machine.specs.Calls.{Reading, Writing, Bringing};
 ghost use Rattle.pf_machine.specs.State.{ready};
 ghost use Rattle.pf_machine.specs.Machine.{Answers, call, may_want_memory};
 ghost use Rattle.pf_machine.specs.Events.{IsDone};
+ghost use Rattle.pf_tables.specs.Buffers.{Lies, answer_in, number_in, told_in};
 ghost use Rattle.pf_tables.specs.Meaning.{meaning, occupied, AreEmpty};
 ghost use Rattle.pf_tables.specs.Owns.{Owns};
 ghost use Rattle.pf_tables.specs.Told.{Told, tried_call, is_nonblocking_at, write_ended, Parks};
@@ -77,6 +78,71 @@ impl<A: Allocator + Clone> Space<A> {
             Err(Fault::Errno(errno)) => Answer::Done(Reply::Err(errno)),
             Err(Fault::NoMemory) => Answer::NoMemory,
         }
+    }
+
+    /// The step that reads out of the pipe that a process's descriptor names (read(2)), as many bytes as this buffer
+    /// has room for: what it leaves is what `step` leaves with a `Step::Read` of the buffer's length, and what it is
+    /// told are the same bytes, the same wait and the same error. The bytes lie at the buffer's front, and their
+    /// number is given out; none is where the read waits. It takes no memory.
+    #[inline(always)]
+    pub fn read_into<F: Frames>(
+        &mut self,
+        door: &mut F,
+        pid: u32,
+        fd: u32,
+        buffer: &mut [u8],
+    ) -> Result<Option<usize>, Errno>
+        requires fact { F.fact door.old }
+        requires owns { Owns (F.live door.old) self.old }
+        // The door is left as it is to be, and the live frames are those of this namespace.
+        ensures fact { F.fact door.new }
+        ensures rest { F.rest door.new ≡ F.rest door.old }
+        ensures owns { Owns (F.live door.new) self.new }
+
+        // The step is the lone machine's, with the bytes of its reply at the buffer's front, and nothing else there.
+        ensures limits { self.new.limits ≡ self.old.limits }
+        ensures answers { Answers self.old.limits (answer_in buffer.new result)
+            (meaning (F.live door.old) self.old.state) (Step.Read pid fd (length buffer.old))
+            (meaning (F.live door.new) self.new.state) }
+        ensures lies { Lies (number_in result) buffer.old buffer.new }
+
+        // No more frames are live than slots in use, and none only where no pipe has a byte.
+        ensures spread { (F.live door.new).held ≤ occupied self.new.state }
+        ensures none { (F.live door.new).held ≡ 0 → AreEmpty (F.live door.new) self.new.state }
+    {
+        self.tables.settled();
+        self.fill(door, pid, fd, buffer)
+    }
+
+    // Reads what there is into a buffer, and waits where it has to and the description isn't nonblocking.
+    #[inline(always)]
+    fn fill<F: Frames>(
+        &mut self,
+        door: &mut F,
+        pid: u32,
+        fd: u32,
+        buffer: &mut [u8],
+    ) -> Result<Option<usize>, Errno>
+        requires fact { F.fact door.old }
+        requires owns { Owns (F.live door.old) self.old }
+        ensures fact { F.fact door.new }
+        ensures rest { F.rest door.new ≡ F.rest door.old }
+        ensures told { let s = meaning (F.live door.old) self.old.state in
+            Told (F.live door.old) (F.live door.new) self.old self.new (told_in buffer.new result)
+            (tried_call s pid (is_nonblocking_at s pid fd) (Reading fd (length buffer.old))) }
+        ensures lies { Lies (number_in result) buffer.old buffer.new }
+    {
+        let n = buffer.len() as u64;
+        match self.tables.read_into(door, pid, fd, buffer)? {
+            Progress::Moved(number) => return Ok(Some(number as usize)),
+            Progress::EndOfFile | Progress::NoReader => return Ok(Some(0)),
+            Progress::WouldBlock => {}
+        }
+        if self.tables.is_nonblocking(door, pid, fd) {
+            return Err(Errno::EAGAIN);
+        }
+        self.tables.park(door, pid, Call::Read { fd, n });
+        Ok(None)
     }
 
     /// Writes bytes into the pipe that a process's descriptor names (write(2)): those of a slice, or of a step's
