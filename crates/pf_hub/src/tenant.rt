@@ -1,12 +1,13 @@
-ghost use Rattle.std.specs.Prelude.{◌≡◌, ◌-◌};
+ghost use Rattle.std.specs.Prelude.{◌≡◌, ◌-◌, length};
 ghost use Rattle.pf_depot.specs.Depot.{free_of, frames_of};
 ghost use Rattle.pf_depot.specs.Door.{IsCovered};
 ghost use Rattle.pf_depot.specs.Loans.{loans_live};
 ghost use Rattle.pf_hub.specs.Stepped.{Lodges};
+ghost use Rattle.pf_tables.specs.Buffers.{Lies, answer_in, number_in};
 ghost use Rattle.pf_tables.specs.Owns.{Owns};
 
-use crate::hub::{step_over, write_over};
-use pf_base::{Answer, Step};
+use crate::hub::{read_over, step_over, write_over};
+use pf_base::{Answer, Errno, Step};
 use pf_depot::{Depot, Loans};
 use pf_space::Placed;
 use std::alloc::Allocator;
@@ -53,5 +54,24 @@ impl<A: Allocator + Clone> Tenant<A> {
         ensures unchanged { result ≡ Answer.NoMemory → (self.new ≡ self.old) × (depot.new ≡ depot.old) }
     {
         write_over(&mut self.placed, depot, &mut self.loans, pid, fd, bytes)
+    }
+
+    /// And the one that reads into this buffer.
+    #[inline(always)]
+    pub(crate) fn read_into(
+        &mut self,
+        depot: &mut Depot,
+        pid: u32,
+        fd: u32,
+        buffer: &mut [u8],
+    ) -> Result<Option<usize>, Errno>
+        requires covered { IsCovered (loans_live self.old.loans) (free_of depot.old)
+            (frames_of depot.old - free_of depot.old) }
+        requires owns { Owns (loans_live self.old.loans) self.old.placed.space }
+        ensures lodges { Lodges depot.old depot.new self.old self.new (Step.Read pid fd (length buffer.old))
+            (answer_in buffer.new result) }
+        ensures lies { Lies (number_in result) buffer.old buffer.new }
+    {
+        read_over(&mut self.placed, depot, &mut self.loans, pid, fd, buffer)
     }
 }

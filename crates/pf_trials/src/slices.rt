@@ -1,4 +1,5 @@
-//! Writes of bytes that stand in a slice: each is told what the same write as a step is told, and leaves the same.
+//! Writes of bytes that stand in a slice, and reads into one: each is told what the same call as a step is told, and
+//! leaves the same.
 
 use crate::scripts::spawn;
 use pf_base::{Answer, ByteString, Config, Errno, Reply, Step};
@@ -7,10 +8,10 @@ use pf_hub::Hub;
 use std::alloc::{AllocError, Global};
 use std::test::Fail;
 
-// One namespace writes by steps, and the other one from slices.
+// One namespace writes and reads by steps, and the other one by slices.
 const BY_STEPS: u32 = 0;
 
-const FROM_SLICES: u32 = 1;
+const BY_SLICES: u32 = 1;
 
 // A byte more than a write may have.
 const TOO_MANY: usize = 1_048_577;
@@ -36,6 +37,36 @@ fn all_writes() -> [Write; 14] {
         (2, 1, 5, Reply::Parked),
         (4, 1, 131_071, Reply::Parked),
         (5, 1, 131_072, Reply::Parked),
+    ]
+}
+
+// A read: the process and its descriptor, how many bytes its slice has room for, and what it is told: how many came,
+// that it waits, or an error.
+type Read = (u32, u32, usize, Result<Option<usize>, Errno>);
+
+// Each place of a slice before a read.
+const BEFORE: u8 = 253;
+
+// Out of 65,000 bytes of two writes: parts of a page, over its end, a page, and more than there is. Then what is refused,
+// and what waits.
+fn all_reads() -> [Read; 16] {
+    [
+        (1, 0, 0, Ok(Some(0))),
+        (1, 0, 1, Ok(Some(1))),
+        (1, 0, 14, Ok(Some(14))),
+        (1, 0, 15, Ok(Some(15))),
+        (2, 0, 4_066, Ok(Some(4_066))),
+        (1, 0, 4_096, Ok(Some(4_096))),
+        (2, 0, 60_000, Ok(Some(56_808))),
+        (2, 0, 0, Ok(Some(0))),
+        (1, 1, 5, Err(Errno::EBADF)),
+        (1, 4, 0, Err(Errno::EBADF)),
+        (6, 0, 5, Err(Errno::ESRCH)),
+        (1, 2, 5, Err(Errno::EAGAIN)),
+        (1, 2, 0, Ok(Some(0))),
+        (1, 0, 5, Ok(None)),
+        (1, 0, 5, Err(Errno::EBUSY)),
+        (2, 0, 70_000, Ok(None)),
     ]
 }
 
@@ -66,10 +97,10 @@ fn alike(hub: &mut Hub<Global>, steps: &[Step]) -> bool {
             return false;
         }
         let told = hub.step(BY_STEPS, step);
-        if !hub.lives(FROM_SLICES) || told == Answer::NoMemory {
+        if !hub.lives(BY_SLICES) || told == Answer::NoMemory {
             return false;
         }
-        if hub.step(FROM_SLICES, step) != told {
+        if hub.step(BY_SLICES, step) != told {
             return false;
         }
     }
@@ -94,7 +125,35 @@ fn writes(
     if !hub.lives(BY_STEPS) || hub.step(BY_STEPS, &step) != told {
         return Ok(false);
     }
-    Ok(hub.lives(FROM_SLICES) && hub.write_from(FROM_SLICES, pid, fd, bytes) == told)
+    Ok(hub.lives(BY_SLICES) && hub.write_from(BY_SLICES, pid, fd, bytes) == told)
+}
+
+// Whether a read into a slice was told what a step's answer says, with the same bytes at the slice's front, and the
+// slice is as it was behind them.
+fn is_answered(read: Result<Option<usize>, Errno>, slice: &[u8], answer: &Answer) -> bool {
+    let (number, reply) = match (read, answer) {
+        (Ok(Some(number)), Answer::Done(Reply::Bytes(bytes))) => (number, bytes.as_slice()),
+        (Ok(None), Answer::Done(Reply::Parked)) => (0, &slice[..0]),
+        (Err(errno), Answer::Done(Reply::Err(told))) if errno == *told => (0, &slice[..0]),
+        _ => return false,
+    };
+    let (front, behind) = slice.split_at(number.min(slice.len()));
+    number == front.len() && front == reply && behind.iter().all(|byte| *byte == BEFORE)
+}
+
+// Whether both are told this of a read.
+fn reads(alloc: Global, hub: &mut Hub<Global>, read: Read) -> Result<bool, AllocError> {
+    let (pid, fd, count, told) = read;
+    let mut slice = Vec::from_elem(alloc, BEFORE, count)?;
+    let n = count as u64;
+    if !hub.lives(BY_STEPS) {
+        return Ok(false);
+    }
+    let answer = hub.step(BY_STEPS, &Step::Read { pid, fd, n });
+    if !hub.lives(BY_SLICES) || hub.read_into(BY_SLICES, pid, fd, &mut slice) != told {
+        return Ok(false);
+    }
+    Ok(is_answered(told, &slice, &answer))
 }
 
 // Whether twice a pipe's room of a write that waits comes out alike.
@@ -160,5 +219,63 @@ fn a_write_from_a_slice_is_the_step(rt: HostRuntime) -> Result<(), Fail> {
     )?;
     let mut hub = opened(rt.alloc(), limits)?;
     assert!(rt; plays(rt.alloc(), &mut hub) == Ok(true));
+    Ok(())
+}
+
+// The write of so many bytes by the third process.
+fn written(alloc: Global, count: usize) -> Result<Step, AllocError> {
+    let bytes: Vec<u8> = (0..count).map(|i| (i % 251) as u8).collect(alloc)?;
+    Ok(Step::Write {
+        pid: 3,
+        fd: 1,
+        payload: ByteString::from_slice(alloc, &bytes)?,
+    })
+}
+
+// Whether all reads are told what stands there, and then those that wait come to the same, and there is nothing to read
+// any more.
+fn is_read(alloc: Global, hub: &mut Hub<Global>) -> Result<bool, AllocError> {
+    let pipe = |nonblock| Step::Pipe { pid: 1, nonblock };
+    let fork = || Step::Fork { pid: 1 };
+    let close = |pid| Step::Close { pid, fd: 1 };
+    let first = [
+        spawn(),
+        pipe(false),
+        pipe(true),
+        fork(),
+        fork(),
+        written(alloc, 9_000)?,
+        written(alloc, 56_000)?,
+    ];
+    if !alike(hub, &first) {
+        return Ok(false);
+    }
+    for read in all_reads() {
+        if !reads(alloc, hub, read)? {
+            return Ok(false);
+        }
+    }
+    let last = [
+        Step::Resume { pid: 1 },
+        written(alloc, 20)?,
+        Step::Resume { pid: 1 },
+        Step::Resume { pid: 2 },
+        close(1),
+        close(2),
+        close(3),
+    ];
+    Ok(alike(hub, &last) && reads(alloc, hub, (2, 0, 5, Ok(Some(0))))?)
+}
+
+#[test]
+fn a_read_into_a_slice_is_the_step(rt: HostRuntime) -> Result<(), Fail> {
+    let limits = Config::new(
+        32,
+        Config::DEFAULT_SOFT,
+        Config::DEFAULT_HARD,
+        Config::DEFAULT_MAX,
+    )?;
+    let mut hub = opened(rt.alloc(), limits)?;
+    assert!(rt; is_read(rt.alloc(), &mut hub) == Ok(true));
     Ok(())
 }

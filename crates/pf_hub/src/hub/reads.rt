@@ -1,0 +1,103 @@
+//! Bytes that are read into memory of the host's.
+
+ghost use Rattle.std.specs.Prelude.{◌≡◌, ◌≢◌, ℕ, ◌+◌, ◌-◌, length};
+ghost use Rattle.pf_machine.specs.Machine.{Answers};
+ghost use Rattle.pf_machine.specs.Numbered.{at};
+ghost use Rattle.pf_depot.specs.Door.{IsCovered as IsCoveredBy};
+ghost use Rattle.pf_depot.specs.Loans.{loans_live};
+ghost use Rattle.pf_tables.specs.Buffers.{Lies, answer_in, number_in};
+ghost use Rattle.pf_tables.specs.Owns.{Owns};
+ghost use Rattle.pf_hub.specs.Covered.{IsCovered};
+ghost use Rattle.pf_hub.specs.Stepped.{Moved, Stepped};
+ghost use Rattle.pf_hub.specs.Tenants.{Lives, limits_at, state_at, frames_in};
+
+use super::Hub;
+use pf_base::{Errno, Step};
+use pf_depot::{Lender, LoanDoor, Loans};
+use pf_space::Placed;
+use std::alloc::Allocator;
+
+/// The step of a namespace that reads into this buffer, through the door of its loans and of whoever lends them, as
+/// `step_over` says of a step. It takes no memory.
+// It and `read_in` are inlined, as `step_over` is.
+#[inline(always)]
+pub fn read_over<A: Allocator + Clone, D: Lender>(
+    placed: &mut Placed<A>,
+    lender: &mut D,
+    loans: &mut Loans,
+    pid: u32,
+    fd: u32,
+    buffer: &mut [u8],
+) -> Result<Option<usize>, Errno>
+    requires fact { D.fact lender.old }
+    requires covered { IsCoveredBy (loans_live loans.old) (D.ready lender.old) (D.out lender.old) }
+    requires owns { Owns (loans_live loans.old) placed.old.space }
+    ensures fact { D.fact lender.new }
+    ensures covered { IsCoveredBy (loans_live loans.new) (D.ready lender.new) (D.out lender.new) }
+    ensures rest { D.rest lender.new ≡ D.rest lender.old }
+    ensures reserved { (loans_live loans.new).reserved ≡ (loans_live loans.old).reserved }
+    // what is held came from the lender, or went back
+    ensures spare { D.ready lender.new + (loans_live loans.new).held
+        ≡ D.ready lender.old + (loans_live loans.old).held }
+    ensures owed { D.out lender.new - (loans_live loans.new).held
+        ≡ D.out lender.old - (loans_live loans.old).held }
+    ensures moved { Moved (loans_live loans.old) (loans_live loans.new) placed.old.space placed.new.space
+        (Step.Read pid fd (length buffer.old)) (answer_in buffer.new result) }
+    ensures lies { Lies (number_in result) buffer.old buffer.new }
+    ensures allocator { placed.new.allocator ≡ placed.old.allocator }
+{
+    let mut door = LoanDoor::new(lender, loans);
+    placed.read_into(&mut door, pid, fd, buffer)
+}
+
+impl<A: Allocator + Clone> Hub<A> {
+    /// One step of one namespace that reads into this buffer, as many bytes as it has room for (read(2)): what it
+    /// leaves is what `step` leaves with a `Step::Read` of the buffer's length, and what it is told are the same
+    /// bytes, the same wait and the same error. The bytes lie at the buffer's front, and their number is given out;
+    /// none is where the read waits. Behind them the buffer is as it was. It takes no memory, where `step` makes room
+    /// for the bytes.
+    pub fn read_into(
+        &mut self,
+        ns: u32,
+        pid: u32,
+        fd: u32,
+        buffer: &mut [u8],
+    ) -> Result<Option<usize>, Errno>
+        requires lives { Lives self.old.world ns }
+        ensures number { length self.new.world.tenants ≡ length self.old.world.tenants }
+        ensures lives { Lives self.new.world ns }
+        ensures frames { frames_in self.new.world ≡ frames_in self.old.world }
+        ensures limits { limits_at self.new.world ns ≡ limits_at self.old.world ns }
+        // its answer and its state are the lone machine's, and nobody else is told, or has, anything else
+        ensures answers { Answers (limits_at self.old.world ns) (answer_in buffer.new result)
+            (state_at self.old.world ns) (Step.Read pid fd (length buffer.old)) (state_at self.new.world ns) }
+        ensures others { (m : ℕ) → m ≢ ns → at self.new.world.tenants m ≡ at self.old.world.tenants m }
+        // as many bytes lie at the buffer's front as it tells, and nothing else has changed in it
+        ensures lies { Lies (number_in result) buffer.old buffer.new }
+        ensures allocators { self.new.allocators ≡ self.old.allocators }
+        ensures covered { IsCovered self.new.world }
+    {
+        self.read_in(ns, pid, fd, buffer)
+    }
+
+    // The same, as one fact.
+    #[inline(always)]
+    fn read_in(
+        &mut self,
+        ns: u32,
+        pid: u32,
+        fd: u32,
+        buffer: &mut [u8],
+    ) -> Result<Option<usize>, Errno>
+        requires lives { Lives self.old.world ns }
+        ensures stepped { Stepped self.old.world self.new.world ns (Step.Read pid fd (length buffer.old))
+            (answer_in buffer.new result) }
+        ensures lies { Lies (number_in result) buffer.old buffer.new }
+        ensures allocators { self.new.allocators ≡ self.old.allocators }
+    {
+        match &mut self.tenants[ns as usize] {
+            Some(tenant) => tenant.read_into(&mut self.depot, pid, fd, buffer),
+            None => unreachable!(),
+        }
+    }
+}
