@@ -130,7 +130,7 @@ uint32_t sag_next_to_go_on(sag_hub *h, uint32_t ns, uint32_t after);
  * O_NONBLOCK. (pipe(2)) */
 int64_t sag_pipe(sag_hub *h, uint32_t ns, uint32_t pid, bool nonblock, uint32_t fds[2]);
 
-/* Reads at most `count` bytes, and tells how many; 0 at the end. (read(2), pipe(7)) */
+/* Reads at most `count` bytes, and tells how many; 0 at the end. No memory of the heap is wanted. (read(2), pipe(7)) */
 int64_t sag_read(sag_hub *h, uint32_t ns, uint32_t pid, uint32_t fd, void *into, size_t count);
 
 /* Writes bytes, and tells how many. At most 1,048,576 in a call. No signal is sent with -EPIPE. Memory of the heap is

@@ -6,5 +6,6 @@ pub mod Kept
 pub mod Lent
 pub mod Opened
 pub mod Queries
+pub mod Read
 pub mod Rows
 pub mod Told

@@ -2,11 +2,13 @@
 ghost use Rattle.std.specs.Prelude.{◌≡◌, Bool, true, length};
 ghost use Rattle.pf_base.specs.declared.step.Step.TheVariants as steps;
 ghost use Rattle.pf_c.specs.Handle.{hub_of};
-ghost use Rattle.pf_c.specs.Told.{Answered, IsAnswered, Told, Filled, Paired, fds_of, fds_or};
+ghost use Rattle.pf_c.specs.Read.{Laid, answer_of_read, number_of_read};
+ghost use Rattle.pf_c.specs.Told.{Answered, IsAnswered, Told, Paired, fds_of, fds_or};
+ghost use Rattle.pf_tables.specs.Buffers.{Lies};
 
 use crate::handle::SagHub;
-use crate::told::{answer_of, code_of, fill, told};
-use pf_base::{Answer, Reply, Step};
+use crate::told::{answer_of, code_of, code_of_read, told};
+use pf_base::{Answer, Errno, Reply, Step};
 use pf_hub::Hub;
 use std::alloc::Global;
 
@@ -46,16 +48,51 @@ pub extern "C" fn sag_pipe(
     code_of(&answer)
 }
 
-/// read(2).
+// A read of a namespace's process into a buffer, if there is one of this number.
+#[inline(always)]
+fn read_in(
+    hub: &mut Hub<Global>,
+    ns: u32,
+    pid: u32,
+    fd: u32,
+    into: &mut [u8],
+) -> Option<Result<Option<usize>, Errno>>
+    ensures answered { (fits : Bool) → Answered hub.old hub.new ns (steps.Read pid fd (length into.old)) fits
+        (answer_of_read into.new result) }
+    ensures lies { Lies (number_of_read result) into.old into.new }
+{
+    if !hub.lives(ns) {
+        return None;
+    }
+    Some(hub.read_into(ns, pid, fd, into))
+}
+
+// The same of a handle, where it is open.
+#[inline(always)]
+fn read_of(
+    h: &mut SagHub,
+    ns: u32,
+    pid: u32,
+    fd: u32,
+    into: &mut [u8],
+) -> Option<Result<Option<usize>, Errno>>
+    ensures answered { (fits : Bool) → IsAnswered (hub_of h.old) (hub_of h.new) ns
+        (steps.Read pid fd (length into.old)) fits (answer_of_read into.new result) }
+    ensures lies { Lies (number_of_read result) into.old into.new }
+{
+    if !h.is_open {
+        return None;
+    }
+    read_in(h.place.hub(), ns, pid, fd, into)
+}
+
+/// read(2). The bytes are laid into the buffer from where they stand, and memory is never wanted.
 #[unsafe(no_mangle)]
 pub extern "C" fn sag_read(h: &mut SagHub, ns: u32, pid: u32, fd: u32, into: &mut [u8]) -> i64
-    ensures { Filled (hub_of h.old) (hub_of h.new) ns (steps.Read pid fd (length into.old)) true result
-        into.old into.new }
+    ensures { Laid (hub_of h.old) (hub_of h.new) ns (steps.Read pid fd (length into.old)) result into.old into.new }
 {
-    let n = into.len() as u64;
-    let answer = answer_of(h, ns, &Step::Read { pid, fd, n });
-    fill(into, &answer);
-    code_of(&answer)
+    let read = read_of(h, ns, pid, fd, into);
+    code_of_read(&read)
 }
 
 // A write of a namespace's process, if there is one of this number.

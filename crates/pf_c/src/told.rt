@@ -3,6 +3,7 @@ ghost use Rattle.std.specs.Prelude.{◌≡◌, Bool, ◌≤◌, length, min, tak
 ghost use Rattle.pf_c.specs.Codes.{number, refused, code_of_reply, code_of_answer};
 ghost use Rattle.pf_base.specs.declared.step.Step.{Step};
 ghost use Rattle.pf_c.specs.Handle.{hub_of};
+ghost use Rattle.pf_c.specs.Read.{code_of_read};
 ghost use Rattle.pf_c.specs.Rows.{Held};
 ghost use Rattle.pf_c.specs.Told.{Answered, IsAnswered, Told, Needs, bytes_of, fits_in_place, flags_of};
 ghost use Rattle.pf_frame.specs.Bytes.{filled};
@@ -62,6 +63,18 @@ pub(crate) fn code_of(answer: &Option<Answer>) -> i64
     match answer {
         Some(Answer::Done(reply)) => code_of_reply(reply),
         Some(Answer::NoMemory) => NO_MEMORY,
+        None => NO_NAMESPACE,
+    }
+}
+
+/// What C is told of a read into its buffer: how many bytes lie there.
+pub(crate) fn code_of_read(read: &Option<Result<Option<usize>, Errno>>) -> i64
+    ensures { result ≡ code_of_read read.now }
+{
+    match read {
+        Some(Ok(Some(count))) => number(*count as u64),
+        Some(Ok(None)) => PARKED,
+        Some(Err(errno)) => refused(*errno),
         None => NO_NAMESPACE,
     }
 }
