@@ -18,10 +18,10 @@ FitsInPlace (InPlace len bytes) = len ≤ BYTES_IN_PLACE
 FitsInPlace (Shared bytes) = ⊤
 FitsInPlace (OnHeap bytes) = ⊤
 
--- this memory is empty, and enough for so many bytes; none is needed for those that are kept in place
-abbrev pub IsEnough : ℕ → Option (Box (Vec ℕ)) → Type 0
-IsEnough most None = most ≤ BYTES_IN_PLACE
-IsEnough most (Some bytes) = (bytes.value.items ≡ []) × (most ≤ vec_capacity bytes.value)
+-- this memory is empty, and just enough for so many bytes; none is needed for those that are kept in place
+abbrev pub IsRoomFor : ℕ → Option (Box (Vec ℕ)) → Type 0
+IsRoomFor most None = most ≤ BYTES_IN_PLACE
+IsRoomFor most (Some bytes) = (bytes.value.items ≡ []) × (vec_capacity bytes.value ≡ most)
 
 -- the ids of supplementary groups
 abbrev pub kept_ids : Option (Box (Vec ℕ)) → List ℕ

@@ -1,4 +1,4 @@
-ghost use Rattle.std.specs.Prelude.{◌≡◌, ◌≤◌, nat_eq, length, take, IfOk, IsOk};
+ghost use Rattle.std.specs.Prelude.{◌≡◌, ◌≤◌, nat_eq, length, take, vec_capacity, IfOk, IfSome, IsOk};
 ghost use Rattle.std.specs.Cmp.Lexicographic.{pointwise, nat_list_eq_equiv};
 ghost use Rattle.std.specs.Cmp.{partial_equiv_from_equiv};
 ghost use Rattle.std.specs.Arc.{arc_value};
@@ -19,6 +19,17 @@ enum Kept {
     Shared(Arc<Vec<u8>>),
     // By one alone, where no copy could be shared.
     OnHeap(Box<Vec<u8>>),
+}
+
+// The same bytes for one owner more, where they have no other and no memory beyond their own comes with them.
+fn owned_twice(bytes: &Arc<Vec<u8>>) -> Option<Arc<Vec<u8>>>
+    ensures bytes { IfSome result (λ twice. arc_value twice ≡ arc_value bytes.now) }
+    ensures exact { IfSome result (λ twice. vec_capacity (arc_value twice) ≡ length (arc_value twice).items) }
+{
+    if Arc::strong_count(bytes) != 1 || bytes.capacity() != bytes.len() {
+        return None;
+    }
+    Arc::try_clone(bytes).ok()
 }
 
 /// Bytes that a step carries or a reply gives: up to `BYTES_IN_PLACE` of them are kept in place, and take no memory of the
@@ -116,6 +127,21 @@ impl ByteString {
             Kept::OnHeap(bytes) => ByteString::from_slice(alloc, bytes.as_slice()),
         }
     }
+
+    /// The same bytes again in the same memory, where whoever gave them can't tell it from a copy: they stand in memory
+    /// of the heap that no other copy or `Arc` of them has a part in, and that has no room beyond them. None where that
+    /// isn't so. It takes no memory.
+    ///
+    /// A copy by `copy` keeps what spare capacity there is for as long as it lives, and an owner of the `Arc` finds
+    /// another one.
+    pub fn share(&self) -> Option<ByteString>
+        ensures { IfSome result (λ bytes. bytes ≡ self.now) }
+    {
+        match &self.kept {
+            Kept::Shared(bytes) => Some(ByteString::from_arc(owned_twice(bytes)?)),
+            Kept::InPlace(..) | Kept::OnHeap(_) => None,
+        }
+    }
 }
 
 impl PartialEq for ByteString {
@@ -140,7 +166,8 @@ impl fmt::Debug for ByteString {
 
 /// Memory for bytes that come later, made before them, so that none is wanted once they are there.
 ///
-/// A contract sees how many bytes it is enough for.
+/// A contract sees how many bytes it is enough for, and it has memory for just as many, or for none where they are kept in
+/// place.
 #[derive(Drop)]
 pub struct ByteRoom {
     most: usize,
@@ -149,13 +176,13 @@ pub struct ByteRoom {
 
 impl Model for ByteRoom {
     ghost use Rattle.std.specs.Prelude.{ℕ};
-    ghost use Rattle.pf_base.specs.Kept.{IsEnough};
+    ghost use Rattle.pf_base.specs.Kept.{IsRoomFor};
 
     ghost Value = { ℕ };
 
     ghost view = { λ room. room.most };
 
-    ghost invariant = { λ room. IsEnough room.most room.memory };
+    ghost invariant = { λ room. IsRoomFor room.most room.memory };
 }
 
 impl ByteRoom {
