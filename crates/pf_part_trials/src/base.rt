@@ -5,6 +5,7 @@ use pf_base::{
 };
 use std::alloc::{AllocError, Global};
 use std::fmt::Display;
+use std::sync::Arc;
 use std::test::Fail;
 
 // A reservation, pipe-max-size, and why they are refused.
@@ -100,6 +101,54 @@ fn bytes_come_back_at_the_edge_of_the_place(rt: HostRuntime) -> Result<(), Fail>
         assert!(rt; ByteRoom::new(alloc, 4096)?.fill(alloc, &copied) == copied);
     }
     assert!(rt; bytes(alloc, EDGE)? != bytes(alloc, BEYOND)?);
+    Ok(())
+}
+
+// So many bytes, in memory that has room for so many more.
+fn roomy(alloc: Global, count: usize, spare: usize) -> Result<ByteString, AllocError> {
+    let mut bytes = Vec::with_capacity(alloc, count.saturating_add(spare))?;
+    for _ in 0..count {
+        bytes.push(7)?;
+    }
+    ByteString::new(alloc, bytes)
+}
+
+// How many bytes, how much room beyond them, and whether they are shared with one owner more.
+const SHARED: [(usize, usize, bool); 6] = [
+    (15, 0, true),
+    (15, 1, false),
+    (4_096, 0, true),
+    (4_096, 1, false),
+    (14, 0, false),
+    (0, 0, false),
+];
+
+#[test]
+fn bytes_are_shared_that_have_no_room_to_spare(rt: HostRuntime) -> Result<(), Fail> {
+    for (count, spare, want) in SHARED {
+        let bytes = roomy(rt.alloc(), count, spare)?;
+        let shared = bytes.share();
+        assert!(rt; shared.is_some() == want, "{count} {spare}");
+        assert!(rt;
+            shared.is_none_or(|shared| shared == bytes),
+            "{count} {spare}"
+        );
+    }
+    Ok(())
+}
+
+#[test]
+fn bytes_are_shared_that_have_one_owner(rt: HostRuntime) -> Result<(), Fail> {
+    let mut mine = Arc::new(rt.alloc(), Vec::from_slice(rt.alloc(), BEYOND)?)?;
+    let bytes = ByteString::from_arc(Arc::try_clone(&mine)?);
+    assert!(rt; bytes.share().is_none());
+    drop(bytes);
+    assert!(rt; Arc::get_mut(&mut mine).is_some());
+    let bytes = ByteString::from_arc(mine);
+    let shared = bytes.share();
+    assert!(rt; shared.is_some() && bytes.share().is_none());
+    drop(shared);
+    assert!(rt; bytes.share().is_some());
     Ok(())
 }
 

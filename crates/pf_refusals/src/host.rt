@@ -66,6 +66,8 @@ fn make_each<H: Host>(
 ) -> Result<(), End> {
     for (ns, line) in lines {
         let place = told.answers.len();
+        let write = row.write_of(alloc, line)?;
+        let line = write.as_ref().unwrap_or(line);
         row.give_sign_at(alloc, place)?;
         let answer = make_one(host, script, *ns, line, told);
         row.give_sign_at(alloc, place)?;

@@ -25,9 +25,10 @@ use std::thread::Threads;
 use std::{env, fs, io};
 
 /// The files that are played where no word names another.
-const FILES: [&str; 6] = [
+const FILES: [&str; 7] = [
     "growing.rows",
     "steady.rows",
+    "copied.rows",
     "whole.rows",
     "coming.rows",
     "going.rows",
@@ -48,9 +49,8 @@ fn play<R: Threads + Wait + Sync>(
     }
     match row.way {
         Way::Space => alone::play(alloc, row, script, told),
-        Way::Steps | Way::Run | Way::GuestSteps | Way::GuestEvents => {
-            hubs::play(alloc, row, script, told)
-        }
+        Way::Steps | Way::Spare | Way::Owned | Way::Run | Way::GuestSteps | Way::GuestEvents =>
+            hubs::play(alloc, row, script, told),
         Way::Workers | Way::GuestWorkers => workers::play(rt, alloc, row, script, told),
         Way::Calls | Way::Waits | Way::GuestCalls => served::play(rt, alloc, row, script, told),
         Way::Parks => parking::play(rt, alloc, row, script, told),

@@ -3,8 +3,8 @@
 //! its coming and 1 for its going; of one whose step waits it is that step's place.
 
 use crate::end::End;
-use pf_base::Config;
-use pf_script::{MemoryBytes, Script, read_script};
+use pf_base::{ByteString, Config, Step};
+use pf_script::{Line, MemoryBytes, Script, read_script};
 use std::alloc::Global;
 
 /// So many bytes are asked for as a sign to whoever counts the requests for memory: before those that are to be counted,
@@ -18,6 +18,10 @@ pub(crate) enum Way {
     Space,
     /// By a hub, one by one.
     Steps,
+    /// So too, but the bytes of each write stand in memory that has room for one more.
+    Spare,
+    /// So too, but the bytes of each write have another owner.
+    Owned,
     /// By a hub, all at once.
     Run,
     /// By a worker for each namespace, one by one.
@@ -44,6 +48,8 @@ impl Way {
         match word {
             "space" => Some(Way::Space),
             "steps" => Some(Way::Steps),
+            "spare" => Some(Way::Spare),
+            "owned" => Some(Way::Owned),
             "run" => Some(Way::Run),
             "workers" => Some(Way::Workers),
             "calls" => Some(Way::Calls),
@@ -59,7 +65,10 @@ impl Way {
 
     /// Whether the requests of one step are counted.
     fn counts_a_step(self) -> bool {
-        matches!(self, Way::Space | Way::Steps | Way::Workers)
+        matches!(
+            self,
+            Way::Space | Way::Steps | Way::Spare | Way::Owned | Way::Workers
+        )
     }
 
     fn has_guest(self) -> bool {
@@ -124,6 +133,37 @@ impl Row<'_> {
             self.give_sign(alloc)?;
         }
         Ok(())
+    }
+
+    /// The bytes of a write as this row has them, where that isn't as the script has them.
+    fn payload_of(&self, alloc: Global, payload: &ByteString) -> Result<Option<ByteString>, End> {
+        match self.way {
+            Way::Spare => {
+                let mut bytes = Vec::with_capacity(
+                    alloc,
+                    payload.as_slice().len().saturating_add(1),
+                )?;
+                bytes.extend_from_slice(payload.as_slice())?;
+                Ok(Some(ByteString::new(alloc, bytes)?))
+            }
+            Way::Owned => Ok(Some(payload.copy(alloc)?)),
+            _ => Ok(None),
+        }
+    }
+
+    /// A script's write with its bytes as this row has them.
+    pub(crate) fn write_of(&self, alloc: Global, line: &Line) -> Result<Option<Line>, End> {
+        let Line::Step(Step::Write { pid, fd, payload }) = line else {
+            return Ok(None);
+        };
+        let Some(payload) = self.payload_of(alloc, payload)? else {
+            return Ok(None);
+        };
+        Ok(Some(Line::Step(Step::Write {
+            pid: *pid,
+            fd: *fd,
+            payload,
+        })))
     }
 
     /// How many of a script's namespaces are there from the start.

@@ -6,6 +6,7 @@ use pf_base::{Answer, ByteString, Config, Errno, Reply, Step};
 use pf_frame::{Frame, PoolFault};
 use pf_hub::Hub;
 use std::alloc::{AllocError, Global};
+use std::sync::Arc;
 use std::test::Fail;
 
 // One namespace writes and reads by steps, and the other one by slices.
@@ -219,6 +220,81 @@ fn a_write_from_a_slice_is_the_step(rt: HostRuntime) -> Result<(), Fail> {
     )?;
     let mut hub = opened(rt.alloc(), limits)?;
     assert!(rt; plays(rt.alloc(), &mut hub) == Ok(true));
+    Ok(())
+}
+
+// Whether a step's bytes have no owner but the step.
+fn is_alone(step: &Step) -> bool {
+    matches!(step, Step::Write { payload, .. } if payload.share().is_some())
+}
+
+// Whether a write of these bytes by a process waits, and then the step that it was.
+fn waits(hub: &mut Hub<Global>, pid: u32, bytes: Arc<Vec<u8>>) -> Option<Step> {
+    let step = Step::Write {
+        pid,
+        fd: 1,
+        payload: ByteString::from_arc(bytes),
+    };
+    let parks = hub.lives(BY_STEPS) && hub.step(BY_STEPS, &step) == Answer::Done(Reply::Parked);
+    if parks { Some(step) } else { None }
+}
+
+// How many bytes a reader finds, all of them sevens, where those that wait go on by turns.
+fn drained(hub: &mut Hub<Global>) -> usize {
+    let mut found = 0;
+    for turn in 0..24u32 {
+        let step = match turn % 4 {
+            3 => Step::Read {
+                pid: 4,
+                fd: 0,
+                n: 100_000,
+            },
+            waiting => Step::Resume { pid: waiting + 1 },
+        };
+        if !hub.lives(BY_STEPS) {
+            return 0;
+        }
+        if let Answer::Done(Reply::Bytes(bytes)) = hub.step(BY_STEPS, &step)
+            && bytes.as_slice().iter().all(|byte| *byte == 7)
+        {
+            found += bytes.as_slice().len();
+        }
+    }
+    found
+}
+
+// So many sevens.
+fn sevens(alloc: Global, count: usize) -> Result<Arc<Vec<u8>>, AllocError> {
+    Ok(Arc::new(alloc, Vec::from_elem(alloc, 7, count)?)?)
+}
+
+// Whether what a write keeps that waits is its step's own, where the step alone has so many bytes, and else a copy: then
+// who has them too finds itself their one owner again, and a step its own alone.
+fn keeps(alloc: Global, hub: &mut Hub<Global>) -> Result<bool, AllocError> {
+    let mut mine = sevens(alloc, 131_072)?;
+    let theirs = Arc::try_clone(&mine)?;
+    let copied = waits(hub, 1, theirs).is_some() && Arc::get_mut(&mut mine).is_some();
+    let shared = waits(hub, 2, sevens(alloc, 131_072)?).is_some_and(|step| !is_alone(&step));
+    let few = waits(hub, 3, sevens(alloc, 131_071)?).is_some_and(|step| is_alone(&step));
+    Ok(copied && shared && few && drained(hub) == 393_215)
+}
+
+#[test]
+fn a_write_that_waits_keeps_what_its_step_alone_has(rt: HostRuntime) -> Result<(), Fail> {
+    let limits = Config::new(
+        32,
+        Config::DEFAULT_SOFT,
+        Config::DEFAULT_HARD,
+        Config::DEFAULT_MAX,
+    )?;
+    let mut hub = opened(rt.alloc(), limits)?;
+    let pipe = Step::Pipe {
+        pid: 1,
+        nonblock: false,
+    };
+    let fork = || Step::Fork { pid: 1 };
+    assert!(rt; alike(&mut hub, &[spawn(), pipe, fork(), fork(), fork()]));
+    assert!(rt; keeps(rt.alloc(), &mut hub) == Ok(true));
     Ok(())
 }
 

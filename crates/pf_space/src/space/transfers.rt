@@ -27,19 +27,20 @@ fn write_ended(progress: Progress) -> Result<Reply, Fault>
     }
 }
 
-/// From so many bytes on, a write that waits shares those of its step. By default the C library may ask the kernel for
-/// memory of this size (mallopt(3), M_MMAP_THRESHOLD), which then comes page by page: of 1 MiB that costs more than
-/// the bytes.
+/// From so many bytes on, a write that waits shares those of its step, where its host can't tell. By default the C
+/// library may ask the kernel for memory of this size (mallopt(3), M_MMAP_THRESHOLD), which then comes page by page: of
+/// 1 MiB that costs more than the bytes.
 const SHARED_FROM: usize = 131_072;
 
-// What a write that waits keeps: a step's own bytes, where they are many and can be shared, and else a copy.
+// What a write that waits keeps: a step's own bytes, where they are many and the step alone has them, and else a copy. So
+// no spare capacity of the host's stays for as long as the write waits.
 fn kept(alloc: Global, bytes: &[u8], payload: Option<&ByteString>) -> Result<ByteString, AllocError>
     requires { IfSome payload (λ p. p.now ≡ bytes.now) }
     ensures { IfOk result (λ kept. kept ≡ bytes.now) }
 {
     if let Some(payload) = payload
         && bytes.len() >= SHARED_FROM
-        && let Ok(shared) = payload.copy(alloc)
+        && let Some(shared) = payload.share()
     {
         return Ok(shared);
     }
