@@ -1,16 +1,19 @@
 -- How many slashes the parts of a text have, and what stands before the first.
 use Rattle.std.proofs.Common.{◌≡◌, ℕ, zero, suc, ◌+◌, ◌-◌, ◌*◌, ◌<◌, ◌≤◌, true, false, not, List, [], ◌∷◌, ◌++◌, length, take, drop, map, replicate, nat_eq, refl, sym, ap, ◌∙◌, subst, arith, cond, append_assoc, Bor}
-use Rattle.std.specs.List.{count_by, prefix_len, position_or_len, slice_split, onto_first}
-use Rattle.std.specs.Prelude.{filter}
+use Rattle.std.specs.List.{count_by, list_all, prefix_len, position_or_len, slice_split, onto_first}
+use Rattle.std.specs.Prelude.{filter, ◌&&◌}
 use Rattle.std.specs.Simd.Lanes.{mask_l}
 use Rattle.std.proofs.Math.Seq.{drop-cons}
-use Rattle.std.proofs.lemmas.List.{drop-replicate, length-drop, take_all}
+use Rattle.std.proofs.lemmas.Bool.Decides.{nat_tests}
+use Rattle.std.proofs.lemmas.List.{drop-replicate, length-append, length-drop, length-map, take_all}
 use Rattle.std.proofs.lemmas.List.Elements.{filter-append}
 use Rattle.std.proofs.lemmas.List.Splits.{slice_split_first, length-slice_split}
 use Rattle.std.proofs.lemmas.List.Sums.{sum_by-append, sum_by-cons, prefix_len-le-length, count_by-le-length, length-filter}
 use Rattle.pf_machine.specs.FileMap.{Name, Path}
 use Rattle.pf_machine.specs.Paths.{is_component, components}
 use Rattle.pf_tree.specs.Subtrees.{path_of}
+use Rattle.pf_walk.specs.Room.{is_slash}
+use Rattle.pf_walk.proofs.Cuts.{path_of-map}
 
 abbrev pub count : List ℕ → ℕ
 count xs = count_by (λ b. nat_eq b 47) xs
@@ -96,3 +99,56 @@ pub at_most : (path : Name) → length (components path) ≤ count path + 1
 at_most path =
     let pieces = slice_split (λ b. nat_eq b 47) path in
     omega (arith, length-filter is_component pieces, count_by-le-length is_component pieces, length-slice_split (λ b. nat_eq b 47) path)
+
+-- as many slashes as bytes are slashes alone
+pub all_slashes : (path : Name) → count path ≡ length path → list_all is_slash path ≡ true
+all_slashes [] all = refl
+all_slashes (b ∷ path) all =
+    elim (nat_eq b 47) as (λ s. cond s 1 0 + count path ≡ suc (length path) → (s && list_all is_slash path) ≡ true) [
+      | true ↦ λ same. all_slashes path (omega (arith, same))
+      | false ↦ λ same. absurd (omega (arith, same, count_by-le-length (λ x. nat_eq x 47) path))
+    ] (sym (sum_by-cons (λ x. cond (nat_eq x 47) 1 0) b path) ∙ all)
+
+-- with fewer there is another byte
+pub another_byte : (path : Name) → count path < length path → list_all is_slash path ≡ false
+another_byte [] fewer = absurd (omega arith)
+another_byte (b ∷ path) fewer =
+    elim (nat_eq b 47) as (λ s. cond s 1 0 + count path < suc (length path) → (s && list_all is_slash path) ≡ false) [
+      | true ↦ λ low. another_byte path (omega (arith, low))
+      | false ↦ λ low. refl
+    ] (omega (arith, sum_by-cons (λ x. cond (nat_eq x 47) 1 0) b path, fewer))
+
+-- a piece is one name, or none where it is empty
+one_at_most : (n : Name) → length (filter is_component (n ∷ [])) ≤ 1
+one_at_most n =
+    elim (is_component n) as (λ b. length (cond b (n ∷ []) []) ≤ 1) [
+      | true ↦ omega arith
+      | false ↦ omega arith
+    ]
+
+-- a first piece with a byte is a name
+one_at_least : (x : ℕ) (pieces : List Name) → 0 < length pieces → 1 ≤ length (filter is_component (onto_first x pieces))
+one_at_least x [] some = absurd (omega arith)
+one_at_least x (n ∷ ns) some =
+    let some_byte : nat_eq (suc (length n)) 0 ≡ false = grind (arith, nat_tests) in
+    omega (arith, ap (λ b. length (cond (not b) ((x ∷ n) ∷ filter is_component ns) (filter is_component ns))) some_byte)
+
+-- what stands before a text's first slash is among its names, unless it is empty
+first_counts : (rest : Name) → length (filter is_component (take (position_or_len (λ b. nat_eq b 47) rest) rest ∷ [])) ≤ length (components rest)
+first_counts [] = omega arith
+first_counts (x ∷ xs) =
+    let cut = slice_split (λ b. nat_eq b 47) xs in
+    let behind = position_or_len (λ b. nat_eq b 47) xs in
+    elim (nat_eq x 47) as (λ s. length (filter is_component (take (cond (not s) (1 + behind) 0) (x ∷ xs) ∷ [])) ≤ length (filter is_component (cond s ([] ∷ cut) (onto_first x cut)))) [
+      | true ↦ omega arith
+      | false ↦ omega (arith, one_at_most (take (1 + behind) (x ∷ xs)), one_at_least x cut (omega (arith, length-slice_split (λ b. nat_eq b 47) xs)))
+    ]
+
+-- room for all names is room for the next, behind those before it
+pub has_room : (ns : List (Bor Name)) (rest name : Name) (k : ℕ) (all : Path) → k ≡ position_or_len (λ b. nat_eq b 47) rest → name ≡ take k rest
+    → path_of ns ++ filter is_component (slice_split (λ b. nat_eq b 47) rest) ≡ all → length ns + length (filter is_component (name ∷ [])) ≤ length all
+has_room ns rest name k all at is_name so =
+    let named : name ≡ take (position_or_len (λ b. nat_eq b 47) rest) rest = is_name ∙ ap (λ n. take n rest) at in
+    let counts = subst (λ n. length (filter is_component (n ∷ [])) ≤ length (components rest)) (sym named) (first_counts rest) in
+    let names : length (path_of ns) ≡ length ns = ap length (path_of-map ns) ∙ length-map ns (λ r. r.now) in
+    omega (arith, counts, names, length-append (path_of ns) (components rest), ap length so)

@@ -1,3 +1,4 @@
 pub mod Told
 pub mod Resolutions
+pub mod Room
 pub mod Walks

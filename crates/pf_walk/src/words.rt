@@ -1,12 +1,13 @@
 //! Paths as bytes: the names between their slashes.
 
-ghost use Rattle.std.specs.Prelude.{◌≡◌, ◌+◌, ◌≤◌, ◌++◌, [], ◌∷◌, IfOk, OnOk, filter, length, nat_lt};
+ghost use Rattle.std.specs.Prelude.{◌≡◌, ◌+◌, ◌≤◌, ◌++◌, [], ◌∷◌, IfOk, filter, length, nat_lt, vec_capacity};
 ghost use Rattle.std.specs.List.{list_any};
 ghost use Rattle.pf_base.specs.declared.TheConstants.{MAX_NAME};
 ghost use Rattle.pf_machine.specs.Paths.{components, is_component, words_of, ends_in_slash};
 ghost use Rattle.pf_tree.specs.Subtrees.{path_of};
 ghost use Rattle.pf_walk.specs.Told.{Told};
 ghost use Rattle.pf_walk.specs.Resolutions.{words};
+ghost use Rattle.pf_walk.specs.Room.{room_for_names};
 ghost use Rattle.pf_walk.specs.Walks.{is_dotted};
 
 use crate::slashes::{before_slash, slashes};
@@ -14,8 +15,8 @@ use pf_base::{Errno, Fault, MAX_NAME, MAX_PATH};
 use std::alloc::{AllocError, Global};
 
 /// A path, cut at its slashes. Slashes that meet are as one.
-// The names stand in a vector, so each step on files may want memory, Unlink and Stat too: a walk without it would look
-// each name up from the root again.
+// The names stand in a vector, so each step on files may want memory, Unlink and Stat too: they are looked through before
+// the walk, then walked, and then handed to the tree as the way to the file. Without it each would cut the path again.
 #[derive(Debug, Drop)]
 pub struct Words<'a> {
     /// The components in their order, as parts of the path's bytes: each has 1 to 255 bytes, none of them a slash.
@@ -27,7 +28,7 @@ pub struct Words<'a> {
 // How many names a path has at most: none where it has slashes alone, and else one more than slashes.
 fn most_names(path: &[u8]) -> usize
     ensures enough { length (components path.now) ≤ result }
-    ensures most { result ≤ length path.now + 1 }
+    ensures room { result ≡ room_for_names path.now }
 {
     let slashes = slashes(path);
     if slashes == path.len() {
@@ -36,27 +37,28 @@ fn most_names(path: &[u8]) -> usize
     slashes + 1
 }
 
-// Puts a name behind those before it, unless it is empty.
-fn keep<'a>(names: &mut Vec<&'a [u8]>, name: &'a [u8]) -> Result<(), AllocError>
-    ensures { OnOk result (path_of names.new.items
-        ≡ path_of names.old.items ++ filter is_component (name.now ∷ [])) }
+// Puts a name, for which there is room, behind those before it, unless it is empty.
+fn keep<'a>(names: &mut Vec<&'a [u8]>, name: &'a [u8])
+    requires { length names.old.items + length (filter is_component (name.now ∷ [])) ≤ vec_capacity names.old }
+    ensures names { path_of names.new.items ≡ path_of names.old.items ++ filter is_component (name.now ∷ []) }
+    ensures room { vec_capacity names.new ≡ vec_capacity names.old }
 {
     if !name.is_empty() {
-        names.push(name)?;
+        names.push_reserved(name);
     }
-    Ok(())
 }
 
 // What lies between slashes, but for nothing.
 fn components(alloc: Global, path: &[u8]) -> Result<Vec<&[u8]>, AllocError>
-    ensures { IfOk result (λ names. path_of names.items ≡ components path.now) }
+    ensures names { IfOk result (λ names. path_of names.items ≡ components path.now) }
+    ensures room { IfOk result (λ names. vec_capacity names ≡ room_for_names path.now) }
 {
-    // Room for all of them is asked for at once.
+    // Room for all of them is asked for at once, and for no more.
     let mut names = Vec::with_capacity(alloc, most_names(path))?;
     let mut rest = path;
     loop {
         let (name, behind) = rest.split_at(before_slash(rest));
-        keep(&mut names, name)?;
+        keep(&mut names, name);
         let Some((_, after)) = behind.split_first() else {
             return Ok(names);
         };

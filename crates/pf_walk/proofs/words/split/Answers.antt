@@ -16,7 +16,7 @@ returns c =
     let zero : list_any (λ b. nat_eq b 0) bs ≡ false = sym c.contains.ensures.value ∙ c.if-contains.false in
     let empty : nat_eq (length bs) 0 ≡ false = grind (arith, nat_tests) in
     let long : nat_lt 1023 (length bs) ≡ false = grind (arith, nat_tests) in
-    let cut : ns ≡ components bs = c.in_ok-names.ensures in
+    let cut : ns ≡ components bs = c.in_ok-names.ensures.names in
     let names : list_any (λ n. nat_lt 255 (length n)) ns ≡ false = ap (λ l. list_any (λ n. nat_lt 255 (length n)) (path_of l)) (sym c.as_slice.ensures.value) ∙ sym c.has_long_name.ensures ∙ c.if-has_long_name.false in
     let slash : (ends_in_slash bs && is_nonempty ns) ≡ c.if-ends_in_slash.slash =
     elim c.if-ends_in_slash.branch [
