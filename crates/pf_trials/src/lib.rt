@@ -22,3 +22,5 @@ mod scripts;
 mod slices;
 #[cfg(test)]
 mod spaces;
+#[cfg(test)]
+mod spacing;

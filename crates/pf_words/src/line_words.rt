@@ -1,5 +1,5 @@
 //! The words of a line, and whether each of them has a byte.
-ghost use Rattle.std.specs.Prelude.{◌≡◌, ◌≤◌, true, not, length, map, IfOk};
+ghost use Rattle.std.specs.Prelude.{◌≡◌, ◌≤◌, true, not, length, map, IfOk, OnOk};
 ghost use Rattle.std.specs.List.{list_any};
 ghost use Rattle.pf_words.specs.Words.{words_of};
 ghost use Rattle.pf_words.specs.Marks.{is_no_word};
@@ -21,7 +21,7 @@ fn has_empty(words: &[&[u8]]) -> bool
     false
 }
 
-// What `cut_line` does, of a short line: its spaces are all marked first.
+// The words of a short line, if each has a byte: its spaces are all marked first. It stops at a word without one.
 fn cut_short_line<'a>(words: &mut Vec<&'a [u8]>, line: &'a [u8]) -> Result<bool, AllocError>
     requires { length line.now ≤ MARKED }
     ensures words { IfOk result (λ full. full ≡ true → map (λ w. w.now) words.new.items ≡ words_of line.now) }
@@ -48,14 +48,14 @@ fn cut_short_line<'a>(words: &mut Vec<&'a [u8]>, line: &'a [u8]) -> Result<bool,
     Ok(true)
 }
 
-/// Whether each word of a line has a byte. If so, the words are put in place of what `words` had; else what it has then
-/// isn't specified. They are parts of `line`.
+/// Puts the words of a line in place of what `words` had, and says whether each of them has a byte. They are parts of
+/// `line`. They are all put before it is said that one has none: where memory for them is wanted, that is the fault.
 pub fn cut_line<'a>(words: &mut Vec<&'a [u8]>, line: &'a [u8]) -> Result<bool, AllocError>
-    ensures words { IfOk result (λ full. full ≡ true → map (λ w. w.now) words.new.items ≡ words_of line.now) }
+    ensures words { OnOk result (map (λ w. w.now) words.new.items ≡ words_of line.now) }
     ensures full { IfOk result (λ full. full ≡ not (list_any is_no_word (words_of line.now))) }
 {
-    if line.len() <= MARKED {
-        return cut_short_line(words, line);
+    if line.len() <= MARKED && cut_short_line(words, line)? {
+        return Ok(true);
     }
     cut_into(words, b' ', line)?;
     Ok(!has_empty(words.as_slice()))
