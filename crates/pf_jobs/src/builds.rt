@@ -313,6 +313,7 @@ fn succeeded(alloc: Global, host: &mut Host, seed: u64, ns: u32, tenants: u32) -
     let mut build = Build::new(alloc, ns, seed, u64::from(ns));
     build.phase = Phase::IsOver;
     if host.hub.retire(ns).is_err() {
+        host.digest.add(15);
         return build;
     }
     let given = host.hub.namespaces() as u32;
@@ -327,7 +328,10 @@ fn succeeded(alloc: Global, host: &mut Host, seed: u64, ns: u32, tenants: u32) -
             host.digest.add(u64::from(ns));
             Build::new(alloc, ns, seed, u64::from(ns))
         }
-        Err(_) => build,
+        Err(_) => {
+            host.digest.add(16);
+            build
+        }
     }
 }
 

@@ -1,6 +1,6 @@
 //! A digest of what a host is told.
 
-use pf_base::{Kind, Reply};
+use pf_base::{Kind, Readiness, Reply};
 
 /// What the digest is multiplied with for each number.
 const FACTOR: u64 = 0x9E37_79B9_7F4A_7C15;
@@ -80,5 +80,25 @@ impl Digest {
             Reply::Parked => self.add(7),
             Reply::Err(error) => self.add(100 + u64::from(error.code())),
         }
+    }
+
+    /// Who can go on next, if anybody can.
+    pub(crate) fn add_next(&mut self, next: Option<u32>) {
+        match next {
+            Some(pid) => self.add(2_000 + u64::from(pid)),
+            None => self.add(10),
+        }
+    }
+
+    /// What a pipe is ready for: its bytes and its room, and who is at its other end.
+    pub(crate) fn add_readiness(&mut self, ready: Readiness) {
+        self.add(ready.bytes);
+        self.add(ready.room);
+        self.add(match (ready.has_reader, ready.has_writer) {
+            (false, false) => 11,
+            (false, true) => 12,
+            (true, false) => 13,
+            (true, true) => 14,
+        });
     }
 }

@@ -90,24 +90,25 @@ impl Host {
         }
     }
 
-    /// The next process of a tenant whose call would come further.
+    /// The next process of a tenant whose call would come further. The answer is digested, also that there is none.
     pub(crate) fn next_to_go_on(&mut self, ns: u32, after: u32) -> Option<u32> {
         if !self.hub.lives(ns) {
+            self.digest.add(8);
             return None;
         }
-        self.hub.next_to_go_on(ns, after)
+        let next = self.hub.next_to_go_on(ns, after);
+        self.digest.add_next(next);
+        next
     }
 
     /// Asks what a descriptor is ready for, and digests the answer.
     pub(crate) fn ask_readiness(&mut self, ns: u32, pid: u32, fd: u32) {
         if !self.hub.lives(ns) {
+            self.digest.add(8);
             return;
         }
         match self.hub.readiness(ns, pid, fd) {
-            Ok(ready) => {
-                self.digest.add(ready.bytes);
-                self.digest.add(ready.room);
-            }
+            Ok(ready) => self.digest.add_readiness(ready),
             Err(error) => self.digest.add(100 + u64::from(error.code())),
         }
     }

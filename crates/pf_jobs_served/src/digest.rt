@@ -1,7 +1,8 @@
 //! A digest of what is told. Bytes go into it by words of eight and by four words at once, so that it costs little
 //! beside the calls.
 
-use pf_base::{Kind, Reply};
+use pf_base::{Kind, Reply, Step};
+use pf_service::Receipt;
 
 /// What the digest is multiplied with for each number.
 const PRIME: u64 = 0x9E37_79B9_7F4A_7C15;
@@ -90,5 +91,53 @@ impl Digest {
             Reply::Parked => self.add(7),
             Reply::Err(error) => self.add(100 + u64::from(error.code())),
         }
+    }
+
+    /// A receipt: the namespace, the place and the reply.
+    pub(crate) fn add_receipt(&mut self, receipt: &Receipt) {
+        self.add(u64::from(receipt.ns));
+        self.add(receipt.place);
+        self.add_reply(&receipt.reply);
+    }
+
+    /// A step: each kind that is made here begins with a number of its own.
+    pub(crate) fn add_step(&mut self, step: &Step) {
+        match step {
+            Step::Spawn {
+                uid,
+                gid,
+                umask,
+                groups,
+            } => {
+                self.add(20);
+                self.add(u64::from(*uid));
+                self.add(u64::from(*gid));
+                self.add(u64::from(*umask));
+                self.add(groups.as_slice().len() as u64);
+            }
+            Step::Exit { pid } => self.add_words_of(21, *pid, 0),
+            Step::Fork { pid } => self.add_words_of(22, *pid, 0),
+            Step::Resume { pid } => self.add_words_of(23, *pid, 0),
+            Step::Pipe { pid, nonblock } => {
+                self.add_words_of(if *nonblock { 24 } else { 25 }, *pid, 0);
+            }
+            Step::Close { pid, fd } => self.add_words_of(26, *pid, *fd),
+            Step::Dup { pid, fd } => self.add_words_of(27, *pid, *fd),
+            Step::Read { pid, fd, n } => {
+                self.add_words_of(28, *pid, *fd);
+                self.add(*n);
+            }
+            Step::Write { pid, fd, payload } => {
+                self.add_words_of(29, *pid, *fd);
+                self.add_bytes(payload.as_slice());
+            }
+            _ => self.add(30),
+        }
+    }
+
+    fn add_words_of(&mut self, kind: u64, pid: u32, fd: u32) {
+        self.add(kind);
+        self.add(u64::from(pid));
+        self.add(u64::from(fd));
     }
 }

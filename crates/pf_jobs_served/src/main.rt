@@ -1,11 +1,13 @@
 //! What callers of a service wait for: three threads call it, each for tenants of its own; then two threads share a
 //! namespace, where each waits for the other; and at its end all seats are compared with all transcripts.
 //!
-//! What each call is told in the end goes into one number, which doesn't depend on the threads' order: only how often a
-//! call waits does. With no word it is a short fixed load; with a number, a long one by that seed.
+//! What each call is told in the end goes into one number, and what the transcripts say, which doesn't depend on the
+//! threads' order: only how often a call waits does, and how the entries of two threads lie in one transcript. With no
+//! word it is a short fixed load; with a number, a long one by that seed.
 #![tactic(auto)]
 
 mod digest;
+mod entries;
 mod play;
 mod served;
 mod source;

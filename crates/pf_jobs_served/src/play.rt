@@ -2,7 +2,8 @@
 
 use crate::digest::Digest;
 use crate::source::{Source, below, line};
-use pf_base::{Groups, PAGE_SIZE, Reply, Step};
+use pf_base::{Groups, PAGE_SIZE, Step};
+use pf_service::Receipt;
 use rand_pcg::Pcg32;
 
 /// How many bytes a pipe has room for.
@@ -14,7 +15,7 @@ const SPELL: u32 = 50;
 /// What makes the steps of one namespace.
 pub(crate) trait Caller {
     /// What is told, if the step is made.
-    fn ask(&mut self, step: &Step) -> Option<Reply>;
+    fn ask(&mut self, step: &Step) -> Option<Receipt>;
 }
 
 /// A tenant: the numbers that its turns follow, and a digest of what it is told.
@@ -41,7 +42,7 @@ impl Play {
     }
 
     fn make<C: Caller>(&mut self, caller: &mut C, step: Step) -> Option<()> {
-        self.told.add_reply(&caller.ask(&step)?);
+        self.told.add_receipt(&caller.ask(&step)?);
         Some(())
     }
 

@@ -14,8 +14,8 @@ ghost use Rattle.pf_base.specs.declared.TheConstants.{MAX_NAMESPACES};
 use crate::digest::Digest;
 use crate::play::{Caller, Play, spawned};
 use crate::source::{Source, below, line};
-use crate::{blank, configs, frames};
-use pf_base::{PAGE_SIZE, Reply, Step};
+use crate::{blank, configs, entries, frames};
+use pf_base::{PAGE_SIZE, Step};
 use pf_service::{NoGate, Receipt, Seat, Service, Transcripts};
 use rand_pcg::Pcg32;
 use std::alloc::Global;
@@ -58,14 +58,14 @@ struct Asked<'a, R: Wait, C: Ledger, H: Ledger> {
 }
 
 impl<R: Wait, C: Ledger, H: Ledger> Caller for Asked<'_, R, C, H> {
-    fn ask(&mut self, step: &Step) -> Option<Reply> {
+    fn ask(&mut self, step: &Step) -> Option<Receipt> {
         self.is_second = !self.is_second;
         let told = if self.is_second {
             self.service.call(self.rt, &mut self.seats.1, step)
         } else {
             self.service.call(self.rt, &mut self.seats.0, step)
         };
-        Some(told.ok()?.reply)
+        told.ok()
     }
 }
 
@@ -154,9 +154,17 @@ impl<'a, R: Wait, C: Ledger, H: Ledger> Stage<'a, R, C, H> {
         Some(crews)
     }
 
-    /// A plain call of the shared namespace.
+    /// A plain call of the shared namespace, before two threads share it.
     fn call(&self, seat: &mut Seat, told: &mut Digest, step: Step) -> Option<()> {
         let receipt = self.service.call(self.rt, seat, &step).ok()?;
+        told.add_receipt(&receipt);
+        Some(())
+    }
+
+    /// The end of a process while two threads share the namespace: its place depends on their order.
+    fn exit(&self, seat: &mut Seat, told: &mut Digest, pid: u32) -> Option<()> {
+        let receipt = self.service.call(self.rt, seat, &Step::Exit { pid }).ok()?;
+        told.add(u64::from(receipt.ns));
         told.add_reply(&receipt.reply);
         Some(())
     }
@@ -174,14 +182,22 @@ impl<'a, R: Wait, C: Ledger, H: Ledger> Stage<'a, R, C, H> {
         Some((first, second))
     }
 
-    /// What a call is told in the end, which may wait for the other thread.
-    fn wait(&self, seat: &mut Seat, receipts: &mut Vec<Receipt>, step: Step) -> Option<Reply> {
+    /// What a call is told in the end, which may wait for the other thread. The places depend on the threads' order.
+    fn wait(
+        &self,
+        seat: &mut Seat,
+        receipts: &mut Vec<Receipt>,
+        told: &mut Digest,
+        step: Step,
+    ) -> Option<()> {
         self.service
             .call_waiting(self.rt, seat, &step, receipts)
             .ok()?;
         let last = receipts.pop()?;
         receipts.clear();
-        Some(last.reply)
+        told.add(u64::from(last.ns));
+        told.add_reply(&last.reply);
+        Some(())
     }
 
     /// Random numbers of the round, others for each place.
@@ -197,8 +213,7 @@ impl<'a, R: Wait, C: Ledger, H: Ledger> Stage<'a, R, C, H> {
         for _ in 0..self.round.letters {
             let (pid, fd) = (1, 1);
             let payload = self.source.payload(&mut places, letter(&mut sizes)).ok()?;
-            let reply = self.wait(seat, &mut receipts, Step::Write { pid, fd, payload })?;
-            told.add_reply(&reply);
+            self.wait(seat, &mut receipts, told, Step::Write { pid, fd, payload })?;
         }
         Some(())
     }
@@ -209,8 +224,7 @@ impl<'a, R: Wait, C: Ledger, H: Ledger> Stage<'a, R, C, H> {
         let mut receipts = Vec::new(self.source.alloc());
         for _ in 0..self.round.letters {
             let (pid, fd, n) = (2, 0, u64::from(letter(&mut sizes)));
-            let reply = self.wait(seat, &mut receipts, Step::Read { pid, fd, n })?;
-            told.add_reply(&reply);
+            self.wait(seat, &mut receipts, told, Step::Read { pid, fd, n })?;
         }
         Some(())
     }
@@ -219,7 +233,7 @@ impl<'a, R: Wait, C: Ledger, H: Ledger> Stage<'a, R, C, H> {
     fn send(&self, mut seat: Seat) -> Option<(Seat, Digest)> {
         let mut told = Digest::new();
         let written = self.write_all(&mut seat, &mut told);
-        self.call(&mut seat, &mut told, Step::Exit { pid: 1 })?;
+        self.exit(&mut seat, &mut told, 1)?;
         written?;
         Some((seat, told))
     }
@@ -228,7 +242,7 @@ impl<'a, R: Wait, C: Ledger, H: Ledger> Stage<'a, R, C, H> {
     fn receive(&self, mut seat: Seat) -> Option<(Seat, Digest)> {
         let mut told = Digest::new();
         let read = self.read_all(&mut seat, &mut told);
-        self.call(&mut seat, &mut told, Step::Exit { pid: 2 })?;
+        self.exit(&mut seat, &mut told, 2)?;
         read?;
         Some((seat, told))
     }
@@ -355,10 +369,16 @@ fn leave_all(alloc: Global, crews: Vec<Crew>, told: &mut Digest) -> Option<Vec<S
     Some(seats)
 }
 
-/// How many entries the tenants' transcripts have: how many the last one has depends on the threads' order.
-fn count(transcripts: &Transcripts, told: &mut Digest) {
-    for transcript in transcripts.as_slice().iter().take(POST as usize) {
-        told.add(transcript.entries().len() as u64);
+/// What the transcripts say: the last one is that of the namespace that two threads share.
+fn read(transcripts: &Transcripts, told: &mut Digest) {
+    let (tenants, post) = transcripts
+        .as_slice()
+        .split_at((POST as usize).min(transcripts.as_slice().len()));
+    for transcript in tenants {
+        entries::add_all(transcript, told);
+    }
+    for transcript in post {
+        entries::add_apart(transcript, told);
     }
 }
 
@@ -403,7 +423,7 @@ fn play_by_name<C: Ledger + Send + Sync, H: Ledger + Send + Sync, R: Threads + W
     let service = Shared::<C, H>::new(alloc, frames, configs, NoGate, credits, held).ok()?;
     let mut told = Digest::new();
     let seats = called(rt, &service, source, round, &mut told)?;
-    count(&service.close(seats).ok()?, &mut told);
+    read(&service.close(seats).ok()?, &mut told);
     Some(told)
 }
 
