@@ -30,6 +30,15 @@ descriptor_shown ps ds pipes files files_made i fd = ap (option_and_then (λ (p 
     by_place None = refl
     by_place (Some p) = at-map (λ (k : Key). k.serial) p.descriptors fd
 
+-- there is one where there is a key
+pub open_shown : (ps : ProcessRows) (ds : DescriptionRows) (pipes : PipeRows) (files : Files) (files_made : ℕ) (i fd : ℕ)
+    → is_some (key_at fd (at ps i)) ≡ is_some (descriptor (state_of ps ds pipes files files_made) i fd)
+open_shown ps ds pipes files files_made i fd = by_key (key_at fd (at ps i)) ∙ sym (ap is_some (descriptor_shown ps ds pipes files files_made i fd))
+  where
+    by_key : (o : Option Key) → is_some o ≡ is_some (option_map (λ (k : Key). k.serial) o)
+    by_key None = refl
+    by_key (Some k) = refl
+
 -- and of one that is emptied
 emptied_shown : (ps : ProcessRows) (i fd : ℕ) → processes_of (set ps i (without_key fd (at ps i))) ≡ change_at (without_descriptor fd) (processes_of ps) i
 emptied_shown ps i fd = map-set (option_map process_of) ps i (without_key fd (at ps i)) ∙ ap (set (processes_of ps) i) (by_place (at ps i) ∙ ap (option_map (without_descriptor fd)) (sym (at-map process_of ps i)))

@@ -78,9 +78,9 @@ one_named ks ds rows n o here is =
     let same : suc n ≡ n + 1 = omega arith in
     ap (with_name o) is ∙ ap (λ k. with_name k (with_first_names n ks ds)) (sym here) ∙ ap (λ m. with_first_names m ks ds) same
 
-pub no_key : (o : Option Key) → ((k : Key) → o ≡ Some k → ⊥) → o ≡ None
-no_key None h = refl
-no_key (Some k) h = absurd (h k refl)
+pub nothing : {X : Type 0} (o : Option X) → ((x : X) → o ≡ Some x → ⊥) → o ≡ None
+nothing None h = refl
+nothing (Some x) h = absurd (h x refl)
 
 abbrev place_of : Row → ℕ
 place_of e = e.0

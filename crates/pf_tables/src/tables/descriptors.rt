@@ -2,14 +2,14 @@
 //! description's last name goes, so does its end of the pipe; where a pipe's last end goes, so does the pipe: its slots
 //! are released, and its pages are charged no more.
 
-ghost use Rattle.std.specs.Prelude.{◌≡◌, ℕ, ◌+◌, ◌<◌, ◌≤◌, None, IsSome, IfSome, OnErr, length, slice_set};
+ghost use Rattle.std.specs.Prelude.{◌≡◌, ℕ, ◌+◌, ◌<◌, ◌≤◌, None, IsSome, IfSome, OnErr, is_some, length, slice_set};
 ghost use Rattle.pf_base.specs.declared.TheConstants.{MAX_DESCRIPTORS, MAX_PROCESSES};
 ghost use Rattle.pf_machine.specs.Machine.{call_of};
 ghost use Rattle.pf_machine.specs.Numbered.{at, one_if};
 ghost use Rattle.pf_fds.specs.Registry.{find};
 ghost use Rattle.pf_tables.specs.Meaning.{meaning};
 ghost use Rattle.pf_tables.specs.Owns.{Owns};
-ghost use Rattle.pf_tables.specs.Rows.{with_fewer, left, gone, opens_of, pipes_of, state_of, Tied};
+ghost use Rattle.pf_tables.specs.Rows.{key_at, with_fewer, left, gone, opens_of, pipes_of, state_of, Tied};
 ghost use Rattle.pf_tables.specs.Tables.{closed, descriptor, duped, emptied, flagged, without_place};
 ghost use Rattle.pf_tables.specs.Tables.{Forgets, HasDuped, Left, LetsGo, LetsGoOpens};
 ghost use Rattle.pf_tables.specs.Told.{Becomes, Leaves};
@@ -54,25 +54,47 @@ fn drop_end(pipes: &mut Registry<Pipe>, end: Description) -> Option<Pipe>
     Some(pipes.remove(end.pipe))
 }
 
-// Drops a descriptor of the process in a place, if there is one, and what nobody can reach any more. A pipe that goes is
-// given out.
+// Whether there was a descriptor, and the pipe that went with it.
+#[derive(Drop)]
+struct LetGo {
+    was_open: bool,
+    pipe: Option<Pipe>,
+}
+
+// Drops a descriptor of the process in a place, if there is one, and what nobody can reach any more. It tells whether
+// there was one, and gives out a pipe that goes.
 fn let_go(
     processes: &mut ProcessTable,
     descriptions: &mut Descriptions<Description>,
     pipes: &mut Registry<Pipe>,
     i: usize,
     fd: usize,
-) -> Option<Pipe>
+) -> LetGo
     requires { Tied processes.old descriptions.old.items pipes.old.items }
     ensures left { Left processes.old descriptions.old.items pipes.old.items
         processes.new descriptions.new.items pipes.new.items i fd }
-    ensures pipe { LetsGo (pipes_of pipes.old.items) (pipes_of pipes.new.items) result }
-    ensures opens { LetsGoOpens (opens_of pipes.old.items) (opens_of pipes.new.items) result }
+    ensures pipe { LetsGo (pipes_of pipes.old.items) (pipes_of pipes.new.items) result.pipe }
+    ensures opens { LetsGoOpens (opens_of pipes.old.items) (opens_of pipes.new.items) result.pipe }
     ensures drawn { length descriptions.new.items ≡ length descriptions.old.items }
+    ensures was_open { result.was_open ≡ is_some (key_at fd (at processes.old i)) }
 {
-    let key = processes.take_key(i, fd)?;
-    let end = descriptions.unname(key)?;
-    drop_end(pipes, end)
+    let Some(key) = processes.take_key(i, fd) else {
+        return LetGo {
+            was_open: false,
+            pipe: None,
+        };
+    };
+    let Some(end) = descriptions.unname(key) else {
+        return LetGo {
+            was_open: true,
+            pipe: None,
+        };
+    };
+    let pipe = drop_end(pipes, end);
+    LetGo {
+        was_open: true,
+        pipe,
+    }
 }
 
 // Takes the key of a pipe that goes out of those of the FIFOs, where it is a FIFO's.
@@ -85,28 +107,31 @@ fn forget(fifos: &mut HashMap<u64, Key>, file: Option<u64>)
 }
 
 impl<A: Allocator> Tables<A> {
-    // Drops a descriptor of the process in a place, if there is one, and what nobody can reach any more.
-    pub(super) fn empty<F: Frames>(&mut self, door: &mut F, i: usize, fd: usize)
+    // Drops a descriptor of the process in a place, if there is one, and what nobody can reach any more, and tells
+    // whether there was one.
+    pub(super) fn empty<F: Frames>(&mut self, door: &mut F, i: usize, fd: usize) -> bool
         requires fact { F.fact door.old }
         requires owns { Owns (F.live door.old) self.old }
         ensures fact { F.fact door.new }
         ensures rest { F.rest door.new ≡ F.rest door.old }
         ensures emptied { Becomes (F.live door.old) (F.live door.new) self.old self.new
             (emptied (meaning (F.live door.old) self.old.state) i fd) }
+        ensures was_open { result ≡ is_some (descriptor self.old.state i fd) }
     {
         let _ = &self.pages;
-        let gone = let_go(
+        let LetGo { was_open, pipe } = let_go(
             &mut self.processes,
             &mut self.descriptions,
             &mut self.pipes,
             i,
             fd,
         );
-        if let Some(mut pipe) = gone {
+        if let Some(mut pipe) = pipe {
             self.pages.refund(pipe.owner(), pipe.slots() as u32);
             forget(&mut self.fifos, pipe.file());
             pipe.clear(door);
         }
+        was_open
     }
 
     /// Gives the description that a process's descriptor names one name more, the lowest free descriptor (dup(2)), and

@@ -29,10 +29,13 @@ fn name_all(descriptions: &mut Descriptions<Description>, descriptors: &FdTable)
 {
     let mut fd = descriptors.next(0);
     while fd < MAX_DESCRIPTORS {
+        // Most keys stand side by side: the next one is looked for only from a number that has none.
         if let Some(key) = descriptors.get(fd) {
             descriptions.name(key);
+            fd += 1;
+        } else {
+            fd = descriptors.next(fd + 1);
         }
-        fd = descriptors.next(fd + 1);
     }
 }
 
@@ -128,11 +131,14 @@ impl<A: Allocator> Tables<A> {
         self.processes.living(pid)?;
         self.wake(door, pid);
         let i = pid as usize - 1;
-        // It costs what is open: the descriptors without a description are passed over.
+        // It costs what is open: only from a number without a descriptor the next one is looked for.
         let mut fd = self.next_descriptor(i, 0);
         while fd < MAX_DESCRIPTORS {
-            self.empty(door, i, fd);
-            fd = self.next_descriptor(i, fd + 1);
+            if self.empty(door, i, fd) {
+                fd += 1;
+            } else {
+                fd = self.next_descriptor(i, fd + 1);
+            }
         }
         self.take_process(door, i);
         Ok(())

@@ -13,13 +13,22 @@ loop-fd-init g c = record {
       c.next_descriptor-fd.ensures.between;
 }
 
+pub loop-fd-preserved-then-empty : goal.loop-fd-preserved-then-empty
+loop-fd-preserved-then-empty g c = record {
+  fact = c.empty.ensures.fact;
+  rest = c.empty.ensures.rest ∙ c.loop-fd.invariant.rest;
+  first =
+      lemmas.one_more (g.F.Frames.live c.args.door.now) _ _ _ _ _ c.self.invariant.kept _ c.self.view_is c.args.pid c.in_ok-living.ensures _ _ _ c.loop-fd.invariant.first _ _ c.empty.ensures.emptied;
+}
+
+-- where there was none, the next one is looked for
 pub loop-fd-preserved : goal.loop-fd-preserved
 loop-fd-preserved g c = record {
   fact = c.empty.ensures.fact;
   rest = c.empty.ensures.rest ∙ c.loop-fd.invariant.rest;
   first =
       lemmas.one_more_next (g.F.Frames.live c.args.door.now) _ _ _ _ _ c.self.invariant.kept _ c.self.view_is c.args.pid c.in_ok-living.ensures _ _ _ c.loop-fd.invariant.first _ _ c.empty.ensures.emptied
-      _ (lemmas.on_from _ _ (omega (arith, c.loop-fd-test.true)) c.next_descriptor-fd-in-loop-fd.ensures.above) c.next_descriptor-fd-in-loop-fd.ensures.between;
+      _ (lemmas.on_from _ _ (omega (arith, c.loop-fd-test.true)) c.next_descriptor-fd-else-empty.ensures.above) c.next_descriptor-fd-else-empty.ensures.between;
 }
 
 pub take_process-requires-clause-bare : goal.take_process-requires-clause-bare

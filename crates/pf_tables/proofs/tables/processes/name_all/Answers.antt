@@ -4,7 +4,6 @@ use Rattle.pf_fds.specs.Registry.{find}
 use Rattle.pf_tables.specs.Rows.{Description, DescriptionRows, with_first_names}
 use Rattle.pf_tables.proofs.ProcessesDrop.{on_from}
 use Rattle.pf_tables.proofs.ProcessesFork as lemmas
-use Rattle.pf_tables.proofs.tables.processes.name_all.Goals.{in-Some, in_default}
 use Rattle.pf_tables.proofs.tables.processes.name_all.Goals as goal
 
 pub loop-fd-init : goal.loop-fd-init
@@ -13,28 +12,18 @@ loop-fd-init c = record {
   within = c.next-fd.ensures.most;
 }
 
+-- where there is no key, the next one is looked for
 pub loop-fd-preserved : goal.loop-fd-preserved
 loop-fd-preserved c =
     let ks = c.args.descriptors.now in
     let ds = c.args.descriptions.now.items in
-    let on : c.loop-fd.fd + 1 ≤ c.next-fd-in-loop-fd.result = on_from _ _ (omega (arith, c.loop-fd-test.true)) c.next-fd-in-loop-fd.ensures.above in
-    let passed = lemmas.names_next ks ds (c.loop-fd.fd + 1) c.next-fd-in-loop-fd.result on c.next-fd-in-loop-fd.ensures.between in
-    elim c.match-get.branch [
-      | in-Some w ↦
-          record {
-            named =
-                ap (λ (d : Descriptions Description). d.items) w.descriptions-is ∙ w.name.ensures.items
-                ∙ lemmas.one_named ks ds c.loop-fd.descriptions.items c.loop-fd.fd (Some w.in-Some.key) (sym c.get.ensures ∙ w.in-Some.is) c.loop-fd.invariant.named ∙ passed;
-            within = c.next-fd-in-loop-fd.ensures.most;
-          }
-      | in_default w ↦
-          record {
-            named =
-                ap (λ (d : Descriptions Description). d.items) w.descriptions-is
-                ∙ lemmas.one_named ks ds c.loop-fd.descriptions.items c.loop-fd.fd None (sym c.get.ensures ∙ lemmas.no_key c.get.result w.in_default.not-Some) c.loop-fd.invariant.named ∙ passed;
-            within = c.next-fd-in-loop-fd.ensures.most;
-          }
-    ]
+    let on : c.loop-fd.fd + 1 ≤ c.next-fd-in_default.result = on_from _ _ (omega (arith, c.loop-fd-test.true)) c.next-fd-in_default.ensures.above in
+    record {
+      named =
+          lemmas.one_named ks ds c.loop-fd.descriptions.items c.loop-fd.fd None (sym c.get.ensures ∙ lemmas.nothing c.get.result c.in_default.not-Some) c.loop-fd.invariant.named
+          ∙ lemmas.names_next ks ds (c.loop-fd.fd + 1) c.next-fd-in_default.result on c.next-fd-in_default.ensures.between;
+      within = c.next-fd-in_default.ensures.most;
+    }
 
 pub name-requires-clause-stands : goal.name-requires-clause-stands
 name-requires-clause-stands c =
