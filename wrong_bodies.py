@@ -1,0 +1,582 @@
+"""Wrong bodies: edits of a crate's source that turn a function's meaning, and that the prover must refuse.
+
+One is a file crates/CRATE/wrong/NAME.edit in the form of the kit's must-fail edits: a line 'file: PATH', then pairs of
+lines 'old: TEXT' and 'new: TEXT'. They are tried by `rt check` and `rt must-fail` alone, in copies of the tree, a lane
+for each processor.
+
+A body is checked against the contracts of what it calls and not against their bodies. So wrong bodies of different
+functions stand in one check, of these functions alone. One counts as refused where its own function isn't proved
+there, for a reason of its own and not only because of a function that it calls. What isn't seen so in company is tried
+alone. What isn't seen so either, can't be read, or is in no function goes to the copy's must-fail/, and the kit says.
+
+That a proof file names what an edit took away says nothing of the contract. Where there is no other reason, the wrong
+body counts as one that isn't refused: it wants a form that keeps the names.
+
+For a function that it refuses the prover works out what could be written in the function's proof file, which can take
+as long again as the refusal. It doesn't where the file has a fault of its own. So in company each wrong body's function
+has a proof file with a planted fault, which is no reason: there a function counts as refused where the prover says
+which part of its contract isn't proved, or finds another fault in the file.
+
+A crate's checks are made over what the one before kept. So its untouched text must check before the first wrong body
+and, over the same folder, behind the last one: else its check would refuse anything, and nothing has been shown.
+
+What was seen refused is kept in the user's cache folder, where that last check passed: by checksums of the edit, of all
+files that the check read of the repository, of this file, and by the kit's version. A later run on the same machine, in
+any checkout, takes it from there.
+"""
+import contextlib
+import hashlib
+import os
+import re
+import shutil
+import subprocess
+import sys
+import tempfile
+import threading
+import time
+from collections import Counter, namedtuple
+from concurrent.futures import ThreadPoolExecutor
+
+# How many wrong bodies stand in one check. Where there are many more (42 and not yet 31) the prover has copies of
+# itself check them first, and what is refused there it checks once again.
+MOST = 30
+CHECKS = 3  # how many checks of a crate with wrong bodies one lane makes, where another lane can take the others
+LANE_BYTES = 4 << 30  # what a check may take of memory
+DAYS = 30  # how long what was seen is kept where no run asks for it
+LAST = 40  # how many lines are printed of a check that should have passed
+FUNCTION = re.compile(r'^([ \t]*)(?:pub(?:\([^)]*\))? )?(?:const )?(?:unsafe )?(?:extern "C" )?fn (\w+)', re.M)
+OWNER = re.compile(r"^(?:unsafe )?impl\b([^{]*)\{|^(?:pub(?:\([^)]*\))? )?trait (\w+)", re.M)
+# What a check says: of a function, of a place in a function's proof file, of a goal in the source, and of a source that
+# it can't read, where it judges nothing
+VERDICT = re.compile(r"^fn (\S+): (?:no proof|not proved)(?![;:] it calls)")
+FAULT = re.compile(r"^(?:\./)?proofs/(\S+)/(?:Answers|Invariants|Proof)\.antt:\d+:\d+: error: (?!`planted`)")
+UNPROVED = re.compile(r"^note: (?:\./)?(src/\S+?):(\d+):\d+: (?:it is not proved that|`search` found no proof)")
+UNREAD = re.compile(r"^(?:\./)?(?:src|specs)/\S+?:\d+:\d+: error|\berror\[[\w-]+\]")
+# A fault that is one of names, or that follows from another
+HOLLOW = re.compile(r"has no field|is not in scope|has no `|was not admitted|which was rejected")
+PLANTED = "\nplanted : Type 0\nplanted = Type 0\n"  # it is refused: the type of a type isn't one of its own kind
+JUDGED = re.compile(r"^rt: (?:must-fail \w+|crates/\w+/must-fail)/(\S+?): (.*)$", re.M)
+HOLLOW_VERDICT = re.compile(
+    rf"refused, as it must be(?: \(only because a proof file|: \S*proofs/.*(?:{HOLLOW.pattern}))"
+)
+
+Edit = namedtuple("Edit", "name text pairs spots")  # pairs: (file, old, new); spots: what it edits, as spot_at names it
+Tried = namedtuple("Tried", "name refused said")
+Ran = namedtuple("Ran", "status said seconds")
+Task = namedtuple("Task", "name waits work")  # waits: the names of tasks; work: what is done in a lane's folder
+
+
+def say(text):
+    print(f"gate: {text}", flush=True)
+
+
+def read(file):
+    with open(file, encoding="utf-8") as it:
+        return it.read()
+
+
+def bytes_of(file):
+    """What a file holds, nothing where there is none."""
+    if not os.path.isfile(file):
+        return b""
+    with open(file, "rb") as it:
+        return it.read()
+
+
+def write(file, text):
+    with open(file, "w", encoding="utf-8") as it:
+        it.write(text)
+
+
+def run(words, folder, each=lambda line: None):
+    """Runs a command to its end, and hands on each line: its status, what it said, and the processor seconds of it and
+    of all that it waited for."""
+    how = {"stdin": subprocess.DEVNULL, "stdout": subprocess.PIPE, "stderr": subprocess.STDOUT}
+    lines = []
+    with subprocess.Popen(words, cwd=folder, text=True, errors="replace", **how) as started:
+        for line in started.stdout:
+            lines.append(line)
+            each(line)
+        _, status, used = os.wait4(started.pid, 0)
+        started.returncode = os.waitstatus_to_exitcode(status)
+    return Ran(started.returncode, "".join(lines), used.ru_utime + used.ru_stime)
+
+
+def check(folder, spots=()):
+    """Checks a crate, or functions of it alone."""
+    return run(["rt", "check", "--jobs", "1", *(word for spot in spots for word in ("--only", spot))], folder)
+
+
+def is_proved(ran, crate, when):
+    """Whether a check of a crate's untouched text passed. Where it didn't, no wrong body is shown to be refused."""
+    if ran.status:
+        print(*ran.said.splitlines()[-LAST:], sep="\n")
+        say(f"{crate}: it doesn't check {when}")
+    return not ran.status
+
+
+# Crates
+
+
+def crates_of(root):
+    """The repository's libraries that each crate of crates.txt names."""
+    lines = [it.partition("#")[0].partition(":") for it in read(f"{root}/crates.txt").splitlines()]
+    named = {head.split()[0]: deps.split() for head, colon, deps in lines if colon}
+    return {name: [it for it in deps if it in named] for name, deps in named.items()}
+
+
+def below(crates, name):
+    """A crate and all that it stands on."""
+    found, waiting = set(), [name]
+    while waiting:
+        it = waiting.pop()
+        waiting += [] if it in found else crates[it]
+        found.add(it)
+    return found
+
+
+def files_of(root, name):
+    """The files that a check of a crate may read of its folder."""
+    for at, folders, files in os.walk(f"{root}/crates/{name}"):
+        folders[:] = sorted(it for it in folders if it not in ("out", "wrong", "must-fail"))
+        yield from (f"{at}/{it}" for it in sorted(files))
+
+
+def lines_of(root, name):
+    return sum(read(it).count("\n") for it in files_of(root, name) if it.endswith((".rt", ".antt")))
+
+
+def copied(root, to):
+    """Copies what git tracks in this tree, and what it doesn't know and doesn't ignore."""
+    words = ["git", "-C", root, "ls-files", "-z", "--cached", "--others", "--exclude-standard"]
+    for file in subprocess.run(words, check=True, stdout=subprocess.PIPE).stdout.decode().split("\0"):
+        if file and os.path.lexists(f"{root}/{file}"):
+            os.makedirs(os.path.dirname(f"{to}/{file}"), exist_ok=True)
+            shutil.copy2(f"{root}/{file}", f"{to}/{file}", follow_symlinks=False)
+
+
+# Which function an edit lies in
+
+
+def owner_of(head):
+    """What an impl block of these words is of: its type, and what the prover calls it, as Fault and FaultFromErrno."""
+    said, depth = re.sub(r"\bwhere\b.*", "", head, flags=re.S).strip(), 0
+    for place, it in enumerate(said if said.startswith("<") else ""):
+        depth += (it == "<") - (it == ">" and said[place - 1] != "-")
+        if not depth:
+            said = said[place + 1 :].strip()
+            break
+    trait, _, of = said.rpartition(" for ")
+    name = re.match(r"(?:\w+::)*(\w+)", of.strip())[1]
+    return name, name + "".join(it[0].upper() + it[1:] for it in re.findall(r"\w+", trait))
+
+
+def module_of(file):
+    """The path of the module that a file of src/ is."""
+    module = re.sub(r"^src/|\.rt$", "", file).split("/")
+    return [] if module in (["lib"], ["main"]) else module
+
+
+def home_of(folder, name):
+    """The path of the module that declares a type, where one of the crate does."""
+    for at, _, files in os.walk(f"{folder}/src"):
+        for file in files:
+            if re.search(rf"^(?:pub(?:\([^)]*\))? )?(?:struct|enum) {name}\b", read(f"{at}/{file}"), re.M):
+                return module_of(os.path.relpath(f"{at}/{file}", folder))
+    return None
+
+
+def spot_at(folder, file, text, at):
+    """The function that a place of a source lies in, by its path below the crate as the prover writes it; where it lies
+    in none, the file."""
+    end = text.find("\n", at) % (len(text) + 1)
+    heads = [it for it in FUNCTION.finditer(text) if it.start() <= end]
+    if not heads or re.search(rf"^{heads[-1][1]}\}}$", text[heads[-1].start() : at], re.M):
+        return file
+    module, owner = module_of(file), []
+    blocks = [it for it in OWNER.finditer(text) if it.start() < heads[-1].start()] if heads[-1][1] else []
+    if blocks and blocks[-1][2]:
+        owner = [blocks[-1][2]]
+    elif blocks:
+        name, called = owner_of(blocks[-1][1])
+        home = home_of(folder, name)
+        module, owner = module if home is None else home, [called]
+    return "::".join([*module, *owner, heads[-1][2]])
+
+
+# Edits, and which of them stand in one check
+
+
+def edits_of(folder):
+    """The wrong bodies of a crate."""
+    files = sorted(os.listdir(f"{folder}/wrong")) if os.path.isdir(f"{folder}/wrong") else []
+    texts = {it: read(f"{folder}/wrong/{it}") for it in files}
+    return [Edit(name, text, pairs_of(text), spots_of(folder, pairs_of(text))) for name, text in texts.items()]
+
+
+def pairs_of(text):
+    """The (file, old, new) of an edit."""
+    pairs, file, old = [], "", ""
+    for line in text.split("\n"):
+        if line.startswith("file: "):
+            file = line[len("file: ") :].strip()
+        elif line.startswith("old: "):
+            old = line[len("old: ") :]
+        elif line.startswith("new:"):
+            pairs.append((file, old, re.sub(r"\A ", "", line[len("new:") :])))
+    return pairs
+
+
+def spots_of(folder, pairs):
+    """What an edit edits: nothing where it can't be applied."""
+    texts, spots = {}, set()
+    for file, old, new in pairs:
+        text = texts.get(file) or text_of(folder, file)
+        if text.count(old) != 1:
+            return set()
+        spots.add(spot_at(folder, file, text, text.index(old)))
+        texts[file] = text.replace(old, new)
+    return spots
+
+
+def text_of(folder, file):
+    """What a file holds, nothing where there is none."""
+    return read(f"{folder}/{file}") if os.path.isfile(f"{folder}/{file}") else ""
+
+
+def edited(folder, edits):
+    """The texts of the files that edits change together, or None where one can't be applied to what the others made."""
+    texts = {}
+    for edit in edits:
+        for file, old, new in edit.pairs:
+            texts[file] = texts.get(file) or text_of(folder, file)
+            if texts[file].count(old) != 1:
+                return None
+            texts[file] = texts[file].replace(old, new)
+    return texts
+
+
+def is_of_functions(edit):
+    return bool(edit.spots) and not any(it.startswith(("src/", "specs/", "proofs/")) for it in edit.spots)
+
+
+def groups_of(folder, edits):
+    """Edits of different functions together, and what is in no function by itself. The functions with the most edits
+    come first, as no check has two of one function, and as many checks as these need are made before any is full."""
+    groups, counts = [], Counter(spot for edit in edits for spot in edit.spots)
+    for edit in sorted(edits, key=lambda it: -max((counts[spot] for spot in it.spots), default=0)):
+        for group in groups if is_of_functions(edit) else []:
+            is_free = len(group) < MOST and is_of_functions(group[0]) and not any(edit.spots & it.spots for it in group)
+            if is_free and edited(folder, [*group, edit]):
+                group.append(edit)
+                break
+        else:
+            groups.append([edit])
+    return groups
+
+
+def parts_of(groups):
+    """Groups shared out for lanes, in each the small ones first: so the large ones, with many functions, come last."""
+    number = -(-len(groups) // CHECKS)
+    return [sorted(groups, key=len)[at::number] for at in range(number)]
+
+
+# What a check says
+
+
+def spot_of_fault(fault):
+    """The function of a proof file. One that calls itself has its files in a folder of its name with a + before it."""
+    return fault[1].replace("/", "::").replace("+", "")
+
+
+def reasons_in(said, spot_of_goal, planted):
+    """By their functions, lines of what a check said: those that are a reason of the function's own not to be proved,
+    and those that are one of names."""
+    lines = said.split("\n")
+    if any(UNREAD.search(it) for it in lines):
+        return {}, {}
+    found = lambda pattern: [it for it in map(pattern.match, lines) if it]
+    faults = [(spot_of_fault(it), it.string) for it in found(FAULT)]
+    hollow = {spot: line for spot, line in reversed(faults) if HOLLOW.search(line)}
+    verdicts = {it[1].partition("::")[2]: it.string for it in found(VERDICT)}
+    reasons = {spot: line for spot, line in verdicts.items() if spot not in planted and spot not in hollow}
+    reasons |= {spot: line for spot, line in faults if not HOLLOW.search(line)}
+    return reasons | {spot_of_goal(it[1], int(it[2])): it.string for it in found(UNPROVED)}, hollow
+
+
+def planted_in(folder, spots, texts):
+    """The texts of proof files with a fault, for functions whose proof is of the form that has such a file."""
+    planted = {}
+    for spot in spots:
+        home = f"proofs/{spot.replace('::', '/')}"
+        calls_itself = os.path.isdir(f"{folder}/{os.path.dirname(home)}/+{os.path.basename(home)}")
+        if not calls_itself and not os.path.isfile(f"{folder}/{home}/Proof.antt"):
+            file = f"{home}/Answers.antt"
+            planted[spot] = file, texts.get(file, text_of(folder, file)) + PLANTED
+    return planted
+
+
+@contextlib.contextmanager
+def in_place(folder, texts):
+    """Puts texts in the place of a crate's own, and puts these back."""
+    files = {f"{folder}/{file}": text for file, text in texts.items()}
+    were = {file: read(file) for file in files if os.path.isfile(file)}
+    try:
+        for file, text in files.items():
+            os.makedirs(os.path.dirname(file), exist_ok=True)
+            write(file, text)
+        yield
+    finally:
+        for file, text in were.items():
+            write(file, text)
+        for file in files.keys() - were.keys():
+            os.remove(file)
+            with contextlib.suppress(OSError):  # the folders that were made for it go too, up to one with other files
+                os.removedirs(os.path.dirname(file))
+
+
+class Trial:
+    """What is made of groups of a crate's wrong bodies in a copy of the tree."""
+
+    def __init__(self, tree, crate, words):
+        self.tree, self.crate, self.folder, self.words = tree, crate, f"{tree}/crates/{crate}", words
+        self.tried, self.holds, self.seconds = [], False, 0.0
+
+    def counted(self, ran):
+        self.seconds += ran.seconds
+        return ran
+
+    def tell(self, edit, is_refused, said):
+        self.tried.append(Tried(edit.name, is_refused, said))
+        print(f"wrong {self.crate}/{edit.name}: {said}", flush=True)
+
+    def play(self, groups):
+        rest = [it for group in groups for it in self.try_together(group)]
+        self.leave_to_the_kit([it for it in rest if not self.try_alone(it)])
+        self.holds = is_proved(self.counted(check(self.folder)), self.crate, "again, behind its wrong bodies")
+        return self
+
+    def try_together(self, group):
+        """Tries edits in one check of their functions, and returns those that it doesn't show to be refused."""
+        reasons, _ = self.reasons(group, plants=True)
+        for edit in (it for it in group if line_of(it, reasons)):
+            self.tell(edit, True, f"refused: {line_of(edit, reasons)}")
+        return [it for it in group if not line_of(it, reasons)]
+
+    def try_alone(self, edit):
+        """Tries an edit in a check of its functions, and returns whether that shows what there is to say of it."""
+        reasons, hollow = self.reasons([edit], plants=False)
+        if line_of(edit, reasons):
+            self.tell(edit, True, f"alone: refused: {line_of(edit, reasons)}")
+        elif line_of(edit, hollow):
+            self.tell(edit, False, f"alone: NAMES ONLY: {line_of(edit, hollow)}")
+        return bool(line_of(edit, reasons | hollow))
+
+    def reasons(self, group, plants):
+        """Why a check with these edits doesn't prove functions, as reasons_in has it."""
+        if not all(map(is_of_functions, group)):
+            return {}, {}
+        texts, spots = edited(self.folder, group), sorted(set().union(*(it.spots for it in group)))
+        planted = planted_in(self.folder, spots, texts) if plants else {}
+        with in_place(self.folder, texts | dict(planted.values())):
+            ran = self.counted(check(self.folder, spots))
+        place = lambda file, line: len("".join(whole(file).splitlines(True)[: line - 1]))
+        whole = lambda file: texts.get(file) or text_of(self.folder, file)
+        spot_of_goal = lambda file, line: spot_at(self.folder, file, whole(file), place(file, line))
+        return reasons_in(ran.said, spot_of_goal, planted) if ran.status == 1 else ({}, {})
+
+    def leave_to_the_kit(self, edits):
+        """Tries edits by `rt must-fail`, with no others in must-fail/."""
+        if not edits:
+            return
+        own, aside = f"{self.folder}/must-fail", f"{self.tree}/aside.{self.crate}"
+        if os.path.isdir(own):
+            os.rename(own, aside)
+        os.mkdir(own)
+        for it in edits:
+            shutil.copy2(f"{self.folder}/wrong/{it.name}", own)
+        ran = self.counted(run(["rt", "must-fail", self.crate, *self.words], self.tree))
+        shutil.rmtree(own)
+        if os.path.isdir(aside):
+            os.rename(aside, own)
+        judged = dict(JUDGED.findall(ran.said))
+        for it in edits:
+            said = judged.get(it.name, f"rt must-fail ended with status {ran.status}, and said nothing of it")
+            is_hollow = bool(HOLLOW_VERDICT.match(said))
+            is_refused = said.startswith("refused") and not is_hollow
+            self.tell(it, is_refused, f"whole: {'NAMES ONLY: ' * is_hollow}{said}")
+
+
+def line_of(edit, lines):
+    """The line that is said of an edit's function, or nothing."""
+    return next((lines[it].removeprefix("note: ")[:160] for it in sorted(edit.spots) if it in lines), "")
+
+
+# What an earlier run saw
+
+
+class Kept:
+    """What runs on this machine saw refused: for each state of a crate a file with the checksums of its edits."""
+
+    def __init__(self, root, names):
+        cache = os.environ.get("XDG_CACHE_HOME") or os.path.expanduser("~/.cache")
+        self.root, self.folder, self.crates = root, f"{cache}/sagthrey-gate", crates_of(root)
+        self.version, self.one_at_a_time = run(["rt", "version"], root).said, threading.Lock()
+        self.files = {it: f"{self.folder}/{it}-{self.state(it)}" for it in names}
+
+    def state(self, crate):
+        """A checksum of all that a crate's check rests on, and of how it is judged."""
+        wanted = sorted(below(self.crates, crate))
+        parts = [self.version.encode(), bytes_of(os.path.realpath(__file__))]
+        lines = read(f"{self.root}/crates.txt").splitlines()
+        parts += [it.encode() for it in lines if re.match(r"\w*", it)[0] in wanted]
+        for file in (it for name in wanted for it in files_of(self.root, name)):
+            parts += [os.path.relpath(file, self.root).encode(), bytes_of(file)]
+        return hashlib.sha256(b"".join(hashlib.sha256(it).digest() for it in parts)).hexdigest()
+
+    def seen(self, crate):
+        """The checksums of the edits that were seen refused."""
+        try:
+            os.utime(self.files[crate])
+            return set(read(self.files[crate]).split())
+        except OSError:
+            return set()
+
+    def keep(self, crate, edits):
+        """Keeps that these edits were seen refused. What no run has asked for in a long time goes."""
+        os.makedirs(self.folder, exist_ok=True)
+        with self.one_at_a_time:
+            sums = sorted(self.seen(crate) | set(map(checksum, edits)))
+            with tempfile.NamedTemporaryFile("w", dir=self.folder, delete=False) as file:
+                file.writelines(f"{it}\n" for it in sums)
+            os.replace(file.name, self.files[crate])
+        for file in os.scandir(self.folder):
+            with contextlib.suppress(OSError):
+                if file.stat().st_mtime < time.time() - DAYS * 86400:
+                    os.remove(file)
+
+
+def checksum(edit):
+    return hashlib.sha256(edit.text.encode()).hexdigest()
+
+
+# Lanes
+
+
+class Lanes:
+    """Tasks that are done side by side, one at a time in each lane. One begins only where those that it waits for are
+    done, and isn't done where one of them came to nothing."""
+
+    def __init__(self, tasks):
+        self.waiting, self.given, self.changed = list(tasks), {}, threading.Condition()
+
+    def next(self):
+        """The first task that can begin, once there is one, or None where none is left."""
+        with self.changed:
+            while self.waiting:
+                for task in self.waiting:
+                    if all(it in self.given for it in task.waits):
+                        self.waiting.remove(task)
+                        return task
+                self.changed.wait()
+            return None
+
+    def work(self, tree):
+        while task := self.next():
+            given = None
+            try:
+                given = task.work(tree) if all(self.given[it] for it in task.waits) else None
+            finally:
+                with self.changed:
+                    self.given[task.name] = given
+                    self.changed.notify_all()
+
+    def play(self, trees):
+        with ThreadPoolExecutor(len(trees)) as pool:
+            list(pool.map(self.work, trees))
+        return self.given
+
+
+def lanes():
+    """How many checks are made side by side: GATE_LANES, or one for each processor for which there is memory."""
+    memory = os.sysconf("SC_PAGE_SIZE") * os.sysconf("SC_PHYS_PAGES")
+    return int(os.environ.get("GATE_LANES") or max(1, min(len(os.sched_getaffinity(0)), memory // LANE_BYTES)))
+
+
+def try_all(root, names, words, besides=()):
+    """Tries the wrong bodies of these crates, or of all where none is named, and does what else is to be done in a
+    lane: besides has a crate, a name, and a work that needs the crate proved. Returns how much passed, and what not."""
+    with tempfile.TemporaryDirectory(prefix="gate-") as room:
+        trees = [f"{os.path.realpath(room)}/{it}" for it in range(lanes())]
+        copied(root, trees[0])
+        for tree in trees[1:]:
+            shutil.copytree(trees[0], tree, symlinks=True)
+        return WrongBodies(trees, names, words).play(besides)
+
+
+class WrongBodies:
+    """The wrong bodies of crates, in copies of the tree: in parts, of which a lane takes one at a time."""
+
+    def __init__(self, trees, names, words):
+        self.trees, self.words, self.crates = trees, words, crates_of(trees[0])
+        every = {it: edits_of(f"{trees[0]}/crates/{it}") for it in names or self.crates}
+        self.edits = {crate: edits for crate, edits in every.items() if edits}
+        self.kept = Kept(trees[0], self.edits)
+        self.parts = {it: parts_of(groups_of(f"{trees[0]}/crates/{it}", self.unseen(it))) for it in self.edits}
+
+    def unseen(self, crate):
+        """A crate's wrong bodies that no earlier run saw refused, or all of them with --anew."""
+        seen = set() if self.words else self.kept.seen(crate)
+        return [it for it in self.edits[crate] if checksum(it) not in seen]
+
+    def play(self, besides):
+        trials = [(crate, number) for crate, parts in self.parts.items() for number in range(len(parts))]
+        tasks = self.proofs({crate for crate, *_ in [*trials, *besides]})
+        tasks += [Task(name, [crate], work) for crate, name, work in besides]
+        cost = lambda it: lines_of(self.trees[0], it[0]) * sum(map(len, self.parts[it[0]][it[1]]))
+        for it in sorted(trials, key=cost, reverse=True):
+            tasks.append(Task(it, it[:1], lambda tree, it=it: self.trial(tree, *it)))
+        given = Lanes(tasks).play(self.trees)
+        passed, lost = 0, []
+        for crate, parts in self.parts.items():
+            refused, let_through = self.outcome(crate, [given[crate, it] for it in range(len(parts))])
+            passed, lost = passed + refused, lost + let_through
+        for crate, name, _ in besides:
+            held, unheld = given[name] or (0, [f"{name} ({crate} isn't proved)"])
+            passed, lost = passed + held, lost + unheld
+        return passed, lost
+
+    def proofs(self, crates):
+        """The check of each crate that others wait for. Those come first that the most others stand on."""
+        needed = set().union(*(below(self.crates, it) for it in crates))
+        above = Counter(it for crate in needed for it in below(self.crates, crate))
+        when = "as it stands, so its wrong bodies and what stands on it aren't tried"
+        work = lambda crate: lambda tree: is_proved(check(f"{tree}/crates/{crate}"), crate, when)
+        return [Task(it, self.crates[it], work(it)) for it in sorted(needed, key=lambda it: (-above[it], it))]
+
+    def trial(self, tree, crate, number):
+        """Tries a part of a crate's wrong bodies. What it saw is kept where the untouched text checks behind them."""
+        part = self.parts[crate][number]
+        trial = Trial(tree, crate, self.words).play(part)
+        refused = {it.name for it in trial.tried if it.refused}
+        if trial.holds:
+            self.kept.keep(crate, [it for group in part for it in group if it.name in refused])
+        return trial
+
+    def outcome(self, crate, trials):
+        """How many of a crate's wrong bodies are refused, and which are not."""
+        earlier = len(self.edits[crate]) - sum(len(group) for part in self.parts[crate] for group in part)
+        tried = [it for trial in trials if trial for it in trial.tried]
+        lost = [f"{crate}/{it.name}" for it in tried if not it.refused]
+        lost += [] if all(it and it.holds for it in trials) else [f"{crate} (its untouched text)"]
+        refused = earlier + sum(it.refused for trial in trials if trial and trial.holds for it in trial.tried)
+        counts = Counter(it.said.partition(":")[0] for it in tried if it.refused)
+        how = [f"{earlier} by an earlier run", f"{counts['refused']} in company", f"{counts['alone']} alone"]
+        how += [f"{counts['whole']} by rt must-fail", f"{sum(it.seconds for it in trials if it):.0f} processor seconds"]
+        say(f"{crate}: {refused} of {len(self.edits[crate])} wrong bodies refused ({', '.join(how)})")
+        return refused, lost
+
+
+def unknown(root, names):
+    """The names that no crate has."""
+    return sorted(set(names) - set(crates_of(root)))
