@@ -1,8 +1,7 @@
 """Wrong bodies: edits of a crate's source that turn a function's meaning, and that the prover must refuse.
 
 One is a file crates/CRATE/wrong/NAME.edit in the form of the kit's must-fail edits: a line 'file: PATH', then pairs of
-lines 'old: TEXT' and 'new: TEXT'. They are tried by `rt check` and `rt must-fail` alone, in copies of the tree, a lane
-for each processor.
+lines 'old: TEXT' and 'new: TEXT'. They are tried by `rt check` and `rt must-fail` alone, in a copy of the tree.
 
 A body is checked against the contracts of what it calls and not against their bodies. So wrong bodies of different
 functions stand in one check, of these functions alone. One counts as refused where its own function isn't proved
@@ -18,31 +17,18 @@ has a proof file with a planted fault, which is no reason: there a function coun
 which part of its contract isn't proved, or finds another fault in the file.
 
 A crate's checks are made over what the one before kept. So its untouched text must check before the first wrong body
-and, over the same folder, behind the last one: else its check would refuse anything, and nothing has been shown.
-
-What was seen refused is kept in the user's cache folder, where that last check passed: by checksums of the edit, of all
-files that the check read of the repository, of this file, and by the kit's version. A later run on the same machine, in
-any checkout, takes it from there.
+(lanes.py sees to that) and, over the same folder, behind the last one: else its check would refuse anything.
 """
 import contextlib
-import hashlib
 import os
 import re
 import shutil
 import subprocess
-import sys
-import tempfile
-import threading
-import time
 from collections import Counter, namedtuple
-from concurrent.futures import ThreadPoolExecutor
 
 # How many wrong bodies stand in one check. Where there are many more (42 and not yet 31) the prover has copies of
 # itself check them first, and what is refused there it checks once again.
 MOST = 30
-CHECKS = 3  # how many checks of a crate with wrong bodies one lane makes, where another lane can take the others
-LANE_BYTES = 4 << 30  # what a check may take of memory
-DAYS = 30  # how long what was seen is kept where no run asks for it
 LAST = 40  # how many lines are printed of a check that should have passed
 FUNCTION = re.compile(r'^([ \t]*)(?:pub(?:\([^)]*\))? )?(?:const )?(?:unsafe )?(?:extern "C" )?fn (\w+)', re.M)
 OWNER = re.compile(r"^(?:unsafe )?impl\b([^{]*)\{|^(?:pub(?:\([^)]*\))? )?trait (\w+)", re.M)
@@ -63,7 +49,6 @@ HOLLOW_VERDICT = re.compile(
 Edit = namedtuple("Edit", "name text pairs spots")  # pairs: (file, old, new); spots: what it edits, as spot_at names it
 Tried = namedtuple("Tried", "name refused said")
 Ran = namedtuple("Ran", "status said seconds")
-Task = namedtuple("Task", "name waits work")  # waits: the names of tasks; work: what is done in a lane's folder
 
 
 def say(text):
@@ -113,46 +98,6 @@ def is_proved(ran, crate, when):
         print(*ran.said.splitlines()[-LAST:], sep="\n")
         say(f"{crate}: it doesn't check {when}")
     return not ran.status
-
-
-# Crates
-
-
-def crates_of(root):
-    """The repository's libraries that each crate of crates.txt names."""
-    lines = [it.partition("#")[0].partition(":") for it in read(f"{root}/crates.txt").splitlines()]
-    named = {head.split()[0]: deps.split() for head, colon, deps in lines if colon}
-    return {name: [it for it in deps if it in named] for name, deps in named.items()}
-
-
-def below(crates, name):
-    """A crate and all that it stands on."""
-    found, waiting = set(), [name]
-    while waiting:
-        it = waiting.pop()
-        waiting += [] if it in found else crates[it]
-        found.add(it)
-    return found
-
-
-def files_of(root, name):
-    """The files that a check of a crate may read of its folder."""
-    for at, folders, files in os.walk(f"{root}/crates/{name}"):
-        folders[:] = sorted(it for it in folders if it not in ("out", "wrong", "must-fail"))
-        yield from (f"{at}/{it}" for it in sorted(files))
-
-
-def lines_of(root, name):
-    return sum(read(it).count("\n") for it in files_of(root, name) if it.endswith((".rt", ".antt")))
-
-
-def copied(root, to):
-    """Copies what git tracks in this tree, and what it doesn't know and doesn't ignore."""
-    words = ["git", "-C", root, "ls-files", "-z", "--cached", "--others", "--exclude-standard"]
-    for file in subprocess.run(words, check=True, stdout=subprocess.PIPE).stdout.decode().split("\0"):
-        if file and os.path.lexists(f"{root}/{file}"):
-            os.makedirs(os.path.dirname(f"{to}/{file}"), exist_ok=True)
-            shutil.copy2(f"{root}/{file}", f"{to}/{file}", follow_symlinks=False)
 
 
 # Which function an edit lies in
@@ -273,12 +218,6 @@ def groups_of(folder, edits):
         else:
             groups.append([edit])
     return groups
-
-
-def parts_of(groups):
-    """Groups shared out for lanes, in each the small ones first: so the large ones, with many functions, come last."""
-    number = -(-len(groups) // CHECKS)
-    return [sorted(groups, key=len)[at::number] for at in range(number)]
 
 
 # What a check says
@@ -410,173 +349,3 @@ class Trial:
 def line_of(edit, lines):
     """The line that is said of an edit's function, or nothing."""
     return next((lines[it].removeprefix("note: ")[:160] for it in sorted(edit.spots) if it in lines), "")
-
-
-# What an earlier run saw
-
-
-class Kept:
-    """What runs on this machine saw refused: for each state of a crate a file with the checksums of its edits."""
-
-    def __init__(self, root, names):
-        cache = os.environ.get("XDG_CACHE_HOME") or os.path.expanduser("~/.cache")
-        self.root, self.folder, self.crates = root, f"{cache}/sagthrey-gate", crates_of(root)
-        self.version, self.one_at_a_time = run(["rt", "version"], root).said, threading.Lock()
-        self.files = {it: f"{self.folder}/{it}-{self.state(it)}" for it in names}
-
-    def state(self, crate):
-        """A checksum of all that a crate's check rests on, and of how it is judged."""
-        wanted = sorted(below(self.crates, crate))
-        parts = [self.version.encode(), bytes_of(os.path.realpath(__file__))]
-        lines = read(f"{self.root}/crates.txt").splitlines()
-        parts += [it.encode() for it in lines if re.match(r"\w*", it)[0] in wanted]
-        for file in (it for name in wanted for it in files_of(self.root, name)):
-            parts += [os.path.relpath(file, self.root).encode(), bytes_of(file)]
-        return hashlib.sha256(b"".join(hashlib.sha256(it).digest() for it in parts)).hexdigest()
-
-    def seen(self, crate):
-        """The checksums of the edits that were seen refused."""
-        try:
-            os.utime(self.files[crate])
-            return set(read(self.files[crate]).split())
-        except OSError:
-            return set()
-
-    def keep(self, crate, edits):
-        """Keeps that these edits were seen refused. What no run has asked for in a long time goes."""
-        os.makedirs(self.folder, exist_ok=True)
-        with self.one_at_a_time:
-            sums = sorted(self.seen(crate) | set(map(checksum, edits)))
-            with tempfile.NamedTemporaryFile("w", dir=self.folder, delete=False) as file:
-                file.writelines(f"{it}\n" for it in sums)
-            os.replace(file.name, self.files[crate])
-        for file in os.scandir(self.folder):
-            with contextlib.suppress(OSError):
-                if file.stat().st_mtime < time.time() - DAYS * 86400:
-                    os.remove(file)
-
-
-def checksum(edit):
-    return hashlib.sha256(edit.text.encode()).hexdigest()
-
-
-# Lanes
-
-
-class Lanes:
-    """Tasks that are done side by side, one at a time in each lane. One begins only where those that it waits for are
-    done, and isn't done where one of them came to nothing."""
-
-    def __init__(self, tasks):
-        self.waiting, self.given, self.changed = list(tasks), {}, threading.Condition()
-
-    def next(self):
-        """The first task that can begin, once there is one, or None where none is left."""
-        with self.changed:
-            while self.waiting:
-                for task in self.waiting:
-                    if all(it in self.given for it in task.waits):
-                        self.waiting.remove(task)
-                        return task
-                self.changed.wait()
-            return None
-
-    def work(self, tree):
-        while task := self.next():
-            given = None
-            try:
-                given = task.work(tree) if all(self.given[it] for it in task.waits) else None
-            finally:
-                with self.changed:
-                    self.given[task.name] = given
-                    self.changed.notify_all()
-
-    def play(self, trees):
-        with ThreadPoolExecutor(len(trees)) as pool:
-            list(pool.map(self.work, trees))
-        return self.given
-
-
-def lanes():
-    """How many checks are made side by side: GATE_LANES, or one for each processor for which there is memory."""
-    memory = os.sysconf("SC_PAGE_SIZE") * os.sysconf("SC_PHYS_PAGES")
-    return int(os.environ.get("GATE_LANES") or max(1, min(len(os.sched_getaffinity(0)), memory // LANE_BYTES)))
-
-
-def try_all(root, names, words, besides=()):
-    """Tries the wrong bodies of these crates, or of all where none is named, and does what else is to be done in a
-    lane: besides has a crate, a name, and a work that needs the crate proved. Returns how much passed, and what not."""
-    with tempfile.TemporaryDirectory(prefix="gate-") as room:
-        trees = [f"{os.path.realpath(room)}/{it}" for it in range(lanes())]
-        copied(root, trees[0])
-        for tree in trees[1:]:
-            shutil.copytree(trees[0], tree, symlinks=True)
-        return WrongBodies(trees, names, words).play(besides)
-
-
-class WrongBodies:
-    """The wrong bodies of crates, in copies of the tree: in parts, of which a lane takes one at a time."""
-
-    def __init__(self, trees, names, words):
-        self.trees, self.words, self.crates = trees, words, crates_of(trees[0])
-        every = {it: edits_of(f"{trees[0]}/crates/{it}") for it in names or self.crates}
-        self.edits = {crate: edits for crate, edits in every.items() if edits}
-        self.kept = Kept(trees[0], self.edits)
-        self.parts = {it: parts_of(groups_of(f"{trees[0]}/crates/{it}", self.unseen(it))) for it in self.edits}
-
-    def unseen(self, crate):
-        """A crate's wrong bodies that no earlier run saw refused, or all of them with --anew."""
-        seen = set() if self.words else self.kept.seen(crate)
-        return [it for it in self.edits[crate] if checksum(it) not in seen]
-
-    def play(self, besides):
-        trials = [(crate, number) for crate, parts in self.parts.items() for number in range(len(parts))]
-        tasks = self.proofs({crate for crate, *_ in [*trials, *besides]})
-        tasks += [Task(name, [crate], work) for crate, name, work in besides]
-        cost = lambda it: lines_of(self.trees[0], it[0]) * sum(map(len, self.parts[it[0]][it[1]]))
-        for it in sorted(trials, key=cost, reverse=True):
-            tasks.append(Task(it, it[:1], lambda tree, it=it: self.trial(tree, *it)))
-        given = Lanes(tasks).play(self.trees)
-        passed, lost = 0, []
-        for crate, parts in self.parts.items():
-            refused, let_through = self.outcome(crate, [given[crate, it] for it in range(len(parts))])
-            passed, lost = passed + refused, lost + let_through
-        for crate, name, _ in besides:
-            held, unheld = given[name] or (0, [f"{name} ({crate} isn't proved)"])
-            passed, lost = passed + held, lost + unheld
-        return passed, lost
-
-    def proofs(self, crates):
-        """The check of each crate that others wait for. Those come first that the most others stand on."""
-        needed = set().union(*(below(self.crates, it) for it in crates))
-        above = Counter(it for crate in needed for it in below(self.crates, crate))
-        when = "as it stands, so its wrong bodies and what stands on it aren't tried"
-        work = lambda crate: lambda tree: is_proved(check(f"{tree}/crates/{crate}"), crate, when)
-        return [Task(it, self.crates[it], work(it)) for it in sorted(needed, key=lambda it: (-above[it], it))]
-
-    def trial(self, tree, crate, number):
-        """Tries a part of a crate's wrong bodies. What it saw is kept where the untouched text checks behind them."""
-        part = self.parts[crate][number]
-        trial = Trial(tree, crate, self.words).play(part)
-        refused = {it.name for it in trial.tried if it.refused}
-        if trial.holds:
-            self.kept.keep(crate, [it for group in part for it in group if it.name in refused])
-        return trial
-
-    def outcome(self, crate, trials):
-        """How many of a crate's wrong bodies are refused, and which are not."""
-        earlier = len(self.edits[crate]) - sum(len(group) for part in self.parts[crate] for group in part)
-        tried = [it for trial in trials if trial for it in trial.tried]
-        lost = [f"{crate}/{it.name}" for it in tried if not it.refused]
-        lost += [] if all(it and it.holds for it in trials) else [f"{crate} (its untouched text)"]
-        refused = earlier + sum(it.refused for trial in trials if trial and trial.holds for it in trial.tried)
-        counts = Counter(it.said.partition(":")[0] for it in tried if it.refused)
-        how = [f"{earlier} by an earlier run", f"{counts['refused']} in company", f"{counts['alone']} alone"]
-        how += [f"{counts['whole']} by rt must-fail", f"{sum(it.seconds for it in trials if it):.0f} processor seconds"]
-        say(f"{crate}: {refused} of {len(self.edits[crate])} wrong bodies refused ({', '.join(how)})")
-        return refused, lost
-
-
-def unknown(root, names):
-    """The names that no crate has."""
-    return sorted(set(names) - set(crates_of(root)))
