@@ -32,14 +32,16 @@ MOST = 30
 LAST = 40  # how many lines are printed of a check that should have passed
 FUNCTION = re.compile(r'^([ \t]*)(?:pub(?:\([^)]*\))? )?(?:const )?(?:unsafe )?(?:extern "C" )?fn (\w+)', re.M)
 OWNER = re.compile(r"^(?:unsafe )?impl\b([^{]*)\{|^(?:pub(?:\([^)]*\))? )?trait (\w+)", re.M)
+ITEM = re.compile(r"^\s*(?:pub(?:\([^)]*\))? )?(?:struct|enum|impl|trait|mod|const|static|type|use)\b", re.M)
 # What a check says: of a function, of a place in a function's proof file, of a goal in the source, and of a source that
 # it can't read, where it judges nothing
 VERDICT = re.compile(r"^fn (\S+): (?:no proof|not proved)(?![;:] it calls)")
 FAULT = re.compile(r"^(?:\./)?proofs/(\S+)/(?:Answers|Invariants|Proof)\.antt:\d+:\d+: error: (?!`planted`)")
 UNPROVED = re.compile(r"^note: (?:\./)?(src/\S+?):(\d+):\d+: (?:it is not proved that|`search` found no proof)")
 UNREAD = re.compile(r"^(?:\./)?(?:src|specs)/\S+?:\d+:\d+: error|\berror\[[\w-]+\]")
-# A fault that is one of names, or that follows from another
+# A fault that is one of names, or that follows from another; and where its line may be broken
 HOLLOW = re.compile(r"has no field|is not in scope|has no `|was not admitted|which was rejected")
+BROKEN = re.compile(rf"\n +(?={HOLLOW.pattern})")
 PLANTED = "\nplanted : Type 0\nplanted = Type 0\n"  # it is refused: the type of a type isn't one of its own kind
 JUDGED = re.compile(r"^rt: (?:must-fail \w+|crates/\w+/must-fail)/(\S+?): (.*)$", re.M)
 HOLLOW_VERDICT = re.compile(
@@ -149,6 +151,15 @@ def spot_at(folder, file, text, at):
     return "::".join([*module, *owner, heads[-1][2]])
 
 
+def spot_of_line(folder, file, text, line):
+    """The function that a line of a source lies in, or is an attribute of."""
+    at = len("".join(text.splitlines(True)[: line - 1]))
+    head = FUNCTION.search(text, at)
+    if head and text.startswith("#[", at + len(head[1])) and not ITEM.search(text[at : head.start()]):
+        at = head.start()
+    return spot_at(folder, file, text, at)
+
+
 # Edits, and which of them stand in one check
 
 
@@ -231,12 +242,12 @@ def spot_of_fault(fault):
 def reasons_in(said, spot_of_goal, planted):
     """By their functions, lines of what a check said: those that are a reason of the function's own not to be proved,
     and those that are one of names."""
-    lines = said.split("\n")
+    lines = BROKEN.sub(" ", said).split("\n")
     if any(UNREAD.search(it) for it in lines):
         return {}, {}
     found = lambda pattern: [it for it in map(pattern.match, lines) if it]
-    faults = [(spot_of_fault(it), it.string) for it in found(FAULT)]
-    hollow = {spot: line for spot, line in reversed(faults) if HOLLOW.search(line)}
+    faults = [(spot_of_fault(it), it.string) for it in reversed(found(FAULT))]
+    hollow = {spot: line for spot, line in faults if HOLLOW.search(line)}
     verdicts = {it[1].partition("::")[2]: it.string for it in found(VERDICT)}
     reasons = {spot: line for spot, line in verdicts.items() if spot not in planted and spot not in hollow}
     reasons |= {spot: line for spot, line in faults if not HOLLOW.search(line)}
@@ -319,9 +330,8 @@ class Trial:
         planted = planted_in(self.folder, spots, texts) if plants else {}
         with in_place(self.folder, texts | dict(planted.values())):
             ran = self.counted(check(self.folder, spots))
-        place = lambda file, line: len("".join(whole(file).splitlines(True)[: line - 1]))
-        whole = lambda file: texts.get(file) or text_of(self.folder, file)
-        spot_of_goal = lambda file, line: spot_at(self.folder, file, whole(file), place(file, line))
+        text = lambda file: texts.get(file) or text_of(self.folder, file)
+        spot_of_goal = lambda file, line: spot_of_line(self.folder, file, text(file), line)
         return reasons_in(ran.said, spot_of_goal, planted) if ran.status == 1 else ({}, {})
 
     def leave_to_the_kit(self, edits):
@@ -348,4 +358,4 @@ class Trial:
 
 def line_of(edit, lines):
     """The line that is said of an edit's function, or nothing."""
-    return next((lines[it].removeprefix("note: ")[:160] for it in sorted(edit.spots) if it in lines), "")
+    return next((lines[it].removeprefix("note: ")[:240] for it in sorted(edit.spots) if it in lines), "")
