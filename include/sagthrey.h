@@ -1,17 +1,21 @@
-/* Sagthrey for C and C++: many tenants in one process, each a namespace with processes, descriptors, pipes and files
- * of its own, over one pool of pages.
+/* Sagthrey for C and C++: many tenants in one process, each a namespace with processes, descriptors, pipes and files of
+ * its own, over one pool of pages.
  *
  * A call makes one step of one namespace: what its process `pid` would be told by the system call that the function
- * follows. Its manual page stands beside each function; docs/SPECIFICATION.md has the profile. `ns` is the number of
- * a namespace, and descriptors are of the process, from 0.
+ * follows. Its manual page stands beside each function; docs/SPECIFICATION.md has the profile. `ns` is the number of a
+ * namespace, and descriptors are of the process, from 0.
  *
  * Results. A call tells 0 or more as the system call does; a system call's error as -errno, with Linux's numbers
  * (-EBADF is -9); or one of three codes, which are no error's:
  *   SAG_PARKED       the call waits. No call blocks the thread: the process waits in it, and sag_resume tries it again
- *   SAG_NOMEM        memory of the heap was wanted. Nothing has changed, and the call can be made again
+ *   SAG_NOMEM        memory of the heap was wanted. Nothing has changed, and the call can be made again. It is told by
+ *                    sag_open, sag_admit, sag_spawn, sag_fork, sag_pipe, sag_set_pipe_size, each call with a path, a
+ *                    sag_write that waits and a sag_resume of a read, and by no other
  *   SAG_NONAMESPACE  there is no such namespace. Nothing has changed. A shut handle has none
- * Each call but sag_exit and sag_resume is refused with -ESRCH where no process of this pid lives, and then with
- * -EBUSY where it waits in a call; those two with -ESRCH alone. The errors beside each function come after these.
+ * Each call but sag_exit and sag_resume is refused with -ESRCH where no process of this pid lives, and then with -EBUSY
+ * where it waits in a call; those two with -ESRCH alone. The errors beside each function come after these, in the order
+ * of their tests: the first that fits is told, and no other than these. What a manual page doesn't have is this
+ * profile's own, as all that comes of `reserve`. (Numbers are given up to 2^64 - 1: what would come then is left out.)
  *
  * What the host owes. A sag_hub is SAG_SHUT or was opened by sag_open; its fields are neither read nor written; only
  * one copy of it is used; and no two calls of one hub overlap, so threads take turns by a lock, or have a hub each. A
@@ -54,8 +58,8 @@ typedef struct sag_meta {
 } sag_meta;
 
 /* What the pipe of a descriptor is ready for: how many bytes there are to read (FIONREAD of ioctl_pipe(2)), how many a
- * write may have that goes in whole at once, and whether somebody reads the pipe and somebody writes it. In the words of
- * poll(2), of an end that reads: POLLIN where bytes > 0, POLLHUP where !has_writer; and of one that writes: POLLOUT
+ * write may have that goes in whole at once, and whether somebody reads the pipe and somebody writes it. In the words
+ * of poll(2), of an end that reads: POLLIN where bytes > 0, POLLHUP where !has_writer; and of one that writes: POLLOUT
  * where room >= 4096, POLLERR where !has_reader. */
 typedef struct sag_ready {
     uint64_t bytes, room;
@@ -83,7 +87,7 @@ void sag_free(sag_hub *h);
 int64_t sag_admit(sag_hub *h, const sag_limits *limits);
 
 /* Retires a namespace that has no process: what it reserved is free for others, and its number isn't given again. 0; or
- * -EBUSY where it has a process. */
+ * -EBUSY where it has a process, one that waits too. */
 int64_t sag_retire(sag_hub *h, uint32_t ns);
 
 /* Whether a namespace of this number lives: it was opened with the hub or admitted, and isn't retired. */
@@ -102,22 +106,24 @@ uint32_t sag_free_frames(sag_hub *h);
 int64_t sag_spawn(sag_hub *h, uint32_t ns, uint32_t uid, uint32_t gid, const uint32_t *groups, size_t count,
                   uint32_t umask);
 
-/* A new process with the same ids and descriptors: its pid. (fork(2)) */
+/* A new process with the same ids and descriptors: its pid. -EAGAIN where there are 256. (fork(2)) */
 int64_t sag_fork(sag_hub *h, uint32_t ns, uint32_t pid);
 
-/* The process ends, also one that waits, and its descriptors are closed. 0. (exit(2)) */
+/* The process ends, also one that waits, and its descriptors are closed. 0; or -ESRCH. (exit(2)) */
 int64_t sag_exit(sag_hub *h, uint32_t ns, uint32_t pid);
 
 /* Tries the call again in which the process waits, and tells what that call tells: SAG_PARKED where it still waits.
- * -EINVAL where the process waits in none. The bytes that a read hands out go into the buffer, as many as it has room
- * for, and what is beyond is lost: give it the buffer of the read that waits, and any other where the call is no
- * read. A result above `count` says that bytes were lost. This profile's own. */
+ * -ESRCH; -EINVAL where the process waits in none; -EPIPE of a write that has put nothing, of a tee and of a splice,
+ * where nobody reads any more, and then it waits no more. A call that waits is told no other error, whatever O_NONBLOCK
+ * is. The bytes that a read hands out go into the buffer, as many as it has room for, and what is beyond is lost: give
+ * it the buffer of the read that waits, and any other where the call is no read. A result above `count` says that bytes
+ * were lost. This profile's own. */
 int64_t sag_resume(sag_hub *h, uint32_t ns, uint32_t pid, void *into, size_t count);
 
 /* Who can go on. An event loop asks after each step that may have let somebody go on: one of the same namespace. */
 
-/* Whether the call in which a process waits comes further when sag_resume tries it again: it is told something else than
- * SAG_PARKED, or more bytes of its write go in. False where it waits in no call. This profile's own. */
+/* Whether the call in which a process waits comes further when sag_resume tries it again: it is told something else
+ * than SAG_PARKED, or more bytes of its write go in. False where it waits in no call. This profile's own. */
 bool sag_can_go_on(sag_hub *h, uint32_t ns, uint32_t pid);
 
 /* The least pid above `after` whose process can go on, 0 where there is none: so a loop from 0 finds them all. This
@@ -127,71 +133,98 @@ uint32_t sag_next_to_go_on(sag_hub *h, uint32_t ns, uint32_t after);
 /* Pipes */
 
 /* A new pipe: fds[0] is for reading, fds[1] for writing. 0, else both stay as they were. `nonblock` is pipe2's
- * O_NONBLOCK. (pipe(2)) */
+ * O_NONBLOCK. It has 16 pages, or one where with 16 its user's pipes would be above `soft`, of any uid but 0, or all
+ * pipes above `reserve`. -EMFILE where fewer than two descriptors are free; -ENFILE where with these pages its user's
+ * pipes would be above `hard`, of any uid but 0, or all pipes above `reserve`. (pipe(2), pipe(7)) */
 int64_t sag_pipe(sag_hub *h, uint32_t ns, uint32_t pid, bool nonblock, uint32_t fds[2]);
 
-/* Reads at most `count` bytes, and tells how many; 0 at the end. No memory of the heap is wanted. (read(2), pipe(7)) */
+/* Reads at most `count` bytes, and tells how many; 0 at the end. -EBADF for no descriptor that reads; -EAGAIN with
+ * O_NONBLOCK, where it would wait. No memory of the heap is wanted. (read(2), pipe(7)) */
 int64_t sag_read(sag_hub *h, uint32_t ns, uint32_t pid, uint32_t fd, void *into, size_t count);
 
-/* Writes bytes, and tells how many. At most 1,048,576 in a call. No signal is sent with -EPIPE. Memory of the heap is
- * wanted only where it waits, for a copy of the bytes. (write(2), pipe(7)) */
+/* Writes bytes, and tells how many. -EBADF for no descriptor that writes; -EINVAL for more than 1,048,576 bytes; -EPIPE
+ * where there are bytes and nobody reads the pipe, and no signal is sent; -EAGAIN with O_NONBLOCK, where none goes in.
+ * Memory of the heap is wanted only where it waits, for a copy of the bytes. (write(2), pipe(7)) */
 int64_t sag_write(sag_hub *h, uint32_t ns, uint32_t pid, uint32_t fd, const void *bytes, size_t count);
 
-/* Copies at most n bytes of the pipe `source` to the end of the pipe `sink`, and tells how many. `nonblock` is
- * SPLICE_F_NONBLOCK. (tee(2)) */
+/* Copies at most n bytes of the pipe `source` to the end of the pipe `sink`, and tells how many; 0 at the end of
+ * `source`. `nonblock` is SPLICE_F_NONBLOCK. -EBADF for a source that doesn't read or a sink that doesn't write;
+ * -EINVAL for two ends of one pipe; -EPIPE where n is above 0 and nobody reads the sink; -EAGAIN where it would wait,
+ * with `nonblock` or with O_NONBLOCK of either. (tee(2)) */
 int64_t sag_tee(sag_hub *h, uint32_t ns, uint32_t pid, uint32_t source, uint32_t sink, uint64_t n, bool nonblock);
 
-/* The same, and they leave `source`. (splice(2)) */
+/* The same, and they leave `source`. -EBADF, -EINVAL, -EPIPE, -EAGAIN, as sag_tee. (splice(2)) */
 int64_t sag_splice(sag_hub *h, uint32_t ns, uint32_t pid, uint32_t source, uint32_t sink, uint64_t n, bool nonblock);
 
-/* Gives a pipe another capacity, and tells it, in bytes. (fcntl(2), F_SETPIPE_SZ) */
+/* Gives a pipe another capacity, and tells it, in bytes: the least power of two of pages, at least
+ * one, that has room for so many. -EBADF; -EINVAL for more than 2,147,483,648 bytes; -EPERM above `max`, also where it
+ * doesn't grow, for any uid but 0. Where it grows, -EPERM where the pipes of the user who made it would be above `soft`
+ * or `hard`, for any uid but 0, then -ENFILE where all pipes would be above `reserve`. Where it shrinks, -EBUSY where
+ * more pages are in use. (fcntl(2), F_SETPIPE_SZ) */
 int64_t sag_set_pipe_size(sag_hub *h, uint32_t ns, uint32_t pid, uint32_t fd, uint64_t bytes);
 
-/* A pipe's capacity in bytes. (fcntl(2), F_GETPIPE_SZ) */
+/* A pipe's capacity in bytes. -EBADF. (fcntl(2), F_GETPIPE_SZ) */
 int64_t sag_pipe_size(sag_hub *h, uint32_t ns, uint32_t pid, uint32_t fd);
 
-/* What the pipe of a descriptor is ready for goes to *out. 0, else *out is as it was. (poll(2)) */
+/* What the pipe of a descriptor, for reading or for writing, is ready for goes to *out. 0, else *out is as it was:
+ * -EBADF, as sag_pipe_size. It is no step, and changes nothing. (poll(2)) */
 int64_t sag_readiness(sag_hub *h, uint32_t ns, uint32_t pid, uint32_t fd, sag_ready *out);
 
 /* Descriptors */
 
-/* Closes a descriptor. 0. (close(2)) */
+/* Closes a descriptor. 0; or -EBADF. (close(2)) */
 int64_t sag_close(sag_hub *h, uint32_t ns, uint32_t pid, uint32_t fd);
 
-/* The least free descriptor, for the same open file description. A host whose programs call dup2(2) or fcntl(2) with
- * F_DUPFD keeps a table of their numbers (examples/c/pipeline.c). (dup(2)) */
+/* The least free descriptor, for the same open file description. -EBADF; -EMFILE where all 256 are taken. A host whose
+ * programs call dup2(2) or fcntl(2) with F_DUPFD keeps a table of their numbers (examples/c/pipeline.c). (dup(2)) */
 int64_t sag_dup(sag_hub *h, uint32_t ns, uint32_t pid, uint32_t fd);
 
-/* Sets O_NONBLOCK of an open file description, or takes it away. 0. (fcntl(2), F_SETFL) */
+/* Sets O_NONBLOCK of an open file description, or takes it away. 0; or -EBADF. (fcntl(2), F_SETFL) */
 int64_t sag_set_nonblock(sag_hub *h, uint32_t ns, uint32_t pid, uint32_t fd, bool on);
 
 /* Files. A path is `length` bytes and no string: a byte 0 is no end. All start at the root; a mode counts its bits as
- * chmod(2) does, at most 01777. */
+ * chmod(2) does, at most 01777. Up to 14 bytes of a path are copied without memory of the heap.
+ *
+ * Errors of every path, before those beside a function: -EINVAL where it has a byte 0; -ENOENT where it is empty;
+ * -ENAMETOOLONG above 1,023 bytes, or for a name above 255, wherever that stands; then at each name -ENOTDIR where the
+ * one before it is no directory, -EACCES where that may not be searched, -ENOENT where there is none. The last name is
+ * walked so by sag_chmod, sag_open_path, sag_stat and sag_list, and with a slash behind it -ENOTDIR is told of a
+ * FIFO. */
 
-/* mkdir(2) */
+/* 0. -EINVAL for a mode above 01777, before the path's; -EEXIST where there is such a file, and for the root, `.` and
+ * `..`; -EACCES where the directory may not be written; -ENOSPC where there are 10,000 files. (mkdir(2)) */
 int64_t sag_mkdir(sag_hub *h, uint32_t ns, uint32_t pid, const void *path, size_t length, uint32_t mode);
 
-/* mkfifo(3) */
+/* 0. -EINVAL, -EEXIST, -EACCES, -ENOSPC, as sag_mkdir, and behind -EEXIST -ENOENT where the path ends in a slash.
+ * (mkfifo(3)) */
 int64_t sag_mkfifo(sag_hub *h, uint32_t ns, uint32_t pid, const void *path, size_t length, uint32_t mode);
 
-/* unlink(2) */
+/* 0: a FIFO that is open stays so. -EPERM for the root, `.` and `..`; -ENOENT where there is no such file; -ENOTDIR for
+ * a FIFO and a slash behind it; -EACCES where the directory may not be written; -EPERM where its S_ISVTX keeps the
+ * file, and for a directory. (unlink(2)) */
 int64_t sag_unlink(sag_hub *h, uint32_t ns, uint32_t pid, const void *path, size_t length);
 
-/* rmdir(2) */
+/* 0. -EBUSY for the root; -EINVAL for `.` and `..`; -ENOENT where there is no such file; -ENOTDIR for a FIFO; -EACCES
+ * where the directory that it is in may not be written; -EPERM where that one's S_ISVTX keeps it; -ENOTEMPTY.
+ * (rmdir(2)) */
 int64_t sag_rmdir(sag_hub *h, uint32_t ns, uint32_t pid, const void *path, size_t length);
 
-/* chmod(2) */
+/* 0. -EINVAL for a mode above 01777, before the path's; -EPERM for any uid but the owner's and 0. (chmod(2)) */
 int64_t sag_chmod(sag_hub *h, uint32_t ns, uint32_t pid, const void *path, size_t length, uint32_t mode);
 
-/* Opens a FIFO, and tells the descriptor. It may wait for the other side. (open(2), fifo(7)) */
+/* Opens a FIFO, and tells the descriptor. It may wait for the other side. -EINVAL with neither SAG_READ nor SAG_WRITE,
+ * before the path's; -EISDIR for a directory; -EACCES where it may not be read or written so; -EMFILE where no
+ * descriptor is free; -ENXIO for SAG_WRITE and SAG_NONBLOCK without SAG_READ, where nobody reads it. A FIFO that nobody
+ * has open gets a pipe, as sag_pipe makes one: -ENOMEM where that is above `hard`, -ENFILE where it is above `reserve`.
+ * (open(2), fifo(7)) */
 int64_t sag_open_path(sag_hub *h, uint32_t ns, uint32_t pid, const void *path, size_t length, uint32_t flags);
 
-/* What is known of a file goes to *out. 0, else *out is as it was. (stat(2)) */
+/* What is known of a file goes to *out. 0, else *out is as it was: the path's errors alone. (stat(2)) */
 int64_t sag_stat(sag_hub *h, uint32_t ns, uint32_t pid, const void *path, size_t length, sag_meta *out);
 
 /* The names in a directory, by bytes, each with a slash behind it: how many bytes they are. The first `count` of them
- * go into the buffer; a result above `count` says that there are more, and how large a buffer takes all. This
- * profile's own, in place of readdir(3). */
+ * go into the buffer; a result above `count` says that there are more, and how large a buffer takes all. -ENOTDIR for a
+ * FIFO; -EACCES where the directory may not be read. This profile's own, in place of readdir(3). */
 int64_t sag_list(sag_hub *h, uint32_t ns, uint32_t pid, const void *path, size_t length, void *into, size_t count);
 
 #ifdef __cplusplus
