@@ -45,14 +45,15 @@ static int64_t host_close(program *p, int number) {
     return sag_close(&hub, NAMESPACE, p->pid, (uint32_t)fd);
 }
 
-/* dup2(2): `to` names what `from` names, and what it named before is closed. */
+/* dup2(2): what `to` names is closed, and then it names what `from` names. In this order it succeeds in a full table
+ * too, as dup2 does; and nothing is closed where `from` names nothing. */
 static int64_t host_dup2(program *p, int from, int to) {
     int64_t fd = descriptor(p, from);
     if (fd == CLOSED || to < 0 || to >= NUMBERS) return -EBADF;
     if (from == to) return to;
+    if (p->numbers[to] != CLOSED) host_close(p, to);
     int64_t copy = sag_dup(&hub, NAMESPACE, p->pid, (uint32_t)fd);
     if (copy < 0) return copy;
-    if (p->numbers[to] != CLOSED) host_close(p, to);
     p->numbers[to] = copy;
     return to;
 }
@@ -143,6 +144,14 @@ int main(void) {
     WANT(host_dup2(&numberer, ends[0], 5) == 5 && host_dup2(&numberer, 5, 0) == 0 && host_close(&numberer, 5) == 0);
     WANT(host_close(&numberer, ends[1]) == 0 && host_dup2(&numberer, 6, 0) == -EBADF);
     WANT(host_close(&shell, ends[0]) == 0 && host_close(&shell, ends[1]) == 0);
+
+    /* A program with all its descriptors taken: it can't dup, and it can dup2. */
+    program full = host_fork(&lister, "full");
+    WANT(host_dup2(&full, 1, 2) == 2);
+    int64_t told = 0;
+    while (told >= 0) told = sag_dup(&hub, NAMESPACE, full.pid, (uint32_t)descriptor(&full, 1));
+    WANT(told == -EMFILE && host_dup2(&full, 1, 2) == 2 && host_dup2(&full, 5, 2) == -EBADF);
+    WANT(host_close(&full, 2) == 0 && sag_exit(&hub, NAMESPACE, full.pid) == 0);
 
     sag_ready ready;
     WANT(sag_readiness(&hub, NAMESPACE, lister.pid, (uint32_t)descriptor(&lister, 1), &ready) == 0);

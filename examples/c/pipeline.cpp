@@ -52,11 +52,17 @@ public:
         return Program(hub, child, static_cast<std::uint32_t>(done(sag_fork(hub.get(), name_space, pid))), numbers);
     }
 
+    // What `to` names is closed first, so that it succeeds in a full table too; nothing is where `from` names nothing.
     void dup2(int from, int to) {
+        const auto fd = numbers.at(from);
         if (from == to) return;
-        const auto copy = done(sag_dup(hub.get(), name_space, pid, numbers.at(from)));
         if (numbers.count(to)) close(to);
-        numbers[to] = static_cast<std::uint32_t>(copy);
+        numbers[to] = dup(fd);
+    }
+
+    // The least free descriptor, for what one names. Here no program calls dup(2), so it is under no number.
+    std::uint32_t dup(std::uint32_t fd) {
+        return static_cast<std::uint32_t>(done(sag_dup(hub.get(), name_space, pid, fd)));
     }
 
     void close(int number) {
@@ -87,9 +93,13 @@ public:
     // Whether it has anything to do: it doesn't wait, or its call can go on.
     bool can_go_on() { return !waits || sag_can_go_on(hub.get(), name_space, pid); }
 
-    void exit() {
+    void end() {
         done(sag_exit(hub.get(), name_space, pid));
         ended = true;
+    }
+
+    void exit() {
+        end();
         std::cout << name << " ends\n";
     }
 
@@ -119,6 +129,12 @@ void run() {
     number.dup2(3, 0);
     number.close(3);
     number.close(4);
+
+    // A program with all its descriptors taken can dup2.
+    Program full = shell.fork("full");
+    while (full.dup(0) < 255) continue;
+    full.dup2(4, 3);
+    full.end();
     shell.close(3);
     shell.close(4);
 

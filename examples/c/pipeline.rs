@@ -56,6 +56,7 @@ enum Told {
 }
 
 const EBADF: Told = Told::Errno(9);
+const EMFILE: Told = Told::Errno(24);
 
 /// A call's number, or why it has none.
 fn told(result: i64) -> Result<u64, Told> {
@@ -217,22 +218,29 @@ impl Program {
         hub.close(self.pid, fd)
     }
 
-    /// dup2(2): `to` names what `from` names, and what it named before is closed.
+    /// dup2(2): what `to` names is closed, and then it names what `from` names. In this order it succeeds in a full
+    /// table too, as dup2 does; and nothing is closed where `from` names nothing.
     fn dup2(&mut self, hub: &mut Hub, from: u32, to: u32) -> Result<(), Told> {
         let fd = self.descriptor(from)?;
         if from == to {
             return Ok(());
         }
-        let copy = hub.dup(self.pid, fd)?;
-        match self.numbers.insert(to, copy) {
-            Some(before) => hub.close(self.pid, before),
-            None => Ok(()),
+        if self.numbers.contains_key(&to) {
+            self.close(hub, to)?;
         }
+        let copy = hub.dup(self.pid, fd)?;
+        self.numbers.insert(to, copy);
+        Ok(())
+    }
+
+    fn end(&mut self, hub: &mut Hub) -> Result<(), Told> {
+        hub.exit(self.pid)?;
+        self.ended = true;
+        Ok(())
     }
 
     fn exit(&mut self, hub: &mut Hub) -> Result<(), Told> {
-        hub.exit(self.pid)?;
-        self.ended = true;
+        self.end(hub)?;
         println!("{} ends", self.name);
         Ok(())
     }
@@ -294,6 +302,14 @@ fn main() -> Result<(), Told> {
     number.close(&mut hub, 3)?;
     number.close(&mut hub, 4)?;
     assert_eq!(number.dup2(&mut hub, 6, 0), Err(EBADF));
+
+    // A program with all its descriptors taken: it can't dup, and it can dup2.
+    let mut full = shell.fork(&mut hub, "full")?;
+    let fd = full.descriptor(4)?;
+    while hub.dup(full.pid, fd)? < 255 {}
+    assert_eq!(hub.dup(full.pid, fd), Err(EMFILE));
+    full.dup2(&mut hub, 4, 3)?;
+    full.end(&mut hub)?;
     shell.close(&mut hub, 3)?;
     shell.close(&mut hub, 4)?;
 
