@@ -36,7 +36,8 @@ pub(crate) struct Living<A: Allocator, C: Ledger, H: Ledger> {
 }
 
 impl<A: Allocator + Clone, C: Ledger, H: Ledger> Living<A, C, H> {
-    ghost use Rattle.std.specs.Prelude.{◌≤◌, length, IfOk, OnErr};
+    ghost use Rattle.std.specs.Prelude.{◌≤◌, ◌⊎◌, length, IfOk, OnErr};
+    ghost use Rattle.pf_base.specs.declared.TheConstants.{PAGE_SIZE};
     ghost use Rattle.pf_machine.specs.State.{opening};
     ghost use Rattle.pf_machine.specs.Machine.{step_of};
     ghost use Rattle.pf_machine.specs.Replies.{reply_length};
@@ -81,9 +82,10 @@ impl<A: Allocator + Clone, C: Ledger, H: Ledger> Living<A, C, H> {
         &self.logged
     }
 
-    /// Memory for the copy of a reply of at most so many bytes, for one event.
+    /// Memory for the copy of a reply of at most so many bytes, for one event: for just as many, or what was kept.
     pub(crate) fn take_room(&mut self, bound: usize) -> Result<ReplyRoom, AllocError>
         ensures room { IfOk result (λ room. bound ≤ room) }
+        ensures size { IfOk result (λ room. (room ≡ bound) ⊎ (room ≤ PAGE_SIZE)) }
         ensures logged { self.new.logged ≡ self.old.logged }
     {
         self.spare.take(self.logged.alloc(), bound)

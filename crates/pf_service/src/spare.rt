@@ -1,6 +1,7 @@
-ghost use Rattle.std.specs.Prelude.{◌≡◌, ◌<◌, ◌≤◌, length, IfOk, IsOk};
+ghost use Rattle.std.specs.Prelude.{◌≡◌, ◌<◌, ◌≤◌, ◌⊎◌, length, IfOk, IsOk};
 ghost use Rattle.pf_base.specs.declared.TheConstants.{BYTES_IN_PLACE, PAGE_SIZE};
 ghost use Rattle.pf_machine.specs.Replies.{reply_length};
+ghost use Rattle.pf_service.specs.Rooms.{IsLeftOf};
 
 use pf_base::{BYTES_IN_PLACE, ByteRoom, ByteString, PAGE_SIZE, Reply};
 use std::alloc::{AllocError, Global};
@@ -9,7 +10,7 @@ use std::mem;
 
 /// Memory for the copy of a reply, made before an event's step, so that no want of memory comes after it.
 ///
-/// A contract sees how many bytes it is enough for.
+/// A contract sees how many bytes it is enough for, and it has memory for just as many.
 #[derive(Drop)]
 pub(crate) struct ReplyRoom {
     most: usize,
@@ -18,13 +19,13 @@ pub(crate) struct ReplyRoom {
 
 impl Model for ReplyRoom {
     ghost use Rattle.std.specs.Prelude.{ℕ};
-    ghost use Rattle.pf_service.specs.Rooms.{IsEnough};
+    ghost use Rattle.pf_service.specs.Rooms.{IsRoomFor};
 
     ghost Value = { ℕ };
 
     ghost view = { λ r. r.most };
 
-    ghost invariant = { λ r. IsEnough r.most r.room };
+    ghost invariant = { λ r. IsRoomFor r.most r.room };
 }
 
 impl ReplyRoom {
@@ -52,7 +53,8 @@ impl ReplyRoom {
     // The same bytes again. Where their own memory can't be shared, this memory is used up.
     fn fill(&mut self, alloc: Global, bytes: &ByteString) -> ByteString
         requires { length bytes.now ≤ self.old }
-        ensures { result ≡ bytes.now }
+        ensures same { result ≡ bytes.now }
+        ensures left { IsLeftOf self.old self.new }
     {
         if let Ok(copy) = bytes.copy(alloc) {
             return copy;
@@ -67,7 +69,8 @@ impl ReplyRoom {
     /// The same reply again. It takes no memory but this.
     pub(crate) fn copy(&mut self, alloc: Global, reply: &Reply) -> Reply
         requires { reply_length reply.now ≤ self.old }
-        ensures { result ≡ reply.now }
+        ensures same { result ≡ reply.now }
+        ensures left { IsLeftOf self.old self.new }
     {
         match reply {
             Reply::Num(number) => Reply::Num(*number),
@@ -102,9 +105,12 @@ impl Spare {
         }
     }
 
-    /// Memory for at least so many bytes, for one event: what was kept, where they need some and that is enough.
+    /// Memory for at least so many bytes, for one event: what was kept, where they need some and that is enough, and else
+    /// new memory for just as many.
     pub(crate) fn take(&mut self, alloc: Global, most: usize) -> Result<ReplyRoom, AllocError>
         ensures enough { IfOk result (λ room. most ≤ room) }
+        ensures size { IfOk result (λ room. (room ≡ most) ⊎ (room ≡ self.old.kept)) }
+        ensures left { IsLeftOf self.old.kept self.new.kept }
         ensures kept { BYTES_IN_PLACE < most → most ≤ self.old.kept → IsOk result }
     {
         if most > BYTES_IN_PLACE && most <= self.kept.most {
@@ -117,6 +123,7 @@ impl Spare {
     pub(crate) fn keep(&mut self, left: ReplyRoom)
         ensures page { self.new.kept ≤ PAGE_SIZE }
         ensures kept { left ≤ PAGE_SIZE → left ≤ self.new.kept }
+        ensures one { (self.new.kept ≡ self.old.kept) ⊎ (self.new.kept ≡ left) }
     {
         if left.most > self.kept.most && left.most <= PAGE_SIZE {
             self.kept = left;

@@ -40,7 +40,7 @@ copy-told-requires g c =
     let answers = made c.self-inside.inside.0.1.0.space c.step_over.new.placed.space c.self-inside.inside.0.1.1.0 c.step_over.new.loans (record { limits = c.self-inside.inside.0.1.1.1.0.config; entries = c.self-inside.inside.0.1.1.1.0.entries.items }) step c.in-Done.reply log c.in-Done.ensures.moved.answers in
     let told : c.in-Done.reply ≡ (step_of c.args.self.now.limits c.args.self.now.state step).reply =
     ap (λ (o : Outcome Segment ℕ). o.reply) answers ∙ ap (λ (l : Log g.row.A.Denot). (step_of l.limits l.state step).reply) was in
-    omega (arith, ap reply_length told, c.requires.covers, c.in_ok-room.ensures)
+    omega (arith, ap reply_length told, c.requires.covers, c.in_ok-room.ensures.enough)
 
 pub invariant_of-self-2 : goal.invariant_of-self-2
 invariant_of-self-2 g c =
@@ -51,7 +51,7 @@ invariant_of-self-2 g c =
     c.push_reserved.ensures.items
     ∙ ap (λ (es : List (Step × Reply)). es ++ (c.in_ok-asked.asked, c.copy-told.result) ∷ []) c.reserve.ensures.items
     ∙ ap (λ (s : Step). c.self-inside.inside.0.1.1.1.0.entries.items ++ (s, c.copy-told.result) ∷ []) c.in_ok-asked.ensures
-    ∙ ap (λ (r : Reply). c.self-inside.inside.0.1.1.1.0.entries.items ++ (step, r) ∷ []) c.copy-told.ensures in
+    ∙ ap (λ (r : Reply). c.self-inside.inside.0.1.1.1.0.entries.items ++ (step, r) ∷ []) c.copy-told.ensures.same in
     next c.self-inside.inside.0.1.0.space c.step_over.new.placed.space c.self-inside.inside.0.1.1.0 c.step_over.new.loans (record { limits = c.self-inside.inside.0.1.1.1.0.config; entries = c.self-inside.inside.0.1.1.1.0.entries.items }) c.push_reserved.new.self.items step reply log c.in-Done.ensures.moved.owns c.in-Done.ensures.moved.limits c.in-Done.ensures.moved.answers more
 
 pub returns-clause-logged : goal.returns-clause-logged
@@ -68,7 +68,7 @@ returns-clause-logged g c =
           c.push_reserved.ensures.items
           ∙ ap (λ (es : List (Step × Reply)). es ++ (c.in_ok-asked.asked, c.copy-told.result) ∷ []) c.reserve.ensures.items
           ∙ ap (λ (s : Step). c.self-inside.inside.0.1.1.1.0.entries.items ++ (s, c.copy-told.result) ∷ []) c.in_ok-asked.ensures
-          ∙ ap (λ (r : Reply). c.self-inside.inside.0.1.1.1.0.entries.items ++ (step, r) ∷ []) c.copy-told.ensures
+          ∙ ap (λ (r : Reply). c.self-inside.inside.0.1.1.1.0.entries.items ++ (step, r) ∷ []) c.copy-told.ensures.same
           ∙ ap (λ (l : Log g.row.A.Denot). l.transcript ++ (step, reply) ∷ []) was;
       told = answers ∙ ap (λ (l : Log g.row.A.Denot). step_of l.limits l.state step) was;
     }
