@@ -164,7 +164,7 @@ class Lanes:
 def lanes():
     """How many checks are made side by side: GATE_LANES, or one for each processor for which there is memory."""
     memory = os.sysconf("SC_PAGE_SIZE") * os.sysconf("SC_PHYS_PAGES")
-    return int(os.environ.get("GATE_LANES") or max(1, min(len(os.sched_getaffinity(0)), memory // LANE_BYTES)))
+    return max(1, int(os.environ.get("GATE_LANES") or min(len(os.sched_getaffinity(0)), memory // LANE_BYTES)))
 
 
 def try_all(root, names, words, besides=()):
