@@ -100,12 +100,13 @@ class Kept:
         except OSError:
             return set()
 
-    def keep(self, crate, edits):
-        """Keeps that these edits were seen refused. A later run reads the whole file, or the one that was there."""
+    def keep(self, crate, tried, refused):
+        """Keeps that of these edits those were seen refused, and no other one. A later run reads the whole file, or the one
+        that was there."""
         try:
             os.makedirs(self.folder, exist_ok=True)
             with self.one_at_a_time:
-                sums = sorted(self.seen(crate) | set(map(checksum, edits)))
+                sums = sorted(self.seen(crate) - set(map(checksum, tried)) | set(map(checksum, refused)))
                 with tempfile.NamedTemporaryFile("w", dir=self.folder, delete=False) as file:
                     file.writelines(f"{it}\n" for it in sums)
                 os.replace(file.name, self.files[crate])
@@ -231,7 +232,8 @@ class WrongBodies:
         trial = Trial(tree, crate, self.words).play(part)
         refused = {it.name for it in trial.tried if it.refused}
         if trial.holds:
-            self.kept.keep(crate, [it for group in part for it in group if it.name in refused])
+            tried = [it for group in part for it in group]
+            self.kept.keep(crate, tried, [it for it in tried if it.name in refused])
         return trial
 
     def outcome(self, crate, trials):
