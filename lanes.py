@@ -230,24 +230,28 @@ class WrongBodies:
         """Tries a part of a crate's wrong bodies. What it saw is kept where the untouched text checks behind them."""
         part = self.parts[crate][number]
         trial = Trial(tree, crate, self.words).play(part)
-        refused = {it.name for it in trial.tried if it.refused}
+        refused = {it.name for it in trial.tried if it.verdict == wrong_bodies.WAS_REFUSED}
         if trial.holds:
             tried = [it for group in part for it in group]
             self.kept.keep(crate, tried, [it for it in tried if it.name in refused])
         return trial
 
     def outcome(self, crate, trials):
-        """How many of a crate's wrong bodies are refused, and which are not."""
+        """How many of a crate's wrong bodies the prover refuses, by names alone too, and which it doesn't."""
         earlier = len(self.edits[crate]) - sum(len(group) for part in self.parts[crate] for group in part)
         tried = [it for trial in trials if trial for it in trial.tried]
-        lost = [f"{crate}/{it.name}" for it in tried if not it.refused]
+        lost = [f"{crate}/{it.name}" for it in tried if it.verdict == wrong_bodies.LET_THROUGH]
         lost += [] if all(it and it.holds for it in trials) else [f"{crate} (its untouched text)"]
-        refused = earlier + sum(it.refused for trial in trials if trial and trial.holds for it in trial.tried)
-        counts = Counter(it.said.partition(":")[0] for it in tried if it.refused)
+        shown = [it for trial in trials if trial and trial.holds for it in trial.tried]
+        refused = earlier + sum(it.verdict == wrong_bodies.WAS_REFUSED for it in shown)
+        hollow = sorted(it.name for it in shown if it.verdict == wrong_bodies.BY_NAMES_ALONE)
+        counts = Counter(it.said.partition(":")[0] for it in tried if it.verdict == wrong_bodies.WAS_REFUSED)
         how = [f"{earlier} by an earlier run", f"{counts['refused']} in company", f"{counts['alone']} alone"]
         how += [f"{counts['whole']} by rt must-fail", f"{sum(it.seconds for it in trials if it):.0f} processor seconds"]
         say(f"{crate}: {refused} of {len(self.edits[crate])} wrong bodies refused ({', '.join(how)})")
-        return refused, lost
+        if hollow:
+            say(f"{crate}: {len(hollow)} refused by names alone, which shows nothing of a contract: {' '.join(hollow)}")
+        return refused + len(hollow), lost
 
 
 def unknown(root, names):

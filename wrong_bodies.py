@@ -8,8 +8,8 @@ functions stand in one check, of these functions alone. One counts as refused wh
 there, for a reason of its own and not only because of a function that it calls. What isn't seen so in company is tried
 alone. What isn't seen so either, can't be read, or is in no function goes to the copy's must-fail/, and the kit says.
 
-That a proof file names what an edit took away says nothing of the contract. Where there is no other reason, the wrong
-body counts as one that isn't refused: it wants a form that keeps the names.
+That a proof file names what an edit took away says nothing of the contract. Where there is no other reason, the wrong body
+is told apart, NAMES ONLY: it wants a form that keeps the names. It is tried again in each run until it has one.
 
 For a function that it refuses the prover works out what could be written in the function's proof file, which can take
 as long again as the refusal. It doesn't where the file has a fault of its own. So in company each wrong body's function
@@ -49,7 +49,8 @@ HOLLOW_VERDICT = re.compile(
 )
 
 Edit = namedtuple("Edit", "name text pairs spots")  # pairs: (file, old, new); spots: what it edits, as spot_at names it
-Tried = namedtuple("Tried", "name refused said")
+Tried = namedtuple("Tried", "name verdict said")
+WAS_REFUSED, BY_NAMES_ALONE, LET_THROUGH = "refused", "by names alone", "let through"  # the verdicts
 Ran = namedtuple("Ran", "status said seconds")
 
 
@@ -296,8 +297,8 @@ class Trial:
         self.seconds += ran.seconds
         return ran
 
-    def tell(self, edit, is_refused, said):
-        self.tried.append(Tried(edit.name, is_refused, said))
+    def tell(self, edit, verdict, said):
+        self.tried.append(Tried(edit.name, verdict, said))
         print(f"wrong {self.crate}/{edit.name}: {said}", flush=True)
 
     def play(self, groups):
@@ -310,16 +311,16 @@ class Trial:
         """Tries edits in one check of their functions, and returns those that it doesn't show to be refused."""
         reasons, _ = self.reasons(group, plants=True)
         for edit in (it for it in group if line_of(it, reasons)):
-            self.tell(edit, True, f"refused: {line_of(edit, reasons)}")
+            self.tell(edit, WAS_REFUSED, f"refused: {line_of(edit, reasons)}")
         return [it for it in group if not line_of(it, reasons)]
 
     def try_alone(self, edit):
         """Tries an edit in a check of its functions, and returns whether that shows what there is to say of it."""
         reasons, hollow = self.reasons([edit], plants=False)
         if line_of(edit, reasons):
-            self.tell(edit, True, f"alone: refused: {line_of(edit, reasons)}")
+            self.tell(edit, WAS_REFUSED, f"alone: refused: {line_of(edit, reasons)}")
         elif line_of(edit, hollow):
-            self.tell(edit, False, f"alone: NAMES ONLY: {line_of(edit, hollow)}")
+            self.tell(edit, BY_NAMES_ALONE, f"alone: NAMES ONLY: {line_of(edit, hollow)}")
         return bool(line_of(edit, reasons | hollow))
 
     def reasons(self, group, plants):
@@ -352,8 +353,8 @@ class Trial:
         for it in edits:
             said = judged.get(it.name, f"rt must-fail ended with status {ran.status}, and said nothing of it")
             is_hollow = bool(HOLLOW_VERDICT.match(said))
-            is_refused = said.startswith("refused") and not is_hollow
-            self.tell(it, is_refused, f"whole: {'NAMES ONLY: ' * is_hollow}{said}")
+            verdict = BY_NAMES_ALONE if is_hollow else WAS_REFUSED if said.startswith("refused") else LET_THROUGH
+            self.tell(it, verdict, f"whole: {'NAMES ONLY: ' * is_hollow}{said}")
 
 
 def line_of(edit, lines):
