@@ -101,8 +101,8 @@ class Kept:
             return set()
 
     def keep(self, crate, tried, refused):
-        """Keeps that of these edits those were seen refused, and no other one. A later run reads the whole file, or the one
-        that was there."""
+        """Keeps that of the edits that were tried these were seen refused, and no others. A later run reads the whole
+        file, or the one that was there."""
         try:
             os.makedirs(self.folder, exist_ok=True)
             with self.one_at_a_time:
