@@ -8,8 +8,8 @@ functions stand in one check, of these functions alone. One counts as refused wh
 there, for a reason of its own and not only because of a function that it calls. What isn't seen so in company is tried
 alone. What isn't seen so either, can't be read, or is in no function goes to the copy's must-fail/, and the kit says.
 
-That a proof file names what an edit took away says nothing of the contract. Where there is no other reason, the wrong body
-is told apart, NAMES ONLY: it wants a form that keeps the names. It is tried again in each run until it has one.
+That a proof file names what an edit took away says nothing of the contract. Where there is no other reason, the wrong
+body is told apart, NAMES ONLY: it wants a form that keeps the names. It is tried again in each run until it has one.
 
 For a function that it refuses the prover works out what could be written in the function's proof file, which can take
 as long again as the refusal. It doesn't where the file has a fault of its own. So in company each wrong body's function
