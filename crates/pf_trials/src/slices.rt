@@ -257,7 +257,7 @@ fn drained(hub: &mut Hub<Global>) -> usize {
         if let Answer::Done(Reply::Bytes(bytes)) = hub.step(BY_STEPS, &step)
             && bytes.as_slice().iter().all(|byte| *byte == 7)
         {
-            found += bytes.as_slice().len();
+            found = found.saturating_add(bytes.as_slice().len());
         }
     }
     found
