@@ -241,7 +241,7 @@ fn waits(hub: &mut Hub<Global>, pid: u32, bytes: Arc<Vec<u8>>) -> Option<Step> {
 
 // How many bytes a reader finds, all of them sevens, where those that wait go on by turns.
 fn drained(hub: &mut Hub<Global>) -> usize {
-    let mut found = 0;
+    let mut found: usize = 0;
     for turn in 0..24u32 {
         let step = match turn % 4 {
             3 => Step::Read {
