@@ -63,6 +63,8 @@ struct LetGo {
 
 // Drops a descriptor of the process in a place, if there is one, and what nobody can reach any more. It tells whether
 // there was one, and gives out a pipe that goes.
+// It and `empty` are inlined: an exit takes these steps for each of its descriptors, and a call costs a third of them.
+#[inline(always)]
 fn let_go(
     processes: &mut ProcessTable,
     descriptions: &mut Descriptions<Description>,
@@ -109,6 +111,7 @@ fn forget(fifos: &mut HashMap<u64, Key>, file: Option<u64>)
 impl<A: Allocator> Tables<A> {
     // Drops a descriptor of the process in a place, if there is one, and what nobody can reach any more, and tells
     // whether there was one.
+    #[inline(always)]
     pub(super) fn empty<F: Frames>(&mut self, door: &mut F, i: usize, fd: usize) -> bool
         requires fact { F.fact door.old }
         requires owns { Owns (F.live door.old) self.old }

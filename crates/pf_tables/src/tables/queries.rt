@@ -1,5 +1,5 @@
 //! What a host may ask besides the steps: who can go on, and what an end is ready for. A query changes nothing, costs
-//! constant time, and takes no memory.
+//! constant time for each process that it looks at, and takes no memory.
 
 ghost use Rattle.pf_tables.specs.Queries.{GoesOn, GoesOnNext, IsReadiness};
 
