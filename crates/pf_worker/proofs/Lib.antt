@@ -1,2 +1,3 @@
+pub mod GateLaws
 pub mod WorkerLaws
 pub mod Sendable

@@ -11,12 +11,15 @@ use std::sync::{Mutex, Wait};
 /// A namespace's way to a shared depot, of which a gate is told: before each frame that the namespace takes, while the
 /// depot's lock isn't held.
 ///
-/// But for that it is the `StockedDepot` of the same shares and the same stock.
+/// But for that it is the `StockedDepot` of the same shares and the same stock. One that is made by `holding` knows besides
+/// how many frames the namespace held then: where it holds more, this gate was told of this namespace.
 #[derive(Drop)]
 pub struct GatedDepot<'a, R: Wait, G: Gate, C: Ledger, H: Ledger> {
     rt: &'a R,
     gate: &'a G,
     ns: u32,
+    // How many frames the namespace held at first, where that was said.
+    begun: Option<u32>,
     book: &'a Mutex<DepotBook<C, H>>,
     credits: &'a mut Share<C>,
     held: &'a mut Share<H>,
@@ -35,6 +38,7 @@ impl<'a, R: Wait, G: Gate, C: Ledger, H: Ledger> GatedDepot<'a, R, G, C, H> {
         stock: &'a mut Stock,
     ) -> GatedDepot<'a, R, G, C, H>
         ensures ns { result.ns ≡ ns }
+        ensures begun { result.begun ≡ None }
         ensures credits_name { result.credits.ghost_name ≡ credits.entry.ghost_name }
         ensures held_name { result.held.ghost_name ≡ held.entry.ghost_name }
         ensures stock_name { result.stock.ghost_name ≡ stock.entry.ghost_name }
@@ -46,6 +50,40 @@ impl<'a, R: Wait, G: Gate, C: Ledger, H: Ledger> GatedDepot<'a, R, G, C, H> {
             rt,
             gate,
             ns,
+            begun: None,
+            book,
+            credits,
+            held,
+            stock,
+        }
+    }
+
+    /// The same of a namespace that holds so many frames now.
+    pub fn holding(
+        rt: &'a R,
+        gate: &'a G,
+        ns: u32,
+        frames: u32,
+        book: &'a Mutex<DepotBook<C, H>>,
+        credits: &'a mut Share<C>,
+        held: &'a mut Share<H>,
+        stock: &'a mut Stock,
+    ) -> GatedDepot<'a, R, G, C, H>
+        ensures gate { result.gate.now ≡ gate.entry.now }
+        ensures ns { result.ns ≡ ns }
+        ensures begun { result.begun ≡ Some frames }
+        ensures credits_name { result.credits.ghost_name ≡ credits.entry.ghost_name }
+        ensures held_name { result.held.ghost_name ≡ held.entry.ghost_name }
+        ensures stock_name { result.stock.ghost_name ≡ stock.entry.ghost_name }
+        ensures credits { result.credits.now ≡ credits.old }
+        ensures held { result.held.now ≡ held.old }
+        ensures stock { result.stock.now ≡ stock.old }
+    {
+        GatedDepot {
+            rt,
+            gate,
+            ns,
+            begun: Some(frames),
             book,
             credits,
             held,
@@ -73,18 +111,22 @@ fn take_told<G: Gate, D: Lender>(gate: &G, ns: u32, lender: &mut D, loans: &mut 
 
 impl<R: Wait, G: Gate, C: Ledger, H: Ledger> Lender for GatedDepot<'_, R, G, C, H> {
     ghost use Rattle.std.specs.Prelude.{◌+◌, ◌-◌, ◌<◌, ◌≤◌};
-    ghost use Rattle.pf_depot.specs.Stocked.{StockedRest};
+    ghost use Rattle.pf_worker.specs.Gated.{GatedRest, IsToldOfMore};
 
     ghost ready = { λ s. s.credits.now.amount + s.stock.now };
 
     ghost out = { λ s. s.held.now.amount - s.stock.now };
 
     ghost fact = { λ s. (0 < s.credits.now.parts) × (0 < s.held.now.parts)
-        × (s.stock.now ≤ s.held.now.amount) };
+        × (s.stock.now ≤ s.held.now.amount)
+        × IsToldOfMore (G.framed s.gate.now s.ns) s.begun (s.held.now.amount - s.stock.now) };
 
-    ghost Rest = { StockedRest };
+    ghost Rest = { GatedRest G };
 
     ghost rest = { λ s. record {
+      gate = s.gate.now;
+      ns = s.ns;
+      begun = s.begun;
       credits_name = s.credits.ghost_name;
       held_name = s.held.ghost_name;
       stock_name = s.stock.ghost_name;

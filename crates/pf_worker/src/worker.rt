@@ -239,11 +239,15 @@ impl<A: Allocator + Clone, C: Ledger, H: Ledger> Worker<A, C, H> {
         ensures succeeds { may_want_memory self.old.tenant.limits self.old.tenant.state step.now ≡ false
             → IsDone result }
         ensures rising { IsRising self.new.tenant }
+        // where it holds more frames than before, this gate was told of this namespace
+        ensures framed { self.old.tenant.held < self.new.tenant.held → G.framed gate.now self.old.number }
     {
-        let mut depot = GatedDepot::new(
+        let frames = self.loans.held();
+        let mut depot = GatedDepot::holding(
             rt,
             gate,
             self.number,
+            frames,
             book,
             &mut self.credits,
             &mut self.held,
