@@ -1,9 +1,9 @@
 -- The namespaces of a service, by their numbers.
 
-use Rattle.std.proofs.Common.{◌≡◌, ℕ, zero, suc, Bool, true, false, refl, if◌then◌else◌, ◌+◌, ◌<◌, ◌≤◌, ◌++◌, [], ◌∷◌, List, length, map, get_or, ap, ◌∙◌, arith}
-use Rattle.std.specs.Prelude.{Option, Some, None, nat_lt}
+use Rattle.std.proofs.Common.{◌≡◌, ℕ, zero, suc, Bool, true, false, refl, if◌then◌else◌, ◌+◌, ◌<◌, ◌≤◌, ◌++◌, [], ◌∷◌, List, length, map, drop, get_or, ap, sym, subst, ◌∙◌, arith, inl, inr}
+use Rattle.std.specs.Prelude.{Option, Some, None, nat_lt, slice_get}
 use Rattle.std.specs.List.{range_with_len}
-use Rattle.std.proofs.lemmas.Bool.{ltb-true}
+use Rattle.std.proofs.lemmas.Bool.{ltb-true, cases_lt}
 use Rattle.std.proofs.lemmas.Bool.Decides.{nat_tests}
 use Rattle.std.proofs.lemmas.List.{length-map}
 use Rattle.std.proofs.lemmas.List.FromFn.{get_or-range_with_len, length-range_with_len}
@@ -14,6 +14,7 @@ use Rattle.pf_base.specs.declared.admission.AdmitFault.TheVariants.{TooManyNames
 use Rattle.pf_depot.specs.Admission.{room_fault, admit_fault}
 use Rattle.pf_frame.specs.Faults.{fault_of}
 use Rattle.pf_hub.specs.Opening.{limits_of, first_fault}
+use Rattle.pf_service.specs.Log.{Log, new_log}
 
 -- one more
 pub range_more : (a n : ℕ) → range_with_len a n ++ (a + n) ∷ [] ≡ range_with_len a (suc n)
@@ -52,3 +53,36 @@ pub number_fits : (living given slack reserve ns : ℕ) → admit_fault living g
 number_fits living given slack reserve ns none is =
     let fits : given < MAX_NUMBERS = ltb-true given MAX_NUMBERS (passed (nat_lt living MAX_NAMESPACES) (nat_lt given MAX_NUMBERS) (room_fault slack reserve) none) in
     omega (arith, fits, is)
+
+-- Each namespace behind its lock
+
+-- so it is of those below this number
+abbrev pub LockedBelow : {Z : Type 0} → (ℕ → Log Z → Type 0) → List (Limits × Z) → ℕ → Type 0
+LockedBelow {Z} Locked configs m = (n : ℕ) (e : Limits × Z) → n < m → slice_get configs n ≡ Some e → Locked n (new_log e.0 e.1)
+
+-- the next one stands at the front of those that are left
+pub next_left : {X : Type 0} (xs : List X) (m : ℕ) (x : X) (more : List X) → drop m xs ≡ x ∷ more →
+    (slice_get xs m ≡ Some x) × (drop (suc m) xs ≡ more)
+next_left [] zero x more is = absurd (cc)
+next_left [] (suc m) x more is = absurd (cc)
+next_left (y ∷ ys) zero x more is = (cc, cc)
+next_left (y ∷ ys) (suc m) x more is = next_left ys m x more is
+
+-- what was put there under this number
+pub put_there : {Z : Type 0} (Locked : ℕ → Log Z → Type 0) (n m : ℕ) (log' log : Log Z) → n ≡ m → log' ≡ log → Locked n log' → Locked m log
+put_there Locked n m log' log at same here = subst (λ k. Locked k log) at (subst (Locked n) same here)
+
+same_one : {X : Type 0} (x y : X) → Some x ≡ Some y → x ≡ y
+same_one x y same = cc
+
+-- one more, that was put there under the next number
+pub locked_more : {Z : Type 0} (Locked : ℕ → Log Z → Type 0) (configs : List (Limits × Z)) (m k : ℕ) (e : Limits × Z) → k ≡ m + 1 →
+    LockedBelow Locked configs m → slice_get configs m ≡ Some e → Locked m (new_log e.0 e.1) → LockedBelow Locked configs k
+locked_more {Z} Locked configs m k e up before there here n x low is =
+    elim (cases_lt n m) [
+      | inl below ↦ before n x below is
+      | inr past ↦
+          let at : m ≡ n = omega (arith, past, low, up) in
+          let same : e ≡ x = same_one e x (sym there ∙ ap (slice_get configs) at ∙ is) in
+          subst (λ k. Locked k (new_log x.0 x.1)) at (subst (λ (y : Limits × Z). Locked m (new_log y.0 y.1)) same here)
+    ]

@@ -1,6 +1,6 @@
 -- A namespace with its frames on loan and its transcript.
 
-use Rattle.std.specs.Prelude.{◌≡◌, ℕ, ◌++◌, List, [], ◌∷◌}
+use Rattle.std.specs.Prelude.{◌≡◌, ℕ, ◌++◌, List, [], ◌∷◌, Some, slice_get}
 use Rattle.pf_base.specs.Limits.{Limits}
 use Rattle.pf_machine.specs.Queue.{Segment}
 use Rattle.pf_machine.specs.State.{State, opening}
@@ -45,6 +45,11 @@ pub record IsLog (space : Namespace) (loans : Loans) (t : OneTranscript) : Type 
 -- a namespace of these limits, beside this allocator, of which nothing was asked yet
 abbrev pub new_log : {Z : Type 0} → Limits → Z → Log Z
 new_log limits allocator = record { limits = limits; state = opening; held = 0; transcript = []; allocator = allocator }
+
+-- for each of these limits, each beside its allocator: under the number that is its place a namespace of them, beside that
+-- allocator, was put behind a lock, and nothing was asked of it yet
+abbrev pub AreLocked : {Z : Type 0} → (ℕ → Log Z → Type 0) → List (Limits × Z) → Type 0
+AreLocked {Z} Locked configs = (n : ℕ) (e : Limits × Z) → slice_get configs n ≡ Some e → Locked n (new_log e.0 e.1)
 
 -- one event: the step is the lone machine's, and stands at the end of the transcript with its reply
 pub record IsLogged {Z : Type 0} (old new : Log Z) (step : Step) (reply : Reply) : Type 0 where

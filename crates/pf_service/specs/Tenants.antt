@@ -1,6 +1,6 @@
 -- A namespace of a service that lives, or is retired.
 
-use Rattle.std.specs.Prelude.{◌≡◌, ℕ, Bool, false, ◌<◌, ◌≤◌, length}
+use Rattle.std.specs.Prelude.{◌≡◌, ℕ, Bool, false, ◌<◌, ◌≤◌, ⊤, length}
 use Rattle.pf_base.specs.declared.admission.RetireFault.{RetireFault}
 use Rattle.pf_base.specs.declared.admission.RetireFault.TheVariants.{NoSuchNamespace, Alive}
 use Rattle.pf_base.specs.declared.step.Reply.{Reply}
@@ -48,6 +48,11 @@ abbrev pub IsEvent : {A C H : Type 0} → Tenant (OneLiving A C H) → Tenant (O
 IsEvent (Living l) (Living m) step place reply =
     (place ≡ length l.logged.transcript) × (place < MAX_ENTRIES) × IsLogged l.logged m.logged step reply
 IsEvent _ _ _ _ _ = ⊥
+
+-- where it holds more frames than before, a gate was told
+abbrev pub IsToldOfMore : {A C H : Type 0} → Type 0 → Tenant (OneLiving A C H) → Tenant (OneLiving A C H) → Type 0
+IsToldOfMore Framed (Living l) (Living m) = l.logged.held < m.logged.held → Framed
+IsToldOfMore Framed _ _ = ⊤
 
 -- one that lived, with no process, is retired: its limits and its transcript stay, and nothing else
 abbrev pub IsRetirement : {A C H : Type 0} → Tenant (OneLiving A C H) → Tenant (OneLiving A C H) → Type 0

@@ -8,6 +8,7 @@ pub mod given;
 mod guests;
 pub mod judge;
 mod living;
+mod locks;
 pub mod logged;
 pub mod merge;
 mod opening;

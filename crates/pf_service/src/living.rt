@@ -99,7 +99,7 @@ impl<A: Allocator + Clone, C: Ledger, H: Ledger> Living<A, C, H> {
     }
 
     /// One event, of which the gate was told: the namespace, and the place where it will stand. The transcript isn't full,
-    /// and the reply's vector is known to be no longer than `bound`.
+    /// and the reply's vector is known to be no longer than `bound`. The gate is told of each frame before it is taken.
     pub(crate) fn log<R: Wait, G: Gate>(
         &mut self,
         rt: &R,
@@ -115,6 +115,8 @@ impl<A: Allocator + Clone, C: Ledger, H: Ledger> Living<A, C, H> {
             (step_of self.old.logged.limits self.old.logged.state step.now).reply ≤ bound }
         ensures logged { IfOk result (IsLogged self.old.logged self.new.logged step.now) }
         ensures unchanged { OnErr result (self.new.logged ≡ self.old.logged) }
+        // where it holds more frames than before, this gate was told of this namespace
+        ensures framed { self.old.logged.held < self.new.logged.held → G.framed gate.now ns }
     {
         let Living {
             logged,
@@ -123,7 +125,8 @@ impl<A: Allocator + Clone, C: Ledger, H: Ledger> Living<A, C, H> {
             stock,
             spare: _,
         } = self;
-        let mut depot = GatedDepot::new(rt, gate, ns, book, credits, held, stock);
+        let frames = logged.held();
+        let mut depot = GatedDepot::holding(rt, gate, ns, frames, book, credits, held, stock);
         logged.log(&mut depot, step, bound)
     }
 

@@ -123,6 +123,13 @@ impl<A: Allocator + Clone> Logged<A> {
         self.placed.parked_written(pid)
     }
 
+    /// How many frames the namespace holds.
+    pub(crate) fn held(&self) -> u32
+        ensures { result ≡ self.now.held }
+    {
+        self.loans.held()
+    }
+
     /// How many processes live, also those that wait in a call. Where none does, the namespace holds no frame.
     pub fn processes(&self) -> u32
         ensures number { result ≡ alive self.now.state }

@@ -1,15 +1,15 @@
-ghost use Rattle.std.specs.Prelude.{◌≡◌, ◌≤◌, length, map, IfOk, MatchResult, None};
+ghost use Rattle.std.specs.Prelude.{◌≡◌, ◌≤◌, length, map, IfOk, OnOk, MatchResult, None};
 ghost use Rattle.std.specs.List.{range_with_len};
 ghost use Rattle.pf_depot.specs.Admission.{admit_fault, IsAdmitFault};
 ghost use Rattle.pf_depot.specs.AllLoans.{reserved_of};
 ghost use Rattle.pf_depot.specs.Book.{Admits};
 ghost use Rattle.pf_hub.specs.Opening.{limits_of};
 ghost use Rattle.pf_machine.specs.State.{opening};
-ghost use Rattle.pf_service.specs.Log.{new_log};
+ghost use Rattle.pf_service.specs.Log.{new_log, AreLocked};
 
 use crate::living::Living;
+use crate::locks::Locks;
 use crate::place::Place;
-use crate::seated::Seated;
 use pf_base::{AdmitFault, Config};
 use pf_depot::{Allotment, DepotBook, Stock};
 use pf_space::Placed;
@@ -65,16 +65,19 @@ pub(crate) fn admitted<A: Allocator + Clone, C: Ledger, H: Ledger>(
     Ok((ns, Living::new(alloc, placed, stock, config, allotment)))
 }
 
-/// The namespaces of some limits, by their numbers, each with what it begins with at the depot.
-pub(crate) fn places_of<A: Allocator + Clone, C: Ledger, H: Ledger>(
+/// The namespaces of some limits, by their numbers, each with what it begins with at the depot. Behind each one's lock lies a
+/// namespace of its limits, whose files stand in memory of the allocator beside them.
+pub(crate) fn places_of<A: Allocator + Clone, C: Ledger, H: Ledger, L: Locks>(
     alloc: Global,
+    way: &L,
     configs: Vec<(Config, A)>,
     allotments: Vec<Allotment<C, H>>,
 ) -> Result<Vec<Place<A, C, H>>, AllocError>
     requires reserved { map (λ a. reserved_of a.loans) allotments.items
         ≡ map (λ e. e.0.reserve) configs.items }
     requires few { length configs.items ≤ 64 }
-    ensures { IfOk result (λ ps. ps.items ≡ range_with_len 0 (length configs.items)) }
+    ensures numbered { IfOk result (λ ps. ps.items ≡ range_with_len 0 (length configs.items)) }
+    ensures locked { OnOk result (AreLocked (λ ns log. L.locked way.now ns A log) configs.items) }
 {
     let mut places = Vec::with_capacity(alloc, configs.len())?;
     let mut allotments = allotments.into_iter();
@@ -85,7 +88,7 @@ pub(crate) fn places_of<A: Allocator + Clone, C: Ledger, H: Ledger>(
         let ns = places.len() as u32;
         let (placed, stock) = furnished(alloc, tree, config)?;
         let living = Living::new(alloc, placed, stock, config, allotment);
-        places.push_reserved(Place::new(ns, Seated::new(living)));
+        places.push_reserved(way.lock(ns, living));
     }
     Ok(places)
 }

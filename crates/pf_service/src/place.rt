@@ -2,7 +2,7 @@ ghost use Rattle.std.specs.Prelude.{◌≡◌, ℕ, ◌<◌, [], ◌∷◌, ◌&
 ghost use Rattle.pf_service.specs.Faults.{IsApplyFault, IsEventFault, IsRefusal, IsRetirementFault};
 ghost use Rattle.pf_service.specs.Log.{IsLogged};
 ghost use Rattle.pf_service.specs.Seats.{Gains, event_at};
-ghost use Rattle.pf_service.specs.Tenants.{IsEvent, IsSameTenant, IsTenantFault, is_idle_at};
+ghost use Rattle.pf_service.specs.Tenants.{IsEvent, IsSameTenant, IsTenantFault, IsToldOfMore, is_idle_at};
 ghost use Rattle.pf_service.specs.Told.{Told};
 ghost use Rattle.pf_service.specs.Transcripts.{IsLone};
 ghost use Rattle.pf_service.specs.declared.TheConstants.{MAX_ENTRIES};
@@ -85,6 +85,7 @@ fn kept_event<A: Allocator + Clone, R: Wait, G: Gate, C: Ledger, H: Ledger>(
     ensures logged { IfOk result (λ r. IsLogged living.old.logged living.new.logged step.now r.reply) }
     ensures told { IfOk result (λ r. Told step.now r.place r.reply) }
     ensures passed { IfOk result (λ r. G.passed gate.now r.ns r.place) }
+    ensures framed { IfOk result (λ r. living.old.logged.held < living.new.logged.held → G.framed gate.now r.ns) }
     ensures fault { IfErr result (IsApplyFault living.old.logged.transcript) }
     ensures refused { OnErr result (Gains seat.old seat.new []) }
     ensures unchanged { OnErr result (living.new.logged ≡ living.old.logged) }
@@ -128,6 +129,7 @@ pub(crate) fn event<A: Allocator + Clone, R: Wait, G: Gate, C: Ledger, H: Ledger
     ensures logged { IfOk result (λ r. IsLogged living.old.logged living.new.logged step.now r.reply) }
     ensures told { IfOk result (λ r. Told step.now r.place r.reply) }
     ensures passed { IfOk result (λ r. G.passed gate.now r.ns r.place) }
+    ensures framed { IfOk result (λ r. living.old.logged.held < living.new.logged.held → G.framed gate.now r.ns) }
     ensures woken { IfOk result (λ r.
         is_idle living.old.logged.state living.new.logged.state step.now r.reply ≡ false
         → W.woken waiters.now is_awaited.old) }
@@ -165,6 +167,8 @@ pub(crate) fn event_of<A: Allocator + Clone, R: Wait, G: Gate, C: Ledger, H: Led
         Gains seat.old seat.new (event_at r.place step.now r.reply ∷ [])) }
     ensures told { IfOk result (λ r. (r.ns ≡ seat.old.ns) × Told step.now r.place r.reply) }
     ensures passed { IfOk result (λ r. G.passed gate.now r.ns r.place) }
+    ensures framed { IfOk result (λ r.
+        IsToldOfMore (G.framed gate.now r.ns) seated.old.tenant seated.new.tenant) }
     ensures woken { IfOk result (λ r.
         is_idle_at seated.old.tenant seated.new.tenant step.now r.reply ≡ false
         → W.woken waiters.now seated.old.is_awaited) }

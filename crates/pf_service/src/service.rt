@@ -6,11 +6,11 @@ ghost use Rattle.pf_hub.specs.Opening.{limits_of};
 use crate::fault::{CloseFault, ServiceFault};
 use crate::guests::Guests;
 use crate::judge::compare;
+use crate::locks::{Locks, OneEach};
 use crate::opening::{admitted, configs_of, furnished, places_of};
 use crate::place::Place;
 use crate::receipt::Receipt;
 use crate::seat::Seat;
-use crate::seated::Seated;
 use crate::transcript::Transcripts;
 use crate::unlocks::{ForGood, Unlocks};
 use pf_base::{AdmitFault, Config, RetireFault, Step};
@@ -65,6 +65,7 @@ impl<A: Allocator + Clone, G: Gate, C: Ledger, H: Ledger> Service<A, G, C, H> {
     ghost use Rattle.pf_frame.specs.Faults.{IsFault};
     ghost use Rattle.pf_service.specs.declared.event.Event.{Event as OneEvent};
     ghost use Rattle.pf_service.specs.Faults.{IsCallFault, IsAdmissionFault, IsRetirementFault};
+    ghost use Rattle.pf_service.specs.Log.{new_log, AreLocked};
     ghost use Rattle.pf_service.specs.Judged.{IsClosed, IsClosedFault, IsUnlockedFault};
     ghost use Rattle.pf_hub.specs.Opening.{first_fault};
     ghost use Rattle.pf_service.specs.Seats.{AreGiven, Gains, event_at, IsSeatFault};
@@ -94,6 +95,30 @@ impl<A: Allocator + Clone, G: Gate, C: Ledger, H: Ledger> Service<A, G, C, H> {
         ensures limits { IfOk result (λ s. s ≡ limits_of configs.items) }
         ensures fault { IfErr result (IsFault (first_fault (length frames.items) (limits_of configs.items))) }
     {
+        Service::new_by(alloc, &OneEach, frames, configs, gate, credits, held)
+    }
+
+    // The same by any way to the locks. Behind each one's lock lies a namespace of its limits, whose files stand in memory of
+    // the allocator beside them.
+    fn new_by<L: Locks>(
+        alloc: Global,
+        way: &L,
+        frames: Vec<Frame>,
+        configs: Vec<(Config, A)>,
+        gate: G,
+        credits: Blank,
+        held: Blank,
+    ) -> Result<Self, PoolFault>
+    where
+        G: Drop,
+        requires names { (credits.name ≡ C.name) × (held.name ≡ H.name) }
+        requires cut { (credits.parts ≡ C.parts) × (held.parts ≡ H.parts) }
+        requires parts { (MAX_NAMESPACES ≤ credits.parts) × (MAX_NAMESPACES ≤ held.parts) }
+        ensures tested { IsOk result → first_fault (length frames.items) (limits_of configs.items) ≡ None }
+        ensures limits { IfOk result (λ s. s ≡ limits_of configs.items) }
+        ensures locked { OnOk result (AreLocked (λ ns log. L.locked way.now ns A log) configs.items) }
+        ensures fault { IfErr result (IsFault (first_fault (length frames.items) (limits_of configs.items))) }
+    {
         if let Some(fault) = first_fault(frames.len(), &configs) {
             return Err(fault);
         }
@@ -107,7 +132,7 @@ impl<A: Allocator + Clone, G: Gate, C: Ledger, H: Ledger> Service<A, G, C, H> {
             return Err(PoolFault::NoMemory);
         };
         let (book, allotments) = DepotBook::open(alloc, frames, reserves, credits, held)?;
-        let Ok(places) = places_of(alloc, configs, allotments) else {
+        let Ok(places) = places_of(alloc, way, configs, allotments) else {
             return Err(PoolFault::NoMemory);
         };
         Ok(Service {
@@ -146,6 +171,22 @@ impl<A: Allocator + Clone, G: Gate, C: Ledger, H: Ledger> Service<A, G, C, H> {
         ensures number { IfOk result (λ ns. ns < MAX_NUMBERS) }
         ensures fault { IfErr result (IsAdmissionFault config.reserve) }
     {
+        self.admit_by(rt, &OneEach, config, tree)
+    }
+
+    // The same by any way to the locks. Behind its lock lies a namespace of these limits, whose files stand in memory of the
+    // allocator `tree`.
+    fn admit_by<R: Wait, L: Locks>(
+        &self,
+        rt: &R,
+        way: &L,
+        config: Config,
+        tree: A,
+    ) -> Result<u32, AdmitFault>
+        ensures number { IfOk result (λ ns. ns < MAX_NUMBERS) }
+        ensures locked { IfOk result (λ ns. L.locked way.now ns A (new_log config tree)) }
+        ensures fault { IfErr result (IsAdmissionFault config.reserve) }
+    {
         let alloc = self.alloc;
         let Ok((placed, stock)) = furnished(alloc, tree, config) else {
             return Err(AdmitFault::NoMemory);
@@ -154,7 +195,7 @@ impl<A: Allocator + Clone, G: Gate, C: Ledger, H: Ledger> Service<A, G, C, H> {
             return Err(AdmitFault::NoMemory);
         };
         let (ns, living) = admitted(alloc, &mut *self.book.lock(rt), config, placed, stock)?;
-        let place = Place::new(ns, Seated::new(living));
+        let place = way.lock(ns, living);
         self.guests.admit(rt, room, place);
         Ok(ns)
     }

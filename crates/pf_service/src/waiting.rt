@@ -4,7 +4,7 @@ ghost use Rattle.pf_base.specs.declared.step.Reply.TheVariants.{Parked};
 ghost use Rattle.pf_machine.specs.Machine.{pid_of};
 ghost use Rattle.pf_service.specs.declared.event.Event.{Event as OneEvent};
 ghost use Rattle.pf_service.specs.Faults.{IsApplyFault, IsEventFault};
-ghost use Rattle.pf_service.specs.Tenants.{IsEvent, IsSameTenant, IsTenantFault, is_idle_at};
+ghost use Rattle.pf_service.specs.Tenants.{IsEvent, IsSameTenant, IsTenantFault, IsToldOfMore, is_idle_at};
 ghost use Rattle.pf_service.specs.Seats.{Gains};
 ghost use Rattle.pf_service.specs.Told.{Told};
 ghost use Rattle.pf_service.specs.Waited.{maker, resume_of, IsTried, IsWaited, IsAnswered, AreParked};
@@ -89,6 +89,8 @@ fn try_once<A: Allocator + Clone, R: Wait, G: Gate, C: Ledger, H: Ledger, W: Wai
         → W.woken waiters.now seated.old.is_awaited)
         × (is_idle_at seated.old.tenant seated.new.tenant step.now reply ≡ true
         → seated.new.is_awaited ≡ seated.old.is_awaited)) }
+    ensures framed { OnOk result (IsToldOfMore (G.framed gate.now seat.old.ns)
+        seated.old.tenant seated.new.tenant) }
     ensures given { seated.new.given ≡ seated.old.given }
     ensures unchanged { OnErr result (IsSameTenant seated.old.tenant seated.new.tenant) }
     ensures fault { IfErr result (IsTenantFault seated.old.tenant) }

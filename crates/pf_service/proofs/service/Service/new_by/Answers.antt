@@ -6,7 +6,7 @@ use Rattle.std.proofs.lemmas.Simd.{map-map}
 use Rattle.pf_base.specs.Limits.{Limits}
 use Rattle.pf_hub.specs.Opening.{limits_of, first_fault}
 use Rattle.pf_service.proofs.PlaceLaws.{few}
-use Rattle.pf_service.proofs.service.Service.new.Goals as goal
+use Rattle.pf_service.proofs.service.Service.new_by.Goals as goal
 
 pub returns-in_err-book-clause-fault : goal.returns-in_err-book-clause-fault
 returns-in_err-book-clause-fault g c =
@@ -31,4 +31,4 @@ invariant_of-result g c =
     let limits = c.in-Ok.ensures ∙ ap (λ (cs : List (Limits × g.row.A.Denot)). limits_of cs) c.deref-2.ensures.value in
     let kept : length c.in-Ok.kept.items ≡ length c.args.configs.items =
     ap (λ (ls : List Limits). length ls) limits ∙ length-map c.args.configs.items (λ e. e.0) in
-    (c.in-Ok-places_of.ensures ∙ ap (λ (n : ℕ). range_with_len 0 n) (sym kept), (omega (arith, kept, most), tt))
+    (c.in-Ok-places_of.ensures.numbered ∙ ap (λ (n : ℕ). range_with_len 0 n) (sym kept), (omega (arith, kept, most), tt))
