@@ -1,5 +1,6 @@
 //! A gate that remembers: it is told of each event once, with the event's numbers, in the order of the transcript, and
-//! while the lock is held. That it is told before the step is made, a contract says.
+//! while the lock is held, and of each frame under its namespace's number. That it is told before the step is made, and of a
+//! frame before it is taken, a contract says.
 
 ghost use Rattle.std.specs.Prelude.{◌≡◌, ◌≤◌};
 ghost use Rattle.pf_base.specs.declared.TheConstants.{MAX_NAMESPACES};
@@ -159,6 +160,87 @@ fn a_gate_is_told_of_each_event_once(rt: HostRuntime) -> Result<(), Fail> {
     let callers = ToldOnce {
         red: &red,
         blue: &blue,
+    };
+    let transcripts = serve(&rt, rt.alloc(), namespaces(2), gate, &callers)??;
+    assert_eq!(rt; transcripts.as_slice().len(), 2);
+    Ok(())
+}
+
+// Counts the frames that it is told of, of each of two namespaces and of all.
+#[derive(Drop)]
+struct Frames<'a> {
+    red: &'a AtomicU64,
+    blue: &'a AtomicU64,
+    all: &'a AtomicU64,
+}
+
+impl Gate for Frames<'_> {
+    ghost passed = { λ _ _ _. Unit {0} };
+
+    ghost framed = { λ _ _. Unit {0} };
+
+    fn pass(&self, ns: u32, place: u64) {
+        let _ = (ns, place);
+    }
+
+    fn frame(&self, ns: u32) {
+        match ns {
+            RED => self.red.fetch_add(1, Ordering::SeqCst),
+            BLUE => self.blue.fetch_add(1, Ordering::SeqCst),
+            _ => 0,
+        };
+        self.all.fetch_add(1, Ordering::SeqCst);
+    }
+}
+
+// Two tenants in turn, of whose frames the gate is told: 16 of the first, and one of the second.
+#[derive(Drop)]
+struct FramesOfEach<'a> {
+    red: &'a AtomicU64,
+    blue: &'a AtomicU64,
+    all: &'a AtomicU64,
+}
+
+impl FramesOfEach<'_> {
+    // Whether it was told of so many frames of each, and of no other.
+    fn are(&self, red: u64, blue: u64) -> bool {
+        self.red.load(Ordering::SeqCst) == red
+            && self.blue.load(Ordering::SeqCst) == blue
+            && self.all.load(Ordering::SeqCst) == red.wrapping_add(blue)
+    }
+}
+
+impl<'a> Callers<Frames<'a>> for FramesOfEach<'_> {
+    fn work<C: Ledger, H: Ledger, R: Wait + Abort>(
+        &self,
+        rt: &R,
+        alloc: Global,
+        service: &Service<Global, Frames<'a>, C, H>,
+    ) -> Result<Vec<Seat>, Fail> {
+        let (ours, theirs) = (service.seat(rt, RED)?, service.seat(rt, BLUE)?);
+        let mut seats = Vec::with_capacity(alloc, 2)?;
+        let ours = make(rt, service, ours, &steps_of_red(alloc)?);
+        seats.push(ours.ok_or("refused")?)?;
+        assert!(rt; self.are(16, 0));
+        let theirs = make(rt, service, theirs, &steps_of_blue(alloc)?);
+        seats.push(theirs.ok_or("refused")?)?;
+        assert!(rt; self.are(16, 1));
+        Ok(seats)
+    }
+}
+
+#[test]
+fn a_gate_is_told_of_each_frame(rt: HostRuntime) -> Result<(), Fail> {
+    let (red, blue, all) = (AtomicU64::new(0), AtomicU64::new(0), AtomicU64::new(0));
+    let gate = Frames {
+        red: &red,
+        blue: &blue,
+        all: &all,
+    };
+    let callers = FramesOfEach {
+        red: &red,
+        blue: &blue,
+        all: &all,
     };
     let transcripts = serve(&rt, rt.alloc(), namespaces(2), gate, &callers)??;
     assert_eq!(rt; transcripts.as_slice().len(), 2);

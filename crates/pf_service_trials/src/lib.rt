@@ -10,6 +10,8 @@ mod gates;
 #[cfg(test)]
 mod guests;
 #[cfg(test)]
+mod limits;
+#[cfg(test)]
 mod overlap;
 #[cfg(test)]
 mod services;

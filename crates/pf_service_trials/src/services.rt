@@ -29,7 +29,7 @@ pub(crate) fn blank() -> Blank
     Blank::new(MAX_NAMESPACES as u64)
 }
 
-fn old_frames(alloc: Global, count: usize) -> Result<Vec<Frame>, AllocError> {
+pub(crate) fn old_frames(alloc: Global, count: usize) -> Result<Vec<Frame>, AllocError> {
     let mut frames = Vec::with_capacity(alloc, count)?;
     for _ in 0..count {
         frames.push(Frame::filled(alloc, OLD)?)?;
