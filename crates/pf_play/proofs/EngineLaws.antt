@@ -26,6 +26,7 @@ use Rattle.pf_hub.proofs.NeedLemmas.{at_grown}
 use Rattle.pf_play.specs.Played.{kept_alone, replies_alone, met_alone, NoWantAlone}
 use Rattle.pf_play.specs.Plays.{IsPlayedFor, nomem_of}
 use Rattle.pf_play.specs.Replays.{IfAccepted, Names, Suits}
+use Rattle.pf_play.specs.Workers.{Framed, IsFramedFor}
 
 -- limits with an allocator beside each are those limits
 pub limits_beside : (alloc : Global) (limits : List Limits) → opening.limits_of (map (λ l. (l, alloc)) limits) ≡ limits
@@ -54,7 +55,7 @@ kept_front (x ∷ xs) (a ∷ answers) more h = ap (λ r. keep_step a x r) (kept_
 
 module _ (c : Limits) (xs : List Step) (answers : List Answer) (many : length answers ≡ length xs) where
   -- nor do later steps
-  met_before : (ys : List Step) (more : List Answer) (i : ℕ) → i ≤ length xs
+  pub met_before : (ys : List Step) (more : List Answer) (i : ℕ) → i ≤ length xs
       → met_alone c (xs ++ ys) (answers ++ more) i ≡ met_alone c xs answers i
   met_before ys more i h =
       ap (λ (zs : List Step). (run_of c opened (kept_alone zs (answers ++ more))).state) (take-append-le i xs ys h)
@@ -98,6 +99,16 @@ pub told_whole : (threads : Bool) (old new : Output) (script : Draft) (read : Re
     × IsWritten old new (text s xs o) × (nomem ≡ nomem_of xs))
 told_whole threads old new script read name only answers nomem is suits names played written many =
     rw is (suits, only, answers, names, played, written, many)
+
+-- and one of whose frames a gate was told
+pub told_framed : (framed : Framed) (old new : Output) (script : Draft) (read : Result Draft Refusal)
+    (name : Option (List ℕ)) (only : Option ℕ) (answers : List EventAnswer) →
+    read ≡ Ok script → Names script name only → IsPlayedFor script only answers →
+    IsWritten old new (text script answers only) → IsFramedFor framed script only answers →
+    IfAccepted read (λ s. (o : Option ℕ) × (xs : List EventAnswer) × Names s name o × IsPlayedFor s o xs
+    × IsWritten old new (text s xs o) × IsFramedFor framed s o xs)
+told_framed framed old new script read name only answers is names played written told =
+    rw is (only, answers, names, played, written, told)
 
 -- so many elements are all
 pub take_all : {A : Type 0} (xs : List A) {i : ℕ} → length xs ≤ i → take i xs ≡ xs

@@ -13,6 +13,7 @@ pub mod KnownLaws
 pub mod ProgramLaws
 pub mod TextLaws
 pub mod TreeHeapLaws
+pub mod TreeLaws
 pub mod WorkLaws
 pub mod ApartLaws
 pub mod MergeLaws

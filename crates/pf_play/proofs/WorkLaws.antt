@@ -1,8 +1,10 @@
 -- A worker that makes its namespace's steps in turn is told what the lone machine is.
 
 use Rattle.std.proofs.Common.{◌≡◌, ℕ, zero, suc, ◌+◌, ◌<◌, ◌≤◌, true, false, List, [], ◌∷◌, ◌++◌, length, map, take}
-use Rattle.std.proofs.Common.{drop, get_or, Option, Some, None, refl, ap, subst, sym, ◌∙◌, arith, length-append}
-use Rattle.std.specs.Prelude.{not, nat_eq, slice_get, slice_index, IfSome, option_map, if◌then◌else◌}
+use Rattle.std.proofs.Common.{drop, get_or, Option, Some, None, refl, ap, subst, sym, ◌∙◌, arith, length-append, inl, inr}
+use Rattle.std.specs.Prelude.{◌⊎◌, not, nat_eq, slice_get, slice_index, IfSome, option_map, if◌then◌else◌}
+use Rattle.std.proofs.lemmas.Bool.{cases_lt}
+use Rattle.std.proofs.Math.Seq.{take-length}
 use Rattle.std.proofs.lemmas.List.{length-map, get_or-map, drop_more, length-drop, take_more, get_or_append_left}
 use Rattle.std.proofs.lemmas.Option.{slice_get-map}
 use Rattle.std.proofs.lemmas.Slice.Zip.{AllZip-long}
@@ -20,16 +22,23 @@ use Rattle.pf_machine.specs.Events.{mine, IsDone}
 use Rattle.pf_machine.specs.Runs.{Run, run_of, lone}
 use Rattle.pf_machine.proofs.RunLaws.{run_of-answered}
 use Rattle.pf_hub.proofs.NeedLemmas.{may_want}
+use Rattle.pf_hub.specs.Covered.{IsRising}
 use Rattle.pf_hub.specs.Opening.{new_tenant}
 use Rattle.pf_hub.specs.Tenants.{Tenant}
 use Rattle.pf_script.specs.Script.{Draft}
 use Rattle.pf_script.specs.Places.{places_from, places_of, lines_of}
 use Rattle.pf_script.specs.declared.line.Line.{Line}
 use Rattle.pf_script.specs.declared.line.Line.TheVariants as lines
-use Rattle.pf_play.proofs.EngineLaws.{kept_push, replies_push, needed_push, take_all}
-use Rattle.pf_play.specs.Played.{IsPlayedAlone, IsToldAlone, NoWantAlone, kept_alone, replies_alone}
+use Rattle.pf_play.proofs.EngineLaws.{kept_push, met_before, replies_push, needed_push, take_all}
+use Rattle.pf_play.specs.Played.{IsPlayedAlone, IsToldAlone, NoWantAlone, kept_alone, met_alone, replies_alone}
 use Rattle.pf_play.specs.Played.{comes_and_goes, is_step, steps_among, steps_of}
-use Rattle.pf_play.specs.Workers.{Passed, ArePassed, IsOpened, IsPassed, IsWorked, AreWorked}
+use Rattle.pf_play.specs.Answered.{Holds, IsRun}
+use Rattle.pf_play.specs.declared.answered.Answered.{Answered}
+use Rattle.pf_play.specs.declared.answered.Answered.TheVariants as forms
+use Rattle.std.specs.declared.alloc.Global.{Global}
+use Rattle.std.specs.declared.vec.Vec.{Vec}
+use Rattle.pf_script.specs.declared.told.Told.{Told}
+use Rattle.pf_play.specs.Workers.{Passed, Framed, ArePassed, IsDry, IsToldOfBytes, IsFramed, IsRunFramed, IsOpened, IsPassed, IsWorked, AreWorked}
 use Rattle.pf_worker.specs.Workers.{OneWorker, new_worker, new_workers, new_workers_from}
 
 -- The steps at a namespace's places are its own
@@ -141,13 +150,63 @@ worked_on c xs x answers a old new worked answered succeeds = record {
       ap (λ (r : Run). may_want_memory c r.state x) worked.ran ∙ may_want (may_want_memory c old x) a none succeeds);
 }
 
--- A worker at work: it is the namespace's of this number, and made the first so many of its steps
+-- What is told of frames
 
-pub record Works {Z : Type 0} (script : Draft) (n : ℕ) (made : ℕ) (answers : List Answer) (worker : OneWorker Z) : Type
+-- the gate was told where a pipe has had a byte, and where frames are held
+pub record Fed (Told : Type 0) (c : Limits) (xs : List Step) (answers : List Answer) (held : ℕ) : Type 0 where
+  pub each : IsToldOfBytes Told c xs answers
+  pub now : (held ≡ 0) ⊎ Told
+
+fed_none : (Told : Type 0) (c : Limits) → Fed Told c [] [] 0
+fed_none Told c =
+    let each : IsToldOfBytes Told c [] [] = λ place low.
+    let met : met_alone c [] [] place ≡ opening = ap (λ (zs : List Step). (run_of c opening (kept_alone zs [])).state)
+    (take_all {A = Step} [] (omega arith)) in
+    inl (subst IsDry (sym met) (λ k p is. absurd (cc))) in
+    record { each = each; now = inl refl }
+
+-- one step more
+pub fed_on : (Told : Type 0) (c : Limits) (xs : List Step) (x : Step) (answers : List Answer) (a : Answer)
+    (new : State Segment ℕ) (held held' : ℕ) → length answers ≡ length xs → Fed Told c xs answers held →
+    Worked c (xs ++ x ∷ []) (answers ++ a ∷ []) new → (held' ≡ 0 → IsDry new) → (held < held' → Told) →
+    Fed Told c (xs ++ x ∷ []) (answers ++ a ∷ []) held'
+fed_on Told c xs x answers a new held held' many fed worked dry more =
+    let now : (held' ≡ 0) ⊎ Told = elim (cases_lt 0 held') [
+      | inl some ↦ elim fed.now [
+        | inl none ↦ inr (more (omega (arith, some, none)))
+        | inr told ↦ inr told
+      ]
+      | inr none ↦ inl (omega (arith, none))
+    ] in
+    let last : IsDry new ⊎ Told = elim now [
+      | inl none ↦ inl (dry none)
+      | inr told ↦ inr told
+    ] in
+    let whole : met_alone c (xs ++ x ∷ []) (answers ++ a ∷ []) (length (xs ++ x ∷ [])) ≡ new =
+    ap (λ (zs : List Step). (run_of c opening (kept_alone zs (answers ++ a ∷ []))).state) (take-length (xs ++ x ∷ []))
+    ∙ ap (λ (r : Run). r.state) worked.ran in
+    record {
+      each = λ place low. elim (cases_lt (length xs) place) [
+        | inl past ↦
+            let here : length (xs ++ x ∷ []) ≡ place = omega (arith, past, low, length-append xs (x ∷ [])) in
+            subst (λ i. IsDry (met_alone c (xs ++ x ∷ []) (answers ++ a ∷ []) i) ⊎ Told) here
+            (subst (λ s. IsDry s ⊎ Told) (sym whole) last)
+        | inr within ↦
+            subst (λ s. IsDry s ⊎ Told) (sym (met_before c xs answers many (x ∷ []) (a ∷ []) place within))
+            (fed.each place within)
+      ];
+      now = now;
+    }
+
+-- A worker at work: it is the namespace's of this number, and made the first so many of its steps, and the gate was told
+-- that these take frames
+
+pub record Works {Z : Type 0} (framed : Framed) (script : Draft) (n : ℕ) (made : ℕ) (answers : List Answer) (worker : OneWorker Z) : Type
     0 where
   pub number : worker.number ≡ n
   pub limits : slice_get (map (λ s. s.1) script.spaces) n ≡ Some worker.tenant.limits
   pub worked : Worked worker.tenant.limits (take made (mine (steps_of script) n)) answers worker.tenant.state
+  pub fed : Fed (framed n) worker.tenant.limits (take made (mine (steps_of script) n)) answers worker.tenant.held
 
 limits_from : (spaces : List (List ℕ × Limits)) (n : ℕ) (t : Tenant) →
     slice_get (map (λ s. new_tenant s.1) spaces) n ≡ Some t
@@ -158,48 +217,57 @@ limits_from (s ∷ ss) zero t is = let same : new_tenant s.1 ≡ t
 limits_from (s ∷ ss) (suc n) t is = limits_from ss n t is
 
 -- it made none yet
-pub works_none : {Z : Type 0} (script : Draft) (worker : OneWorker Z) (answers : List Answer) →
+pub works_none : {Z : Type 0} (framed : Framed) (script : Draft) (worker : OneWorker Z) (answers : List Answer) →
     IsOpened script worker → answers ≡ []
-    → Works script worker.number 0 answers worker
-works_none {Z} script worker answers opened none =
+    → Works framed script worker.number 0 answers worker
+works_none {Z} framed script worker answers opened none =
     let new = limits_from script.spaces worker.number worker.tenant opened.1 in
     rw none (record {
       number = refl;
       limits = new.0;
       worked = subst (λ s. Worked worker.tenant.limits [] [] s) (sym (ap (λ (t : Tenant). t.state) new.1))
           (worked_none worker.tenant.limits);
+      fed = subst (λ held. Fed (framed worker.number) worker.tenant.limits [] [] held)
+          (sym (ap (λ (t : Tenant). t.held) new.1)) (fed_none (framed worker.number) worker.tenant.limits);
     })
 
 -- the step at the next place
-pub works_on : {Z : Type 0} (script : Draft) (n k : ℕ) (d : ℕ × Line) (answers : List Answer) (a : Answer)
+pub works_on : {Z : Type 0} (framed : Framed) (script : Draft) (n k : ℕ) (d : ℕ × Line) (answers : List Answer) (a : Answer)
     (old new : OneWorker Z) (at : ℕ) (x : Step) → comes_and_goes script ≡ false →
-    Works script n k answers old → k < length (places_of script.steps n) →
+    Works framed script n k answers old → k < length (places_of script.steps n) →
     at ≡ slice_index (places_of script.steps n) k → (get_or script.steps at d).1 ≡ lines.Step x →
     new.number ≡ old.number → new.tenant.limits ≡ old.tenant.limits →
     Answers old.tenant.limits a old.tenant.state x new.tenant.state →
     (may_want_memory old.tenant.limits old.tenant.state x ≡ false → IsDone a) →
-    Works script n (k + 1) (answers ++ a ∷ []) new
-works_on script n k d answers a old new at x only works low place is same keeps answered succeeds =
+    IsRising new.tenant → (old.tenant.held < new.tenant.held → framed old.number) →
+    Works framed script n (k + 1) (answers ++ a ∷ []) new
+works_on framed script n k d answers a old new at x only works low place is same keeps answered succeeds rising more =
     let here : get_or (mine (steps_of script) n) k x ≡ x =
     own_step script n k d x only low (ap (λ p. (get_or script.steps p d).1) (sym place) ∙ is) in
     let taken : take (k + 1) (mine (steps_of script) n) ≡ take k (mine (steps_of script) n) ++ x ∷ [] =
     take_more (mine (steps_of script) n) k x (omega (arith, many_mine script n only, low))
     ∙ ap (λ (y : Step). take k (mine (steps_of script) n) ++ y ∷ []) here in
+    let worked = worked_on old.tenant.limits (take k (mine (steps_of script) n)) x answers a old.tenant.state
+    new.tenant.state works.worked answered succeeds in
+    let fed = fed_on (framed n) old.tenant.limits (take k (mine (steps_of script) n)) x answers a new.tenant.state
+    old.tenant.held new.tenant.held works.worked.many works.fed worked rising.none
+    (λ grows. subst framed works.number (more grows)) in
     record {
       number = same ∙ works.number;
       limits = works.limits ∙ ap Some (sym keeps);
       worked =
           subst (λ c. Worked c (take (k + 1) (mine (steps_of script) n)) (answers ++ a ∷ []) new.tenant.state) (sym keeps)
-          (subst (λ xs. Worked old.tenant.limits xs (answers ++ a ∷ []) new.tenant.state) (sym taken)
-          (worked_on old.tenant.limits (take k (mine (steps_of script) n)) x answers a old.tenant.state new.tenant.state
-          works.worked answered succeeds));
+          (subst (λ xs. Worked old.tenant.limits xs (answers ++ a ∷ []) new.tenant.state) (sym taken) worked);
+      fed =
+          subst (λ c. Fed (framed n) c (take (k + 1) (mine (steps_of script) n)) (answers ++ a ∷ []) new.tenant.held) (sym keeps)
+          (subst (λ xs. Fed (framed n) old.tenant.limits xs (answers ++ a ∷ []) new.tenant.held) (sym taken) fed);
     }
 
 -- it made all
-pub works_all : {Z : Type 0} (script : Draft) (n k : ℕ) (answers : List Answer) (worker : OneWorker Z) →
-    comes_and_goes script ≡ false → Works script n k answers worker →
+pub works_all : {Z : Type 0} (framed : Framed) (script : Draft) (n k : ℕ) (answers : List Answer) (worker : OneWorker Z) →
+    comes_and_goes script ≡ false → Works framed script n k answers worker →
     length (places_of script.steps n) ≤ k → IsPlayedAlone script n answers
-works_all script n k answers worker only works past =
+works_all framed script n k answers worker only works past =
     let past' : length (mine (steps_of script) n) ≤ k = omega (arith, many_mine script n only, past) in
     let worked = rw (take_all (mine (steps_of script) n) past') at works.worked in (
       worked.many,
@@ -218,6 +286,23 @@ works_all script n k answers worker only works past =
               ∙ ap (λ l. lone l (kept_alone (mine (steps_of script) n) answers)) (sym same),
           subst (λ l. NoWantAlone l (mine (steps_of script) n) answers) (sym same) worked.needed,
         )
+
+-- and the gate was told of frames
+pub works_framed : {Z : Type 0} (framed : Framed) (script : Draft) (n k : ℕ) (answers : List Answer) (worker : OneWorker Z) →
+    comes_and_goes script ≡ false → Works framed script n k answers worker →
+    length (places_of script.steps n) ≤ k →
+    IfSome (slice_get script.spaces n) (λ space. IsToldOfBytes (framed n) space.1 (mine (steps_of script) n) answers)
+works_framed framed script n k answers worker only works past =
+    by (slice_get script.spaces n) (sym (slice_get-map (λ (s : List ℕ × Limits). s.1) script.spaces n) ∙ works.limits)
+  where
+    by : (r : Option (List ℕ × Limits)) → option_map (λ s. s.1) r ≡ Some worker.tenant.limits
+        → IfSome r (λ space. IsToldOfBytes (framed n) space.1 (mine (steps_of script) n) answers)
+    by None is = absurd (cc)
+    by (Some s) is =
+        let same : s.1 ≡ worker.tenant.limits = cc in
+        let past' : length (mine (steps_of script) n) ≤ k = omega (arith, many_mine script n only, past) in
+        let fed = rw (take_all (mine (steps_of script) n) past') at works.fed in
+        subst (λ l. IsToldOfBytes (framed n) l (mine (steps_of script) n) answers) (sym same) fed.each
 
 -- The workers of all of a script's namespaces
 
@@ -274,62 +359,77 @@ one_opened {Z} script z n limits workers only at_place is = rw is by
     by (suc k) d low = absurd (omega (arith, low))
 
 -- there is a list of answers for each
-pub many_lists : {Z : Type 0} (passed : Passed) (script : Draft) (z : Z) (workers : List (OneWorker Z))
+pub many_lists : {Z : Type 0} (passed : Passed) (framed : Framed) (script : Draft) (z : Z) (workers : List (OneWorker Z))
     (own : List (List EventAnswer)) →
-    workers ≡ new_workers (configs_of z script.spaces) → AreWorked passed script workers own →
+    workers ≡ new_workers (configs_of z script.spaces) → AreWorked passed framed script workers own →
     length own ≡ length script.spaces
-many_lists passed script z workers own is worked =
-    AllZip-long (λ worker answers. IsWorked passed script worker.number answers) workers own worked
+many_lists passed framed script z workers own is worked =
+    AllZip-long (λ worker answers. IsWorked passed framed script worker.number answers) workers own worked
     ∙ ap (λ ws. length ws) is ∙ many_workers 0 (configs_of z script.spaces) ∙ many_configs z script.spaces
 
-worked_from : {Z : Type 0} (passed : Passed) (script : Draft) (m : ℕ) (configs : List (Limits × Z))
+worked_from : {Z : Type 0} (passed : Passed) (framed : Framed) (script : Draft) (m : ℕ) (configs : List (Limits × Z))
     (own : List (List EventAnswer)) →
-    AreWorked passed script (new_workers_from m configs) own → (i : ℕ) → i < length configs →
-    IsWorked passed script (m + i) (get_or own i [])
-worked_from passed script m [] own worked i low = absurd (omega (arith, low))
-worked_from passed script m (e ∷ es) [] worked i low = absurd worked
-worked_from passed script m (e ∷ es) (answers ∷ own) worked zero low =
+    AreWorked passed framed script (new_workers_from m configs) own → (i : ℕ) → i < length configs →
+    IsWorked passed framed script (m + i) (get_or own i [])
+worked_from passed framed script m [] own worked i low = absurd (omega (arith, low))
+worked_from passed framed script m (e ∷ es) [] worked i low = absurd worked
+worked_from passed framed script m (e ∷ es) (answers ∷ own) worked zero low =
     let here : m ≡ m + 0 = omega arith in
-    subst (λ n. IsWorked passed script n answers) here worked.0
-worked_from passed script m (e ∷ es) (answers ∷ own) worked (suc i) low =
+    subst (λ n. IsWorked passed framed script n answers) here worked.0
+worked_from passed framed script m (e ∷ es) (answers ∷ own) worked (suc i) low =
     let next : suc m + i ≡ m + suc i = omega arith in
-    subst (λ n. IsWorked passed script n (get_or own i [])) next
-    (worked_from passed script (suc m) es own worked.1 i (omega (arith, low)))
+    subst (λ n. IsWorked passed framed script n (get_or own i [])) next
+    (worked_from passed framed script (suc m) es own worked.1 i (omega (arith, low)))
 
 -- at its place
-pub each_worked : {Z : Type 0} (passed : Passed) (script : Draft) (z : Z) (workers : List (OneWorker Z))
+pub each_worked : {Z : Type 0} (passed : Passed) (framed : Framed) (script : Draft) (z : Z) (workers : List (OneWorker Z))
     (own : List (List EventAnswer)) →
-    workers ≡ new_workers (configs_of z script.spaces) → AreWorked passed script workers own →
-    (n : ℕ) → n < length script.spaces → IsWorked passed script n (get_or own n [])
-each_worked passed script z workers own is worked n low =
+    workers ≡ new_workers (configs_of z script.spaces) → AreWorked passed framed script workers own →
+    (n : ℕ) → n < length script.spaces → IsWorked passed framed script n (get_or own n [])
+each_worked passed framed script z workers own is worked n low =
     let same : 0 + n ≡ n = omega arith in
-    subst (λ m. IsWorked passed script m (get_or own n [])) same
-    (worked_from passed script 0 (configs_of z script.spaces) own
-    (subst (λ ws. AreWorked passed script ws own) is worked) n
+    subst (λ m. IsWorked passed framed script m (get_or own n [])) same
+    (worked_from passed framed script 0 (configs_of z script.spaces) own
+    (subst (λ ws. AreWorked passed framed script ws own) is worked) n
     (omega (arith, low, many_configs z script.spaces)))
 
 -- so the gate was told of each step
-pub worked_passed : (passed : Passed) (script : Draft) (n : ℕ) (answers : List EventAnswer) →
-    IsWorked passed script n answers → IsPassed passed script n
-worked_passed passed script n answers worked =
+pub worked_passed : (passed : Passed) (framed : Framed) (script : Draft) (n : ℕ) (answers : List EventAnswer) →
+    IsWorked passed framed script n answers → IsPassed passed script n
+worked_passed passed framed script n answers worked =
     subst (λ number. ArePassed passed n number)
     (ap (λ (xs : List EventAnswer). length xs) worked.0.1 ∙ length-map worked.0.0 (λ a. told.Answer a) ∙ worked.0.2.0) worked.1
 
--- The last of what one worker alone is told is all that it is told
-alone_at : {Z : Type 0} (passed : Passed) (script : Draft) (worker : OneWorker Z) {V : Type 0} (f : V → List EventAnswer) (own left : List V) (last : V)
-    → AreWorked passed script (worker ∷ []) (map f own) → own ≡ left ++ last ∷ [] → IsWorked passed script worker.number (f last)
-alone_at passed script worker f [] left last worked is = absurd worked
-alone_at passed script worker f (v ∷ w ∷ more) left last worked is = absurd worked.1
-alone_at passed script worker f (v ∷ []) [] last worked is =
-    let same : v ≡ last = cc in
-    subst (λ x. IsWorked passed script worker.number (f x)) same worked.0
-alone_at passed script worker f (v ∷ []) (x ∷ []) last worked is = absurd (cc)
-alone_at passed script worker f (v ∷ []) (x ∷ y ∷ more) last worked is = absurd (cc)
+-- and that each takes frames
+pub worked_framed : (passed : Passed) (framed : Framed) (script : Draft) (n : ℕ) (answers : List EventAnswer) →
+    IsWorked passed framed script n answers → IsFramed framed script n answers
+worked_framed passed framed script n answers worked = worked.2
 
-pub alone_worked : {Z : Type 0} (passed : Passed) (script : Draft) (worker : OneWorker Z) (workers : List (OneWorker Z)) {V : Type 0} (f : V → List EventAnswer) (own left : List V) (last : Option V) (v : V)
-    → workers ≡ worker ∷ [] → AreWorked passed script workers (map f own) → own ≡ left ++ option_to_list last → last ≡ Some v → IsWorked passed script worker.number (f v)
-alone_worked passed script worker workers f own left last v one worked is some =
-    alone_at passed script worker f own left v (subst (λ ws. AreWorked passed script ws (map f own)) one worked) (is ∙ ap (λ o. left ++ option_to_list o) some)
+-- so it is of all of them
+pub all_framed : (framed : Framed) (script : Draft) (answered : Answered) (own : Vec (Vec Told Global) Global) →
+    IsRun script None answered → answered ≡ forms.All own →
+    ((n : ℕ) → n < length script.spaces → IsFramed framed script n (get_or (map (λ (v : Vec Told Global). v.items) own.items) n [])) →
+    IsRunFramed framed script None answered
+all_framed framed script answered own run is each =
+    let answers = run.0 in
+    let held : Holds script (forms.All own) None answers = subst (λ a. Holds script a None answers) is run.1 in
+    (answers, run.1, run.2, λ n low. subst (IsFramed framed script n) (held.2 n low) (each n low))
+
+-- The last of what one worker alone is told is all that it is told
+alone_at : {Z : Type 0} (passed : Passed) (framed : Framed) (script : Draft) (worker : OneWorker Z) {V : Type 0} (f : V → List EventAnswer) (own left : List V) (last : V)
+    → AreWorked passed framed script (worker ∷ []) (map f own) → own ≡ left ++ last ∷ [] → IsWorked passed framed script worker.number (f last)
+alone_at passed framed script worker f [] left last worked is = absurd worked
+alone_at passed framed script worker f (v ∷ w ∷ more) left last worked is = absurd worked.1
+alone_at passed framed script worker f (v ∷ []) [] last worked is =
+    let same : v ≡ last = cc in
+    subst (λ x. IsWorked passed framed script worker.number (f x)) same worked.0
+alone_at passed framed script worker f (v ∷ []) (x ∷ []) last worked is = absurd (cc)
+alone_at passed framed script worker f (v ∷ []) (x ∷ y ∷ more) last worked is = absurd (cc)
+
+pub alone_worked : {Z : Type 0} (passed : Passed) (framed : Framed) (script : Draft) (worker : OneWorker Z) (workers : List (OneWorker Z)) {V : Type 0} (f : V → List EventAnswer) (own left : List V) (last : Option V) (v : V)
+    → workers ≡ worker ∷ [] → AreWorked passed framed script workers (map f own) → own ≡ left ++ option_to_list last → last ≡ Some v → IsWorked passed framed script worker.number (f v)
+alone_worked passed framed script worker workers f own left last v one worked is some =
+    alone_at passed framed script worker f own left v (subst (λ ws. AreWorked passed framed script ws (map f own)) one worked) (is ∙ ap (λ o. left ++ option_to_list o) some)
 
 -- those before the last are opened where all are
 pub opened_before : {Z : Type 0} (script : Draft) (workers before : List (OneWorker Z)) (worker : OneWorker Z) →

@@ -8,4 +8,5 @@ pub mod Plays
 pub mod Program
 pub mod Replays
 pub mod Texts
+pub mod Trees
 pub mod Workers

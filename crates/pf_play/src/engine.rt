@@ -4,6 +4,8 @@ ghost use Rattle.std.specs.List.{All, list_any};
 ghost use Rattle.std.specs.Vec.{vec_capacity};
 ghost use Rattle.std.specs.declared.alloc.Global.{Global};
 ghost use Rattle.std.specs.declared.vec.Vec.{Vec};
+ghost use Rattle.linked_list_allocator.specs.Region.{block_size};
+ghost use Rattle.pf_script.specs.declared.line.Line.TheVariants as lines;
 ghost use Rattle.pf_script.specs.declared.told.Told.{Told};
 ghost use Rattle.pf_base.specs.Limits.{Limits};
 ghost use Rattle.pf_machine.specs.Houses.{House, Stepping, Admitting, Retiring};
@@ -17,9 +19,11 @@ ghost use Rattle.pf_play.specs.Houses.{said_of, lone_limits};
 ghost use Rattle.pf_play.specs.Numbers.{IsNamed, Follows, numbers_from};
 ghost use Rattle.pf_play.specs.Played.{IsChosen, comes_and_goes, is_step};
 ghost use Rattle.pf_play.specs.Plays.{nomem_of};
+ghost use Rattle.pf_play.specs.Trees.{AreTheirs, HasTold};
 
 use crate::answered::Answered;
-use linked_list_allocator::LocalHeap;
+use crate::trees::{Ended, Played, TreeHeap, allocators, in_global, in_heaps};
+use linked_list_allocator::Heap;
 use pf_base::{Config, EventAnswer, RetireFault, Step};
 use pf_frame::{Frame, PoolFault};
 use pf_hub::Hub;
@@ -57,13 +61,21 @@ pub fn frames_of(alloc: Global, count: u32, fill: u8) -> Result<Vec<Frame>, Allo
     Ok(frames)
 }
 
+/// A heap of this many bytes, up to the next multiple of sixteen.
+fn heap_of(alloc: Global, bytes: u32) -> Result<TreeHeap, AllocError>
+    ensures { IfOk result (λ heap. heap.bytes ≡ block_size bytes) }
+{
+    Ok(TreeHeap::of(Heap::new(alloc, bytes as usize)?))
+}
+
 /// So many heaps of this many bytes each.
-fn heaps_of(alloc: Global, count: usize, bytes: u32) -> Result<Vec<LocalHeap>, AllocError>
-    ensures { IfOk result (λ heaps. length heaps.items ≡ count) }
+fn heaps_of(alloc: Global, count: usize, bytes: u32) -> Result<Vec<TreeHeap>, AllocError>
+    ensures count { IfOk result (λ heaps. length heaps.items ≡ count) }
+    ensures bytes { IfOk result (λ heaps. All (λ heap. heap.bytes ≡ block_size bytes) heaps.items) }
 {
     let mut heaps = Vec::with_capacity(alloc, count)?;
     for _ in 0..count {
-        heaps.push_reserved(LocalHeap::new(alloc, bytes as usize)?);
+        heaps.push_reserved(heap_of(alloc, bytes)?);
     }
     Ok(heaps)
 }
@@ -133,6 +145,8 @@ fn step_if_living<A: Allocator + Clone>(hub: &mut Hub<A>, number: Option<u32>, s
         IsNamed names (house_of hub.old.world) named → at names place ≡ number →
         Follows names (house_of hub.new.world) named (Stepping place step.now) result }
     ensures allocators { hub.new.allocators ≡ hub.old.allocators }
+    ensures trees { (trees : List A) (names : List (Option ℕ)) →
+        AreTheirs trees names hub.old → AreTheirs trees names hub.new }
 {
     match number {
         Some(ns) if hub.lives(ns) => Told::new(EventAnswer::Answer(hub.step(ns, step))),
@@ -142,9 +156,11 @@ fn step_if_living<A: Allocator + Clone>(hub: &mut Hub<A>, number: Option<u32>, s
 
 /// Retires the namespace with this number, if one lives.
 fn retire<A: Allocator + Clone>(hub: &mut Hub<A>, number: Option<u32>) -> EventAnswer
-    ensures { (names : List (Option ℕ)) (named : House) (place : ℕ) →
+    ensures follows { (names : List (Option ℕ)) (named : House) (place : ℕ) →
         IsNamed names (house_of hub.old.world) named → at names place ≡ number →
         Follows names (house_of hub.new.world) named (Retiring place) result }
+    ensures trees { (trees : List A) (names : List (Option ℕ)) →
+        AreTheirs trees names hub.old → AreTheirs trees names hub.new }
 {
     let Some(ns) = number else {
         return EventAnswer::NotRetired(RetireFault::NoSuchNamespace);
@@ -170,6 +186,8 @@ fn admit<A: Allocator + Clone>(
     ensures number { length numbers.new.items ≡ length numbers.old.items + 1 }
     ensures room { vec_capacity numbers.new ≡ vec_capacity numbers.old }
     ensures tree { (hub.new.allocators ≡ hub.old.allocators ++ Some tree ∷ []) ⊎ (hub.new.allocators ≡ hub.old.allocators) }
+    ensures trees { (trees : List A) → AreTheirs trees numbers.old.items hub.old →
+        slice_get trees (length numbers.old.items) ≡ Some tree → AreTheirs trees numbers.new.items hub.new }
 {
     let place = numbers.len() as u32;
     match hub.admit(config, tree) {
@@ -184,7 +202,8 @@ fn admit<A: Allocator + Clone>(
     }
 }
 
-/// Does what a line of the script says. `ns` is its name's place in the script, and `place` among the names that are run.
+/// Does what a line of the script says. `ns` is its name's place in the script, and `place` among the names that are run;
+/// `tree` is the name's allocator.
 #[inline(always)]
 fn tell<A: Allocator + Clone>(
     hub: &mut Hub<A>,
@@ -204,6 +223,9 @@ fn tell<A: Allocator + Clone>(
         Follows numbers.new.items (house_of hub.new.world) named (said_of limits place line.now) result }
     ensures number { length numbers.new.items ≡ given (length numbers.old.items) line.now }
     ensures room { vec_capacity numbers.new ≡ vec_capacity numbers.old }
+    ensures trees { (trees : List A) → AreTheirs trees numbers.old.items hub.old →
+        (line.now ≡ lines.Admit → slice_get trees (length numbers.old.items) ≡ Some tree) →
+        AreTheirs trees numbers.new.items hub.new }
 {
     match line {
         Line::Step(step) => step_if_living(hub, number_of(numbers, place), step),
@@ -248,10 +270,13 @@ fn play_all<A: Allocator + Copy>(
     script: &Script,
     trees: &[A],
     frames: Vec<Frame>,
-) -> Result<Answered, AllocError>
+) -> Result<Ended<A>, AllocError>
     requires frames { length frames.items ≡ script.now.frames }
     requires trees { length trees.now ≡ length script.now.spaces }
-    ensures { IfOk result (IsRun script.now None) }
+    ensures run { IfOk result (λ ended. IsRun script.now None ended.answered) }
+    ensures told { IfOk result (λ ended. HasTold script.now None ended.answered ended.numbers.items
+        (house_of ended.hub.world)) }
+    ensures trees { IfOk result (λ ended. AreTheirs trees.now ended.numbers.items ended.hub) }
 {
     let limits = script.configs(alloc)?;
     let configs = with_trees(alloc, limits.as_slice(), trees)?;
@@ -265,7 +290,12 @@ fn play_all<A: Allocator + Copy>(
         let answer = tell(&mut hub, &mut numbers, script, ns, ns, &event.1, tree);
         keep(&mut own, ns as usize, answer);
     }
-    Ok(Answered::All(own))
+    let answered = Answered::All(own);
+    Ok(Ended {
+        hub,
+        numbers,
+        answered,
+    })
 }
 
 /// Runs all of a script's lines, with all files in the global allocator's memory.
@@ -273,12 +303,14 @@ fn play_all_in_global(
     alloc: Global,
     script: &Script,
     frames: Vec<Frame>,
-) -> Result<Answered, AllocError>
+) -> Result<Played, AllocError>
     requires { length frames.items ≡ script.now.frames }
-    ensures { IfOk result (IsRun script.now None) }
+    ensures run { IfOk result (λ played. IsRun script.now None played.answered) }
+    ensures heaps { IfOk result (λ played. played.heaps ≡ None) }
 {
     let trees = Vec::from_elem(alloc, alloc, script.count_spaces())?;
-    play_all(alloc, script, trees.as_slice(), frames)
+    let ended = play_all(alloc, script, trees.as_slice(), frames)?;
+    Ok(in_global(ended))
 }
 
 /// Runs all of a script's lines, with the files of each name in a heap of its own, of this many bytes.
@@ -287,13 +319,15 @@ fn play_all_in_heaps(
     script: &Script,
     bytes: u32,
     frames: Vec<Frame>,
-) -> Result<Answered, AllocError>
+) -> Result<Played, AllocError>
     requires { length frames.items ≡ script.now.frames }
-    ensures { IfOk result (IsRun script.now None) }
+    ensures run { IfOk result (λ played. IsRun script.now None played.answered) }
+    ensures heaps { IfOk result (λ played. played.heaps ≡ Some bytes) }
 {
     let heaps = heaps_of(alloc, script.count_spaces(), bytes)?;
-    let trees: Vec<&LocalHeap> = heaps.iter().collect(alloc)?;
-    play_all(alloc, script, trees.as_slice(), frames)
+    let trees = allocators(alloc, heaps.as_slice())?;
+    let ended = play_all(alloc, script, trees.as_slice(), frames)?;
+    Ok(in_heaps(ended, trees.as_slice(), heaps.as_slice(), bytes))
 }
 
 /// What the hub of one name alone opens with, over all of the script's frames: the name is there from the start where it
@@ -322,18 +356,23 @@ fn lone_configs<A: Allocator + Copy>(
 }
 
 /// Runs the lines of one name alone over all of the script's frames, whatever they hold. Its files stand in memory of the
-/// allocator `tree`.
+/// one allocator.
 fn play_alone<A: Allocator + Copy>(
     alloc: Global,
     script: &Script,
     ns: u32,
-    tree: A,
+    trees: &[A],
     frames: Vec<Frame>,
-) -> Result<Answered, AllocError>
+) -> Result<Ended<A>, AllocError>
     requires frames { length frames.items ≡ script.now.frames }
     requires exists { ns < length script.now.spaces }
-    ensures { IfOk result (IsRun script.now (Some ns)) }
+    requires one { length trees.now ≡ 1 }
+    ensures run { IfOk result (λ ended. IsRun script.now (Some ns) ended.answered) }
+    ensures told { IfOk result (λ ended. HasTold script.now (Some ns) ended.answered ended.numbers.items
+        (house_of ended.hub.world)) }
+    ensures trees { IfOk result (λ ended. AreTheirs trees.now ended.numbers.items ended.hub) }
 {
+    let tree = trees[0];
     let configs = lone_configs(alloc, script, ns, tree)?;
     let count = configs.len();
     let mut numbers = first_numbers(alloc, count, 1)?;
@@ -346,7 +385,28 @@ fn play_alone<A: Allocator + Copy>(
             answers.push(answer)?;
         }
     }
-    Ok(Answered::Alone(ns, answers))
+    let answered = Answered::Alone(ns, answers);
+    Ok(Ended {
+        hub,
+        numbers,
+        answered,
+    })
+}
+
+/// Runs the lines of one name alone, with its files in the global allocator's memory.
+fn play_alone_in_global(
+    alloc: Global,
+    script: &Script,
+    ns: u32,
+    frames: Vec<Frame>,
+) -> Result<Played, AllocError>
+    requires frames { length frames.items ≡ script.now.frames }
+    requires exists { ns < length script.now.spaces }
+    ensures run { IfOk result (λ played. IsRun script.now (Some ns) played.answered) }
+    ensures heaps { IfOk result (λ played. played.heaps ≡ None) }
+{
+    let ended = play_alone(alloc, script, ns, &[alloc], frames)?;
+    Ok(in_global(ended))
 }
 
 /// The same, with its files in a heap of this many bytes.
@@ -356,13 +416,16 @@ fn play_alone_in_heap(
     ns: u32,
     bytes: u32,
     frames: Vec<Frame>,
-) -> Result<Answered, AllocError>
+) -> Result<Played, AllocError>
     requires frames { length frames.items ≡ script.now.frames }
     requires exists { ns < length script.now.spaces }
-    ensures { IfOk result (IsRun script.now (Some ns)) }
+    ensures run { IfOk result (λ played. IsRun script.now (Some ns) played.answered) }
+    ensures heaps { IfOk result (λ played. played.heaps ≡ Some bytes) }
 {
-    let heap = LocalHeap::new(alloc, bytes as usize)?;
-    play_alone(alloc, script, ns, &heap, frames)
+    let heaps = [heap_of(alloc, bytes)?];
+    let trees = [heaps[0].allocator()];
+    let ended = play_alone(alloc, script, ns, &trees, frames)?;
+    Ok(in_heaps(ended, &trees, &heaps, bytes))
 }
 
 /// Runs a script's lines over these frames, or those of one name alone: with the files of each namespace that is run
@@ -373,15 +436,16 @@ pub fn play(
     only: Option<u32>,
     tree_heap: Option<u32>,
     frames: Vec<Frame>,
-) -> Result<Answered, AllocError>
+) -> Result<Played, AllocError>
     requires frames { length frames.items ≡ script.now.frames }
     requires chosen { IsChosen script.now only }
-    ensures { IfOk result (IsRun script.now only) }
+    ensures run { IfOk result (λ played. IsRun script.now only played.answered) }
+    ensures heaps { IfOk result (λ played. played.heaps ≡ tree_heap) }
 {
     match (only, tree_heap) {
         (None, None) => play_all_in_global(alloc, script, frames),
         (None, Some(bytes)) => play_all_in_heaps(alloc, script, bytes, frames),
-        (Some(ns), None) => play_alone(alloc, script, ns, alloc, frames),
+        (Some(ns), None) => play_alone_in_global(alloc, script, ns, frames),
         (Some(ns), Some(bytes)) => play_alone_in_heap(alloc, script, ns, bytes, frames),
     }
 }

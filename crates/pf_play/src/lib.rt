@@ -9,6 +9,8 @@ mod program;
 mod run;
 mod run_threads;
 mod threads;
+mod trees;
+mod turns;
 
 pub use engine::{Options, frames_of};
 pub use pf_script::{Collected, Failed, INPUT_LIMIT, MemoryBytes, Reading, Sink, Source, Writing};

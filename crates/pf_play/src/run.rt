@@ -113,8 +113,8 @@ pub fn replay<R: Source, W: Sink>(
         return Err(ReplayFault::NoSuchName);
     };
     let frames = frames_of(alloc, script.frames(), options.fill)?;
-    let answered = play(alloc, &script, only, options.tree_heap, frames)?;
-    let nomem = answered.count_nomem(&script);
-    answered.print(writer, &script)?;
+    let played = play(alloc, &script, only, options.tree_heap, frames)?;
+    let nomem = played.answered.count_nomem(&script);
+    played.answered.print(writer, &script)?;
     Ok(Replayed { nomem })
 }

@@ -1,6 +1,6 @@
 ghost use Rattle.std.specs.Prelude.{◌≡◌, true, None, IfOk, IfErr, IsOk, option_copied};
 ghost use Rattle.pf_play.specs.Replays.{IsReplayed, IsFault};
-ghost use Rattle.pf_play.specs.Workers.{IsGated};
+ghost use Rattle.pf_play.specs.Workers.{IsGated, IsFramedText};
 
 use crate::engine::{Options, comes_and_goes, frames_of};
 use crate::run::{ReplayFault, Replayed, chosen};
@@ -35,6 +35,8 @@ pub fn replay_threads<T: Threads + Wait + Sync, R: Source, W: Sink, G: Gate + Sy
         (W.output writer.old) (W.output writer.new) (option_copied options.now.only)) }
     ensures passed { IsOk result → IsGated (G.passed gate.now) (R.input reader.old) (R.input reader.new)
         (option_copied options.now.only) }
+    ensures framed { IsOk result → IsFramedText (G.framed gate.now) (R.input reader.old) (R.input reader.new)
+        (W.output writer.old) (W.output writer.new) (option_copied options.now.only) }
 {
     let script = read_script(alloc, reader)?;
     if comes_and_goes(&script) {

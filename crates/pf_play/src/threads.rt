@@ -3,15 +3,15 @@
 ghost use Rattle.std.specs.Prelude.{◌≡◌, ◌≤◌, ◌<◌, ℕ, false, [], length, map, slice_index_or, Some, None, IfOk, IsOk};
 ghost use Rattle.std.specs.List.{All};
 ghost use Rattle.pf_base.specs.declared.TheConstants.{MAX_FRAMES, MAX_NAMESPACES};
-ghost use Rattle.pf_machine.specs.Events.{IsDone};
-ghost use Rattle.pf_machine.specs.Machine.{Answers, may_want_memory};
 ghost use Rattle.pf_play.specs.Answered.{IsRun};
 ghost use Rattle.pf_play.specs.Played.{IsChosen, comes_and_goes};
-ghost use Rattle.pf_play.specs.Workers.{IsOpened, IsPassed, IsPassedFor, IsWorked, AreWorked, AreToldAlone};
+ghost use Rattle.pf_play.specs.Workers.{IsOpened, IsPassed, IsPassedFor, IsRunFramed, IsWorked, AreWorked};
+ghost use Rattle.pf_play.specs.Workers.{AreToldAlone};
 ghost use Rattle.pf_worker.specs.Workers.{new_worker};
 
 use crate::answered::Answered;
-use pf_base::{Answer, Config, EventAnswer, MAX_NAMESPACES, Step};
+use crate::turns::{Turns, TurnsOf};
+use pf_base::{Config, EventAnswer, MAX_NAMESPACES};
 use pf_depot::DepotBook;
 use pf_frame::{Frame, PoolFault};
 use pf_script::{Line, Script, Told};
@@ -23,39 +23,19 @@ use std::sync::{Mutex, Wait};
 use std::thread;
 use std::thread::{Promise, PromisedHandle, Scope, Threads};
 
-// A worker's step, of which the gate was told.
-fn step_told<R: Wait, G: Gate, C: Ledger, H: Ledger>(
-    rt: &R,
-    book: &Mutex<DepotBook<C, H>>,
-    gate: &G,
-    place: u64,
-    worker: &mut Worker<Global, C, H>,
-    step: &Step,
-) -> Answer
-    requires passed { G.passed gate.now worker.old.number place }
-    ensures number { worker.new.number ≡ worker.old.number }
-    ensures limits { worker.new.tenant.limits ≡ worker.old.tenant.limits }
-    ensures answers { Answers worker.old.tenant.limits result
-        worker.old.tenant.state step.now worker.new.tenant.state }
-    ensures succeeds { may_want_memory worker.old.tenant.limits worker.old.tenant.state step.now ≡ false
-        → IsDone result }
-{
-    let _ = place;
-    worker.step(rt, book, gate, step)
-}
-
-/// Makes the steps of a worker's namespace, of each of which the gate is told. No lock is held meanwhile but the depot's,
-/// for one frame at a time.
-fn make_steps<R: Wait, G: Gate, C: Ledger, H: Ledger>(
+/// Makes the steps of a worker's namespace in turn: the gate is told of each once the one before was answered, and of each
+/// frame that they take. No lock is held meanwhile but the depot's, for one frame at a time.
+fn make_steps<R: Wait, T: Turns, C: Ledger, H: Ledger>(
     rt: &R,
     alloc: Global,
     script: &Script,
     book: &Mutex<DepotBook<C, H>>,
-    gate: &G,
+    turns: &T,
     worker: &mut Worker<Global, C, H>,
 ) -> Result<Vec<Told>, AllocError>
     requires { IsOpened script.now worker.old }
-    ensures { IfOk result (λ answers. IsWorked (G.passed gate.now) script.now worker.old.number answers.items) }
+    ensures { IfOk result (λ answers. IsWorked (T.passed turns.now) (T.framed turns.now)
+        script.now worker.old.number answers.items) }
 {
     let ns = worker.number();
     let steps = script.steps();
@@ -63,11 +43,11 @@ fn make_steps<R: Wait, G: Gate, C: Ledger, H: Ledger>(
     let mut answers = Vec::with_capacity(alloc, places.len())?;
     for at in places {
         let place = answers.len() as u64;
-        gate.pass(ns, place);
+        turns.pass(ns, place);
         let Line::Step(step) = &steps[*at as usize].1 else {
             unreachable!()
         };
-        let answer = step_told(rt, book, gate, place, worker, step);
+        let answer = turns.step(rt, book, place, worker, step);
         answers.push_reserved(Told::new(EventAnswer::Answer(answer)));
     }
     Ok(answers)
@@ -83,10 +63,12 @@ fn work<R: Wait, G: Gate, C: Ledger, H: Ledger>(
     worker: Worker<Global, C, H>,
 ) -> Result<Vec<Told>, AllocError>
     requires { IsOpened script.now worker }
-    ensures { IfOk result (λ answers. IsWorked (G.passed gate.now) script.now worker.number answers.items) }
+    ensures { IfOk result (λ answers. IsWorked (G.passed gate.now) (G.framed gate.now)
+        script.now worker.number answers.items) }
 {
     let mut worker = worker;
-    make_steps(rt, alloc, script, book, gate, &mut worker)
+    let turns = TurnsOf { gate };
+    make_steps(rt, alloc, script, book, &turns, &mut worker)
 }
 
 /// What a thread ends with.
@@ -104,7 +86,8 @@ impl<'a, G: Gate> Promise<Ended> for PlaysAlone<'a, G> {
     ghost use Rattle.std.specs.Prelude.{IfOk};
     ghost use Rattle.pf_play.specs.Workers.{IsWorked};
 
-    ghost kept_by = { λ p r. IfOk r (λ answers. IsWorked (G.passed p.gate.now) p.script.now p.ns answers.items) };
+    ghost kept_by = { λ p r. IfOk r (λ answers. IsWorked (G.passed p.gate.now) (G.framed p.gate.now)
+        p.script.now p.ns answers.items) };
 }
 
 /// Starts a thread of this scope for a worker.
@@ -133,7 +116,8 @@ fn start<
         PlaysAlone { script, gate, ns },
         move || -> Ended
             requires { IsOpened script.now worker }
-            ensures { IfOk result (λ answers. IsWorked (G.passed gate.entry.now) script.entry.now worker.number answers.items) }
+            ensures { IfOk result (λ answers. IsWorked (G.passed gate.entry.now) (G.framed gate.entry.now)
+                script.entry.now worker.number answers.items) }
         { work(rt, alloc, script, book, gate, worker) },
     )?;
     Ok(child)
@@ -158,7 +142,8 @@ fn work_each<
     workers: Vec<Worker<Global, C, H>>,
 ) -> Result<Vec<Vec<Told>>, AllocError>
     requires { All (IsOpened script.now) workers.items }
-    ensures { IfOk result (λ own. AreWorked (G.passed gate.now) script.now workers.items (map (λ v. v.items) own.items)) }
+    ensures { IfOk result (λ own. AreWorked (G.passed gate.now) (G.framed gate.now)
+        script.now workers.items (map (λ v. v.items) own.items)) }
 {
     let mut workers = workers;
     let Some(worker) = workers.pop() else {
@@ -187,14 +172,16 @@ fn work_all<
     workers: Vec<Worker<Global, C, H>>,
 ) -> Result<Vec<Vec<Told>>, AllocError>
     requires { All (IsOpened script.now) workers.items }
-    ensures { IfOk result (λ own. AreWorked (G.passed gate.now) script.now workers.items (map (λ v. v.items) own.items)) }
+    ensures { IfOk result (λ own. AreWorked (G.passed gate.now) (G.framed gate.now)
+        script.now workers.items (map (λ v. v.items) own.items)) }
 {
     thread::scope(
         thread::scope_env(),
         rt,
         |scope| -> Result<Vec<Vec<Told>>, AllocError>
             requires { All (IsOpened script.now) workers.items }
-            ensures { IfOk result (λ own. AreWorked (G.passed gate.entry.now) script.entry.now workers.items (map (λ v. v.items) own.items)) }
+            ensures { IfOk result (λ own. AreWorked (G.passed gate.entry.now) (G.framed gate.entry.now)
+                script.entry.now workers.items (map (λ v. v.items) own.items)) }
         { work_each(rt, alloc, scope, script, book, gate, workers) },
     )
 }
@@ -205,7 +192,8 @@ fn all_of(script: &Script, own: Vec<Vec<Told>>) -> Answered
     requires number { length own.items ≡ length script.now.spaces }
     requires alone { (n : ℕ) → n < length script.now.spaces
         → AreToldAlone script.now n (slice_index_or (map (λ v. v.items) own.items) n []) }
-    ensures { IsRun script.now None result }
+    ensures run { IsRun script.now None result }
+    ensures all { result ≡ Answered.All own }
 {
     // The namespace of each step is one of these.
     let _steps = script.steps();
@@ -242,6 +230,7 @@ fn play_all<
     requires frames { length frames.items ≡ script.now.frames }
     ensures played { IfOk result (IsRun script.now None) }
     ensures passed { IsOk result → IsPassedFor (G.passed gate.now) script.now None }
+    ensures framed { IfOk result (IsRunFramed (G.framed gate.now) script.now None) }
 {
     let limits = script.configs(alloc)?;
     let configs = with_allocators(alloc, limits.as_slice())?;
@@ -307,6 +296,7 @@ fn play_alone<
     requires exists { ns < length script.now.spaces }
     ensures played { IfOk result (IsRun script.now (Some ns)) }
     ensures passed { IsOk result → IsPassed (G.passed gate.now) script.now ns }
+    ensures framed { IfOk result (IsRunFramed (G.framed gate.now) script.now (Some ns)) }
 {
     let config = script.config(ns as usize);
     let (book, worker) = lone_worker::<C, H>(alloc, ns, config, frames, credits, held)?;
@@ -341,6 +331,7 @@ fn play_for<
     requires chosen { IsChosen script.now only }
     ensures played { IfOk result (IsRun script.now only) }
     ensures passed { IsOk result → IsPassedFor (G.passed gate.now) script.now only }
+    ensures framed { IfOk result (IsRunFramed (G.framed gate.now) script.now only) }
 {
     match only {
         None => play_all::<R, G, C, H>(rt, alloc, script, frames, gate, credits, held),
@@ -364,6 +355,7 @@ pub fn play_threads<R: Threads + Wait + Sync, G: Gate + Sync>(
     requires chosen { IsChosen script.now only }
     ensures played { IfOk result (IsRun script.now only) }
     ensures passed { IsOk result → IsPassedFor (G.passed gate.now) script.now only }
+    ensures framed { IfOk result (IsRunFramed (G.framed gate.now) script.now only) }
 {
     let most = MAX_NAMESPACES as u64;
     play_for::<R, G, Brand, Brand>(

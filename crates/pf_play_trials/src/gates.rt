@@ -1,4 +1,5 @@
-//! A gate that holds two namespaces' first steps, so that a replay ends only where both are run at once.
+//! A gate that holds two namespaces' first steps, so that a replay ends only where both are run at once; and one that counts
+//! the frames of each namespace.
 
 use crate::texts::played;
 use pf_play::Gate;
@@ -89,5 +90,91 @@ fn two_namespaces_at_once(rt: HostRuntime) -> Result<(), Fail> {
     assert!(rt; end.is_ok());
     assert!(rt; writer.is_whole());
     assert_eq!(rt; gate.used_up.load(Ordering::SeqCst), 0);
+    Ok(())
+}
+
+/// How many frames it was told of, of each of two namespaces and of all.
+#[derive(Drop)]
+struct Frames {
+    red: AtomicU64,
+    blue: AtomicU64,
+    all: AtomicU64,
+    /// Not 0: it was told of a step before the write in front of it had taken its frame.
+    early: AtomicU64,
+}
+
+impl Frames {
+    fn new() -> Frames {
+        Frames {
+            red: AtomicU64::new(0),
+            blue: AtomicU64::new(0),
+            all: AtomicU64::new(0),
+            early: AtomicU64::new(0),
+        }
+    }
+
+    /// Whether it was told of so many frames of each, and of no other.
+    fn are(&self, red: u64, blue: u64) -> bool {
+        self.red.load(Ordering::SeqCst) == red
+            && self.blue.load(Ordering::SeqCst) == blue
+            && self.all.load(Ordering::SeqCst) == red.wrapping_add(blue)
+            && self.early.load(Ordering::SeqCst) == 0
+    }
+}
+
+impl Gate for Frames {
+    ghost passed = { λ _ _ _. Unit {0} };
+
+    ghost framed = { λ _ _. Unit {0} };
+
+    fn pass(&self, ns: u32, place: u64) {
+        if ns == 0 && place >= 3 && self.red.load(Ordering::SeqCst) == 0 {
+            self.early.store(1, Ordering::SeqCst);
+        }
+    }
+
+    fn frame(&self, ns: u32) {
+        match ns {
+            0 => self.red.fetch_add(1, Ordering::SeqCst),
+            1 => self.blue.fetch_add(1, Ordering::SeqCst),
+            _ => 0,
+        };
+        self.all.fetch_add(1, Ordering::SeqCst);
+    }
+}
+
+const WRITES: &str = "pool 3
+space red 2
+space blue 1
+red spawn 5 5 022
+red pipe 1
+red write 1 1 6162
+red pipe 1
+red write 1 3 63
+blue spawn 5 5 022
+blue pipe 1
+blue write 1 1 7a
+";
+
+const WRITTEN: &str = "== red
+1: pid 1
+2: fds 0 1
+3: num 2
+4: fds 2 3
+5: num 1
+== blue
+1: pid 1
+2: fds 0 1
+3: num 1
+";
+
+/// The first namespace takes two frames, the first of them before the gate is told of its fourth step, and the second one.
+#[test]
+fn a_gate_is_told_of_each_frame(rt: HostRuntime) -> Result<(), Fail> {
+    let gate = Frames::new();
+    let (end, writer) = played(&rt, rt.alloc(), WRITES, WRITTEN, &gate);
+    assert!(rt; end.is_ok());
+    assert!(rt; writer.is_whole());
+    assert!(rt; gate.are(2, 1));
     Ok(())
 }

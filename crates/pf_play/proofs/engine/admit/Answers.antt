@@ -3,6 +3,7 @@ use Rattle.std.proofs.Common.{rules, ◌≡◌, ◌<◌, length, arith}
 use Rattle.pf_hub.specs.Tenants.{house_of}
 use Rattle.pf_hub.proofs.HouseLemmas.{admitted_happens, refused_happens}
 use Rattle.pf_play.proofs.NumberLaws.{admit_follows, refuse_follows}
+use Rattle.pf_play.proofs.TreeLaws.{come_theirs, skip_theirs}
 use Rattle.pf_play.proofs.engine.admit.Goals as goal
 
 pub returns-in-Ok-clause-follows : goal.returns-in-Ok-clause-follows
@@ -26,3 +27,17 @@ returns-in-Err-clause-follows g c =
     rw (c.push_reserved-in-Err.ensures.items)
     (refuse_follows c.args.numbers.now.items (house_of old) named (house_of c.admit.new.self.world) is c.args.config few
     c.in-Err.fault (rw kept.0 (refused_happens old c.args.config c.in-Err.fault kept.1)))
+
+pub returns-in-Ok-clause-trees : goal.returns-in-Ok-clause-trees
+returns-in-Ok-clause-trees g c =
+    let made = c.in-Ok.ensures.admitted in
+    λ trees were own.
+    rw c.push_reserved.ensures.items
+    (come_theirs trees c.args.numbers.now.items c.args.hub.now c.admit.new.self c.args.config c.args.tree c.in-Ok.number
+    made.1 made.2 own were)
+
+pub returns-in-Err-clause-trees : goal.returns-in-Err-clause-trees
+returns-in-Err-clause-trees g c =
+    λ trees were own.
+    rw (c.push_reserved-in-Err.ensures.items, c.in-Err.ensures.admitted.0)
+    (skip_theirs trees c.args.numbers.now.items c.args.hub.now were)

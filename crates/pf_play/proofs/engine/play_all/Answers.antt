@@ -1,13 +1,13 @@
 -- Each line is told by what its name's number is, and goes on with what happened by name.
 use Rattle.std.proofs.Common.{rules, ◌≡◌, ◌<◌, ◌+◌, ℕ, List, [], ◌∷◌, ◌++◌, length, take, drop, map, ap, sym, subst, ◌∙◌}
 use Rattle.std.proofs.Common.{arith, refl, length-append}
-use Rattle.std.specs.Prelude.{nat_eq, if◌then◌else◌}
+use Rattle.std.specs.Prelude.{nat_eq, slice_get, if◌then◌else◌}
 use Rattle.std.specs.declared.alloc.Global.{Global}
 use Rattle.std.specs.declared.vec.Vec.{Vec}
 use Rattle.std.proofs.lemmas.List.{length-map, length-take}
 use Rattle.std.proofs.Math.ListN.{drop_of_length-le}
 use Rattle.pf_base.specs.Limits.{Limits}
-use Rattle.pf_hub.specs.Opening.{new_hub}
+use Rattle.pf_hub.specs.Opening.{new_hub, limits_of}
 use Rattle.pf_hub.specs.Tenants.{house_of}
 use Rattle.pf_script.specs.Sound.{AreGiven}
 use Rattle.pf_base.specs.declared.admission.EventAnswer.{EventAnswer}
@@ -16,11 +16,13 @@ use Rattle.pf_script.specs.Text.{answers_of}
 use Rattle.pf_script.specs.declared.line.Line.{Line}
 use Rattle.pf_script.specs.declared.told.Told.{Told}
 use Rattle.pf_play.specs.Houses.{limits_of_name, first_house}
+use Rattle.pf_play.specs.Numbers.{numbers_from}
 use Rattle.pf_play.proofs.ApartLaws.{apart_push, room_left, lists_are}
 use Rattle.pf_play.proofs.EngineLaws.{take_all, next_of, taken_of}
 use Rattle.pf_play.proofs.PlayLaws.{Running, runs_first, runs_on, given_next, limits_there, first_limits, new_house}
 use Rattle.pf_play.proofs.PlayLaws.{housed}
 use Rattle.pf_play.proofs.StayLaws.{settled}
+use Rattle.pf_play.proofs.TreeLaws.{first_theirs, in_front, own_there, admits_next}
 use Rattle.pf_play.proofs.engine.play_all.Goals as goal
 
 pub loop-event-init : goal.loop-event-init
@@ -34,6 +36,11 @@ loop-event-init g c =
     let many : length ls ≡ script.opening =
     length-map (take script.opening script.spaces) (λ (s : List ℕ × Limits). s.1)
     ∙ omega (arith, length-take script.opening script.spaces, c.opening.ensures.opening, c.opening.ensures.most) in
+    let numbered : c.in_ok-numbers.numbers.items ≡ numbers_from 0 (length c.in_ok-configs.configs.items) =
+    c.in_ok-numbers.ensures.numbers
+    ∙ ap (numbers_from 0) (c.opening.ensures.opening ∙ sym many
+    ∙ ap (λ (l : List Limits). length l) (sym (c.in_ok-configs.ensures.limits ∙ limits))
+    ∙ length-map c.in_ok-configs.configs.items (λ e. e.0)) in
     record {
       answers = [];
       running =
@@ -46,6 +53,12 @@ loop-event-init g c =
       apart = λ n d low. c.in_ok-own.ensures.none n d low;
       room = c.in_ok-own.ensures.room;
       numbers = search rules;
+      theirs =
+          first_theirs c.args.trees.now c.in_ok-configs.configs.items c.in_ok-numbers.numbers.items script.frames
+          c.in_ok-hub.hub numbered (c.in_ok-hub.ensures.opened ∙ ap (new_hub (limits_of c.in_ok-configs.configs.items)) c.requires.frames)
+          c.in_ok-hub.ensures.allocators
+          (λ n t is. in_front (length c.as_slice.result.now) c.args.trees.now n t
+          (ap (λ zs. slice_get zs n) (sym c.in_ok-configs.ensures.trees) ∙ is));
     }
 
 pub bounds-trees-ns : goal.bounds-trees-ns
@@ -124,10 +137,14 @@ loop-event-preserved g c =
           let low' : n < length c.loop-event.own.items = omega (arith, low, c.loop-event.invariant.names) in
           omega (arith, c.loop-event.invariant.room n d low, c.keep.ensures.room n d low');
       numbers = search rules;
+      theirs = c.tell-answer.ensures.trees c.args.trees.now c.loop-event.invariant.theirs
+          (λ admits.
+          own_there c.args.trees.now e.0 (length c.loop-event.numbers.items) c.index-trees-ns.result
+          (omega (arith, next.0, c.requires.trees)) c.index-trees-ns.is (admits_next _ e _ _ running.known admits));
     }
 
-pub returns : goal.returns
-returns g c =
+pub returns-clause-run : goal.returns-clause-run
+returns-clause-run g c =
     let script = c.args.script.now in
     let lines = c.steps-lines.result.now in
     let all : take c.loop-event.event-index lines ≡ script.steps =
@@ -148,6 +165,28 @@ returns g c =
             ∙ ap (λ (es : List (ℕ × Line)). answers_of es answers n) all,
       ),
       played,
+    )
+
+pub returns-clause-told : goal.returns-clause-told
+returns-clause-told g c =
+    let script = c.args.script.now in
+    let lines = c.steps-lines.result.now in
+    let all : take c.loop-event.event-index lines ≡ script.steps =
+    take_all lines c.loop-event-test.false ∙ c.steps-lines.ensures.steps in
+    let running = rw all at c.loop-event.invariant.running in
+    let answers = c.loop-event.invariant.answers in (
+      answers,
+      (
+        length-map c.loop-event.own.items (λ (v : Vec Told Global). v.items) ∙ c.loop-event.invariant.names,
+        c.loop-event.invariant.many ∙ ap (λ (es : List (ℕ × Line)). length es) all,
+        λ n low.
+            lists_are c.loop-event.own.items (answers_of (take c.loop-event.event-index lines) answers)
+            c.loop-event.invariant.apart n (omega (arith, low, c.loop-event.invariant.names))
+            ∙ ap (λ (es : List (ℕ × Line)). answers_of es answers n) all,
+      ),
+      running.house,
+      running.going.fall,
+      running.named,
     )
 
 pub keep-requires : goal.keep-requires

@@ -9,6 +9,7 @@ use Rattle.pf_script.specs.Text.{answers_of}
 use Rattle.pf_script.specs.declared.told.Told.{Told}
 use Rattle.pf_play.specs.Answered.{HaveRoom}
 use Rattle.pf_play.specs.Houses.{first_house}
+use Rattle.pf_play.specs.Trees.{AreTheirs}
 use Rattle.pf_play.proofs.PlayLaws.{Running}
 use Rattle.pf_play.proofs.engine.play_all.Given as goal
 
@@ -23,4 +24,5 @@ invariant-loop-event g l = record {
       (get_or l.own.items n d).items ≡ answers_of (take l.event-index l.lines) answers n;
   room : HaveRoom l.script l.own.items;
   numbers : length l.script.spaces ≤ vec_capacity l.numbers;
+  theirs : AreTheirs l.trees l.numbers.items l.hub;
 }

@@ -12,6 +12,7 @@ use Rattle.pf_play.proofs.AnsweredLaws.{answered}
 use Rattle.pf_play.proofs.EngineLaws.{take_all, next_of, taken_of}
 use Rattle.pf_play.proofs.PlayLaws.{given_next, housed}
 use Rattle.pf_play.proofs.StayLaws.{settled_alone}
+use Rattle.pf_play.proofs.TreeLaws.{first_theirs, lone_own, own_there, admits_next}
 use Rattle.pf_play.proofs.AloneLaws.{RunningAlone, alone_first, alone_next, alone_on, alone_by, alone_one, alone_limits}
 use Rattle.pf_play.proofs.engine.play_alone.Goals as goal
 use Rattle.pf_play.proofs.engine.play_alone.Goals.{then-event-ns+in_ok-push, else-event-ns}
@@ -34,6 +35,13 @@ loop-event-init g c =
           (rw c.steps-lines.ensures.steps at c.steps-lines.ensures.known) c.in_ok-configs.ensures.limits numbered
           (ap house_of opened));
       room = search rules;
+      theirs =
+          first_theirs c.args.trees.now c.in_ok-configs.configs.items c.in_ok-numbers.numbers.items script.frames
+          c.in_ok-hub.hub (c.in_ok-numbers.ensures.numbers ∙ ap (numbers_from 0) count) opened
+          c.in_ok-hub.ensures.allocators
+          (lone_own c.args.trees.now c.in_ok-configs.configs.items c.index-trees-0.result c.in_ok-configs.ensures.few
+          c.in_ok-configs.ensures.allocators
+          (own_there c.args.trees.now 0 0 c.index-trees-0.result (omega (arith, c.requires.one)) c.index-trees-0.is refl));
     }
 
 pub tell-answer-requires : goal.tell-answer-requires
@@ -78,17 +86,23 @@ loop-event-preserved g c =
                 (house_of c.loop-event.hub.world) c.loop-event.answers.items _ _ _ w.if-event-ns.true running
                 w.tell-answer.ensures.number follows);
             room = rw (w.numbers-is, w.tell-answer.ensures.room) c.loop-event.invariant.room;
+            theirs = rw (w.hub-is, w.numbers-is)
+                (w.tell-answer.ensures.trees c.args.trees.now c.loop-event.invariant.theirs
+                (λ admits.
+                own_there c.args.trees.now 0 (length c.loop-event.numbers.items) c.index-trees-0.result
+                (omega (arith, c.requires.one)) c.index-trees-0.is (admits_next _ (0, e.1) _ _ running.known admits)));
           }
       | else-event-ns w ↦ record {
         running = rw (w.hub-is, w.numbers-is, w.answers-is, taken)
             (alone_by script n (take at lines) (drop (at + 1) lines) e c.loop-event.numbers.items
             (house_of c.loop-event.hub.world) c.loop-event.answers.items w.if-event-ns.false old);
         room = rw w.numbers-is c.loop-event.invariant.room;
+        theirs = rw (w.hub-is, w.numbers-is) c.loop-event.invariant.theirs;
       }
     ]
 
-pub returns : goal.returns
-returns g c =
+pub returns-clause-run : goal.returns-clause-run
+returns-clause-run g c =
     let script = c.args.script.now in
     let lines = c.steps-lines.result.now in
     let all : take c.loop-event.event-index lines ≡ script.steps =
@@ -101,4 +115,22 @@ returns g c =
       answers,
       (refl, refl, answered script (Some c.args.ns) answers c.requires.exists played),
       played,
+    )
+
+pub returns-clause-told : goal.returns-clause-told
+returns-clause-told g c =
+    let script = c.args.script.now in
+    let lines = c.steps-lines.result.now in
+    let all : take c.loop-event.event-index lines ≡ script.steps =
+    take_all lines c.loop-event-test.false ∙ c.steps-lines.ensures.steps in
+    let none : drop c.loop-event.event-index lines ≡ [] = drop_of_length-le lines c.loop-event-test.false in
+    let running = rw (all, none) at c.loop-event.invariant.running in
+    let answers = c.loop-event.answers.items in
+    let played = settled_alone script c.args.ns answers (housed (alone script c.args.ns) _ _ _ running)
+    (rw c.steps-lines.ensures.steps at c.steps-lines.ensures.known) c.requires.exists in (
+      answers,
+      (refl, refl, answered script (Some c.args.ns) answers c.requires.exists played),
+      running.house,
+      running.going.fall,
+      running.named,
     )

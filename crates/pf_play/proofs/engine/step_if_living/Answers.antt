@@ -4,6 +4,7 @@ use Rattle.pf_base.specs.declared.admission.EventAnswer.TheVariants as told
 use Rattle.pf_hub.specs.Tenants.{house_of}
 use Rattle.pf_hub.proofs.HouseLemmas.{stepped_happens, gone_happens}
 use Rattle.pf_play.proofs.NumberLaws.{step_gone, step_follows}
+use Rattle.pf_play.proofs.TreeLaws.{stay_theirs}
 use Rattle.pf_play.proofs.engine.step_if_living.Goals as goal
 use Rattle.pf_play.proofs.engine.step_if_living.Goals.{in_default-via-in-Some+else-lives, in_default-via-in_default}
 
@@ -40,3 +41,8 @@ returns-in_default-clause-follows g c = elim c.in_default.branch [
       rw c.new-in_default.ensures
       (step_gone names (house_of c.args.hub.now.world) named is place c.args.step.now (has ∙ w.in_default.is))
 ]
+
+pub returns-in-Some-clause-trees : goal.returns-in-Some-clause-trees
+returns-in-Some-clause-trees g c =
+    λ trees names were.
+    stay_theirs trees names c.args.hub.now c.step.new.self c.step.ensures.allocators c.step.ensures.number were

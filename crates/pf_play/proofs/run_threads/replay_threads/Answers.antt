@@ -1,6 +1,6 @@
 use Rattle.std.proofs.lemmas.Result.{err_from_is_err_and}
 use Rattle.std.proofs.Common.{true, refl, sym, ◌∙◌}
-use Rattle.pf_play.proofs.EngineLaws.{cut_short, told_whole}
+use Rattle.pf_play.proofs.EngineLaws.{cut_short, told_framed, told_whole}
 use Rattle.pf_play.proofs.run_threads.replay_threads.Goals as goal
 
 pub count_nomem-nomem-requires : goal.count_nomem-nomem-requires
@@ -20,6 +20,16 @@ returns-clause-played g c =
           c.in-Ok.ensures.names run.2
           (c.in_ok-print.ensures.written c.in-Ok.only run.0 run.1)
           (c.count_nomem-nomem.ensures c.in-Ok.only run.0 run.1),
+    )
+
+pub returns-clause-framed : goal.returns-clause-framed
+returns-clause-framed g c = λ ok.
+    let read = c.in_ok-script.ensures.read in
+    let run = c.in_ok-answered.ensures.framed in (
+      read.0,
+      read.1,
+      told_framed (g.G.Gate.framed c.args.gate.now) _ _ _ _ _ _ _ read.2 c.in-Ok.ensures.names run.2
+          (c.in_ok-print.ensures.written c.in-Ok.only run.0 run.1) run.3,
     )
 
 pub returns-in_err-print-clause-fault : goal.returns-in_err-print-clause-fault

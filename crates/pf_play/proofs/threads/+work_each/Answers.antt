@@ -15,10 +15,10 @@ pub returns : goal.returns
 returns g t c =
     let told = rw (c.in_ok-child.ensures.0, c.in_ok-child.ensures.1, c.in_ok-child.ensures.2) at c.in_ok-last.ensures in
     let more = all_zipped_more
-    (λ worker answers. IsWorked (g.G.Gate.passed c.args.gate.now) c.args.script.now worker.number answers)
+    (λ worker answers. IsWorked (g.G.Gate.passed c.args.gate.now) (g.G.Gate.framed c.args.gate.now) c.args.script.now worker.number answers)
     c.pop.new.self.items (map (λ v. v.items) c.in_ok-own.own.items) c.in-Some.worker c.in_ok-last.field-0.items
     c.in_ok-own.ensures told in
     rw (c.in-Some.ensures.items, c.in_ok-push.ensures.items)
-    (subst (λ own. AreWorked (g.G.Gate.passed c.args.gate.now) c.args.script.now
+    (subst (λ own. AreWorked (g.G.Gate.passed c.args.gate.now) (g.G.Gate.framed c.args.gate.now) c.args.script.now
     (c.pop.new.self.items ++ c.in-Some.worker ∷ []) own)
     (sym (map-append (λ v. v.items) c.in_ok-own.own.items (c.in_ok-last.field-0 ∷ []))) more)

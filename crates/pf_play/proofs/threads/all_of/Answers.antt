@@ -6,8 +6,8 @@ use Rattle.pf_script.specs.declared.told.Told.{Told}
 use Rattle.pf_play.proofs.MergeLaws.{all_run}
 use Rattle.pf_play.proofs.threads.all_of.Goals as goal
 
-pub returns : goal.returns
-returns c =
+pub returns-clause-run : goal.returns-clause-run
+returns-clause-run c =
     let script = c.args.script.now in
     let exist = rw c.steps-steps.ensures.steps at c.steps-steps.ensures.exist in
     let run = all_run script (map (λ v. v.items) c.args.own.items) c.requires.only exist c.requires.alone in (

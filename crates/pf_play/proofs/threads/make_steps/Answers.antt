@@ -1,4 +1,4 @@
-use Rattle.std.proofs.Common.{rules, ◌≡◌, ◌<◌, ◌≤◌, [], ◌∷◌, ◌++◌, length, refl, sym, ap, ◌∙◌, subst, arith, below_more, ℕ, List, get_or}
+use Rattle.std.proofs.Common.{rules, ◌≡◌, ◌+◌, ◌<◌, ◌≤◌, [], ◌∷◌, ◌++◌, length, refl, sym, ap, ◌∙◌, subst, arith, below_more, ℕ, List, get_or}
 use Rattle.std.proofs.lemmas.List.{map_push}
 use Rattle.pf_base.specs.declared.admission.EventAnswer.{EventAnswer}
 use Rattle.pf_base.specs.declared.admission.EventAnswer.TheVariants as told
@@ -10,15 +10,16 @@ use Rattle.pf_script.specs.declared.line.Line.TheVariants as lines
 use Rattle.pf_script.specs.Places.{places_of}
 use Rattle.pf_script.proofs.Places.{within}
 use Rattle.pf_play.specs.Workers.{ArePassed}
-use Rattle.pf_play.proofs.WorkLaws.{all_steps, works_none, works_on, works_all}
+use Rattle.pf_play.proofs.WorkLaws.{all_steps, works_none, works_on, works_all, works_framed}
 use Rattle.pf_play.proofs.threads.make_steps.Goals as goal
 
 pub loop-at-init : goal.loop-at-init
 loop-at-init g c = record {
   passed = λ place low. absurd (omega (arith, low));
+  answered = λ before is. absurd (omega (arith, is));
   own = [];
   told = c.in_ok-answers.ensures.items;
-  works = works_none c.args.script.now c.args.worker.now [] c.requires refl;
+  works = works_none (g.T.Turns.framed c.args.turns.now) c.args.script.now c.args.worker.now [] c.requires refl;
   many = search rules;
   room = search rules;
 }
@@ -67,20 +68,25 @@ loop-at-preserved g c =
     let step = c.in-Step.step in
     let here : (get_or c.args.script.now.steps at e).1 ≡ lines.Step step
     = ap (λ (es : List (ℕ × Line)). (get_or es at e).1) (sym c.steps-steps.ensures.steps) ∙ c.in-Step.is in
-    let passed = g.G.Gate.passed c.args.gate.now in
+    let passed = g.T.Turns.passed c.args.turns.now in
     let placed : c.len-place.result ≡ c.loop-at.at-index = omega (arith, c.loop-at.answers.ok.0) in
     let gated = subst (λ place. passed n place) placed
     (subst (λ m. passed m c.len-place.result) c.number-ns.ensures c.pass.ensures) in
+    let answered = subst (λ m. g.T.Turns.answered c.args.turns.now m c.len-place.result) c.loop-at.invariant.works.number
+    c.step-answer.ensures.answered in
     record {
       passed = below_more _ _ c.loop-at.invariant.passed gated;
-      own = c.loop-at.invariant.own ++ c.step_told-answer.result ∷ [];
+      answered = λ before is.
+          let here : c.len-place.result ≡ before = omega (arith, placed, is) in
+          subst (λ place. g.T.Turns.answered c.args.turns.now n place) here answered;
+      own = c.loop-at.invariant.own ++ c.step-answer.result ∷ [];
       told = rw (c.push_reserved.ensures.items, c.new.ensures)
-          (ap (λ (xs : List EventAnswer). xs ++ told.Answer c.step_told-answer.result ∷ []) c.loop-at.invariant.told
-          ∙ sym (map_push told.Answer c.loop-at.invariant.own c.step_told-answer.result));
-      works = works_on c.args.script.now n c.loop-at.at-index e c.loop-at.invariant.own c.step_told-answer.result
-          c.loop-at.worker c.step_told-answer.new.worker at step c.requires.0 c.loop-at.invariant.works low same_at here
-          c.step_told-answer.ensures.number c.step_told-answer.ensures.limits c.step_told-answer.ensures.answers
-          c.step_told-answer.ensures.succeeds;
+          (ap (λ (xs : List EventAnswer). xs ++ told.Answer c.step-answer.result ∷ []) c.loop-at.invariant.told
+          ∙ sym (map_push told.Answer c.loop-at.invariant.own c.step-answer.result));
+      works = works_on (g.T.Turns.framed c.args.turns.now) c.args.script.now n c.loop-at.at-index e c.loop-at.invariant.own c.step-answer.result
+          c.loop-at.worker c.step-answer.new.worker at step c.requires.0 c.loop-at.invariant.works low same_at here
+          c.step-answer.ensures.number c.step-answer.ensures.limits c.step-answer.ensures.answers
+          c.step-answer.ensures.succeeds c.step-answer.ensures.rising c.step-answer.ensures.framed;
       many = search rules;
       room = search rules;
     }
@@ -89,10 +95,21 @@ pub returns : goal.returns
 returns g c =
     let at_place : c.places-places.result.now ≡ places_of c.args.script.now.steps c.args.worker.now.number
     = c.places-places.ensures ∙ ap (λ m. places_of c.args.script.now.steps m) c.number-ns.ensures in
-    let all = works_all c.args.script.now c.args.worker.now.number c.loop-at.at-index c.loop-at.invariant.own
-    c.loop-at.worker c.requires.0 c.loop-at.invariant.works
-    (subst (λ (ps : List ℕ). length ps ≤ c.loop-at.at-index) at_place c.loop-at-test.false) in (
+    let past = subst (λ (ps : List ℕ). length ps ≤ c.loop-at.at-index) at_place c.loop-at-test.false in
+    let all = works_all (g.T.Turns.framed c.args.turns.now) c.args.script.now c.args.worker.now.number c.loop-at.at-index
+    c.loop-at.invariant.own c.loop-at.worker c.requires.0 c.loop-at.invariant.works past in
+    let fed = works_framed (g.T.Turns.framed c.args.turns.now) c.args.script.now c.args.worker.now.number c.loop-at.at-index
+    c.loop-at.invariant.own c.loop-at.worker c.requires.0 c.loop-at.invariant.works past in (
       (c.loop-at.invariant.own, c.loop-at.invariant.told, all),
-      subst (λ number. ArePassed (g.G.Gate.passed c.args.gate.now) c.args.worker.now.number number)
+      subst (λ number. ArePassed (g.T.Turns.passed c.args.turns.now) c.args.worker.now.number number)
           (sym c.loop-at.invariant.many) c.loop-at.invariant.passed,
+      (c.loop-at.invariant.own, c.loop-at.invariant.told, fed),
     )
+
+pub pass-requires : goal.pass-requires
+pass-requires g c = record {
+  turn = λ before is.
+      let placed : c.loop-at.at-index ≡ before + 1 = omega (arith, c.loop-at.answers.ok.0, is) in
+      subst (λ m. g.T.Turns.answered c.args.turns.now m before) (sym c.number-ns.ensures)
+      (c.loop-at.invariant.answered before placed);
+}
