@@ -1,7 +1,8 @@
-//! The tree under Global and under an arena that stands outside it, as the calls on files build it.
+//! The tree under Global, and under an arena and a heap that stand outside it, as the calls on files build it.
 
 use crate::walk::{Call, Desk};
 use bumpalo::Bump;
+use linked_list_allocator::LocalHeap;
 use pf_base::{Class, Fault, Kind, Meta, Mode, Want};
 use pf_tree::Tree;
 use std::alloc::{AllocError, Allocator, Global};
@@ -90,6 +91,13 @@ fn a_tree_under_an_arena(rt: HostRuntime) -> Result<(), Fail> {
     Ok(())
 }
 
+#[test]
+fn a_tree_under_a_heap(rt: HostRuntime) -> Result<(), Fail> {
+    let heap = LocalHeap::new(rt.alloc(), 4_096)?;
+    assert!(rt; told(&heap, rt.alloc())?.as_slice() == TOLD);
+    Ok(())
+}
+
 // Makes FIFOs with ever longer names until a growth is refused. Tells whether the tree was then as before, and whether
 // the FIFO is made once there is memory.
 fn refused_at(
@@ -125,6 +133,98 @@ fn a_refused_growth_changes_nothing(rt: HostRuntime) -> Result<(), Fail> {
         bump.set_allocation_limit(Some(limit));
         assert!(rt; until_refused(&bump, rt.alloc(), mode)? == (true, true));
     }
+    Ok(())
+}
+
+// Builds files in a heap until a growth is refused. How many stand then, and whether the refused one left the tree as it
+// was.
+fn built_at(
+    desk: &mut Desk<&LocalHeap>,
+    text: Global,
+    mode: Mode,
+) -> Result<(usize, bool), AllocError> {
+    for (made, (call, path)) in BUILT.into_iter().enumerate() {
+        let before = walked(&desk.tree, text)?;
+        if desk.attempt(call, path, mode) == Some(Fault::NoMemory) {
+            let same = walked(&desk.tree, text)?.as_slice() == before.as_slice();
+            return Ok((made, same));
+        }
+    }
+    Ok((BUILT.len(), true))
+}
+
+// The same, at a desk of its own.
+fn built_in(heap: &LocalHeap, text: Global, mode: Mode) -> Result<(usize, bool), AllocError> {
+    let mut desk = Desk::new(heap, text, mode, 5);
+    built_at(&mut desk, text, mode)
+}
+
+// Each heap has room for the least block more than the one before, so each request of these calls is the first that is
+// refused in one of them.
+#[test]
+fn each_request_of_a_heap_is_refused_in_turn(rt: HostRuntime) -> Result<(), Fail> {
+    let mode = Mode::new(0o777)?;
+    let mut refused = [false; BUILT.len()];
+    let mut whole = 0usize;
+    for units in 1..128 {
+        let heap = LocalHeap::new(rt.alloc(), 16 * units)?;
+        let (made, same) = built_in(&heap, rt.alloc(), mode)?;
+        assert!(rt; same);
+        match refused.get_mut(made) {
+            Some(seen) => *seen = true,
+            None => whole = whole.saturating_add(1),
+        }
+    }
+    assert!(rt; refused == [true; BUILT.len()] && whole > 0);
+    Ok(())
+}
+
+// The names of FIFOs that fill a heap.
+const LETTERS: &[u8] = b"abcdefghijklmnopqrstuvwxyz";
+
+// Makes FIFOs of one letter until a growth is refused. How many are made, and whether the refused one left the tree as it
+// was.
+fn filled(
+    desk: &mut Desk<&LocalHeap>,
+    text: Global,
+    mode: Mode,
+) -> Result<(usize, bool), AllocError> {
+    for (made, letter) in LETTERS.iter().enumerate() {
+        let before = walked(&desk.tree, text)?;
+        if desk.attempt(Call::Mkfifo, &[*letter], mode) == Some(Fault::NoMemory) {
+            let same = walked(&desk.tree, text)?.as_slice() == before.as_slice();
+            return Ok((made, same));
+        }
+    }
+    Ok((LETTERS.len(), false))
+}
+
+// Takes so many of them away.
+fn emptied(desk: &mut Desk<&LocalHeap>, count: usize, mode: Mode) {
+    for letter in LETTERS.iter().take(count) {
+        desk.call(Call::Unlink, &[*letter], mode);
+    }
+}
+
+// Fills a heap, empties it, and fills it once more.
+fn filled_twice(
+    heap: &LocalHeap,
+    text: Global,
+    mode: Mode,
+) -> Result<((usize, bool), (usize, bool)), AllocError> {
+    let mut desk = Desk::new(heap, text, mode, 5);
+    let first = filled(&mut desk, text, mode)?;
+    emptied(&mut desk, first.0, mode);
+    let second = filled(&mut desk, text, mode)?;
+    Ok((first, second))
+}
+
+#[test]
+fn a_heap_that_was_freed_into_is_filled_again(rt: HostRuntime) -> Result<(), Fail> {
+    let heap = LocalHeap::new(rt.alloc(), 1_024)?;
+    let (first, second) = filled_twice(&heap, rt.alloc(), Mode::new(0o777)?)?;
+    assert!(rt; first.1 && second.1);
+    assert!(rt; first.0 > 0 && second.0 >= first.0);
     Ok(())
 }
 
