@@ -76,8 +76,8 @@ fn make_each<H: Host>(
     Ok(())
 }
 
-/// Has a guest of these limits come, make its steps and those of others, and go. Each time, another one comes behind it:
-/// that one is told whether there is room, and which number is the next.
+/// Has a guest of these limits come, make its steps and those of others, and go. Each time, another one comes behind
+/// it: that one is told whether there is room, and which number is the next.
 fn have_guest<H: Host>(
     alloc: Global,
     row: &Row<'_>,
@@ -112,8 +112,8 @@ pub(crate) fn first_of(lines: &[(u32, Line)], ns: u32) -> usize {
     lines.len()
 }
 
-/// Has a host do what the lines of a row's script say. A guest comes before its first step, and goes behind the last one of
-/// all.
+/// Has a host do what the lines of a row's script say. A guest comes before its first step, and goes behind the last
+/// one of all.
 pub(crate) fn make_all<H: Host>(
     alloc: Global,
     row: &Row<'_>,

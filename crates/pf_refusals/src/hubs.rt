@@ -4,6 +4,7 @@ use crate::end::End;
 use crate::host::{Host, first_of, make_all};
 use crate::row::{Row, Way};
 use crate::scripts::{configs_of, frames_of};
+use crate::slices::BySlices;
 use crate::told::{Told, admission, retirement};
 use pf_base::{AdmitFault, Answer, Config, EventAnswer, Step};
 use pf_hub::{Event, EventFault, Hub, RunFault};
@@ -111,8 +112,8 @@ fn add_answer(answer: EventAnswer, told: &mut Told) -> Result<(), End> {
     Ok(())
 }
 
-/// Adds what so many events were told, of which the guest's are the ones at this place, the next, and the last two. Those
-/// that have no answer count as refused.
+/// Adds what so many events were told, of which the guest's are the ones at this place, the next, and the last two.
+/// Those that have no answer count as refused.
 fn add_answers(
     answers: Vec<EventAnswer>,
     events: usize,
@@ -135,7 +136,8 @@ fn add_answers(
     Ok(())
 }
 
-/// Has a hub make all steps at once, and a guest come and go among them. The requests of that are counted, and none before.
+/// Has a hub make all steps at once, and a guest come and go among them. The requests of that are counted, and none
+/// before.
 fn run_events(
     alloc: Global,
     row: &Row<'_>,
@@ -172,13 +174,20 @@ fn make(
 ) -> Result<(), End> {
     match row.way {
         Way::Run => run_all(alloc, script, hub, told),
+        Way::Slices => make_all(
+            alloc,
+            row,
+            script,
+            &mut BySlices::new(alloc, row, hub),
+            told,
+        ),
         Way::GuestEvents => run_events(alloc, row, script, hub, told),
         _ => make_all(alloc, row, script, &mut Single { alloc, hub }, told),
     }
 }
 
-/// Has a hub of a row's namespaces make its steps. What owns a hub hands it on, with one way out: each drops it, which is
-/// dear to prove.
+/// Has a hub of a row's namespaces make its steps. What owns a hub hands it on, with one way out: each drops it, which
+/// is dear to prove.
 pub(crate) fn play(
     alloc: Global,
     row: &Row<'_>,

@@ -1,7 +1,7 @@
 //! Scripts that are played in each way that a namespace's steps can be made, while one request for memory is refused.
 //! Nothing is refused here: `sweep`, at the root of the repository, plays each row with a hook that refuses one request
-//! more in turn, and judges what is told. A sign tells the hook which requests are meant. With no words the program plays
-//! all rows of its files as they stand, and with some those of the files that they name.
+//! more in turn, and judges what is told. A sign tells the hook which requests are meant. With no words the program
+//! plays all rows of its files as they stand, and with a word those of the file that it names.
 #![tactic(auto)]
 
 mod alone;
@@ -12,6 +12,7 @@ mod parking;
 mod row;
 mod scripts;
 mod served;
+mod slices;
 mod told;
 mod workers;
 
@@ -25,18 +26,20 @@ use std::thread::Threads;
 use std::{env, fs, io};
 
 /// The files that are played where no word names another.
-const FILES: [&str; 7] = [
+const FILES: [&str; 9] = [
     "growing.rows",
     "steady.rows",
     "copied.rows",
+    "quiet.rows",
+    "keeping.rows",
     "whole.rows",
     "coming.rows",
     "going.rows",
     "parking.rows",
 ];
 
-/// Plays a row's script in its way. The sign is given before all that these ways ask for, where they don't give it beside
-/// a step.
+/// Plays a row's script in its way. The sign is given before all that these ways ask for, where they don't give it
+/// beside a step.
 fn play<R: Threads + Wait + Sync>(
     rt: &R,
     alloc: Global,
@@ -49,10 +52,17 @@ fn play<R: Threads + Wait + Sync>(
     }
     match row.way {
         Way::Space => alone::play(alloc, row, script, told),
-        Way::Steps | Way::Spare | Way::Owned | Way::Run | Way::GuestSteps | Way::GuestEvents =>
-            hubs::play(alloc, row, script, told),
+        Way::Steps
+        | Way::Spare
+        | Way::Owned
+        | Way::Slices
+        | Way::Run
+        | Way::GuestSteps
+        | Way::GuestEvents => hubs::play(alloc, row, script, told),
         Way::Workers | Way::GuestWorkers => workers::play(rt, alloc, row, script, told),
-        Way::Calls | Way::Waits | Way::GuestCalls => served::play(rt, alloc, row, script, told),
+        Way::Calls | Way::Event | Way::Waits | Way::GuestCalls => served::play(
+            rt, alloc, row, script, told,
+        ),
         Way::Parks => parking::play(rt, alloc, row, script, told),
     }
 }
@@ -99,8 +109,8 @@ fn play_row<R: Threads + Wait + Sync>(
     play_script(rt, shared, row, &script, &mut told)
 }
 
-/// Plays the row of these lines, between a line that says which it is and one that says how it ended. `shared` is the same
-/// runtime, as what may wait.
+/// Plays the row of these lines, between a line that says which it is and one that says how it ended. `shared` is the
+/// same runtime, as what may wait.
 fn play_lines<R: Threads + Wait + Sync>(
     rt: &HostRuntime,
     shared: &R,

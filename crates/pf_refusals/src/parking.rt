@@ -88,8 +88,8 @@ struct Caller<'a> {
     count: &'a Count,
 }
 
-/// The thread that makes the step which waits. Where that was refused before the gate was told of it, the other one goes on
-/// all the same. There is a receipt for each event of its seat.
+/// The thread that makes the step which waits. Where that was refused before the gate was told of it, the other one
+/// goes on all the same. There is a receipt for each event of its seat.
 fn wait<R: Wait, C: Ledger, H: Ledger>(
     rt: &R,
     service: &Counted<'_, C, H>,
@@ -113,8 +113,8 @@ fn wait<R: Wait, C: Ledger, H: Ledger>(
     Some(seat)
 }
 
-/// The other thread: it gives the sign, and makes its step once the gate was told of so many events. Who waits holds the
-/// lock until it waits, so this step comes behind. Where it was refused it is made again.
+/// The other thread: it gives the sign, and makes its step once the gate was told of so many events. Who waits holds
+/// the lock until it waits, so this step comes behind. Where it was refused it is made again.
 fn let_go_on<R: Wait, C: Ledger, H: Ledger>(
     rt: &R,
     row: &Row<'_>,

@@ -1,14 +1,14 @@
-//! Rows. Each begins with a line of three words: how its steps are made, a number, and a name. The lines of a script come
-//! behind it. Where the steps are made one by one the number is a step's place, from 0; of a row with a guest it is 0 for
-//! its coming and 1 for its going; of one whose step waits it is that step's place.
+//! Rows. Each begins with a line of three words: how its steps are made, a number, and a name. The lines of a script
+//! come behind it. Where the steps are made one by one the number is a step's place, from 0; of a row with a guest it
+//! is 0 for its coming and 1 for its going; of one whose step waits it is that step's place.
 
 use crate::end::End;
 use pf_base::{ByteString, Config, Step};
 use pf_script::{Line, MemoryBytes, Script, read_script};
 use std::alloc::Global;
 
-/// So many bytes are asked for as a sign to whoever counts the requests for memory: before those that are to be counted,
-/// and behind them.
+/// So many bytes are asked for as a sign to whoever counts the requests for memory: before those that are to be
+/// counted, and behind them.
 const SIGN: usize = 7_777_777;
 
 /// How a row's steps are made.
@@ -22,12 +22,16 @@ pub(crate) enum Way {
     Spare,
     /// So too, but the bytes of each write have another owner.
     Owned,
+    /// So too, but each write is of the bytes of a slice, and each read into one.
+    Slices,
     /// By a hub, all at once.
     Run,
     /// By a worker for each namespace, one by one.
     Workers,
     /// By a service, one by one.
     Calls,
+    /// So too, but the requests of one step are counted, and not those of all.
+    Event,
     /// By a service, by calls that may wait.
     Waits,
     /// By a service, where one of them waits for the next, which is made on a thread of its own.
@@ -50,9 +54,11 @@ impl Way {
             "steps" => Some(Way::Steps),
             "spare" => Some(Way::Spare),
             "owned" => Some(Way::Owned),
+            "slices" => Some(Way::Slices),
             "run" => Some(Way::Run),
             "workers" => Some(Way::Workers),
             "calls" => Some(Way::Calls),
+            "event" => Some(Way::Event),
             "waits" => Some(Way::Waits),
             "parks" => Some(Way::Parks),
             "guest_steps" => Some(Way::GuestSteps),
@@ -63,11 +69,11 @@ impl Way {
         }
     }
 
-    /// Whether the requests of one step are counted.
+    /// Whether the requests of one step are counted, and the sign is given beside it.
     fn counts_a_step(self) -> bool {
         matches!(
             self,
-            Way::Space | Way::Steps | Way::Spare | Way::Owned | Way::Workers
+            Way::Space | Way::Steps | Way::Spare | Way::Owned | Way::Workers | Way::Event
         )
     }
 
@@ -122,6 +128,15 @@ impl Row<'_> {
     /// Gives the sign if it is to be beside the step of this place.
     pub(crate) fn give_sign_at(&self, alloc: Global, place: usize) -> Result<(), End> {
         if place == self.at && self.way.counts_a_step() {
+            self.give_sign(alloc)?;
+        }
+        Ok(())
+    }
+
+    /// The same where a slice serves the step: the sign is beside what the hub makes of it, and neither the slice nor
+    /// the reply that is made of it is counted.
+    pub(crate) fn give_sign_within(&self, alloc: Global, place: usize) -> Result<(), End> {
+        if place == self.at && self.way == Way::Slices {
             self.give_sign(alloc)?;
         }
         Ok(())

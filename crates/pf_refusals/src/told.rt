@@ -10,7 +10,8 @@ pub(crate) struct Told {
     pub(crate) answers: Vec<EventAnswer>,
     /// The numbers of those that its lines admit, in their order; none of one that isn't admitted.
     pub(crate) numbers: Vec<Option<u32>>,
-    /// Of a row with a guest: what is told of it as it comes, of another behind it, of it as it goes, and again of another.
+    /// Of a row with a guest: what is told of it as it comes, of another behind it, of it as it goes, and again of
+    /// another.
     pub(crate) comings: Vec<EventAnswer>,
     /// Whether the end was refused.
     pub(crate) is_open: bool,
@@ -27,8 +28,8 @@ impl Told {
         }
     }
 
-    /// The number of the namespace that has this place in a script, if it has one. Those of the space lines have the first
-    /// numbers, a guest among them.
+    /// The number of the namespace that has this place in a script, if it has one. Those of the space lines have the
+    /// first numbers, a guest among them.
     pub(crate) fn number_of(&self, script: &Script, place: u32) -> Option<u32> {
         match (place as usize).checked_sub(script.opening()) {
             None => Some(place),
