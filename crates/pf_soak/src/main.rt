@@ -1,11 +1,14 @@
-//! A soak: 64 namespaces over one pool make random steps in turn, and in the end each is compared with a lone run of its
-//! own steps, and the frames are counted. With no words it is a short fixed load; with a number, of so many steps; a
-//! second number is the seed. Each million steps the memory that the process has is told, and how long they took.
+//! A soak: 64 namespaces over one pool make random steps in turn, and in the end each is compared with a lone run of
+//! its own steps, and the frames are counted. With no words it is a short fixed load; with a number, of so many steps;
+//! a second number is the seed. Each million steps the memory that the process has is told, and how long they took;
+//! after the first million it is to stay flat.
 #![tactic(auto)]
 
+mod memory;
 mod steps;
 mod tenant;
 
+use crate::memory::Memory;
 use crate::tenant::Tenant;
 use pf_base::Config;
 use pf_frame::Frame;
@@ -15,7 +18,7 @@ use rand_pcg::Pcg32;
 use std::alloc::{AllocError, Global};
 use std::process::ExitCode;
 use std::time::Instant;
-use std::{env, fs, io};
+use std::{env, io};
 
 const NAMESPACES: u32 = 64;
 
@@ -27,7 +30,7 @@ const FIXED_STEPS: u64 = 20_000;
 
 const FIXED_SEED: u64 = 39;
 
-/// After as many steps the memory is told.
+/// After as many steps the memory is told and judged.
 const MILLION: u64 = 1_000_000;
 
 /// A hub of so many namespaces, whose frames hold this byte throughout.
@@ -68,32 +71,26 @@ fn soak(
     Ok(())
 }
 
-/// The memory that the process has, in pages of 4,096 bytes.
-fn pages(rt: &HostRuntime) -> io::Result<u64> {
-    let text = fs::read_to_string(rt, "/proc/self/statm")?;
-    let word = text.as_str().split(' ').nth(1).unwrap_or("");
-    Ok(word.parse::<u64>().unwrap_or(0))
-}
-
-/// Makes so many steps, and tells of each million.
+/// Makes so many steps, and tells of each million. Whether the memory was flat.
 fn soak_told(
     rt: &HostRuntime,
     hub: &mut Hub<Global>,
     order: &mut Pcg32,
     tenants: &mut [Tenant],
     steps: u64,
-) -> io::Result<()> {
+) -> io::Result<bool> {
+    let mut memory = Memory::new();
     for millions in 1..=steps / MILLION {
         let start = Instant::now(rt)?;
         soak(rt.alloc(), hub, order, tenants, MILLION)?;
         let milliseconds = start.elapsed(rt)?.as_millis();
-        let (pages, free) = (pages(rt)?, hub.free());
+        let (pages, free) = (memory.measure(rt)?, hub.free());
         println!(rt;
             "{millions} million steps: {pages} pages of memory, {free} frames free, {milliseconds} ms"
         )?;
     }
     soak(rt.alloc(), hub, order, tenants, steps % MILLION)?;
-    Ok(())
+    Ok(memory.is_flat())
 }
 
 /// How many frames are free or held by a namespace, none of which holds more than it reserves.
@@ -154,7 +151,7 @@ fn run(rt: &HostRuntime, steps: u64, seed: u64) -> io::Result<bool> {
         return Ok(false);
     };
     let mut order = Pcg32::new(seed, u64::from(NAMESPACES));
-    soak_told(rt, &mut hub, &mut order, &mut tenants, steps)?;
+    let is_flat = soak_told(rt, &mut hub, &mut order, &mut tenants, steps)?;
     let Some(frames) = count_frames(&hub) else {
         return Ok(false);
     };
@@ -163,7 +160,10 @@ fn run(rt: &HostRuntime, steps: u64, seed: u64) -> io::Result<bool> {
     println!(rt; "{steps} steps, {nomem} of them in want of memory")?;
     println!(rt; "{frames} frames, free or held")?;
     println!(rt; "{agreeing} namespaces are told the same alone")?;
-    Ok(frames == NAMESPACES * RESERVE && nomem == 0 && agreeing == NAMESPACES)
+    if !is_flat {
+        println!(rt; "memory grew after the first million steps")?;
+    }
+    Ok(is_flat && frames == NAMESPACES * RESERVE && nomem == 0 && agreeing == NAMESPACES)
 }
 
 fn main(rt: HostRuntime) -> io::Result<ExitCode> {
