@@ -44,8 +44,8 @@ HOLLOW = re.compile(r"has no field|is not in scope|has no `|was not admitted|whi
 BROKEN = re.compile(rf"\n +(?={HOLLOW.pattern})")
 PLANTED = "\nplanted : Type 0\nplanted = Type 0\n"  # it is refused: the type of a type isn't one of its own kind
 JUDGED = re.compile(r"^rt: (?:must-fail \w+|crates/\w+/must-fail)/(\S+?): (.*)$", re.M)
-HOLLOW_VERDICT = re.compile(
-    rf"refused, as it must be(?: \(only because a proof file|: \S*proofs/.*(?:{HOLLOW.pattern}))"
+HOLLOW_VERDICT = re.compile(  # of a record without a field the kit gives the first line alone, where its line is broken
+    rf"refused, as it must be(?: \(only because a proof file|: \S*proofs/.*(?:{HOLLOW.pattern}|record `.*` \(nearest:))"
 )
 
 Edit = namedtuple("Edit", "name text pairs spots")  # pairs: (file, old, new); spots: what it edits, as spot_at names it
