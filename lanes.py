@@ -237,7 +237,7 @@ class WrongBodies:
         return trial
 
     def outcome(self, crate, trials):
-        """How many of a crate's wrong bodies the prover refuses, by names alone too, and which it doesn't."""
+        """How many of a crate's wrong bodies the prover refuses, and which it doesn't, or by names alone."""
         earlier = len(self.edits[crate]) - sum(len(group) for part in self.parts[crate] for group in part)
         tried = [it for trial in trials if trial for it in trial.tried]
         lost = [f"{crate}/{it.name}" for it in tried if it.verdict == wrong_bodies.LET_THROUGH]
@@ -245,13 +245,14 @@ class WrongBodies:
         shown = [it for trial in trials if trial and trial.holds for it in trial.tried]
         refused = earlier + sum(it.verdict == wrong_bodies.WAS_REFUSED for it in shown)
         hollow = sorted(it.name for it in shown if it.verdict == wrong_bodies.BY_NAMES_ALONE)
+        lost += [f"{crate}/{it} (by names alone)" for it in hollow]
         counts = Counter(it.said.partition(":")[0] for it in tried if it.verdict == wrong_bodies.WAS_REFUSED)
         how = [f"{earlier} by an earlier run", f"{counts['refused']} in company", f"{counts['alone']} alone"]
         how += [f"{counts['whole']} by rt must-fail", f"{sum(it.seconds for it in trials if it):.0f} processor seconds"]
         say(f"{crate}: {refused} of {len(self.edits[crate])} wrong bodies refused ({', '.join(how)})")
         if hollow:
             say(f"{crate}: {len(hollow)} refused by names alone, which shows nothing of a contract: {' '.join(hollow)}")
-        return refused + len(hollow), lost
+        return refused, lost
 
 
 def unknown(root, names):
