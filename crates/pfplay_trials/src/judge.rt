@@ -6,8 +6,9 @@ use pf_play::{Options, ReplayFault, replay};
 use pf_script::{Collected, MemoryBytes, Reading, Source};
 use std::alloc::{AllocError, Global};
 
-/// The bytes that all frames hold at the start, which no text may depend on.
-const FILLS: [u8; 3] = [0, 165, 255];
+/// What no text may depend on: the bytes that all frames hold at the start, and whether the files of each name stand in a
+/// heap of so many bytes.
+const WAYS: [(u8, Option<u32>); 4] = [(0, None), (165, None), (255, None), (165, Some(16_777_216))];
 
 /// These lines, where a `;` stands for a line feed.
 fn with_line_feeds(alloc: Global, lines: &str) -> Result<String, AllocError> {
@@ -22,13 +23,14 @@ fn with_line_feeds(alloc: Global, lines: &str) -> Result<String, AllocError> {
 fn is_told<R: Source>(
     alloc: Global,
     reader: &mut R,
-    fill: u8,
+    way: (u8, Option<u32>),
     text: &str,
 ) -> Result<bool, AllocError> {
     let mut writer = Collected::new(alloc);
+    let (fill, tree_heap) = way;
     let options = Options {
         only: None,
-        tree_heap: None,
+        tree_heap,
         fill,
     };
     match replay(alloc, reader, &mut writer, &options) {
@@ -40,12 +42,12 @@ fn is_told<R: Source>(
     }
 }
 
-/// The same over frames of each kind, read from memory and from a reader of std.
+/// The same in each way, read from memory and from a reader of std.
 fn is_told_over_each(alloc: Global, script: &str, text: &str) -> Result<bool, AllocError> {
     let script = script.as_bytes();
-    for fill in FILLS {
-        let is_told_of_memory = is_told(alloc, &mut MemoryBytes::new(script), fill, text)?;
-        if !is_told_of_memory || !is_told(alloc, &mut Reading::new(script), fill, text)? {
+    for way in WAYS {
+        let is_told_of_memory = is_told(alloc, &mut MemoryBytes::new(script), way, text)?;
+        if !is_told_of_memory || !is_told(alloc, &mut Reading::new(script), way, text)? {
             return Ok(false);
         }
     }
