@@ -1,8 +1,8 @@
 """What the gate does in lanes: the wrong bodies of crates, side by side, in copies of the tree.
 
 A lane is a copy, in which one command runs at a time, since the commands of the kit wait for each other in one tree. A
-crate's untouched text is checked first, when all that it stands on is. Then its wrong bodies can be tried, in any lane:
-what a check in one copy keeps a check in another begins with.
+crate's untouched text is checked first, when all that it stands on is. What that check leaves in the crate's folder
+out/ is copied to the other lanes, as not every kit keeps it elsewhere. Then its wrong bodies can be tried, in any lane.
 
 What was seen refused is kept in the user's cache folder, where the untouched text checked again behind it: by checksums
 of the edit, of all files of the repository that the check reads, and of wrong_bodies.py, which judges; and by the kit's
@@ -222,9 +222,23 @@ class WrongBodies:
         """The check of each crate that others wait for. Those come first that the most others stand on."""
         needed = set().union(*(below(self.crates, it) for it in crates))
         above = Counter(it for crate in needed for it in below(self.crates, crate))
-        when = "as it stands, so its wrong bodies and what stands on it aren't tried"
-        work = lambda crate: lambda tree: is_proved(check(f"{tree}/crates/{crate}"), crate, when)
+        work = lambda crate: lambda tree: self.proof(tree, crate, above[crate] > 1)
         return [Task(it, self.crates[it], work(it)) for it in sorted(needed, key=lambda it: (-above[it], it))]
+
+    def proof(self, tree, crate, is_stood_on):
+        """Checks a crate as it stands, in one lane, and hands on what that leaves to the others, as not every kit keeps
+        it elsewhere. Where others stand on the crate, its library is built too, once for all lanes."""
+        when, folder = "as it stands, so its wrong bodies and what stands on it aren't tried", f"crates/{crate}"
+        if not is_proved(check(f"{tree}/{folder}"), crate, when):
+            return False
+        if is_stood_on and run(["rt", "lib"], f"{tree}/{folder}").status:
+            say(f"{crate}: its library isn't built")
+            return False
+        for other in self.trees if os.path.isdir(f"{tree}/{folder}/out") else []:
+            if other != tree:  # under another name first, so that no command there sees the half of it
+                shutil.copytree(f"{tree}/{folder}/out", f"{other}/{folder}/out.new", symlinks=True)
+                os.rename(f"{other}/{folder}/out.new", f"{other}/{folder}/out")
+        return True
 
     def trial(self, tree, crate, number):
         """Tries a part of a crate's wrong bodies. What it saw is kept where the untouched text checks behind them."""
