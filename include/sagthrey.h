@@ -12,10 +12,11 @@
  *                    sag_open, sag_admit, sag_spawn, sag_fork, sag_pipe, sag_set_pipe_size, each call with a path, a
  *                    sag_write that waits and a sag_resume of a read, and by no other
  *   SAG_NONAMESPACE  there is no such namespace. Nothing has changed. A shut handle has none
- * Each call but sag_exit and sag_resume is refused with -ESRCH where no process of this pid lives, and then with -EBUSY
- * where it waits in a call; those two with -ESRCH alone. The errors beside each function come after these, in the order
- * of their tests: the first that fits is told, and no other than these. What a manual page doesn't have is this
- * profile's own, as all that comes of `reserve`. (Numbers are given up to 2^64 - 1: what would come then is left out.)
+ * A call with a `pid` is refused with -ESRCH where no process of this pid lives, and then with -EBUSY where it waits in
+ * a call; sag_exit and sag_resume with -ESRCH alone, and sag_can_go_on is never refused. The errors beside each
+ * function come after these, in the order of their tests: the first that fits is told, and no other than these. What a
+ * manual page doesn't have is this profile's own, as all that comes of `reserve`. (Numbers are given up to 2^64 - 1:
+ * what would come then is left out.)
  *
  * What the host owes. A sag_hub is SAG_SHUT or was opened by sag_open; its fields are neither read nor written; only
  * one copy of it is used; and no two calls of one hub overlap, so threads take turns by a lock, or have a hub each. A
@@ -81,9 +82,9 @@ int64_t sag_open(uint32_t frames, const sag_limits *limits, size_t count, sag_hu
 /* Frees a hub and all that its namespaces hold, and shuts the handle. A shut one stays as it is. */
 void sag_free(sag_hub *h);
 
-/* Admits a namespace of these limits, and tells its number: the least that was never given. Else -EINVAL for a limit
- * out of its range, -ENOSPC where 64 live or 1,024 were given a number, -ENOMEM where `reserve` is above the frames
- * that nobody has reserved, SAG_NOMEM. */
+/* Admits a namespace of these limits, and tells its number: the least that was never given. Else SAG_NONAMESPACE of a
+ * shut handle, -EINVAL for a limit out of its range, -ENOSPC where 64 live or 1,024 were given a number, -ENOMEM where
+ * `reserve` is above the frames that nobody has reserved, SAG_NOMEM. */
 int64_t sag_admit(sag_hub *h, const sag_limits *limits);
 
 /* Retires a namespace that has no process: what it reserved is free for others, and its number isn't given again. 0; or
@@ -123,11 +124,12 @@ int64_t sag_resume(sag_hub *h, uint32_t ns, uint32_t pid, void *into, size_t cou
 /* Who can go on. An event loop asks after each step that may have let somebody go on: one of the same namespace. */
 
 /* Whether the call in which a process waits comes further when sag_resume tries it again: it is told something else
- * than SAG_PARKED, or more bytes of its write go in. False where it waits in no call. This profile's own. */
+ * than SAG_PARKED, or more bytes of its write go in. False where it waits in no call, and where there is no such
+ * process or namespace. This profile's own. */
 bool sag_can_go_on(sag_hub *h, uint32_t ns, uint32_t pid);
 
-/* The least pid above `after` whose process can go on, 0 where there is none: so a loop from 0 finds them all. This
- * profile's own, in place of poll(2) and epoll(7). */
+/* The least pid above `after` whose process can go on, 0 where there is none or no such namespace: so a loop from 0
+ * finds them all. This profile's own, in place of poll(2) and epoll(7). */
 uint32_t sag_next_to_go_on(sag_hub *h, uint32_t ns, uint32_t after);
 
 /* Pipes */
