@@ -231,8 +231,7 @@ class WrongBodies:
         when, folder = "as it stands, so its wrong bodies and what stands on it aren't tried", f"crates/{crate}"
         if not is_proved(check(f"{tree}/{folder}"), crate, when):
             return False
-        if is_stood_on and run(["rt", "lib"], f"{tree}/{folder}").status:
-            say(f"{crate}: its library isn't built")
+        if is_stood_on and not is_proved(run(["rt", "lib"], f"{tree}/{folder}"), crate, "as a library"):
             return False
         for other in self.trees if os.path.isdir(f"{tree}/{folder}/out") else []:
             if other != tree:  # under another name first, so that no command there sees the half of it

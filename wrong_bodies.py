@@ -31,13 +31,14 @@ from collections import Counter, namedtuple
 MOST = 30
 LAST = 40  # how many lines are printed of a check that should have passed
 FUNCTION = re.compile(r'^([ \t]*)(?:pub(?:\([^)]*\))? )?(?:const )?(?:unsafe )?(?:extern "C" )?fn (\w+)', re.M)
+NAME = re.compile(r"\bfn (\w+)")
 OWNER = re.compile(r"^(?:unsafe )?impl\b([^{]*)\{|^(?:pub(?:\([^)]*\))? )?trait (\w+)", re.M)
 ITEM = re.compile(r"^\s*(?:pub(?:\([^)]*\))? )?(?:struct|enum|impl|trait|mod|const|static|type|use)\b", re.M)
 # What a check says: of a function, of a place in a function's proof file, of a goal in the source, and of a source that
 # it can't read, where it judges nothing
 VERDICT = re.compile(r"^fn (\S+): (?:no proof|not proved)(?![;:] it calls)")
 FAULT = re.compile(r"^(?:\./)?proofs/(\S+)/(?:Answers|Invariants|Proof)\.antt:\d+:\d+: error: (?!`planted`)")
-UNPROVED = re.compile(r"^note: (?:\./)?(src/\S+?):(\d+):\d+: (?:it is not proved that|`search` found no proof)")
+UNPROVED = re.compile(r"^note: (?:\./)?(src/\S+?):(\d+):(\d+): (?:it is not proved that|`search` found no proof)")
 UNREAD = re.compile(r"^(?:\./)?(?:src|specs)/\S+?:\d+:\d+: error|\berror\[[\w-]+\]")
 # A fault that is one of names, or that follows from another; and where its line may be broken
 HOLLOW = re.compile(r"has no field|is not in scope|has no `|was not admitted|which was rejected")
@@ -92,7 +93,10 @@ def run(words, folder, each=lambda line: None):
 
 def known(words, folder):
     """Those of the words that this kit knows. One that keeps nothing between runs has no word to prove it anew."""
-    return [it for it in words if it in run(["rt", "help"], folder).said]
+    helps = re.findall(r"--\w[\w-]*", run(["rt", "help"], folder).said) if words else []
+    for it in (it for it in words if it not in helps):
+        say(f"this kit has no word {it}, and isn't told it")
+    return [it for it in words if it in helps]
 
 
 def check(folder, spots=()):
@@ -141,29 +145,31 @@ def home_of(folder, name):
 
 def spot_at(folder, file, text, at):
     """The function that a place of a source lies in, by its path below the crate as the prover writes it; where it lies
-    in none, the file."""
+    in none, the file. On the line of a function's head an edit may bring others before it, which are passed over."""
     end = text.find("\n", at) % (len(text) + 1)
     heads = [it for it in FUNCTION.finditer(text) if it.start() <= end]
     if not heads or re.search(rf"^{heads[-1][1]}\}}$", text[heads[-1].start() : at], re.M):
         return file
+    start = heads[-1].start()
+    names = [it[1] for it in NAME.finditer(text, start, text.find("\n", start) % (len(text) + 1)) if it.start() <= at]
     module, owner = module_of(file), []
-    blocks = [it for it in OWNER.finditer(text) if it.start() < heads[-1].start()] if heads[-1][1] else []
+    blocks = [it for it in OWNER.finditer(text) if it.start() < start] if heads[-1][1] else []
     if blocks and blocks[-1][2]:
         owner = [blocks[-1][2]]
     elif blocks:
         name, called = owner_of(blocks[-1][1])
         home = home_of(folder, name)
         module, owner = module if home is None else home, [called]
-    return "::".join([*module, *owner, heads[-1][2]])
+    return "::".join([*module, *owner, [heads[-1][2], *names][-1]])
 
 
-def spot_of_line(folder, file, text, line):
-    """The function that a line of a source lies in, or is an attribute of."""
+def spot_of_goal(folder, file, text, line, column):
+    """The function that a place of a source lies in, or is in an attribute of."""
     at = len("".join(text.splitlines(True)[: line - 1]))
     head = FUNCTION.search(text, at)
     if head and text.startswith("#[", at + len(head[1])) and not ITEM.search(text[at : head.start()]):
-        at = head.start()
-    return spot_at(folder, file, text, at)
+        return spot_at(folder, file, text, head.start())
+    return spot_at(folder, file, text, at + column - 1)
 
 
 # Edits, and which of them stand in one check
@@ -245,7 +251,7 @@ def spot_of_fault(fault):
     return fault[1].replace("/", "::").replace("+", "")
 
 
-def reasons_in(said, spot_of_goal, planted):
+def reasons_in(said, spot_at_goal, planted):
     """By their functions, lines of what a check said: those that are a reason of the function's own not to be proved,
     and those that are one of names."""
     lines = BROKEN.sub(" ", said).split("\n")
@@ -257,7 +263,7 @@ def reasons_in(said, spot_of_goal, planted):
     verdicts = {it[1].partition("::")[2]: it.string for it in found(VERDICT)}
     reasons = {spot: line for spot, line in verdicts.items() if spot not in planted and spot not in hollow}
     reasons |= {spot: line for spot, line in faults if not HOLLOW.search(line)}
-    return reasons | {spot_of_goal(it[1], int(it[2])): it.string for it in found(UNPROVED)}, hollow
+    return reasons | {spot_at_goal(it[1], int(it[2]), int(it[3])): it.string for it in found(UNPROVED)}, hollow
 
 
 def planted_in(folder, spots, texts):
@@ -337,8 +343,8 @@ class Trial:
         with in_place(self.folder, texts | dict(planted.values())):
             ran = self.counted(check(self.folder, spots))
         text = lambda file: texts.get(file) or text_of(self.folder, file)
-        spot_of_goal = lambda file, line: spot_of_line(self.folder, file, text(file), line)
-        return reasons_in(ran.said, spot_of_goal, planted) if ran.status == 1 else ({}, {})
+        spot_at_goal = lambda file, *place: spot_of_goal(self.folder, file, text(file), *place)
+        return reasons_in(ran.said, spot_at_goal, planted) if ran.status == 1 else ({}, {})
 
     def leave_to_the_kit(self, edits):
         """Tries edits by `rt must-fail`, with no others in must-fail/."""
