@@ -33,7 +33,7 @@ use Rattle.pf_tables.specs.Tables.{over, woken, awoken, HasLowest}
 use Rattle.pf_tables.specs.Opened.{IsOver}
 use Rattle.pf_tables.specs.Told.{Becomes, Told, Says, tried_call, waits_in, settled, ended}
 use Rattle.pf_tables.proofs.ProcessesDrop.{change-change}
-use Rattle.pf_tables.proofs.RowsShown.{set_same}
+use Rattle.pf_tables.proofs.TablesShown.{set_same}
 use Rattle.pf_space.proofs.ParkedTransfers.{sweep-waiting}
 
 -- A transfer of a process that was woken

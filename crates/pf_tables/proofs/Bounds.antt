@@ -41,7 +41,7 @@ use Rattle.pf_tables.proofs.OwnsLaws.{ring_at-pipe, stands_at, pages_within}
 use Rattle.pf_tables.specs.Rows.{ProcessRows, DescriptionRows, PipeRows, Key, Call, Process, Description, Pipe, call_of, call_in, process_of, state_of, end_in, Kept}
 use Rattle.pf_machine.proofs.ReplyLaws.{read_bytes, read-few, resume-few, list-few, quiet, few}
 use Rattle.pf_tables.proofs.Ends.{end_of_rows, refused, found}
-use Rattle.pf_tables.proofs.RowsShown.{find_at, was}
+use Rattle.pf_tables.proofs.TablesShown.{find_at, was}
 use Rattle.pf_tables.proofs.Transfers as transfers
 
 -- the reply to a step hands out no more, over these frames

@@ -34,11 +34,15 @@ use Rattle.pf_tables.specs.Rows as rows
 use Rattle.pf_tables.specs.Rows.{pipe_of, ProcessRows, DescriptionRows, PipeRows, Key, Process, process_in, ready_in, key_at, keys_of, process_of, processes_of, descriptions_of, pipes_of, state_of, Tied, Kept}
 use Rattle.pf_tables.specs.Tables.{closed, exited, descriptor, emptied, without_place, Left}
 use Rattle.pf_tables.specs.Told.{Becomes}
-use Rattle.pf_tables.proofs.Callers.{lives, lives_not, readies, place_is}
+use Rattle.pf_tables.proofs.ProcessTableReady.{lives, lives_not, readies, place_is}
 use Rattle.pf_tables.proofs.DescriptorsLetGo.{descriptor_shown}
-use Rattle.pf_tables.proofs.RowsShown.{shown, none_was, set_same}
+use Rattle.pf_tables.proofs.TablesShown.{shown, set_same}
 use Rattle.pf_tables.proofs.TablesSettled.{changed-swept, within_same}
 use Rattle.pf_tables.proofs.ProcessTableEmpty.{gone}
+
+none_was : {X Y : Type 0} (f : X → Y) (o : Option X) → option_map f o ≡ None → o ≡ None
+none_was f None h = refl
+none_was f (Some x) h = absurd (cc)
 
 module _ {files : Files} {files_made : ℕ} (f : Live) (limits : Limits) (charges : UserPages) (ps : ProcessRows) (ds : DescriptionRows) (pipes : PipeRows) (k : Kept charges ps ds pipes)
     (n : Namespace) (view : record { limits = limits; state = state_of ps ds pipes files files_made } ≡ n) (owns : Owns f n)

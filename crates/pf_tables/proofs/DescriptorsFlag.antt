@@ -16,11 +16,10 @@ use Rattle.pf_tables.specs.Owns.{Owns}
 use Rattle.pf_tables.specs.Rows.{ProcessRows, DescriptionRows, PipeRows, Key, Named, Description, description_of, processes_of, descriptions_of, pipes_of, state_of, IsEnd, TiedWith, Kept}
 use Rattle.pf_tables.specs.Tables.{flagged}
 use Rattle.pf_tables.specs.Told.{Becomes}
-use Rattle.pf_tables.proofs.CountersTied.{redescribed}
+use Rattle.pf_tables.proofs.TablesTied.{redescribed, names_row}
 use Rattle.pf_tables.proofs.Arrivals.{becomes}
 use Rattle.pf_tables.proofs.DescriptorsNamed.{Has, key_row, named_is}
-use Rattle.pf_tables.proofs.RowsShown.{shown, find_at}
-use Rattle.pf_tables.proofs.SmallChanges.{names_row}
+use Rattle.pf_tables.proofs.TablesShown.{shown, find_at}
 use Rattle.pf_tables.proofs.TablesSettled.{settled}
 
 -- the same end with the flag, or without

@@ -1,8 +1,9 @@
 -- A descriptor goes: a name is lost, and where it was the last its description, and perhaps the description's pipe. Each
 -- step of the code moves something into the hand or out of it.
 
-use Rattle.std.proofs.Common.{◌≡◌, ℕ, ◌-◌, ◌<◌, ◌≤◌, Bool, true, false, [], ◌∷◌, set, Option, Some, None, IsSome, is_some, IfSome, refl, sym, ap, subst, ◌∙◌, arith, if◌then◌else◌}
+use Rattle.std.proofs.Common.{◌≡◌, ◌≢◌, ℕ, suc, ◌+◌, ◌-◌, ◌<◌, ◌≤◌, Bool, true, false, List, [], ◌∷◌, set, Option, Some, None, IsSome, is_some, IfSome, refl, sym, ap, subst, ◌∙◌, arith, if◌then◌else◌}
 use Rattle.std.specs.Option.{option_map, option_and_then}
+use Rattle.std.proofs.lemmas.Bool.{ltb-true, ltb-false}
 use Rattle.std.proofs.lemmas.List.{map-set}
 use Rattle.pf_machine.specs.State.{itself}
 use Rattle.pf_machine.specs.FileMap.{Files}
@@ -12,15 +13,61 @@ use Rattle.pf_machine.specs.State as machine
 use Rattle.pf_machine.specs.Descriptors.{without_descriptor}
 use Rattle.pf_machine.specs.Sweep.{sweep}
 use Rattle.pf_machine.proofs.SweepLaws.{with_processes}
+use Rattle.pf_base.specs.declared.TheConstants.{MAX_DESCRIPTORS}
 use Rattle.pf_fds.specs.Registry.{find}
 use Rattle.pf_fds.specs.Descriptions.{names_of, one_less}
-use Rattle.pf_tables.specs.Rows.{ProcessRows, DescriptionRows, PipeRows, Key, Named, Process, Description, Pipe, call_of, key_at, without_key, with_fewer, is_used, left, gone, process_of, description_of, pipe_of, processes_of, descriptions_of, pipes_of, state_of, TiedWith, Tied, opens_at, opens_of}
+use Rattle.pf_tables.specs.Rows.{ProcessRows, DescriptionRows, PipeRows, Key, Named, Process, Description, Pipe, call_of, key_at, without_key, with_fewer, is_used, left, gone, process_of, description_of, pipe_of, processes_of, descriptions_of, pipes_of, state_of, reads_it, writes_it, held, holding, TiedWith, Tied, opens_at, opens_of}
 use Rattle.pf_tables.specs.Tables.{descriptor, Left, LetsGo, LetsGoOpens}
-use Rattle.pf_tables.proofs.CountersTied.{finds, once}
+use Rattle.pf_tables.proofs.TablesTied.{finds, miss, names_one, names_none, sides, once, moved, redescribed, repiped, place_and_end, names_row, pipe_row, same_place}
 use Rattle.pf_tables.proofs.Fifos.{opens_stay}
-use Rattle.pf_tables.proofs.RowsShown.{shown, find_at, set_same}
-use Rattle.pf_tables.proofs.SmallChanges.{taken, names_row, unnamed, unnamed_last, end_gone, enough}
+use Rattle.pf_tables.proofs.TablesShown.{shown, find_at, set_same}
 use Rattle.pf_tables.proofs.TablesSettled.{Within, within_row, within_same, changed-swept}
+
+-- What goes keeps the counters tied
+
+module _ (K : List Key) (E : List Description) (ps : ProcessRows) (ds : DescriptionRows) (pipes : PipeRows) where
+  module _ (k : Key) (d : Named Description) (stands : at ds k.serial ≡ Some (k.slot, d)) where
+    -- one name less: others are left
+    unnamed : TiedWith (k ∷ K) E ps ds pipes → d.names ≢ 1 → TiedWith K E ps (put_at ds k.serial (k.slot, record d { names = d.names - 1 })) pipes
+    unnamed t more =
+        redescribed (k ∷ K) E ps ds pipes t k.serial (k.slot, d) stands (Some (k.slot, record d { names = d.names - 1 })) K E
+        (place_and_end K E ps ds pipes k d stands t (d.names - 1)) t.in_hand.1 (λ n ne. omega (arith, names_none n k (λ e. ne (sym e))))
+        (let r = names_row K E ps ds pipes k d stands t in let one = names_one k in (omega (arith, r.0, one, more), omega (arith, r.0, one, more))) t.ends_in_hand (λ n. refl) (λ n. refl)
+
+    -- the last name: the description comes into the hand
+    unnamed_last : TiedWith (k ∷ K) E ps ds pipes → d.names ≡ 1 → TiedWith K (d.value ∷ E) ps (clear_at ds k.serial) pipes
+    unnamed_last t last =
+        redescribed (k ∷ K) E ps ds pipes t k.serial (k.slot, d) stands None K (d.value ∷ E)
+        (λ e h. absurd (cc)) t.in_hand.1 (λ n ne. omega (arith, names_none n k (λ e. ne (sym e))))
+        (let r = names_row K E ps ds pipes k d stands t in let one = names_one k in omega (arith, r.0, one, last)) (t.is_end k.serial (k.slot, d) stands, t.ends_in_hand) (λ n. omega arith) (λ n. omega arith)
+
+  -- an end less, and the pipe goes with its last
+  module _ (d : Description) (p : Pipe) (stands : at pipes d.pipe.serial ≡ Some (d.pipe.slot, p)) where
+    others : (n : ℕ) → n ≢ d.pipe.serial → (held (reads_it n) (d ∷ E) ≡ held (reads_it n) E) × (held (writes_it n) (d ∷ E) ≡ held (writes_it n) E)
+    others n ne = let other : d.pipe.serial ≢ n = λ e. ne (sym e) in (omega (arith, miss d.pipe.serial n d.reads other), omega (arith, miss d.pipe.serial n d.writes other))
+
+    -- its sides are among those that the pipe counts
+    enough : TiedWith K (d ∷ E) ps ds pipes → (one_if d.reads ≤ p.readers) × (one_if d.writes ≤ p.writers)
+    enough t = let c = pipe_row K E ps ds pipes d.pipe p stands t in (omega (arith, c.0, (sides d).0), omega (arith, c.1, (sides d).1))
+
+    end_gone : TiedWith K (d ∷ E) ps ds pipes → TiedWith K E ps ds (set pipes d.pipe.serial (left d p))
+    end_gone t = by_used (is_used (with_fewer d p)) refl
+      where
+        by_used : (b : Bool) → is_used (with_fewer d p) ≡ b → TiedWith K E ps ds (set pipes d.pipe.serial (if b then Some (d.pipe.slot, with_fewer d p) else None))
+        by_used true u =
+            repiped K (d ∷ E) ps ds pipes t d.pipe.serial (d.pipe.slot, p) stands (Some (d.pipe.slot, with_fewer d p)) E (same_place K E ps ds pipes d.pipe p stands (with_fewer d p)) t.ends_in_hand.1 others
+            (let c = pipe_row K E ps ds pipes d.pipe p stands t in let l = ltb-true 0 ((p.readers - one_if d.reads) + (p.writers - one_if d.writes)) u in
+            (omega (arith, c.0, (sides d).0), omega (arith, c.1, (sides d).1), omega (arith, l, c.0, c.1, (sides d).0, (sides d).1)))
+        by_used false u =
+            repiped K (d ∷ E) ps ds pipes t d.pipe.serial (d.pipe.slot, p) stands None E (λ e h. absurd (cc)) t.ends_in_hand.1 others
+            (let c = pipe_row K E ps ds pipes d.pipe p stands t in let l = ltb-false 0 ((p.readers - one_if d.reads) + (p.writers - one_if d.writes)) u in
+            (omega (arith, l, c.0, c.1, (sides d).0, (sides d).1), omega (arith, l, c.0, c.1, (sides d).0, (sides d).1)))
+
+  -- a key leaves a descriptor for the hand
+  module _ (i fd : ℕ) (p : Process) (stands : at ps i ≡ Some p) (fd_in : fd < MAX_DESCRIPTORS) where
+    taken : (k : Key) → at p.descriptors fd ≡ Some k → TiedWith K E ps ds pipes → TiedWith (k ∷ K) E (put_at ps i (record p { descriptors = clear_at p.descriptors fd })) ds pipes
+    taken k e t =
+        subst (λ o. TiedWith (holding o K) E (put_at ps i (record p { descriptors = clear_at p.descriptors fd })) ds pipes) e (moved K E ps ds pipes i (suc fd) p (record p { descriptors = clear_at p.descriptors fd }) stands (omega arith) None refl t)
 
 -- what the tables show of a descriptor
 pub descriptor_shown : (ps : ProcessRows) (ds : DescriptionRows) (pipes : PipeRows) (files : Files) (files_made : ℕ) (i fd : ℕ) → descriptor (state_of ps ds pipes files files_made) i fd ≡ option_map (λ k. k.serial) (key_at fd (at ps i))

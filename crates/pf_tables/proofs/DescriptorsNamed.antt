@@ -16,9 +16,9 @@ use Rattle.pf_fds.specs.Registry.{find}
 use Rattle.pf_frame.specs.Live.{Live}
 use Rattle.pf_tables.specs.Meaning.{Namespace, meaning}
 use Rattle.pf_tables.specs.Rows.{ProcessRows, DescriptionRows, PipeRows, Key, Named, Process, Description, process_of, ready_in, key_in, state_of, Tied}
-use Rattle.pf_tables.proofs.Callers.{shown_in, ready_shown, readies, place_is}
-use Rattle.pf_tables.proofs.CountersTied.{finds}
-use Rattle.pf_tables.proofs.RowsShown.{find_at}
+use Rattle.pf_tables.proofs.ProcessTableReady.{shown_in, ready_shown, readies, place_is}
+use Rattle.pf_tables.proofs.TablesTied.{finds}
+use Rattle.pf_tables.proofs.TablesShown.{find_at}
 
 -- who has the key that the tables found
 pub record Has (ps : ProcessRows) (pid fd : ℕ) (k : Key) : Type 0 where

@@ -17,9 +17,9 @@ use Rattle.pf_base.specs.declared.progress.Side.TheVariants as sides
 use Rattle.pf_frame.specs.Live.{Live}
 use Rattle.pf_tables.specs.Meaning.{meaning, pipe_meaning}
 use Rattle.pf_tables.specs.Rows.{ProcessRows, DescriptionRows, PipeRows, Key, Named, Process, Description, Pipe, process_of, description_of, pipe_of, pipes_of, state_of, ready_in, has, description_in, end_in, read_by, written_by, UsedRow, Tied}
-use Rattle.pf_tables.proofs.Callers.{shown_in, ready_shown, place_is}
-use Rattle.pf_tables.proofs.CountersTied.{finds}
-use Rattle.pf_tables.proofs.RowsShown.{shown, find_at}
+use Rattle.pf_tables.proofs.ProcessTableReady.{shown_in, ready_shown, place_is}
+use Rattle.pf_tables.proofs.TablesTied.{finds}
+use Rattle.pf_tables.proofs.TablesShown.{shown, find_at}
 use Rattle.pf_tables.proofs.TablesSettled.{readers_shown, writers_shown}
 
 -- the machine's end of a side, or any where none is asked for

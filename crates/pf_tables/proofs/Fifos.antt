@@ -12,9 +12,9 @@ use Rattle.pf_pipe.specs.Pipe.{unopened}
 use Rattle.pf_tables.specs.Rows.{ProcessRows, DescriptionRows, PipeRows, Key, Pipe, Opens, opens_at, opens_of, NoMore, AreFifos}
 use Rattle.pf_tables.specs.Tables.{LetsGoOpens, Forgets}
 use Rattle.pf_tables.proofs.TransfersCross.{set_around}
-use Rattle.pf_tables.proofs.CountersTied.{by_set, by_push, once}
+use Rattle.pf_tables.proofs.TablesTied.{by_set, by_push, once}
 use Rattle.pf_tables.proofs.PipesOpen.{Makes, reading, writing, two_ended}
-use Rattle.pf_tables.proofs.RowsShown.{shown, find_was, set_same}
+use Rattle.pf_tables.proofs.TablesShown.{shown, find_was, set_same}
 
 -- one row has one file, and one key is of one pipe
 pub same_file : {p q : ℕ} {o x : Opens} → ◌≡◌ {A = Option (ℕ × Opens)} (Some (p, o)) (Some (q, x)) → o.file ≡ x.file

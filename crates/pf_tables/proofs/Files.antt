@@ -21,7 +21,7 @@ use Rattle.pf_tables.specs.Owns.{Owns}
 use Rattle.pf_tables.specs.Rows.{ProcessRows, DescriptionRows, PipeRows, Process, process_of, state_of, ready_in, Tied}
 use Rattle.pf_tables.specs.Tables.{Tells, HasFiled}
 use Rattle.pf_tables.specs.Told.{Becomes, Told, settled as all_settled}
-use Rattle.pf_tables.proofs.Callers.{readies}
+use Rattle.pf_tables.proofs.ProcessTableReady.{readies}
 use Rattle.pf_tables.proofs.TablesSettled.{settled}
 use Rattle.pf_walk.specs.Told.{Changed, Told as Answered}
 

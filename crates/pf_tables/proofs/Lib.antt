@@ -3,7 +3,7 @@ pub mod OwnsLaws
 mod OpensTests
 pub mod Bounds
 mod Buffers
-mod Callers
+mod ProcessTableReady
 mod DescriptorsLetGo
 mod TransfersCross
 mod DescriptorsDup
@@ -18,7 +18,7 @@ mod DescriptorsFlag
 mod OpensNew
 mod ProcessesFork
 mod DescriptorsDrop
-mod CountersTied
+mod TablesTied
 mod OpensFound
 mod Arrivals
 mod DescriptorsNamed
@@ -27,9 +27,7 @@ pub mod PipesSetSize
 pub mod OpensResolve
 mod ProcessTable
 pub mod Sendable
-mod SmallChanges
-mod OneNameMore
-pub mod RowsShown
+pub mod TablesShown
 mod TablesSettled
 mod Transfers
 mod ProcessTableEmpty

@@ -15,11 +15,10 @@ use Rattle.pf_tables.specs.declared.tables.opens.Access.{Access as Stored}
 use Rattle.pf_tables.specs.Meaning.{AreCharged}
 use Rattle.pf_tables.specs.Opened.{counted, end_of, taking, Describes}
 use Rattle.pf_tables.specs.Rows.{ProcessRows, DescriptionRows, PipeRows, Key, Description, Pipe, Opens, made_by, reads_it, writes_it, holding, opens_at, opens_of, pipe_of, pipes_of, NoMore, AreFifos, TiedWith, Tied}
-use Rattle.pf_tables.proofs.Callers.{place_of}
+use Rattle.pf_tables.proofs.ProcessTableReady.{place_of}
 use Rattle.pf_tables.proofs.Fifos.{same_file, same_place}
-use Rattle.pf_tables.proofs.CountersTied.{by_set, found, finds-new, miss, sides, once, repiped, described, piped, moved}
-use Rattle.pf_tables.proofs.RowsShown.{shown}
-use Rattle.pf_tables.proofs.SmallChanges.{put, pipe_row}
+use Rattle.pf_tables.proofs.TablesTied.{by_set, found, finds-new, miss, sides, once, repiped, described, piped, moved, put, pipe_row}
+use Rattle.pf_tables.proofs.TablesShown.{shown}
 
 -- an open is for a side at least
 abbrev pub IsSided : Stored → Type 0

@@ -15,7 +15,7 @@ use Rattle.pf_limits.specs.UserPages.{UserPages}
 use Rattle.pf_tables.specs.Meaning.{Namespace, meaning, pipe_meaning}
 use Rattle.pf_tables.specs.Rows.{ProcessRows, DescriptionRows, PipeRows, Key, Pipe, Opens, opens_at, opens_of, pipe_of, pipes_of, state_of, AreFifos, Whole}
 use Rattle.pf_tables.proofs.Ends.{counted}
-use Rattle.pf_tables.proofs.RowsShown.{find_at}
+use Rattle.pf_tables.proofs.TablesShown.{find_at}
 use Rattle.pf_machine.proofs.NumberedLaws.{at-map}
 
 -- The least number that passes a test

@@ -33,14 +33,14 @@ use Rattle.pf_tables.specs.Opened.{access_seen, before, counted, end_of, told_at
 use Rattle.pf_tables.specs.Owns.{Owns}
 use Rattle.pf_tables.specs.Rows.{ProcessRows, DescriptionRows, PipeRows, Key, Process, Pipe, process_in, ready_in, process_of, description_of, pipe_of, pipes_of, opens_at, state_of, reads_it, writes_it, Whole, Tied}
 use Rattle.pf_tables.specs.Told.{Becomes}
-use Rattle.pf_tables.proofs.Callers.{shown_in, readies, ready_shown, is_living, is_awake, place_of}
+use Rattle.pf_tables.proofs.ProcessTableReady.{shown_in, readies, ready_shown, is_living, is_awake, place_of}
 use Rattle.pf_tables.proofs.Ends.{counted as ends_counted}
 use Rattle.pf_tables.proofs.OpensOutcome as entered
 use Rattle.pf_tables.proofs.OpensDescribe.{IsSided, entered as entering, admitted, entered-charged, entered-fifos, seated_is}
 use Rattle.pf_tables.proofs.OpensFind.{fifo_is, fifo_shown}
 use Rattle.pf_tables.proofs.Arrivals.{becomes}
-use Rattle.pf_tables.proofs.RowsShown.{shown, find_was}
-use Rattle.pf_tables.proofs.SmallChanges.{pipe_row}
+use Rattle.pf_tables.proofs.TablesShown.{shown, find_was}
+use Rattle.pf_tables.proofs.TablesTied.{pipe_row}
 use Rattle.pf_tables.proofs.TablesSettled.{settled}
 
 -- at most one of each

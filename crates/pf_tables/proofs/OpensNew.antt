@@ -40,11 +40,11 @@ use Rattle.pf_tables.specs.Owns.{Owns}
 use Rattle.pf_tables.proofs.OwnsLaws.{slots-rings}
 use Rattle.pf_tables.specs.Rows.{ProcessRows, DescriptionRows, PipeRows, Key, Process, Pipe, Opens, ready_in, process_of, pipe_of, pipes_of, opens_at, opens_of, state_of, UsedRow, NoMore, AreFifos, Whole, Tied, read_by, written_by}
 use Rattle.pf_tables.specs.Told.{Becomes}
-use Rattle.pf_tables.proofs.Callers.{readies, is_living, is_awake, place_of}
+use Rattle.pf_tables.proofs.ProcessTableReady.{readies, is_living, is_awake, place_of}
 use Rattle.pf_tables.proofs.OpensOutcome as entered
 use Rattle.pf_tables.proofs.OpensDescribe.{IsSided, founded, admitted, entered-fifos, seated_is}
 use Rattle.pf_tables.proofs.OpensFind.{fifo_shown}
-use Rattle.pf_tables.proofs.CountersTied.{by_push}
+use Rattle.pf_tables.proofs.TablesTied.{by_push}
 use Rattle.pf_tables.proofs.OpensFound.{ready_is, may_here, caller, has_free}
 use Rattle.pf_tables.proofs.Arrivals.{becomes}
 use Rattle.pf_tables.proofs.TablesSettled.{settled, readers_shown, writers_shown}

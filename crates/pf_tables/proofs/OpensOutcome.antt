@@ -27,8 +27,8 @@ use Rattle.pf_tables.specs.declared.tables.opens.Access.{Access as Stored}
 use Rattle.pf_tables.specs.Meaning.{meaning, pipe_meaning}
 use Rattle.pf_tables.specs.Opened.{access_seen, counted, end_of, taking, lacks_readers, may_open, opening}
 use Rattle.pf_tables.specs.Rows.{ProcessRows, DescriptionRows, PipeRows, Key, Process, Pipe, call_of, process_of, description_of, pipe_of, processes_of, pipes_of, state_of}
-use Rattle.pf_tables.proofs.CountersTied.{once}
-use Rattle.pf_tables.proofs.RowsShown.{shown}
+use Rattle.pf_tables.proofs.TablesTied.{once}
+use Rattle.pf_tables.proofs.TablesShown.{shown}
 
 -- The machine's open, where nothing refuses it
 pub goes : (c : Limits) (s : State Segment ℕ) (pid : ℕ) (p : machine.Process ℕ) (a : Access) (file : ℕ) → ready s pid ≡ Ok p → may_open s pid a file ≡ Ok tt

@@ -30,11 +30,11 @@ use Rattle.pf_parked.specs.declared.call.Call.TheVariants.{Open}
 use Rattle.pf_tables.specs.Meaning.{Namespace, meaning}
 use Rattle.pf_tables.specs.Opened.{lacks_readers, may_open, fifo_capacity, other_opens, IsOver}
 use Rattle.pf_tables.specs.Rows.{ProcessRows, DescriptionRows, PipeRows, Key, Named, Process, Description, Pipe, call_of, call_in, made_by, process_at, process_in, ready_in, process_of, description_of, pipe_of, state_of, Kept}
-use Rattle.pf_tables.proofs.Callers.{shown_in, readies, living_shown, place_of}
+use Rattle.pf_tables.proofs.ProcessTableReady.{shown_in, readies, living_shown, place_of}
 use Rattle.pf_tables.proofs.Ends.{end_shown}
-use Rattle.pf_tables.proofs.CountersTied.{finds}
+use Rattle.pf_tables.proofs.TablesTied.{finds}
 use Rattle.pf_tables.proofs.PipesOpen.{total_is, charged_is}
-use Rattle.pf_tables.proofs.RowsShown.{find_at}
+use Rattle.pf_tables.proofs.TablesShown.{find_at}
 
 -- a refusal goes on, and want of memory
 pub passed_on : {A B : Type 0} (fault : Fault) (answer : Result A Errno) (go : A → Result B Errno) → Answered (λ x. x) (Err fault) answer → Answered (λ (x : B). x) (Err fault) (answer >>= go)

@@ -21,11 +21,10 @@ use Rattle.pf_tables.specs.Rows as rows
 use Rattle.pf_tables.specs.Rows.{ProcessRows, DescriptionRows, PipeRows, Key, Process, Call, call_of, made_by, keys_of, keys_to, names_it, IsSpare, Finds, process_in, ready_in, process_of, processes_of, descriptions_of, pipes_of, state_of, TiedWith, Tied, Kept}
 use Rattle.pf_tables.specs.Tables.{over, woken, awoken, HasLowest}
 use Rattle.pf_tables.specs.Told.{Becomes, waits_in}
-use Rattle.pf_tables.proofs.Callers.{shown_in, found_in, living_shown, ready_shown, place_of, place_is, is_awake}
-use Rattle.pf_tables.proofs.CountersTied.{moved}
+use Rattle.pf_tables.proofs.ProcessTableReady.{shown_in, found_in, living_shown, ready_shown, place_of, place_is, is_awake}
+use Rattle.pf_tables.proofs.TablesTied.{moved, put}
 use Rattle.pf_tables.proofs.Arrivals.{becomes}
-use Rattle.pf_tables.proofs.RowsShown.{shown}
-use Rattle.pf_tables.proofs.SmallChanges.{put}
+use Rattle.pf_tables.proofs.TablesShown.{shown}
 use Rattle.pf_tables.proofs.TablesSettled.{settled}
 
 -- Who lives for the machine lives in the tables

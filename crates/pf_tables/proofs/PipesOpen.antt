@@ -35,13 +35,26 @@ use Rattle.pf_tables.specs.Meaning.{Namespace, meaning, pipe_meaning, rings_of}
 use Rattle.pf_tables.proofs.MeaningLaws.{total-meaning}
 use Rattle.pf_tables.specs.Owns.{Owns}
 use Rattle.pf_tables.proofs.OwnsLaws.{joined_opened, meaning-opened}
-use Rattle.pf_tables.specs.Rows.{ProcessRows, DescriptionRows, PipeRows, Key, Process, Description, Pipe, ready_in, with_keys, process_of, description_of, pipe_of, processes_of, descriptions_of, pipes_of, state_of, Tied, Kept, Named}
+use Rattle.pf_tables.specs.Rows.{ProcessRows, DescriptionRows, PipeRows, Key, Process, Description, Pipe, ready_in, with_keys, process_of, description_of, pipe_of, processes_of, descriptions_of, pipes_of, state_of, NamedRow, TiedWith, Tied, Kept, Named}
 use Rattle.pf_tables.specs.Tables.{HasTwo, FindsTwo, Opens, opened_next, capacity_of_caller}
-use Rattle.pf_tables.proofs.Callers.{readies, readies_not, place_is}
-use Rattle.pf_tables.proofs.CountersTied.{finds-new, miss, once, sides, described, piped, swapped}
+use Rattle.pf_tables.proofs.ProcessTableReady.{readies, readies_not, place_is}
+use Rattle.pf_tables.proofs.TablesTied.{finds-new, miss, once, sides, described, piped, put}
 use Rattle.pf_tables.proofs.Arrivals.{becomes}
-use Rattle.pf_tables.proofs.SmallChanges.{put}
 use Rattle.pf_tables.proofs.TablesSettled.{settled}
+
+-- what is in the hand has no order
+module _ (K : List Key) (E : List Description) (ps : ProcessRows) (ds : DescriptionRows) (pipes : PipeRows) where
+  pub swapped : (j k : Key) → TiedWith (k ∷ j ∷ K) E ps ds pipes → TiedWith (j ∷ k ∷ K) E ps ds pipes
+  swapped j k t = record {
+    places = t.places;
+    wide = t.wide;
+    finds = t.finds;
+    in_hand = (t.in_hand.1.0, (t.in_hand.0, t.in_hand.1.1));
+    names = λ n. subst (λ c. NamedRow c (at ds n)) (omega arith) (t.names n);
+    is_end = t.is_end;
+    ends_in_hand = t.ends_in_hand;
+    uses = t.uses;
+  }
 
 -- Its two lowest free descriptors
 

@@ -38,13 +38,13 @@ use Rattle.pf_tables.specs.Owns.{Owns}
 use Rattle.pf_tables.proofs.OwnsLaws.{ring_at-pipe, slots-rings, pages-without, recharged, charged-same}
 use Rattle.pf_tables.specs.Told.{Becomes, Told, settled as told_by}
 use Rattle.pf_tables.proofs.PipesOpen.{charged_is, total_is}
-use Rattle.pf_tables.proofs.SmallChanges.{requeued}
+use Rattle.pf_tables.proofs.TablesTied.{requeued}
 use Rattle.pf_tables.proofs.TablesSettled.{settled}
 use Rattle.pf_tables.specs.Rows.{ProcessRows, DescriptionRows, PipeRows, Process, Description, Pipe, process_of, pipe_of, processes_of, descriptions_of, pipes_of, state_of, ready_in, end_in, Tied, Kept}
 use Rattle.pf_tables.specs.Tables.{Tells, HasResized, sized, size_of_end, verdict, Resizes, Refuses, Resizing}
-use Rattle.pf_tables.proofs.Callers.{readies}
+use Rattle.pf_tables.proofs.ProcessTableReady.{readies}
 use Rattle.pf_tables.proofs.Ends.{end_of_rows, Found, refused, found}
-use Rattle.pf_tables.proofs.RowsShown.{shown, find_at, find_was, set_same}
+use Rattle.pf_tables.proofs.TablesShown.{shown, find_at, find_was, set_same}
 
 -- a refusal of the second step, and its value, where the third asks the first as well
 module _ {A B C : Type 0} (h : A → Result B Errno) (go : A → B → Result C Errno) where

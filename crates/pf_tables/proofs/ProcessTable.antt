@@ -15,7 +15,7 @@ use Rattle.pf_machine.proofs.NumberedLaws.{at_within, at-put_same, at-put_other}
 use Rattle.pf_parked.specs.declared.call.Call.TheVariants.{Open, Read, Write, Cross}
 use Rattle.pf_tables.specs.Rows.{Key, Call, Process, ProcessRows, IsSpare, IsSeated, IsWatched, MayWait}
 use Rattle.pf_tables.specs.Rows.{process_at, awake, ready_in, waits, with_call}
-use Rattle.pf_tables.proofs.CountersTied.{by_set}
+use Rattle.pf_tables.proofs.TablesTied.{by_set}
 use Rattle.pf_tables.proofs.ProcessTableEmpty.{vacant_at, length-vacant}
 
 pub bare_seated : (ps : ProcessRows) → ps ≡ vacant MAX_PROCESSES → IsSeated ps

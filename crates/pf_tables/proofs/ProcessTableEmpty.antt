@@ -13,7 +13,7 @@ use Rattle.pf_base.specs.declared.TheConstants.{MAX_PROCESSES, MAX_DESCRIPTORS}
 use Rattle.pf_limits.specs.UserPages.{UserPages}
 use Rattle.pf_tables.specs.Meaning.{AreCharged}
 use Rattle.pf_tables.specs.Rows.{ProcessRows, DescriptionRows, PipeRows, Process, process_of, pipes_of, state_of, keys_of, keys_to, names_it, Tied}
-use Rattle.pf_tables.proofs.CountersTied.{reseated}
+use Rattle.pf_tables.proofs.TablesTied.{reseated}
 
 pub vacant_at : {X : Type 0} (n k : ℕ) → at {X = X} (vacant n) k ≡ None
 unfolding vacant

@@ -21,11 +21,11 @@ use Rattle.pf_tables.specs.Meaning.{Namespace, meaning}
 use Rattle.pf_tables.specs.Rows as rows
 use Rattle.pf_tables.specs.Rows.{ProcessRows, DescriptionRows, PipeRows, Key, process_of, state_of, key_at, Kept, process_in}
 use Rattle.pf_tables.specs.Told.{Becomes}
-use Rattle.pf_tables.proofs.Callers.{place_of}
+use Rattle.pf_tables.proofs.ProcessTableReady.{place_of}
 use Rattle.pf_machine.specs.Calls.{Call, Opening, Moving}
 use Rattle.pf_machine.specs.Queue.{Segment}
 use Rattle.pf_tables.specs.Tables.{over, woken, awoken, descriptor, emptied, without_place, empty_first, without_first}
-use Rattle.pf_tables.proofs.RowsShown.{shown, set_same}
+use Rattle.pf_tables.proofs.TablesShown.{shown, set_same}
 
 at_kept : {X : Type 0} (n : ℕ) (xs : List (Option X)) (k : ℕ) → n ≤ k → at (keep (λ fd. nat_le n fd) xs) k ≡ at xs k
 at_kept n xs k h = at-keep (λ fd. nat_le n fd) xs k ∙ ap (λ b. if b then at xs k else None) (le-leb n k h)

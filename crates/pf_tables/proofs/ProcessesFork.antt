@@ -26,12 +26,11 @@ use Rattle.pf_tables.specs.Owns.{Owns}
 use Rattle.pf_tables.specs.Rows.{ProcessRows, DescriptionRows, PipeRows, Key, Named, Process, Description, ready_in, made_by, keys_of, keys_to, names_it, held, holding, process_of, description_of, processes_of, descriptions_of, pipes_of, state_of, Finds, AllFind, AreFew, with_name, with_first_names, named_once_more, TiedWith, Tied, Kept}
 use Rattle.pf_tables.specs.Tables.{Tells, forked}
 use Rattle.pf_tables.specs.Told.{Becomes}
-use Rattle.pf_tables.proofs.Callers.{readies, readies_not, place_is, is_awake}
-use Rattle.pf_tables.proofs.CountersTied.{finds, by_set, held-holding, reseated}
+use Rattle.pf_tables.proofs.ProcessTableReady.{readies, readies_not, place_is, is_awake}
+use Rattle.pf_tables.proofs.TablesTied.{finds, by_set, held-holding, reseated}
 use Rattle.pf_tables.proofs.Arrivals.{becomes}
-use Rattle.pf_tables.proofs.OneNameMore.{few_names, named_row}
-use Rattle.pf_tables.proofs.RowsShown.{find_at, set_same}
-use Rattle.pf_tables.proofs.SmallChanges.{named_again}
+use Rattle.pf_tables.proofs.DescriptorsDup.{few_names, named_row, named_again}
+use Rattle.pf_tables.proofs.TablesShown.{find_at, set_same}
 use Rattle.pf_tables.proofs.TablesSettled.{settled}
 
 -- What one name more leaves of the rows

@@ -35,10 +35,10 @@ use Rattle.pf_tables.specs.Opened.{other_opens}
 use Rattle.pf_tables.specs.Owns.{Owns}
 use Rattle.pf_tables.specs.Queries.{GoesOn}
 use Rattle.pf_tables.specs.Rows.{ProcessRows, DescriptionRows, PipeRows, Key, Named, Process, Description, Pipe, Call, call_of, process_of, state_of, process_in, waits, end_of_row, end_in, made_by, Kept}
-use Rattle.pf_tables.proofs.Callers.{lives, lives_not, place_of}
+use Rattle.pf_tables.proofs.ProcessTableReady.{lives, lives_not, place_of}
 use Rattle.pf_tables.proofs.Ends.{side_end, end_of_rows, Agrees, by_key, end_shown, counted, refused, found}
-use Rattle.pf_tables.proofs.CountersTied.{finds}
-use Rattle.pf_tables.proofs.RowsShown.{find_at, find_was}
+use Rattle.pf_tables.proofs.TablesTied.{finds}
+use Rattle.pf_tables.proofs.TablesShown.{find_at, find_was}
 use Rattle.pf_tables.proofs.Transfers as transfers
 
 -- who is found as who lives

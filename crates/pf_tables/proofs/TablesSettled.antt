@@ -16,8 +16,8 @@ use Rattle.pf_machine.specs.Counts.{names, readers, writers, ends}
 use Rattle.pf_machine.specs.Sweep.{sweep}
 use Rattle.pf_machine.proofs.SweepLaws.{with_processes, swept, ends-le-sides, readers-le-ends, writers-le-ends}
 use Rattle.pf_tables.specs.Rows.{ProcessRows, DescriptionRows, PipeRows, Key, Named, Description, Pipe, Call, call_of, made_by, keys_of, named, read_by, written_by, NamedRow, UsedRow, Tied, description_of, pipe_of, processes_of, descriptions_of, pipes_of, state_of}
-use Rattle.pf_tables.proofs.RowsShown.{was, shown}
-use Rattle.pf_tables.proofs.CountersTied.{by_set}
+use Rattle.pf_tables.proofs.TablesShown.{was, shown}
+use Rattle.pf_tables.proofs.TablesTied.{by_set}
 
 -- what a call has made, as the machine sees it
 made_shown : (o : Option (Call Key)) → calls.made_by (option_map call_of o) ≡ option_map (λ (k : Key). k.serial) (made_by o)

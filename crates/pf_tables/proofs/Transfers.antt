@@ -38,10 +38,10 @@ use Rattle.pf_tables.specs.Rows.{ProcessRows, DescriptionRows, PipeRows, Process
 use Rattle.pf_tables.specs.Buffers.{Lies}
 use Rattle.pf_tables.specs.Told.{attempted, Came}
 use Rattle.pf_tables.proofs.Buffers as buffers
-use Rattle.pf_tables.proofs.Callers.{shown_in, ready_shown}
+use Rattle.pf_tables.proofs.ProcessTableReady.{shown_in, ready_shown}
 use Rattle.pf_tables.proofs.Ends.{side_end, end_of_rows, refused, found, counted}
-use Rattle.pf_tables.proofs.RowsShown.{shown, find_at, find_was, set_same}
-use Rattle.pf_tables.proofs.SmallChanges.{requeued}
+use Rattle.pf_tables.proofs.TablesShown.{shown, find_at, find_was, set_same}
+use Rattle.pf_tables.proofs.TablesTied.{requeued}
 use Rattle.pf_tables.proofs.TablesSettled.{settled}
 
 -- the third step goes on from the second as from the two together

@@ -39,8 +39,8 @@ use Rattle.pf_tables.proofs.OwnsLaws.{ring_at-pipe, others_written, joined_writt
 use Rattle.pf_tables.specs.Rows.{ProcessRows, DescriptionRows, PipeRows, Description, Pipe, pipe_of, processes_of, descriptions_of, pipes_of, pipe_with, state_of, end_in, Tied, Kept}
 use Rattle.pf_tables.specs.Told.{attempted, Arrived}
 use Rattle.pf_tables.proofs.Ends.{end_of_rows, Found, refused, found, counted}
-use Rattle.pf_tables.proofs.RowsShown.{shown, find_at, find_was, set_same}
-use Rattle.pf_tables.proofs.SmallChanges.{requeued}
+use Rattle.pf_tables.proofs.TablesShown.{shown, find_at, find_was, set_same}
+use Rattle.pf_tables.proofs.TablesTied.{requeued}
 use Rattle.pf_tables.proofs.TablesSettled.{settled}
 use Rattle.pf_tables.proofs.Transfers.{bind-bind, owned, stands, there}
 

@@ -24,7 +24,7 @@ use Rattle.pf_tables.specs.Meaning.{Namespace, meaning}
 use Rattle.pf_tables.specs.Rows.{ProcessRows, DescriptionRows, PipeRows, Description, Pipe, state_of, end_in, Kept}
 use Rattle.pf_tables.specs.Told.{attempted, flag_of, is_nonblocking_at, IsDone, IsShort, Stops}
 use Rattle.pf_tables.proofs.Ends.{end_of_rows, refused, found, counted}
-use Rattle.pf_tables.proofs.RowsShown.{find_was}
+use Rattle.pf_tables.proofs.TablesShown.{find_was}
 use Rattle.pf_tables.proofs.Transfers.{bind-bind}
 
 -- How far a write comes

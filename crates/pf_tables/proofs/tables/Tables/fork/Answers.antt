@@ -2,7 +2,7 @@ use Rattle.std.proofs.Common.{◌≡◌, List, length, Option, None, sym, ap, �
 use Rattle.pf_machine.specs.Numbered.{at}
 use Rattle.pf_machine.proofs.NumberedLaws.{at-first_free}
 use Rattle.pf_tables.specs.Rows.{Key, Process, AllFind}
-use Rattle.pf_tables.proofs.Callers.{is_awake}
+use Rattle.pf_tables.proofs.ProcessTableReady.{is_awake}
 use Rattle.pf_tables.proofs.ProcessesFork as lemmas
 use Rattle.pf_tables.proofs.Fifos.{fifos-changed}
 use Rattle.pf_tables.proofs.tables.Tables.fork.Given.{Over}

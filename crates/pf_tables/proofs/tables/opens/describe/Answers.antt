@@ -1,5 +1,5 @@
 use Rattle.std.proofs.Common.{arith}
-use Rattle.pf_tables.proofs.Callers.{is_living}
+use Rattle.pf_tables.proofs.ProcessTableReady.{is_living}
 use Rattle.pf_tables.proofs.tables.opens.describe.Goals as goal
 
 pub give_key-requires-clause-fd_in : goal.give_key-requires-clause-fd_in

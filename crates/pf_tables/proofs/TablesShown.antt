@@ -19,10 +19,6 @@ was f xs k y h = from_map f (at xs k) y (sym (at-map f xs k) ∙ h)
 pub shown : {X Y : Type 0} (f : X → Y) (xs : List (Option X)) (k : ℕ) (x : X) → at xs k ≡ Some x → at (map (option_map f) xs) k ≡ Some (f x)
 shown f xs k x h = at-map f xs k ∙ ap (option_map f) h
 
-pub none_was : {X Y : Type 0} (f : X → Y) (o : Option X) → option_map f o ≡ None → o ≡ None
-none_was f None h = refl
-none_was f (Some x) h = absurd (cc)
-
 -- a value stands at a number exactly where its key finds it
 pub find_at : {T : Type 0} (xs : List (Option (ℕ × T))) (place n : ℕ) (x : T) → at xs n ≡ Some (place, x) → find xs place n ≡ Some x
 find_at xs place n x h = ap (if_placed place) h ∙ ap (λ b. if b then Some x else None) (eq-eqb place place refl)

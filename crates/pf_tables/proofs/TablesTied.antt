@@ -1,12 +1,13 @@
 -- Five small changes, each of which keeps the counters tied: what one table lets go is in the hand, and what another
--- takes in comes from there. Each step of the machine is a chain of them.
+-- takes in comes from there. Each step of the machine is a chain of them, and of these instances of theirs.
 
-use Rattle.std.proofs.Common.{◌≡◌, ◌≢◌, ℕ, ◌+◌, ◌<◌, ◌≤◌, Bool, ◌&&◌, List, [], ◌∷◌, ◌++◌, length, set, Option, Some, None, refl, sym, ap, subst, ◌∙◌, inl, inr, arith, nat_eq, length-set}
+use Rattle.std.proofs.Common.{◌≡◌, ◌≢◌, ℕ, suc, ◌+◌, ◌<◌, ◌≤◌, Bool, ◌&&◌, List, [], ◌∷◌, ◌++◌, length, set, Option, Some, None, refl, sym, ap, subst, ◌∙◌, inl, inr, arith, nat_eq, length-set}
 use Rattle.std.specs.Option.{option_map}
 use Rattle.std.proofs.lemmas.Bool.{cases_eq, cases_lt, eq-eqb, ne_eqb}
 use Rattle.std.proofs.lemmas.List.{length_push}
 use Rattle.pf_machine.specs.Numbered.{at, put_at, sum_of, weight, one_if}
 use Rattle.pf_machine.proofs.NumberedLaws.{at_past, at_within, at-put_same, at-put_other, at-push_old, at-push_new, sum_of-set, sum_of-push, weight-le-sum_of}
+use Rattle.pf_base.specs.declared.TheConstants.{MAX_DESCRIPTORS}
 use Rattle.pf_tables.specs.Rows.{ProcessRows, DescriptionRows, PipeRows, Key, Named, Process, Description, Pipe, names_it, keys_of, keys_to, named, reads_it, writes_it, read_by, written_by, held, Each, holding, Finds, NamedRow, UsedRow, IsEnd, TiedWith}
 
 -- Each number after one has changed, and after one more
@@ -242,15 +243,36 @@ module _ (K : List Key) (E : List Description) (ps : ProcessRows) (ds : Descript
             (λ n ne. let o = others n (λ e. ne (e ∙ r_is)) in used_as (at pipes n) _ _ _ _ (t.uses n) (ap (λ c. read_by ds n + c) o.0) (ap (λ c. written_by ds n + c) o.1));
       }
 
-  -- what is in the hand has no order
-  pub swapped : (j k : Key) → TiedWith (k ∷ j ∷ K) E ps ds pipes → TiedWith (j ∷ k ∷ K) E ps ds pipes
-  swapped j k t = record {
-    places = t.places;
-    wide = t.wide;
-    finds = t.finds;
-    in_hand = (t.in_hand.1.0, (t.in_hand.0, t.in_hand.1.1));
-    names = λ n. subst (λ c. NamedRow c (at ds n)) (omega arith) (t.names n);
-    is_end = t.is_end;
-    ends_in_hand = t.ends_in_hand;
-    uses = t.uses;
-  }
+-- What a row of tied tables counts, and instances
+
+module _ (K : List Key) (E : List Description) (ps : ProcessRows) (ds : DescriptionRows) (pipes : PipeRows) where
+  module _ (k : Key) (d : Named Description) (stands : at ds k.serial ≡ Some (k.slot, d)) where
+    pub place_and_end : {K' : List Key} → TiedWith K' E ps ds pipes → (m : ℕ) (e : ℕ × Named Description) → ◌≡◌ {A = Option (ℕ × Named Description)} (Some (k.slot, record d { names = m })) (Some e) → (e.0 ≡ k.slot) × IsEnd pipes e.1.value
+    place_and_end t m e h =
+        let it : ◌≡◌ {A = ℕ × Named Description} (k.slot, record d { names = m }) e = cc in
+        (ap (λ (x : ℕ × Named Description). x.0) (sym it), subst (λ (x : ℕ × Named Description). IsEnd pipes x.1.value) it (t.is_end k.serial (k.slot, d) stands))
+
+    pub names_row : {K' : List Key} → TiedWith K' E ps ds pipes → (d.names ≡ named ps k.serial + held (names_it k.serial) K') × (0 < named ps k.serial + held (names_it k.serial) K')
+    names_row {K'} t = subst (NamedRow (named ps k.serial + held (names_it k.serial) K')) stands (t.names k.serial)
+
+  module _ (r : Key) (p : Pipe) (stands : at pipes r.serial ≡ Some (r.slot, p)) where
+    pub pipe_row : {E' : List Description} → TiedWith K E' ps ds pipes → (p.readers ≡ read_by ds r.serial + held (reads_it r.serial) E') × (p.writers ≡ written_by ds r.serial + held (writes_it r.serial) E') × (0 < (read_by ds r.serial + held (reads_it r.serial) E') + (written_by ds r.serial + held (writes_it r.serial) E'))
+    pipe_row {E'} t = subst (UsedRow (read_by ds r.serial + held (reads_it r.serial) E') (written_by ds r.serial + held (writes_it r.serial) E')) stands (t.uses r.serial)
+
+    pub same_place : (q : Pipe) (e : ℕ × Pipe) → ◌≡◌ {A = Option (ℕ × Pipe)} (Some (r.slot, q)) (Some e) → e.0 ≡ r.slot
+    same_place q e h = let it : ◌≡◌ {A = ℕ × Pipe} (r.slot, q) e = cc in ap (λ (x : ℕ × Pipe). x.0) (sym it)
+
+    -- another ring
+    pub requeued : (w : Pipe) → w.readers ≡ p.readers → w.writers ≡ p.writers → TiedWith K E ps ds pipes → TiedWith K E ps ds (put_at pipes r.serial (r.slot, w))
+    requeued w a b t =
+        repiped K E ps ds pipes t r.serial (r.slot, p) stands (Some (r.slot, w)) E (same_place w) t.ends_in_hand (λ n _. (refl, refl))
+        (let c = pipe_row t in (a ∙ c.0, b ∙ c.1, c.2))
+
+  -- a key goes from the hand into an empty descriptor
+  module _ (i fd : ℕ) (p : Process) (stands : at ps i ≡ Some p) (fd_in : fd < MAX_DESCRIPTORS) where
+    abbrev with_descriptors : List (Option Key) → Process
+    with_descriptors ks = record p { descriptors = ks }
+
+    pub put : (k : Key) → at p.descriptors fd ≡ None → TiedWith (k ∷ K) E ps ds pipes → TiedWith K E (put_at ps i (record p { descriptors = put_at p.descriptors fd k })) ds pipes
+    put k e t =
+        subst (λ o. TiedWith (holding o K) E (put_at ps i (with_descriptors (put_at p.descriptors fd k))) ds pipes) e (moved K E ps ds pipes i (suc fd) p (with_descriptors (put_at p.descriptors fd k)) stands (omega arith) (Some k) refl t)
