@@ -7,7 +7,8 @@ use Rattle.pf_frame.specs.Live.{Live, IsSound, IsIdle}
 use Rattle.pf_depot.specs.declared.loans.Loans.{Loans}
 use Rattle.pf_depot.specs.AllLoans.{held_of, reserved_of, shares_of, live_at, AreIdle}
 use Rattle.pf_depot.specs.Door.{IsCovered}
-use Rattle.pf_depot.specs.Loans.{loans_live, loans_sound}
+use Rattle.pf_depot.specs.Loans.{loans_live}
+use Rattle.pf_depot.specs.Lent.{loans_sound}
 
 -- with no slot, no frame is held
 unnamed_idle : (f : Live) → IsSound f → f.shares ≡ 0 → IsIdle f.reserved f

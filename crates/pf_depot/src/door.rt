@@ -27,7 +27,8 @@ impl<'a, D: Lender> LoanDoor<'a, D> {
 }
 
 impl<D: Lender> Frames for LoanDoor<'_, D> {
-    ghost use Rattle.pf_depot.specs.Loans.{loans_live, loans_sound, loans_census};
+    ghost use Rattle.pf_depot.specs.Loans.{loans_live};
+    ghost use Rattle.pf_depot.specs.Lent.{loans_sound, loans_census};
     ghost use Rattle.pf_depot.specs.Door.{LoanRest, IsCovered};
 
     ghost live = { λ d. loans_live d.loans.now };

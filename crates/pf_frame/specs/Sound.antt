@@ -1,18 +1,18 @@
--- Why what a door shows is sound, and its census is one: which frames are live, how many they are, and that each has its
--- page. The contract of the trait rests on these.
+-- Proofs of what the trait `Frames` asks of a door: that what it shows is sound, and its census is one: which frames
+-- are live, how many they are, and that each has its page. A law's proof may cite no file of its own crate's proofs/.
 
-use Rattle.std.proofs.Common.{◌≡◌, ◌≢◌, ℕ, ◌+◌, ◌<◌, ◌≤◌, List, [], ◌∷◌, ◌++◌, length, sum, slice_index, slice_set, refl, arith, sym, subst, ap, length-set, get_or-set_same, get_or-set_other, length-append, replicate, suc, zero, inl, inr, ◌-◌, slice_index_or, ◌==◌, if◌then◌else◌, Contains, nat_eq, false, ◌∙◌, map}
-use Rattle.std.proofs.lemmas.List.{length-replicate, get_or-replicate}
+use Rattle.std.proofs.Common.{◌≡◌, ◌≢◌, ℕ, ◌+◌, ◌<◌, ◌≤◌, List, [], ◌∷◌, length, sum, slice_index, refl, arith, sym, subst, suc, zero, inl, inr, ◌-◌, slice_index_or, ◌==◌, if◌then◌else◌, Contains, nat_eq, false, map}
 use Rattle.std.proofs.lemmas.Bool.{cases_eq}
 use Rattle.std.proofs.lemmas.Bool.Decides.{nat_tests}
-use Rattle.std.proofs.lemmas.List.Sums.{sum_by-set, sum_by-cons}
-use Rattle.pf_frame.specs.Counted.{positives, occurs, IsTable, live_by}
+use Rattle.std.proofs.lemmas.List.Sums.{sum_by-cons}
 use Rattle.std.specs.List.{IsDistinct, AllByRecursion}
 use Rattle.pf_base.specs.declared.TheConstants.{PAGE_SIZE}
-use Rattle.pf_frame.specs.Bytes.{filled}
-use Rattle.pf_frame.specs.Live.{Census, IsSound, Takes, Shares, Releases, Fills, IsIdle}
-use Rattle.pf_frame.specs.declared.frame.Frame.{Frame}
+use Rattle.pf_frame.specs.Counted.{positives, live_by}
+use Rattle.pf_frame.specs.Live.{Census, IsSound}
+use Rattle.pf_frame.specs.Own.{own_live}
 use Rattle.pf_frame.specs.Pages.{page_of}
+use Rattle.pf_frame.specs.declared.frame.Frame.{Frame}
+use Rattle.pf_frame.specs.declared.own.OwnFrames.{OwnFrames}
 
 pub positives-le-length : (cs : List ℕ) → positives cs ≤ length cs
 positives-le-length [] = omega arith
@@ -134,3 +134,11 @@ pub pages_whole : (frames : List Frame) (q : ℕ) → q < length frames → leng
 pages_whole [] q less = absurd (omega arith)
 pages_whole (f ∷ fs) zero less = f.whole
 pages_whole (f ∷ fs) (suc q) less = pages_whole fs q (omega arith)
+
+-- Frames of one's own
+
+pub own_sound : (f : OwnFrames) → IsSound (own_live f)
+own_sound f = is_sound _ _ _ (positives-le-length f.table.counts.items) (λ q some. pages_whole f.table.frames.items q (omega (arith, f.table.kept.paged, counted_within f.table.counts.items q some)))
+
+pub own_census : (f : OwnFrames) → Census (own_live f)
+own_census f = is_census _ f.table.counts.items _

@@ -27,7 +27,8 @@ impl OwnFrames {
 }
 
 impl Frames for OwnFrames {
-    ghost use Rattle.pf_frame.specs.Own.{own_live, own_sound, own_census};
+    ghost use Rattle.pf_frame.specs.Own.{own_live};
+    ghost use Rattle.pf_frame.specs.Sound.{own_sound, own_census};
 
     ghost live = { own_live };
 

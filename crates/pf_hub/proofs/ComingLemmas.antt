@@ -24,7 +24,8 @@ use Rattle.pf_machine.proofs.NumberedLaws.{sum_of-push, sum_of-set}
 use Rattle.pf_depot.specs.declared.depot.Depot.{Depot}
 use Rattle.pf_depot.specs.declared.loans.Loans.{Loans}
 use Rattle.pf_depot.specs.Depot.{free_of, slack_of, SetsAside}
-use Rattle.pf_depot.specs.Loans.{loans_live, loans_sound}
+use Rattle.pf_depot.specs.Loans.{loans_live}
+use Rattle.pf_depot.specs.Lent.{loans_sound}
 use Rattle.pf_tables.specs.Held.{HoldsNone}
 use Rattle.pf_tables.specs.Owns.{Owns}
 use Rattle.pf_hub.specs.declared.tenant.Tenant.{Tenant as Lodger}

@@ -10,7 +10,8 @@ use Rattle.pf_machine.specs.Numbered.{at}
 use Rattle.pf_machine.specs.Replies.{reply_length}
 use Rattle.pf_base.specs.declared.step.Step.{Step}
 use Rattle.pf_depot.specs.declared.depot.Depot.{Depot}
-use Rattle.pf_depot.specs.Loans.{loans_live, loans_sound}
+use Rattle.pf_depot.specs.Loans.{loans_live}
+use Rattle.pf_depot.specs.Lent.{loans_sound}
 use Rattle.pf_frame.specs.Live.{Live, IsSound}
 use Rattle.pf_tables.specs.Bounds.{Covers}
 use Rattle.pf_tables.specs.Meaning.{meaning}

@@ -10,7 +10,8 @@ use Rattle.pf_frame.specs.Live.{Live, IsSound}
 use Rattle.pf_depot.specs.declared.depot.Depot.{Depot}
 use Rattle.pf_depot.specs.Depot.{free_of, frames_of, slack_of}
 use Rattle.pf_depot.specs.Door.{IsCovered as IsCoveredBy}
-use Rattle.pf_depot.specs.Loans.{loans_live, loans_sound}
+use Rattle.pf_depot.specs.Loans.{loans_live}
+use Rattle.pf_depot.specs.Lent.{loans_sound}
 use Rattle.pf_tables.specs.Meaning.{Namespace}
 use Rattle.pf_tables.proofs.MeaningLaws.{occupied-meaning, empty-meaning, total-meaning}
 use Rattle.pf_tables.specs.Owns.{Owns}

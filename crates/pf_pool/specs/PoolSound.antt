@@ -1,19 +1,12 @@
--- Why what a pool's doors show is sound, and their census is one.
+-- Proofs of what the trait `Frames` asks of a door: that what a pool's doors show is sound, and their census is one. A
+-- law's proof may cite no file of its own crate's proofs/.
 
-use Rattle.std.proofs.Common.{◌≡◌, ◌≢◌, ℕ, zero, suc, ◌+◌, ◌-◌, ◌<◌, ◌≤◌, Bool, true, false, List, [], ◌∷◌, length, sum, slice_index, slice_index_or, slice_set, ◌==◌, if◌then◌else◌, refl, arith, sym, subst, ap, ◌∙◌, inl, inr, replicate, length-set, get_or-set_same, get_or-set_other}
-use Rattle.std.proofs.lemmas.Bool.{cases_eq}
-use Rattle.std.proofs.lemmas.Bool.Decides.{nat_tests}
-use Rattle.std.proofs.lemmas.List.{set-get_or, length-replicate}
-use Rattle.std.proofs.lemmas.List.Sums.{sum_by-cons}
-use Rattle.pf_frame.specs.Bytes.{filled}
-use Rattle.pf_frame.specs.Counted.{positives, live_by}
-use Rattle.pf_frame.proofs.CountedLaws.{positives_more, positives_less, positives_same, positives_none, sum_none, sum_set}
-use Rattle.pf_frame.specs.Sound.{positives_zero, counted_within, is_sound, is_census, pages_whole}
-use Rattle.pf_frame.specs.Live.{Live, Takes, Shares, Releases, Fills, IsIdle, nobody, IsSound, Census}
-use Rattle.pf_frame.proofs.LiveLaws.{is_filled, takes_as, shares_as, releases_as, none_at}
-use Rattle.pf_pool.specs.Owned.{mine, IsPool, live_of, others_of, rest_of, PoolRest}
+use Rattle.std.proofs.Common.{◌≡◌, ℕ, List, [], ◌∷◌, length, refl, arith}
+use Rattle.pf_frame.specs.Sound.{counted_within, is_sound, is_census, pages_whole}
+use Rattle.pf_frame.specs.Live.{IsSound, Census}
+use Rattle.pf_pool.specs.Owned.{mine}
 use Rattle.pf_pool.specs.declared.pool.FramePool.{FramePool}
-use Rattle.pf_pool.specs.Pool.{pool_live, pool_rest, frames_of}
+use Rattle.pf_pool.specs.Pool.{pool_live}
 
 pub length-mine : (ns : ℕ) (owners counts : List ℕ) → length owners ≡ length counts → length (mine ns owners counts) ≡ length counts
 length-mine ns [] [] e = refl

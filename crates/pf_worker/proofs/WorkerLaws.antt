@@ -4,7 +4,8 @@ use Rattle.std.proofs.Common.{◌≡◌, ℕ, suc, ◌+◌, List, [], ◌∷◌,
 use Rattle.pf_base.specs.Limits.{Limits}
 use Rattle.pf_depot.specs.declared.loans.Loans.{Loans}
 use Rattle.pf_depot.specs.AllLoans.{held_of, reserved_of}
-use Rattle.pf_depot.specs.Loans.{loans_live, loans_sound}
+use Rattle.pf_depot.specs.Loans.{loans_live}
+use Rattle.pf_depot.specs.Lent.{loans_sound}
 use Rattle.pf_tables.specs.Meaning.{Namespace}
 use Rattle.pf_tables.specs.Held.{HoldsNone}
 use Rattle.pf_worker.specs.Workers.{OneWorker, new_worker, new_workers_from, IsKept}

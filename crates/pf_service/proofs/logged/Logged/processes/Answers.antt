@@ -1,6 +1,7 @@
 -- Who has no process owns no frame.
 use Rattle.std.proofs.Common.{◌≡◌, subst}
-use Rattle.pf_depot.specs.Loans.{loans_live, loans_sound}
+use Rattle.pf_depot.specs.Loans.{loans_live}
+use Rattle.pf_depot.specs.Lent.{loans_sound}
 use Rattle.pf_service.specs.Log.{Log}
 use Rattle.pf_service.proofs.logged.Logged.processes.Goals as goal
 

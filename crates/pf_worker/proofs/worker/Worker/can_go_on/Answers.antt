@@ -1,7 +1,8 @@
 -- What holds over any frames of its own holds over its loans.
 use Rattle.std.proofs.Common.{◌≡◌, ap, subst}
 use Rattle.pf_machine.specs.Queries.{can_go_on}
-use Rattle.pf_depot.specs.Loans.{loans_live, loans_sound}
+use Rattle.pf_depot.specs.Loans.{loans_live}
+use Rattle.pf_depot.specs.Lent.{loans_sound}
 use Rattle.pf_hub.specs.Tenants.{Tenant}
 use Rattle.pf_worker.specs.Workers.{OneWorker}
 use Rattle.pf_worker.proofs.worker.Worker.can_go_on.Goals as goal
