@@ -1,6 +1,6 @@
 -- Who can go on, said of each kind of call by what the pipes hold and who reads and writes them: no attempt is made.
 
-use Rattle.std.proofs.Common.{◌≡◌, ℕ, zero, suc, ◌+◌, ◌-◌, ◌≤◌, Bool, true, false, not, ◌&&◌, ◌||◌, List, length, take, drop, Option, Some, None, is_some, Result, Ok, Err, refl, sym, ap, subst, ◌∙◌, arith, nat_eq, nat_lt, nat_le, if◌then◌else◌, length-drop}
+use Rattle.std.proofs.Common.{◌≡◌, ℕ, zero, suc, ◌+◌, ◌-◌, ◌≤◌, Bool, true, false, not, ◌&&◌, ◌||◌, List, length, take, drop, Option, Some, None, is_some, Result, Ok, Err, refl, ap, ◌∙◌, arith, nat_eq, nat_lt, nat_le, if◌then◌else◌, length-drop}
 use Rattle.std.proofs.lemmas.Bool.Decides.{nat_tests}
 use Rattle.std.specs.Prelude.{⊤, min}
 use Rattle.std.specs.Option.{option_map, option_and_then}
@@ -11,8 +11,7 @@ use Rattle.pf_base.specs.declared.errno.Errno.TheVariants.{EBADF, EINVAL, EPIPE,
 use Rattle.pf_base.specs.declared.progress.Crossing.{Crossing}
 use Rattle.pf_base.specs.declared.progress.Progress.{Progress}
 use Rattle.pf_base.specs.declared.progress.Progress.TheVariants.{Moved, WouldBlock, EndOfFile, NoReader}
-use Rattle.pf_base.specs.declared.step.Reply.{Reply}
-use Rattle.pf_base.specs.declared.step.Reply.TheVariants.{Num, Bytes, Parked}
+use Rattle.pf_base.specs.declared.step.Reply.TheVariants.{Num}
 use Rattle.pf_base.specs.declared.step.Step.TheVariants.{Resume}
 use Rattle.pf_machine.specs.Refusals.{◌>>=◌, ◌>>◌, refuse_if, or_refuse}
 use Rattle.pf_machine.specs.Queue as queue
@@ -20,10 +19,10 @@ use Rattle.pf_machine.specs.Queue.{Segment, Queue, bytes_of, room_of, free_of, a
 use Rattle.pf_machine.specs.Progress.{Passed, Crossed, read_now, write_now, cross_now, portion, put_some, is_empty, source_after}
 use Rattle.pf_machine.specs.Numbered.{at, change_at}
 use Rattle.pf_machine.proofs.NumberedLaws.{at-put_same, at_within}
-use Rattle.pf_machine.specs.Calls.{Transfer, Reading, Writing, Bringing, Call, Opening, Moving, written_of}
+use Rattle.pf_machine.specs.Calls.{Reading, Writing, Bringing, Call, Opening, Moving, written_of}
 use Rattle.pf_machine.specs.State.{itself, State, Process, End, Outcome, process, living, end_at, reading_end, writing_end, settle, change_process, waiting}
 use Rattle.pf_machine.specs.Counts.{readers, writers}
-use Rattle.pf_machine.specs.Transfers.{Tried, Ends, two_ends, tried, try_read, try_write, try_cross}
+use Rattle.pf_machine.specs.Transfers.{Tried, Ends, two_ends, try_read, try_write, try_cross}
 use Rattle.pf_machine.specs.Attempts.{Attempt, Finished, Waits, read_told, write_told, cross_told, given, other_opens, open_told, transfer_told, attempt, again, resume}
 use Rattle.pf_machine.specs.Machine.{call_of, is_parked, step_of, swept}
 use Rattle.pf_machine.specs.Replies.{written_in}

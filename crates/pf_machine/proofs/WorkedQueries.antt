@@ -1,14 +1,13 @@
 -- Examples by computation: who can go on, and what an end is ready for.
 
-use Rattle.std.specs.Prelude.{ℕ, ◌≡◌, Bool, false, true, [], ◌∷◌, List, refl, replicate, codes, Result, Ok, Err as Refused}
+use Rattle.std.specs.Prelude.{ℕ, ◌≡◌, Bool, false, true, [], ◌∷◌, List, refl, replicate, Result, Ok, Err as Refused}
 use Rattle.pf_base.specs.Capacities.{pages_for}
 use Rattle.pf_base.specs.Limits.{Limits}
 use Rattle.pf_base.specs.declared.errno.Errno.{Errno}
-use Rattle.pf_base.specs.declared.errno.Errno.TheVariants.{ESRCH, EBUSY, EBADF}
-use Rattle.pf_base.specs.declared.open_flags.OpenFlags.{OpenFlags}
+use Rattle.pf_base.specs.declared.errno.Errno.TheVariants.{EBUSY, EBADF}
 use Rattle.pf_base.specs.declared.readiness.Readiness.{Readiness}
 use Rattle.pf_base.specs.declared.step.Step.{Step}
-use Rattle.pf_base.specs.declared.step.Step.TheVariants.{Spawn, Fork, Exit, Mkfifo, Open, Pipe, Close, Read, Write, Tee, SetSize}
+use Rattle.pf_base.specs.declared.step.Step.TheVariants.{Spawn, Fork, Pipe, Close, Read, Write, SetSize}
 use Rattle.pf_machine.specs.State.{vacant, opening}
 use Rattle.pf_machine.specs.Runs.{run_of}
 use Rattle.pf_machine.specs.Queries.{can_go_on, readiness}
