@@ -1,6 +1,6 @@
 -- What a ring means: a window shows bytes of a frame, and the windows of a ring show the segments of a queue.
 
-use Rattle.std.specs.Prelude.{ℕ, ◌+◌, ◌-◌, List, [], map, take, drop, if◌then◌else◌}
+use Rattle.std.specs.Prelude.{◌+◌, ◌-◌, List, [], map, take, drop, if◌then◌else◌}
 use Rattle.pf_base.specs.declared.TheConstants.{PAGE_SIZE}
 use Rattle.pf_machine.specs.Queue.{Segment, Slots, Queue}
 use Rattle.pf_frame.specs.Live.{Live}

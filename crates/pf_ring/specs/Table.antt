@@ -1,20 +1,13 @@
 -- A table of rings in the frames of one door: what holds of all of them together.
 
-use Rattle.std.proofs.Common.{◌≡◌, ◌≢◌, ℕ, zero, suc, ◌+◌, ◌-◌, ◌<◌, ◌≤◌, List, [], ◌∷◌, ◌++◌, length, map, set, refl, sym, ◌∙◌, ap, subst, inl, inr, arith}
-use Rattle.std.proofs.lemmas.Bool.{cases_lt, cases_eq}
-use Rattle.std.proofs.lemmas.Bool.Decides.{nat_tests}
-use denote.Struct.Props.{props}
-use Rattle.std.proofs.lemmas.List.{get_or_past, get_or-set_same, get_or-set_other, map-set, set_past, nil_from_length, length-map}
-use Rattle.std.proofs.lemmas.List.Sums.{sum_by-cons, sum_by-set, sum_by_push, get_or-le-sum_by, sum_by-le-sum_by}
+use Rattle.std.proofs.Common.{◌≡◌, ℕ, ◌≤◌, List, length}
 use Rattle.std.specs.Prelude.{slice_index_or}
 use Rattle.std.specs.List.{sum_by}
 use Rattle.pf_base.specs.declared.TheConstants.{PAGE_SIZE}
-use Rattle.pf_machine.specs.Queue.{Segment, Queue, IsSegment, IsQueue, joined, bytes_of}
-use Rattle.pf_frame.specs.Live.{Live, IsSound}
+use Rattle.pf_frame.specs.Live.{Live}
 pub use Rattle.pf_frame.specs.Live.{SameLive}
-use Rattle.pf_ring.specs.declared.ring.Window.{Window}
-use Rattle.pf_ring.specs.Ring.{Ring, segment_of, queue_of, no_ring}
-use Rattle.pf_ring.specs.Windows.{named, reach, opens, limit, NoEmpty, bytes_in, Stands, Keeps}
+use Rattle.pf_ring.specs.Ring.{Ring, no_ring}
+use Rattle.pf_ring.specs.Windows.{named, reach, opens, limit, NoEmpty}
 
 -- the ring at a place of a table, no ring past its end
 abbrev pub ring_at : List Ring → ℕ → Ring

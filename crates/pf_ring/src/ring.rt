@@ -1,6 +1,7 @@
 ghost use Rattle.std.specs.Prelude.{◌≡◌, ℕ, ◌+◌, ◌-◌, ◌<◌, ◌≤◌, ◌^◌, [], ◌++◌, length, take, drop, min, vec_len, vec_capacity, IfOk, IsOk, OnOk, OnErr};
 ghost use Rattle.pf_machine.specs.Queue.{Queue, room_of, bytes_of, put, taken, after_take, tee_number, after_tee, after_splice, with_capacity, empty};
 ghost use Rattle.pf_frame.specs.Live.{Live, IsSound};
+ghost use Rattle.pf_ring.specs.Laid.{laid};
 ghost use Rattle.pf_ring.specs.Ring.{segment_of, queue_of};
 ghost use Rattle.pf_base.specs.declared.TheConstants.{PAGE_SIZE};
 ghost use Rattle.pf_ring.specs.Windows.{Stands, Keeps, Moves, SameBytes, PutsBehind, bytes_in};
@@ -165,6 +166,37 @@ impl SlotRing {
     {
         let number = self.len().min(buffer.len());
         windows::move_into(&mut self.windows, door, &mut buffer[..number]);
+        self.bytes -= number;
+        number
+    }
+
+    /// Takes bytes from the front, as many as there are but at most so many, and answers how many. The first of them go
+    /// into the buffer, as many as it has room for, and the others are lost. The frame of a slot that is emptied is
+    /// released.
+    pub fn take_truncated<F: Frames>(
+        &mut self,
+        door: &mut F,
+        most: usize,
+        buffer: &mut [u8],
+    ) -> usize
+        requires fact { F.fact door.old }
+        requires stands { Stands (F.live door.old) self.old.segments }
+        ensures fact { F.fact door.new }
+        ensures rest { F.rest door.new ≡ F.rest door.old }
+        ensures capacity { self.new.capacity ≡ self.old.capacity }
+        ensures fits { length self.new.segments ≤ self.new.capacity }
+        // What is taken, and what is left.
+        ensures number { result ≡ length (taken (queue_of (F.live door.old) self.old) most) }
+        ensures bytes { buffer.new ≡ laid (taken (queue_of (F.live door.old) self.old) most) buffer.old }
+        ensures queue { queue_of (F.live door.new) self.new
+            ≡ after_take (queue_of (F.live door.old) self.old) most }
+        // Other rings show what they showed, and nothing is written.
+        ensures keeps { Keeps [] self.old.segments self.new.segments (F.live door.old) (F.live door.new) }
+        ensures bytes_stay { SameBytes (F.live door.old) (F.live door.new) }
+    {
+        let number = self.len().min(most);
+        let room = number.min(buffer.len());
+        windows::move_truncated(&mut self.windows, door, number, &mut buffer[..room]);
         self.bytes -= number;
         number
     }

@@ -142,6 +142,67 @@ pub fn move_into<F: Frames>(windows: &mut VecDeque<Window>, door: &mut F, buffer
     }
 }
 
+/// Moves the first bytes of the windows into the buffer, so many as it is long, and drops those behind them, until so
+/// many are gone in all. A window that is emptied goes, and its frame is released.
+pub fn move_truncated<F: Frames>(
+    windows: &mut VecDeque<Window>,
+    door: &mut F,
+    number: usize,
+    buffer: &mut [u8],
+)
+    requires fact { F.fact door.old }
+    requires stands { Stands (F.live door.old) windows.old.items }
+    requires has { number ≤ bytes_in windows.old.items }
+    requires fits { length buffer.old ≤ number }
+    ensures fact { F.fact door.new }
+    ensures rest { F.rest door.new ≡ F.rest door.old }
+    ensures space { deque_capacity windows.new ≡ deque_capacity windows.old }
+    ensures cut { Cut windows.old.items windows.new.items number (F.live door.old) (F.live door.new) }
+    ensures bytes { buffer.new
+        ≡ take (length buffer.old) (joined (shown (F.live door.old) windows.old.items)) }
+{
+    let laid = buffer.len();
+    move_into(windows, door, buffer);
+    discard(windows, door, number - laid);
+}
+
+/// Drops so many bytes from the front of the windows. A window that is emptied goes, and its frame is released.
+fn discard<F: Frames>(windows: &mut VecDeque<Window>, door: &mut F, number: usize)
+    requires fact { F.fact door.old }
+    requires stands { Stands (F.live door.old) windows.old.items }
+    requires has { number ≤ bytes_in windows.old.items }
+    ensures fact { F.fact door.new }
+    ensures rest { F.rest door.new ≡ F.rest door.old }
+    ensures space { deque_capacity windows.new ≡ deque_capacity windows.old }
+    ensures cut { Cut windows.old.items windows.new.items number (F.live door.old) (F.live door.new) }
+{
+    let mut done = 0;
+    while done < number {
+        done += discard_front(windows, door, number - done);
+    }
+}
+
+/// Drops bytes from the front of the first window: as many as it has, but at most so many. Where these are all, it
+/// goes, and its frame is released.
+fn discard_front<F: Frames>(windows: &mut VecDeque<Window>, door: &mut F, most: usize) -> usize
+    requires fact { F.fact door.old }
+    requires stands { Stands (F.live door.old) windows.old.items }
+    requires some { 0 < deque_len windows.old }
+    requires any { 0 < most }
+    ensures fact { F.fact door.new }
+    ensures rest { F.rest door.new ≡ F.rest door.old }
+    ensures space { deque_capacity windows.new ≡ deque_capacity windows.old }
+    // How many they are, and what is left.
+    ensures any { 0 < result }
+    ensures most { result ≤ most }
+    ensures cut { Cut windows.old.items windows.new.items result (F.live door.old) (F.live door.new) }
+{
+    let first = windows[0];
+    let number = (first.len as usize).min(most);
+    cut_first(windows, door, first, number);
+    number
+}
+
 /// Moves bytes from the front of the first window into the buffer: as many as the window has and the buffer has room for.
 /// Where these are all, the window goes, and its frame is released.
 fn move_front_into<F: Frames>(
