@@ -5,6 +5,7 @@ ghost use Rattle.pf_base.specs.declared.progress.Progress.TheVariants.{WouldBloc
 ghost use Rattle.pf_machine.specs.Queue.{room_of, bytes_of, taken};
 ghost use Rattle.pf_machine.specs.Queries.{read_goes_on, write_goes_on, cross_goes_on};
 ghost use Rattle.pf_frame.specs.Live.{Live, IsSound};
+ghost use Rattle.pf_ring.specs.Laid.{laid};
 ghost use Rattle.pf_ring.specs.Ring.{queue_of};
 ghost use Rattle.pf_ring.specs.Windows.{Stands, Keeps, SameBytes, PutsBehind, bytes_in};
 ghost use Rattle.pf_pipe.specs.Pipe.{ends, with_ends, opens_for, opened_for, unopened, Passes, Crosses, Stops, Goes, Resizes};
@@ -302,6 +303,36 @@ impl Pipe {
             return self.empty_told();
         }
         let number = self.ring.take_into(door, buffer);
+        Progress::Moved(number as u64)
+    }
+
+    /// Reads what there is now, but at most so many bytes (read(2)). The first of them go into the buffer, as many as
+    /// it has room for, and the others are lost, as recv(2) has it with MSG_TRUNC.
+    pub fn read_truncated<F: Frames>(
+        &mut self,
+        door: &mut F,
+        limit: usize,
+        buffer: &mut [u8],
+    ) -> Progress
+        requires fact { F.fact door.old }
+        requires stands { Stands (F.live door.old) self.old.ring.segments }
+        ensures fact { F.fact door.new }
+        ensures rest { F.rest door.new ≡ F.rest door.old }
+        ensures passes { Passes self.old self.new (F.live door.old) (F.live door.new) result
+            (read_now (queue_of (F.live door.old) self.old.ring) self.old.writers limit) }
+        ensures bytes { buffer.new
+            ≡ laid (taken (queue_of (F.live door.old) self.old.ring) (moved result)) buffer.old }
+        // Nothing is written, and where no byte comes out nothing is touched.
+        ensures bytes_stay { SameBytes (F.live door.old) (F.live door.new) }
+        ensures untouched { moved result ≡ 0 → (self.new ≡ self.old) × (door.new ≡ door.old) }
+    {
+        if limit == 0 {
+            return Progress::Moved(0);
+        }
+        if self.len() == 0 {
+            return self.empty_told();
+        }
+        let number = self.ring.take_truncated(door, limit, buffer);
         Progress::Moved(number as u64)
     }
 
