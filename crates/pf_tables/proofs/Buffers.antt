@@ -26,6 +26,10 @@ read_by-le q n false false false = omega arith
 read_now-le : (q : Queue) (writers n : ℕ) → moved (read_now q writers n).progress ≤ min n (length (bytes_of q))
 read_now-le q writers n = read_by-le q n (nat_eq n 0) (nat_lt 0 (length (bytes_of q))) (nat_eq writers 0)
 
+-- and it takes just as many
+pub as_many_read : (q : Queue) (writers n : ℕ) → length (taken q (moved (read_now q writers n).progress)) ≡ moved (read_now q writers n).progress
+as_many_read q writers n = omega (arith, length-take (moved (read_now q writers n).progress) (bytes_of q), read_now-le q writers n)
+
 -- a read that moved so many bytes, into a buffer of n
 module _ (q : Queue) (writers number : ℕ) (before after : List ℕ) (is : moved (read_now q writers (length before)).progress ≡ number) (lie : after ≡ taken q number ++ drop number before) where
   few : number ≤ min (length before) (length (bytes_of q))

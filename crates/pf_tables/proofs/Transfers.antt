@@ -25,6 +25,7 @@ use Rattle.pf_base.specs.declared.progress.Side.TheVariants as sides
 use Rattle.pf_fds.specs.Registry.{find}
 use Rattle.pf_frame.specs.Live.{Live, IsSound}
 use Rattle.pf_pipe.specs.Pipe.{Passes}
+use Rattle.pf_ring.specs.Laid.{laid}
 use Rattle.pf_ring.specs.Ring.{Ring, queue_of}
 use Rattle.pf_ring.specs.Windows.{Stands}
 use Rattle.pf_ring.specs.Table.{Joined, slots_used, slots_of}
@@ -35,7 +36,7 @@ use Rattle.pf_tables.proofs.MeaningLaws.{meaning-with_queue, settled-meaning}
 use Rattle.pf_tables.specs.Owns.{Owns}
 use Rattle.pf_tables.proofs.OwnsLaws.{ring_at-pipe, stands_at, credits_at, others_written, joined_written, charged-with_queue}
 use Rattle.pf_tables.specs.Rows.{ProcessRows, DescriptionRows, PipeRows, Process, Description, Pipe, pipe_of, processes_of, descriptions_of, pipes_of, state_of, pipe_with, ready_in, end_in, Kept}
-use Rattle.pf_tables.specs.Buffers.{Lies}
+use Rattle.pf_tables.specs.Buffers.{Lies, Truncates}
 use Rattle.pf_tables.specs.Told.{attempted, Came}
 use Rattle.pf_tables.proofs.Buffers as buffers
 use Rattle.pf_tables.proofs.ProcessTableReady.{shown_in, ready_shown}
@@ -210,3 +211,17 @@ module _ {files : Files} {files_made : ℕ} (f : Live) (limits : Limits) (charge
             let is : moved (read_now (queue_of f r.ring) r.writers (length before)).progress ≡ moved progress = ap (λ (p : Passed). moved p.progress) passes.told in
             let front : take (moved progress) bytes ≡ taken (queue_of f r.ring) (moved progress) = buffers.front (queue_of f r.ring) r.writers (moved progress) before bytes is lie in
             (was_read (length before) (take (moved progress) bytes) h front passes, buffers.lies (queue_of f r.ring) r.writers (moved progress) before bytes is lie)
+
+        -- and where they are more than it has room for
+        pub was_truncated : (m : ℕ) (before bytes : List ℕ) → end_in (Some sides.Read) ps ds pid fd ≡ Ok d → bytes ≡ laid (taken (queue_of f r.ring) (moved progress)) before
+            → Passes r r' f g progress (read_now (queue_of f r.ring) r.writers m) → Truncates g after (attempted (meaning f n.state) pid (Reading fd m)) progress before bytes
+        was_truncated m before bytes h lie passes =
+            let came : Came g after (attempted (meaning f n.state) pid (Reading fd m)) progress (taken (queue_of f r.ring) (moved progress)) = was_read m (taken (queue_of f r.ring) (moved progress)) h refl passes in
+            record {
+              tried = came.tried;
+              is = came.is;
+              progress_is = came.progress_is;
+              as_many = ap (λ (xs : List ℕ). length xs) came.bytes_are ∙ subst (λ (k : ℕ). length (taken (queue_of f r.ring) k) ≡ k) (ap (λ (p : Passed). moved p.progress) passes.told) (buffers.as_many_read (queue_of f r.ring) r.writers m);
+              bytes_lie = lie ∙ ap (λ (xs : List ℕ). laid xs before) (sym came.bytes_are);
+              state = came.state;
+            }

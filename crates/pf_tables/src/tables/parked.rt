@@ -4,6 +4,7 @@ ghost use Rattle.std.specs.Prelude.{◌≡◌, Ok, Err, None, Some, IsOk, MatchR
 ghost use Rattle.std.specs.Option.{option_map};
 ghost use Rattle.pf_machine.specs.Machine as machine;
 ghost use Rattle.pf_machine.specs.State.{ready, living};
+ghost use Rattle.pf_tables.specs.Buffers.{read_in};
 ghost use Rattle.pf_tables.specs.Meaning.{meaning};
 ghost use Rattle.pf_tables.specs.Owns.{Owns};
 ghost use Rattle.pf_tables.specs.Rows.{call_of, made_by};
@@ -17,6 +18,15 @@ use pf_frame::Frames;
 use pf_parked::Call;
 use std::alloc::Allocator;
 
+/// A read that waits.
+#[derive(Clone, Copy, Debug)]
+pub struct ParkedRead {
+    /// The descriptor that it reads.
+    pub fd: u32,
+    /// At most how many bytes it asks for.
+    pub n: u64,
+}
+
 impl<A: Allocator> Tables<A> {
     /// Whether the call in which a process waits is an open. ESRCH where it doesn't live, EINVAL where it doesn't wait.
     pub fn waits_in_open<F: Frames>(&self, door: &F, pid: u32) -> Result<bool, Errno>
@@ -27,6 +37,17 @@ impl<A: Allocator> Tables<A> {
             Some(Call::Open { .. }) => Ok(true),
             Some(_) => Ok(false),
             None => Err(Errno::EINVAL),
+        }
+    }
+
+    /// The read in which a process waits, where it waits in one.
+    pub fn parked_read(&self, pid: u32) -> Option<ParkedRead>
+        ensures { result ≡ read_in (machine.call_of self.now.state pid) }
+    {
+        match self.processes.call(pid) {
+            Some(Call::Read { fd, n }) => Some(ParkedRead { fd: *fd, n: *n }),
+            Some(_) => None,
+            None => None,
         }
     }
 

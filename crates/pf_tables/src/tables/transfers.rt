@@ -5,7 +5,7 @@ ghost use Rattle.std.specs.Prelude.{◌≡◌, ◌≤◌, Ok, Err, None, IfOk, I
 ghost use Rattle.pf_machine.specs.Calls.{Reading, Writing, Bringing};
 ghost use Rattle.pf_machine.specs.Progress.{moved};
 ghost use Rattle.pf_machine.specs.State.{ready};
-ghost use Rattle.pf_tables.specs.Buffers.{HasReadInto};
+ghost use Rattle.pf_tables.specs.Buffers.{HasReadInto, HasReadTruncated};
 ghost use Rattle.pf_tables.specs.Meaning.{meaning};
 ghost use Rattle.pf_tables.specs.Owns.{Owns};
 ghost use Rattle.pf_tables.specs.Told.{attempted, is_nonblocking_at, HasRead, HasCrossed, HasWritten, Wrote};
@@ -173,6 +173,37 @@ impl<A: Allocator> Tables<A> {
         let source = reading_end(&self.processes, &self.descriptions, pid, fd)?;
         let pipe = self.pipes.value_mut(source.pipe);
         Ok(pipe.read_now(door, buffer))
+    }
+
+    /// Takes at most n bytes from the front of the pipe that a process's descriptor reads. The first of them go into
+    /// this buffer, as many as it has room for, and the others are lost. It takes no memory.
+    #[inline(always)]
+    pub fn read_truncated<F: Frames>(
+        &mut self,
+        door: &mut F,
+        pid: u32,
+        fd: u32,
+        n: u64,
+        buffer: &mut [u8],
+    ) -> Result<Progress, Errno>
+        requires fact { F.fact door.old }
+        requires owns { Owns (F.live door.old) self.old }
+        ensures fact { F.fact door.new }
+        ensures rest { F.rest door.new ≡ F.rest door.old }
+        ensures owns { Owns (F.live door.new) self.new }
+        ensures limits { self.new.limits ≡ self.old.limits }
+        // It came as far as the machine's read, or is refused as that is.
+        ensures read { HasReadTruncated (F.live door.new) self.new buffer.old buffer.new result
+            (attempted (meaning (F.live door.old) self.old.state) pid (Reading fd n)) }
+
+        // Where no byte came out, nothing has changed.
+        ensures untouched { IfOk result
+            (λ progress. moved progress ≡ 0 → (self.new ≡ self.old) × (door.new ≡ door.old)) }
+        ensures refused { OnErr result ((self.new ≡ self.old) × (door.new ≡ door.old)) }
+    {
+        let source = reading_end(&self.processes, &self.descriptions, pid, fd)?;
+        let pipe = self.pipes.value_mut(source.pipe);
+        Ok(pipe.read_truncated(door, n as usize, buffer))
     }
 
     /// Brings at most n bytes from the front of the pipe that one descriptor of a process reads to the end of the pipe that
