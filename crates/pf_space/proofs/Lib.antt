@@ -2,3 +2,4 @@ mod ParkedResume
 pub mod Sendable
 mod Steps
 mod ParkedTransfers
+mod ParkedInto

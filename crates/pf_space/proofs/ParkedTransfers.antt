@@ -18,6 +18,7 @@ use Rattle.pf_base.specs.declared.TheConstants.{MAX_WRITE}
 use Rattle.pf_base.specs.declared.errno.Errno.{Errno}
 use Rattle.pf_base.specs.declared.errno.Errno.TheVariants.{ESRCH, EBUSY, EINVAL}
 use Rattle.pf_base.specs.declared.fault.Fault.{Fault}
+use Rattle.pf_base.specs.declared.fault.Fault.TheVariants as faults
 use Rattle.pf_base.specs.declared.progress.Crossing.{Crossing}
 use Rattle.pf_base.specs.declared.progress.Progress.{Progress}
 use Rattle.pf_base.specs.declared.progress.Progress.TheVariants.{Moved, WouldBlock, EndOfFile}
@@ -144,6 +145,23 @@ module _ (f g : Live) (old mid new : Namespace) (pid : ℕ) (t : Transfer) (r : 
         ∙ ap (λ (z : State Segment ℕ). Ok (record { state = z; reply = replies.Parked })) (now_waits ∙ ap (λ (z : State Segment ℕ). change_process (waiting (Some c)) z pid) (sym state))
         ∙ ap (λ (n : Namespace). Ok (record { state = meaning g n.state; reply = replies.Parked })) (sym waits_now);
   }
+
+-- It is finished
+
+pub finishes : (f g : Live) (old new : Namespace) (pid : ℕ) (t : Transfer) (r : Tried) → attempted (meaning f old.state) pid t ≡ Ok r → Owns g new → new.limits ≡ old.limits → meaning g new.state ≡ sweep itself r.state
+    → (reply : Reply) → transfer_told t r r.progress ≡ Ok (Finished r.state reply) → Told f g old new (Ok reply) (tried_call (meaning f old.state) pid false t)
+finishes f g old new pid t r is owns limits state reply finished = record {
+  owns = owns;
+  limits = limits;
+  says =
+      ap settled (called (meaning f old.state) pid false t r is ∙ ap (λ a. a >>= first pid false) finished)
+      ∙ ap (λ (z : State Segment ℕ). Ok (record { state = z; reply = reply })) (sym state);
+}
+
+-- or refused
+pub refuses : (f g : Live) (old new : Namespace) (pid : ℕ) (t : Transfer) (e : Errno) → attempted (meaning f old.state) pid t ≡ Err e → Owns g new → new.limits ≡ old.limits → meaning g new.state ≡ meaning f old.state
+    → Told f g old new (Err (faults.Errno e)) (tried_call (meaning f old.state) pid false t)
+refuses f g old new pid t e is owns limits same = record { owns = owns; limits = limits; says = (not_called (meaning f old.state) pid false t e is, same) }
 
 -- It doesn't wait
 

@@ -76,7 +76,7 @@ impl<A: Allocator + Clone> Placed<A> {
     ghost use Rattle.pf_machine.specs.State.{opening};
     ghost use Rattle.pf_machine.specs.Machine.{Answers, may_want_memory};
     ghost use Rattle.pf_machine.specs.Events.{IsDone};
-    ghost use Rattle.pf_tables.specs.Buffers.{Lies, answer_in, number_in};
+    ghost use Rattle.pf_tables.specs.Buffers.{Lies, Replied, answer_in, number_in};
     ghost use Rattle.pf_tables.specs.Meaning.{meaning};
     ghost use Rattle.pf_tables.specs.Owns.{Owns};
 
@@ -149,5 +149,29 @@ impl<A: Allocator + Clone> Placed<A> {
         ensures allocator { self.new.allocator ≡ self.old.allocator }
     {
         self.space.read_into(door, pid, fd, buffer)
+    }
+
+    /// The step that tries a call again, into this buffer, as `Space::resume_into` says. The files stay with the same
+    /// allocator.
+    #[inline(always)]
+    pub fn resume_into<F: Frames>(
+        &mut self,
+        door: &mut F,
+        pid: u32,
+        buffer: &mut [u8],
+    ) -> Result<Option<usize>, Errno>
+        requires fact { F.fact door.old }
+        requires owns { Owns (F.live door.old) self.old.space }
+        ensures fact { F.fact door.new }
+        ensures rest { F.rest door.new ≡ F.rest door.old }
+        ensures owns { Owns (F.live door.new) self.new.space }
+        ensures limits { self.new.space.limits ≡ self.old.space.limits }
+        ensures answers { Replied
+            (λ reply. Answers self.old.space.limits (Answer.Done reply)
+            (meaning (F.live door.old) self.old.space.state) (Step.Resume pid)
+            (meaning (F.live door.new) self.new.space.state)) result buffer.old buffer.new }
+        ensures allocator { self.new.allocator ≡ self.old.allocator }
+    {
+        self.space.resume_into(door, pid, buffer)
     }
 }

@@ -1,14 +1,16 @@
 //! Calls that wait, tried again (this profile's own).
 
-ghost use Rattle.std.specs.Prelude.{◌≡◌, ◌≢◌, Ok, Err, true};
-ghost use Rattle.pf_machine.specs.Machine.{call, call_of, hands_out};
-ghost use Rattle.pf_tables.specs.Meaning.{meaning};
+ghost use Rattle.std.specs.Prelude.{◌≡◌, ◌≢◌, ◌≤◌, ℕ, List, Some, Ok, Err, true, false};
+ghost use Rattle.pf_machine.specs.Calls.{Moving, Reading};
+ghost use Rattle.pf_machine.specs.Machine.{Answers, call, call_of, hands_out};
+ghost use Rattle.pf_tables.specs.Buffers.{Replied, number_told};
+ghost use Rattle.pf_tables.specs.Meaning.{meaning, occupied, AreEmpty};
 ghost use Rattle.pf_tables.specs.Owns.{Owns};
 ghost use Rattle.pf_tables.specs.Told.{Told, ended};
 ghost use Rattle.pf_tables.specs.Tables.{waits_in_open};
 
 use super::Space;
-use pf_base::{Fault, Reply, Step};
+use pf_base::{Answer, Errno, Fault, Progress, Reply, Step};
 use pf_frame::Frames;
 use pf_parked::Call;
 use std::alloc::Allocator;
@@ -23,7 +25,107 @@ fn over(answer: Result<Reply, Fault>) -> Result<Reply, Fault>
     }
 }
 
+// What a reply is told as that has no bytes, or whose bytes go another way.
+fn number_told(reply: &Reply) -> Result<Option<usize>, Errno>
+    ensures { result ≡ number_told reply.now }
+{
+    match reply {
+        Reply::Num(number) => Ok(Some(*number as usize)),
+        Reply::Bytes(bytes) => Ok(Some(bytes.as_slice().len())),
+        Reply::Err(errno) => Err(*errno),
+        _ => Ok(None),
+    }
+}
+
 impl<A: Allocator + Clone> Space<A> {
+    /// The step that tries the call again in which a process waits (this profile's own): what it leaves is what `step`
+    /// leaves with a `Step::Resume`, and what it is told is the same number, the same wait and the same error. Of a
+    /// read the number is how many bytes it hands out, at most as many as it asked for when it began to wait: the first
+    /// of them lie at the buffer's front, as many as it has room for, and the others are lost. It takes no memory.
+    pub fn resume_into<F: Frames>(
+        &mut self,
+        door: &mut F,
+        pid: u32,
+        buffer: &mut [u8],
+    ) -> Result<Option<usize>, Errno>
+        requires fact { F.fact door.old }
+        requires owns { Owns (F.live door.old) self.old }
+        // The door is left as it is to be, and the live frames are those of this namespace.
+        ensures fact { F.fact door.new }
+        ensures rest { F.rest door.new ≡ F.rest door.old }
+        ensures owns { Owns (F.live door.new) self.new }
+
+        // The step is the lone machine's, with the first bytes of its reply at the buffer's front, and nothing else
+        // there.
+        ensures limits { self.new.limits ≡ self.old.limits }
+        ensures answers { Replied
+            (λ reply. Answers self.old.limits (Answer.Done reply) (meaning (F.live door.old) self.old.state)
+            (Step.Resume pid) (meaning (F.live door.new) self.new.state)) result buffer.old buffer.new }
+
+        // No more frames are live than slots in use, and none only where no pipe has a byte.
+        ensures spread { (F.live door.new).held ≤ occupied self.new.state }
+        ensures none { (F.live door.new).held ≡ 0 → AreEmpty (F.live door.new) self.new.state }
+    {
+        match self.tables.parked_read(pid) {
+            Some(read) => self.fill_again(door, pid, read.fd, read.n, buffer),
+            None => self.resume_others(door, pid),
+        }
+    }
+
+    // Tries a read again, into this buffer.
+    fn fill_again<F: Frames>(
+        &mut self,
+        door: &mut F,
+        pid: u32,
+        fd: u32,
+        n: u64,
+        buffer: &mut [u8],
+    ) -> Result<Option<usize>, Errno>
+        requires fact { F.fact door.old }
+        requires owns { Owns (F.live door.old) self.old }
+        requires waits { call_of (meaning (F.live door.old) self.old.state) pid ≡ Some (Moving (Reading fd n)) }
+        ensures fact { F.fact door.new }
+        ensures rest { F.rest door.new ≡ F.rest door.old }
+        ensures owns { Owns (F.live door.new) self.new }
+        ensures limits { self.new.limits ≡ self.old.limits }
+        ensures answers { Replied
+            (λ reply. Answers self.old.limits (Answer.Done reply) (meaning (F.live door.old) self.old.state)
+            (Step.Resume pid) (meaning (F.live door.new) self.new.state)) result buffer.old buffer.new }
+    {
+        self.tables.settled();
+        self.tables.wake(door, pid);
+        match self.tables.read_truncated(door, pid, fd, n, buffer)? {
+            Progress::Moved(number) => return Ok(Some(number as usize)),
+            Progress::EndOfFile | Progress::NoReader => return Ok(Some(0)),
+            Progress::WouldBlock => {}
+        }
+        let call = Call::Read { fd, n };
+        self.tables.park(door, pid, call);
+        Ok(None)
+    }
+
+    // Tries a call again that is no read.
+    fn resume_others<F: Frames>(&mut self, door: &mut F, pid: u32) -> Result<Option<usize>, Errno>
+        requires fact { F.fact door.old }
+        requires owns { Owns (F.live door.old) self.old }
+        requires quiet { hands_out (call_of (meaning (F.live door.old) self.old.state) pid) ≡ false }
+        ensures fact { F.fact door.new }
+        ensures rest { F.rest door.new ≡ F.rest door.old }
+        ensures owns { Owns (F.live door.new) self.new }
+        ensures limits { self.new.limits ≡ self.old.limits }
+        // No buffer has any byte for it.
+        ensures answers { (buffer : List ℕ) → Replied
+            (λ reply. Answers self.old.limits (Answer.Done reply) (meaning (F.live door.old) self.old.state)
+            (Step.Resume pid) (meaning (F.live door.new) self.new.state)) result buffer buffer }
+    {
+        self.tables.settled();
+        match self.resume(door, pid) {
+            Ok(reply) => number_told(&reply),
+            Err(Fault::Errno(errno)) => Err(errno),
+            Err(Fault::NoMemory) => unreachable!(),
+        }
+    }
+
     /// Tries the call in which a process waits again.
     pub(super) fn resume<F: Frames>(&mut self, door: &mut F, pid: u32) -> Result<Reply, Fault>
         requires fact { F.fact door.old }

@@ -1,0 +1,156 @@
+-- A call that is tried again into a buffer: what is told of it stands for the machine's reply, whose first bytes lie there.
+
+use Rattle.std.proofs.Common.{◌≡◌, ◌⊎◌, inl, inr, ℕ, ◌≤◌, true, false, List, [], ◌∷◌, ◌++◌, length, take, drop, Option, Some, None, is_ok, IsOk, Result, Ok, Err, refl, sym, ap, subst, ◌∙◌, arith}
+use Rattle.std.specs.Prelude.{min}
+use Rattle.pf_machine.specs.Calls.{Reading, Writing, Bringing, Call, Opening, Moving}
+use Rattle.pf_machine.specs.Attempts.{Finished, transfer_told}
+use Rattle.pf_machine.specs.Machine.{Answers, call, call_of, hands_out, step_of}
+use Rattle.pf_machine.specs.Progress.{moved}
+use Rattle.pf_machine.specs.Queue.{Segment}
+use Rattle.pf_machine.specs.Refusals.{or_refuse}
+use Rattle.pf_machine.specs.Replies.{reply_length}
+use Rattle.pf_machine.specs.State.{itself, State, Process, Outcome, living}
+use Rattle.pf_machine.specs.Sweep.{sweep}
+use Rattle.pf_machine.proofs.ReplyLaws.{resume-few, few}
+use Rattle.pf_base.specs.declared.errno.Errno.{Errno}
+use Rattle.pf_base.specs.declared.errno.Errno.TheVariants.{ESRCH}
+use Rattle.pf_base.specs.declared.fault.Fault.{Fault}
+use Rattle.pf_base.specs.declared.fault.Fault.TheVariants as faults
+use Rattle.pf_base.specs.declared.progress.Progress.{Progress}
+use Rattle.pf_base.specs.declared.progress.Progress.TheVariants.{Moved, WouldBlock, EndOfFile, NoReader}
+use Rattle.pf_base.specs.declared.step.Answer.TheVariants.{Done}
+use Rattle.pf_base.specs.declared.step.Reply.{Reply}
+use Rattle.pf_base.specs.declared.step.Reply.TheVariants as replies
+use Rattle.pf_base.specs.declared.step.Step.TheVariants as steps
+use Rattle.pf_frame.specs.Live.{Live}
+use Rattle.pf_ring.specs.Laid.{laid}
+use Rattle.pf_tables.specs.declared.tables.parked.ParkedRead.{ParkedRead}
+use Rattle.pf_tables.specs.Buffers.{read_in, Truncates, Replied, number_told, bytes_told}
+use Rattle.pf_tables.specs.Meaning.{Namespace, meaning}
+use Rattle.pf_tables.specs.Owns.{Owns}
+use Rattle.pf_tables.specs.Tables.{awoken}
+use Rattle.pf_tables.specs.Told.{Told, attempted, tried_call, waits_in, ended}
+use Rattle.pf_space.proofs.ParkedResume.{waiter, resumed}
+use Rattle.pf_space.proofs.ParkedTransfers.{parks, finishes, refuses}
+use Rattle.pf_space.proofs.Steps.{made_step, refused_step}
+
+-- Which call it is
+
+pub read_is : (o : Option (Call ℕ)) (r : ParkedRead) → Some r ≡ read_in o → o ≡ Some (Moving (Reading r.fd r.n))
+read_is None r e = absurd (cc)
+read_is (Some (Opening description kept)) r e = absurd (cc)
+read_is (Some (Moving (Reading fd n))) r e =
+    let here : ParkedRead = record { fd = fd; n = n } in
+    let same : r ≡ here = cc in
+    ap (λ (x : ParkedRead). Some (Moving (Reading x.fd x.n))) (sym same)
+read_is (Some (Moving (Writing fd bytes written))) r e = absurd (cc)
+read_is (Some (Moving (Bringing crossing source sink n))) r e = absurd (cc)
+
+pub no_read : (o : Option (Call ℕ)) → None ≡ read_in o → hands_out o ≡ false
+no_read None e = refl
+no_read (Some (Opening description kept)) e = refl
+no_read (Some (Moving (Reading fd n))) e = absurd (cc)
+no_read (Some (Moving (Writing fd bytes written))) e = refl
+no_read (Some (Moving (Bringing crossing source sink n))) e = refl
+
+-- who waits in one lives
+pub lives_there : (s : State Segment ℕ) (pid fd n : ℕ) → call_of s pid ≡ Some (Moving (Reading fd n)) → IsOk (living s pid)
+lives_there s pid fd n waits =
+    let w = waiter s pid (Reading fd n) waits in
+    ap (λ (o : Option (Process ℕ)). is_ok (or_refuse ESRCH o)) w.lives
+
+-- A read
+
+-- a buffer stays as it is where there is nothing to lay into it
+no_byte_lies : (buffer : List ℕ) → buffer ≡ laid [] buffer
+no_byte_lies buffer =
+    let zero : min 0 (length buffer) ≡ 0 = omega arith in
+    sym (ap (λ (n : ℕ). take n [] ++ drop n buffer) zero)
+
+none : (xs : List ℕ) → length xs ≡ 0 → xs ≡ []
+none [] e = refl
+none (x ∷ xs) e = absurd (omega (arith, e))
+
+module _ (f g : Live) (old mid new : Namespace) (pid fd n : ℕ) (waits : call_of (meaning f old.state) pid ≡ Some (Moving (Reading fd n))) (mid_is : mid ≡ record old { state = awoken old.state pid })
+    (still : meaning f old.state ≡ sweep itself (meaning f old.state)) (told : Result (Option ℕ) Errno) (before after : List ℕ) where
+  abbrev Resumed : Type 0
+  Resumed = Replied (λ (reply : Reply). Answers old.limits (Done reply) (meaning f old.state) (steps.Resume pid) (meaning g new.state)) told before after
+
+  abbrev Tries : Result Reply Fault → Type 0
+  Tries result = Told f g mid new result (tried_call (meaning f mid.state) pid false (Reading fd n))
+
+  -- what it is told as a first call, it is told
+  answered : (reply : Reply) (result : Result Reply Fault) → ended result ≡ Ok reply → (result ≡ Err faults.NoMemory → ⊥) → Tries result → told ≡ number_told reply → after ≡ laid (bytes_told reply) before → Resumed
+  answered reply result is ample tried told_is lie =
+      let here : Told f g old new (Ok reply) (call old.limits (meaning f old.state) (steps.Resume pid)) =
+      subst (λ (r : Result Reply Fault). Told f g old new r (call old.limits (meaning f old.state) (steps.Resume pid))) is
+      (resumed old.limits f g old mid new pid (Reading fd n) waits mid_is still result tried ample) in
+      record {
+        reply = reply;
+        is = made_step old.limits (meaning f old.state) (meaning g new.state) (steps.Resume pid) reply here.says;
+        told_is = told_is;
+        bytes_lie = lie;
+      }
+
+  module _ (between : Namespace) (progress : Progress) (came : Truncates g between (attempted (meaning f mid.state) pid (Reading fd n)) progress before after) (owns : Owns g between) (limits : between.limits ≡ mid.limits) where
+    -- where no byte came, none lies there
+    nothing : moved progress ≡ 0 → after ≡ laid [] before
+    nothing zero = came.bytes_lie ∙ ap (λ (xs : List ℕ). laid xs before) (none came.tried.bytes (came.as_many ∙ zero))
+
+    pub waits_on : progress ≡ WouldBlock → new ≡ waits_in (Some (Moving (Reading fd n))) between pid → told ≡ Ok None → Resumed
+    waits_on is waiting says =
+        answered replies.Parked (Ok replies.Parked) refl (λ e. absurd (cc))
+        (parks f g mid between new pid (Reading fd n) came.tried came.is owns limits came.state (Moving (Reading fd n)) refl (ap (transfer_told (Reading fd n) came.tried) (came.progress_is ∙ is)) waiting)
+        says (nothing (ap moved is))
+
+  module _ (progress : Progress) (came : Truncates g new (attempted (meaning f mid.state) pid (Reading fd n)) progress before after) (owns : Owns g new) (limits : new.limits ≡ mid.limits) where
+    pub comes : (m : ℕ) → progress ≡ Moved m → told ≡ Ok (Some m) → Resumed
+    comes m is says =
+        answered (replies.Bytes came.tried.bytes) (Ok (replies.Bytes came.tried.bytes)) refl (λ e. absurd (cc))
+        (finishes f g mid new pid (Reading fd n) came.tried came.is owns limits came.state (replies.Bytes came.tried.bytes) (ap (transfer_told (Reading fd n) came.tried) (came.progress_is ∙ is)))
+        (says ∙ ap (λ (k : ℕ). Ok (Some k)) (sym (came.as_many ∙ ap moved is))) came.bytes_lie
+
+    finished : transfer_told (Reading fd n) came.tried came.tried.progress ≡ Ok (Finished came.tried.state (replies.Bytes [])) → moved progress ≡ 0 → told ≡ Ok (Some 0) → Resumed
+    finished is zero says =
+        answered (replies.Bytes []) (Ok (replies.Bytes [])) refl (λ e. absurd (cc)) (finishes f g mid new pid (Reading fd n) came.tried came.is owns limits came.state (replies.Bytes []) is) says
+        (nothing new progress came owns limits zero)
+
+    pub ends : (progress ≡ EndOfFile) ⊎ (progress ≡ NoReader) → told ≡ Ok (Some 0) → Resumed
+    ends is says = elim is [
+      | inl e ↦ finished (ap (transfer_told (Reading fd n) came.tried) (came.progress_is ∙ e)) (ap moved e) says
+      | inr e ↦ finished (ap (transfer_told (Reading fd n) came.tried) (came.progress_is ∙ e)) (ap moved e) says
+    ]
+
+  pub is_refused : (e : Errno) → attempted (meaning f mid.state) pid (Reading fd n) ≡ Err e → Owns g new → new.limits ≡ mid.limits → meaning g new.state ≡ meaning f mid.state → told ≡ Err e → after ≡ before → Resumed
+  is_refused e is owns limits same says lie =
+      answered (replies.Err e) (Err (faults.Errno e)) refl (λ x. absurd (cc)) (refuses f g mid new pid (Reading fd n) e is owns limits same) says (lie ∙ no_byte_lies before)
+
+-- Another call
+
+-- a reply that hands out nothing has no bytes
+no_bytes : (reply : Reply) → reply_length reply ≤ 0 → bytes_told reply ≡ []
+no_bytes (replies.Num n) short = refl
+no_bytes (replies.Pid pid) short = refl
+no_bytes (replies.Fds reading writing) short = refl
+no_bytes (replies.Bytes bytes) short = none bytes (omega (arith, short))
+no_bytes (replies.Names names) short = refl
+no_bytes (replies.Meta meta) short = refl
+no_bytes replies.Parked short = refl
+no_bytes (replies.Err e) short = refl
+
+module _ (f g : Live) (old new : Namespace) (pid : ℕ) (told : Result (Option ℕ) Errno) (buffer : List ℕ) where
+  abbrev Told_so : Type 0
+  Told_so = Replied (λ (reply : Reply). Answers old.limits (Done reply) (meaning f old.state) (steps.Resume pid) (meaning g new.state)) told buffer buffer
+
+  pub others_told : hands_out (call_of (meaning f old.state) pid) ≡ false → (reply : Reply) → Told f g old new (Ok reply) (call old.limits (meaning f old.state) (steps.Resume pid)) → told ≡ number_told reply → Told_so
+  others_told quiet reply here says =
+      let s = meaning f old.state in
+      let is : record { state = meaning g new.state; reply = reply } ≡ step_of old.limits s (steps.Resume pid) = made_step old.limits s (meaning g new.state) (steps.Resume pid) reply here.says in
+      let short : reply_length (step_of old.limits s (steps.Resume pid)).reply ≤ 0 =
+      few s 0 (call old.limits s (steps.Resume pid)) (resume-few s 0 old.limits pid (λ p fd n e waits found. let gap : true ≡ false = sym (ap hands_out waits) ∙ quiet in absurd (cc))) in
+      let silent : bytes_told reply ≡ [] = no_bytes reply (subst (λ (r : Reply). reply_length r ≤ 0) (sym (ap (λ (o : Outcome Segment ℕ). o.reply) is)) short) in
+      record { reply = reply; is = is; told_is = says; bytes_lie = no_byte_lies buffer ∙ ap (λ (xs : List ℕ). laid xs buffer) (sym silent) }
+
+  pub others_refused : (e : Errno) → Told f g old new (Err (faults.Errno e)) (call old.limits (meaning f old.state) (steps.Resume pid)) → meaning f old.state ≡ sweep itself (meaning f old.state) → told ≡ Err e → Told_so
+  others_refused e here still says =
+      record { reply = replies.Err e; is = refused_step old.limits (meaning f old.state) (meaning g new.state) (steps.Resume pid) e here.says.0 here.says.1 still; told_is = says; bytes_lie = no_byte_lies buffer }
