@@ -18,9 +18,11 @@ use std::marker::Model;
 mod coming;
 pub mod events;
 mod reads;
+mod resumes;
 mod transfers;
 
 pub use reads::read_over;
+pub use resumes::resume_over;
 pub use transfers::write_over;
 
 /// Many namespaces over one pool of frames: a depot has the free ones, and each namespace the others on loan, as a

@@ -3,10 +3,10 @@ ghost use Rattle.pf_depot.specs.Depot.{free_of, frames_of};
 ghost use Rattle.pf_depot.specs.Door.{IsCovered};
 ghost use Rattle.pf_depot.specs.Loans.{loans_live};
 ghost use Rattle.pf_hub.specs.Stepped.{Lodges};
-ghost use Rattle.pf_tables.specs.Buffers.{Lies, answer_in, number_in};
+ghost use Rattle.pf_tables.specs.Buffers.{Lies, Replied, answer_in, number_in};
 ghost use Rattle.pf_tables.specs.Owns.{Owns};
 
-use crate::hub::{read_over, step_over, write_over};
+use crate::hub::{read_over, resume_over, step_over, write_over};
 use pf_base::{Answer, Errno, Step};
 use pf_depot::{Depot, Loans};
 use pf_space::Placed;
@@ -73,5 +73,23 @@ impl<A: Allocator + Clone> Tenant<A> {
         ensures lies { Lies (number_in result) buffer.old buffer.new }
     {
         read_over(&mut self.placed, depot, &mut self.loans, pid, fd, buffer)
+    }
+
+    /// And the one that tries a call again, into this buffer.
+    #[inline(always)]
+    pub(crate) fn resume_into(
+        &mut self,
+        depot: &mut Depot,
+        pid: u32,
+        buffer: &mut [u8],
+    ) -> Result<Option<usize>, Errno>
+        requires covered { IsCovered (loans_live self.old.loans) (free_of depot.old)
+            (frames_of depot.old - free_of depot.old) }
+        requires owns { Owns (loans_live self.old.loans) self.old.placed.space }
+        ensures lodges { Replied
+            (λ reply. Lodges depot.old depot.new self.old self.new (Step.Resume pid) (Answer.Done reply))
+            result buffer.old buffer.new }
+    {
+        resume_over(&mut self.placed, depot, &mut self.loans, pid, buffer)
     }
 }
