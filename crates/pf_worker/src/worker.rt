@@ -20,6 +20,7 @@ use std::sync::ledger::{Blank, Ledger, Share};
 use std::sync::{Mutex, Wait};
 
 mod queries;
+mod slices;
 
 /// A namespace for a thread of its own: its space, its frames on loan, its shares of the ledgers of a depot that other
 /// workers share, and a few frames of that depot in stock.
