@@ -9,8 +9,8 @@
  * (-EBADF is -9); or one of three codes, which are no error's:
  *   SAG_PARKED       the call waits. No call blocks the thread: the process waits in it, and sag_resume tries it again
  *   SAG_NOMEM        memory of the heap was wanted. Nothing has changed, and the call can be made again. It is told by
- *                    sag_open, sag_admit, sag_spawn, sag_fork, sag_pipe, sag_set_pipe_size, each call with a path, a
- *                    sag_write that waits and a sag_resume of a read, and by no other
+ *                    sag_open, sag_admit, sag_spawn, sag_fork, sag_pipe, sag_set_pipe_size, each call with a path and a
+ *                    sag_write that waits, and by no other
  *   SAG_NONAMESPACE  there is no such namespace. Nothing has changed. A shut handle has none
  * A call with a `pid` is refused with -ESRCH where no process of this pid lives, and then with -EBUSY where it waits in
  * a call; sag_exit and sag_resume with -ESRCH alone, and sag_can_go_on is never refused. The errors beside each
@@ -116,9 +116,10 @@ int64_t sag_exit(sag_hub *h, uint32_t ns, uint32_t pid);
 /* Tries the call again in which the process waits, and tells what that call tells: SAG_PARKED where it still waits.
  * -ESRCH; -EINVAL where the process waits in none; -EPIPE of a write that has put nothing, of a tee and of a splice,
  * where nobody reads any more, and then it waits no more. A call that waits is told no other error, whatever O_NONBLOCK
- * is. The bytes that a read hands out go into the buffer, as many as it has room for, and what is beyond is lost: give
- * it the buffer of the read that waits, and any other where the call is no read. A result above `count` says that bytes
- * were lost. This profile's own. */
+ * is. A read hands out as many bytes as it asked for when it began to wait, or what there is. They are laid into the
+ * buffer from where they stand, as many as it has room for, and what is beyond is lost, as of recv(2) with MSG_TRUNC:
+ * give it the buffer of the read that waits, and any other where the call is no read. A result above `count` says that
+ * bytes were lost. No memory of the heap is wanted. This profile's own. */
 int64_t sag_resume(sag_hub *h, uint32_t ns, uint32_t pid, void *into, size_t count);
 
 /* Who can go on. An event loop asks after each step that may have let somebody go on: one of the same namespace. */

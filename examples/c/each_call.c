@@ -293,7 +293,7 @@ static void nobody(void) {
     TELLS(0, sag_pipe(&hub, 0, 1, false, fds));
     TELLS_WITHOUT_HEAP(SAG_PARKED, sag_read(&hub, 0, 1, 0, into, 1));
     for (int i = RESUME + 1; i < STEPS; i++) TELLS_WITHOUT_HEAP(-EBUSY, step(i, 0, 1));
-    TELLS(SAG_PARKED, step(RESUME, 0, 1));
+    TELLS_WITHOUT_HEAP(SAG_PARKED, step(RESUME, 0, 1));
     TELLS_WITHOUT_HEAP(0, step(EXIT, 0, 1));
     TELLS_WITHOUT_HEAP(-ESRCH, step(EXIT, 0, 1));
     end();
@@ -445,13 +445,13 @@ static void waits(void) {
     TELLS_WITHOUT_HEAP(SAG_PARKED, sag_read(&hub, 0, 2, 0, into, 10));
     TELLS_WITHOUT_HEAP(20, sag_write(&hub, 0, 1, 1, pattern, 20));
     TELLS_WITHOUT_HEAP(2, sag_next_to_go_on(&hub, 0, 1));
-    TELLS(10, sag_resume(&hub, 0, 2, into, 4));
+    TELLS_WITHOUT_HEAP(10, sag_resume(&hub, 0, 2, into, 4));
     WANT(got(0, 4));
     TELLS_WITHOUT_HEAP(10, sag_read(&hub, 0, 2, 0, into, 50));
     WANT(got(10, 10));
     TELLS_WITHOUT_HEAP(SAG_PARKED, sag_read(&hub, 0, 2, 0, into, LONG));
     TELLS_WITHOUT_HEAP(PIPE, sag_write(&hub, 0, 1, 1, pattern, PIPE));
-    TELLS(PIPE, sag_resume(&hub, 0, 2, into, LONG));
+    TELLS_WITHOUT_HEAP(PIPE, sag_resume(&hub, 0, 2, into, LONG));
     WANT(got(0, PIPE));
 
     /* The reader goes: who has put bytes is told how many, and who has put none EPIPE. */
@@ -471,7 +471,7 @@ static void waits(void) {
     TELLS_WITHOUT_HEAP(SAG_PARKED, sag_read(&hub, 0, 2, 0, into, 1));
     TELLS_WITHOUT_HEAP(0, sag_exit(&hub, 0, 1));
     TELLS_WITHOUT_HEAP(true, sag_can_go_on(&hub, 0, 2));
-    TELLS(0, sag_resume(&hub, 0, 2, into, 1));
+    TELLS_WITHOUT_HEAP(0, sag_resume(&hub, 0, 2, into, 1));
     end();
     two(true);
     TELLS(SAG_PARKED, sag_write(&hub, 0, 1, 1, pattern, LONGEST_WRITE));
