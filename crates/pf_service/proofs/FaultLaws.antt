@@ -24,7 +24,7 @@ unseen es TooManySeats fault = absurd fault
 unseen es Gone fault = absurd fault
 
 -- without the namespace
-unknown : {A C H : Type 0} (t : Tenant (OneLiving A C H)) (e : ServiceFault) → IsTenantFault t e → IsEventFault e
+pub unknown : {A C H : Type 0} (t : Tenant (OneLiving A C H)) (e : ServiceFault) → IsTenantFault t e → IsEventFault e
 unknown (Living l) e fault = unseen l.logged.transcript e fault
 unknown (Retired t) e fault = subst IsEventFault (sym fault) tt
 

@@ -6,5 +6,6 @@ pub mod LogLaws
 pub mod FaultLaws
 pub mod PlaceLaws
 pub mod WaitingLaws
+pub mod LockLaws
 pub mod JudgeLaws
 pub mod Sendable

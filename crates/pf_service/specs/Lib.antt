@@ -10,3 +10,4 @@ pub mod Judged
 pub mod Woken
 pub mod Waited
 pub mod Tenants
+pub mod Said

@@ -1,8 +1,9 @@
 ghost use Rattle.std.specs.Prelude.{◌≡◌, ℕ, ◌<◌, [], ◌∷◌, ◌&&◌, false, true, nat_eq, length, All, IfOk, IfErr, OnOk, OnErr};
 ghost use Rattle.pf_service.specs.Faults.{IsApplyFault, IsEventFault, IsRefusal, IsRetirementFault};
 ghost use Rattle.pf_service.specs.Log.{IsLogged};
+ghost use Rattle.pf_service.specs.Said.{IsRefusedThere};
 ghost use Rattle.pf_service.specs.Seats.{Gains, event_at};
-ghost use Rattle.pf_service.specs.Tenants.{IsEvent, IsSameTenant, IsTenantFault, IsToldOfMore, is_idle_at};
+ghost use Rattle.pf_service.specs.Tenants.{IsAwakening, IsEvent, IsSameTenant, IsTenantFault, IsToldOfMore, is_idle_at};
 ghost use Rattle.pf_service.specs.Told.{Told};
 ghost use Rattle.pf_service.specs.Transcripts.{IsLone};
 ghost use Rattle.pf_service.specs.declared.TheConstants.{MAX_ENTRIES};
@@ -190,6 +191,29 @@ pub(crate) fn event_of<A: Allocator + Clone, R: Wait, G: Gate, C: Ledger, H: Led
     }
 }
 
+// One event of a seat of the namespace that lies behind a lock. It happens to what lay there, or is refused because of that,
+// and those who wait there are woken.
+fn call_at<A: Allocator + Clone, R: Wait, G: Gate, C: Ledger, H: Ledger, W: Waiters>(
+    rt: &R,
+    gate: &G,
+    book: &Mutex<DepotBook<C, H>>,
+    locked: &Mutex<Seated<A, C, H>>,
+    waiters: &W,
+    seat: &mut Seat,
+    step: &Step,
+) -> Result<Receipt, ServiceFault>
+    ensures kept { IfOk result (λ r. Gains seat.old seat.new (event_at r.place step.now r.reply ∷ [])) }
+    ensures told { IfOk result (λ r. (r.ns ≡ seat.old.ns) × Told step.now r.place r.reply) }
+    ensures passed { IfOk result (λ r. G.passed gate.now r.ns r.place) }
+    ensures woken { IfOk result (λ r. IsAwakening (λ t awaited. W.lay waiters.now A C H t awaited)
+        (λ awaited. W.woken waiters.now awaited) step.now r.place r.reply) }
+    ensures fault { IfErr result (IsRefusedThere (λ t awaited. W.lay waiters.now A C H t awaited)) }
+    ensures refused { OnErr result (Gains seat.old seat.new []) }
+{
+    let mut seated = waiters.lock(rt, locked);
+    event_of(rt, gate, book, &mut *seated, waiters, seat, step)
+}
+
 impl<A: Allocator + Clone, C: Ledger, H: Ledger> Place<A, C, H> {
     ghost use Rattle.pf_service.specs.declared.TheConstants.{MAX_SEATS};
 
@@ -221,7 +245,7 @@ impl<A: Allocator + Clone, C: Ledger, H: Ledger> Place<A, C, H> {
         Ok(Seat::new(alloc, self.ns, number))
     }
 
-    /// One event of a seat of the namespace (`event_of`).
+    /// One event of a seat of the namespace (`call_at`).
     pub(crate) fn call<R: Wait, G: Gate>(
         &self,
         rt: &R,
@@ -237,8 +261,7 @@ impl<A: Allocator + Clone, C: Ledger, H: Ledger> Place<A, C, H> {
         ensures fault { IfErr result IsEventFault }
         ensures refused { OnErr result (Gains seat.old seat.new []) }
     {
-        let mut seated = self.seated.lock(rt);
-        event_of(rt, gate, book, &mut *seated, &self.next, seat, step)
+        call_at(rt, gate, book, &self.seated, &self.next, seat, step)
     }
 
     /// The namespace is retired, where it lives and has no process.

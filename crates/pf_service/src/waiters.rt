@@ -1,21 +1,45 @@
 ghost use Rattle.std.specs.Prelude.{Bool, IsTrue};
+ghost use Rattle.pf_service.specs.declared.living.Living.{Living};
+ghost use Rattle.pf_service.specs.declared.seated.Tenant.{Tenant};
 
 use crate::seated::Seated;
 use std::alloc::Allocator;
 use std::sync::ledger::Ledger;
-use std::sync::{Condvar, MutexGuard, Wait};
+use std::sync::{Condvar, Mutex, MutexGuard, Wait};
 
-/// Who waits for a namespace's next event.
+/// Who waits for a namespace's next event, and how the namespace's lock is taken, and let go to wait.
 ///
-/// That all were woken is a fact which nobody but `wake_all` gives: a contract over any waiters can't see what the fact is.
-/// So whoever asks for the fact asks for a call. That whoever was woken goes on, no contract says.
+/// That all were woken is a fact which nobody but `wake_all` gives, and what lay behind the lock when it was taken is one
+/// which nobody but `lock` and `wait` give: a contract over any waiters can't see what these facts are. So whoever asks for
+/// them asks for calls, with just what lay there. That whoever was woken goes on, no contract says.
 pub(crate) trait Waiters {
     /// All who waited were woken, where anybody did.
     ghost woken: { Self → Bool → Type 0 };
 
+    /// This namespace lay behind the lock, and so it was with whether anybody waited.
+    ghost lay: { Self → (A C H : Type 0) → Tenant (Living A C H) → Bool → Type 0 };
+
     /// Wakes all who wait, where anybody does.
     fn wake_all(&self, is_awaited: bool)
         ensures { woken self.now is_awaited };
+
+    /// Takes the lock.
+    fn lock<'a, A: Allocator, C: Ledger, H: Ledger, R: Wait>(
+        &self,
+        rt: &R,
+        seated: &'a Mutex<Seated<A, C, H>>,
+    ) -> MutexGuard<'a, Seated<A, C, H>>
+        ensures { lay self.now A C H result.value.tenant result.value.is_awaited };
+
+    /// Lets the lock go until the next event, and takes it again. That somebody waits stands behind the lock, where whoever
+    /// makes the event finds it.
+    fn wait<'a, A: Allocator, C: Ledger, H: Ledger, R: Wait>(
+        &self,
+        rt: &R,
+        seated: MutexGuard<'a, Seated<A, C, H>>,
+    ) -> MutexGuard<'a, Seated<A, C, H>>
+        requires { IsTrue seated.value.is_awaited }
+        ensures { lay self.now A C H result.value.tenant result.value.is_awaited };
 }
 
 /// A namespace's next event, as those see it who wait for it.
@@ -31,27 +55,33 @@ impl NextEvent {
             came: Condvar::new(),
         }
     }
-
-    /// Waits for it, and lets the namespace's lock go for as long. That somebody waits stands behind the lock, where whoever
-    /// makes the event finds it.
-    pub(crate) fn wait<'a, A: Allocator, C: Ledger, H: Ledger, R: Wait>(
-        &self,
-        rt: &R,
-        seated: MutexGuard<'a, Seated<A, C, H>>,
-    ) -> MutexGuard<'a, Seated<A, C, H>>
-        requires { IsTrue seated.value.is_awaited }
-    {
-        self.came.wait(rt, seated)
-    }
 }
 
 impl Waiters for NextEvent {
     ghost woken = { λ _ _. Unit {0} };
+
+    ghost lay = { λ _ _ _ _ _ _. Unit {0} };
 
     // A notification writes to memory that all callers of the namespace share.
     fn wake_all(&self, is_awaited: bool) {
         if is_awaited {
             self.came.notify_all();
         }
+    }
+
+    fn lock<'a, A: Allocator, C: Ledger, H: Ledger, R: Wait>(
+        &self,
+        rt: &R,
+        seated: &'a Mutex<Seated<A, C, H>>,
+    ) -> MutexGuard<'a, Seated<A, C, H>> {
+        seated.lock(rt)
+    }
+
+    fn wait<'a, A: Allocator, C: Ledger, H: Ledger, R: Wait>(
+        &self,
+        rt: &R,
+        seated: MutexGuard<'a, Seated<A, C, H>>,
+    ) -> MutexGuard<'a, Seated<A, C, H>> {
+        self.came.wait(rt, seated)
     }
 }

@@ -6,6 +6,7 @@ ghost use Rattle.pf_service.specs.declared.event.Event.{Event as OneEvent};
 ghost use Rattle.pf_service.specs.Faults.{IsApplyFault, IsEventFault};
 ghost use Rattle.pf_service.specs.Tenants.{IsEvent, IsSameTenant, IsTenantFault, IsToldOfMore, is_idle_at};
 ghost use Rattle.pf_service.specs.Seats.{Gains};
+ghost use Rattle.pf_service.specs.Said.{IsRefusedThere, IsSaid};
 ghost use Rattle.pf_service.specs.Told.{Told};
 ghost use Rattle.pf_service.specs.Waited.{maker, resume_of, IsTried, IsWaited, IsAnswered, AreParked};
 
@@ -108,6 +109,50 @@ fn try_once<A: Allocator + Clone, R: Wait, G: Gate, C: Ledger, H: Ledger, W: Wai
     Ok(waits)
 }
 
+// An event of a seat of the namespace that lies behind a lock, and, as long as its process waits, after each further event of
+// the namespace a Resume of that process. Each happens to what lay there, and those who wait there are woken. It is given up
+// only where an event is refused because of what lay there.
+fn wait_at<A: Allocator + Clone, R: Wait, G: Gate, C: Ledger, H: Ledger, W: Waiters>(
+    rt: &R,
+    gate: &G,
+    book: &Mutex<DepotBook<C, H>>,
+    locked: &Mutex<Seated<A, C, H>>,
+    waiters: &W,
+    seat: &mut Seat,
+    step: &Step,
+    receipts: &mut Vec<Receipt>,
+) -> Result<(), ServiceFault>
+    ensures waited { (es : List OneEvent)
+        × IsWaited (IsSaid (λ n p. G.passed gate.now n p) (λ t awaited. W.lay waiters.now A C H t awaited)
+        (λ awaited. W.woken waiters.now awaited) seat.old.ns) step.now seat.old seat.new
+        receipts.old.items receipts.new.items es
+        × OnOk result (IsAnswered es)
+        × OnErr result (AreParked es) }
+    ensures fault { IfErr result (IsRefusedThere (λ t awaited. W.lay waiters.now A C H t awaited)) }
+{
+    let pid = maker(step);
+    let mut seated = waiters.lock(rt, locked);
+    let mut waits = try_once(rt, gate, book, &mut *seated, waiters, seat, step, receipts)?;
+    for _ in rt.forever() {
+        if !waits {
+            return Ok(());
+        }
+        seated.is_awaited = true;
+        seated = waiters.wait(rt, seated);
+        waits = try_once(
+            rt,
+            gate,
+            book,
+            &mut *seated,
+            waiters,
+            seat,
+            &Step::Resume { pid },
+            receipts,
+        )?;
+    }
+    unreachable!()
+}
+
 impl<A: Allocator + Clone, C: Ledger, H: Ledger> Place<A, C, H> {
     /// An event of a seat of the namespace, and, as long as its process waits, after each further event of the namespace a
     /// Resume of that process. The receipt of each is appended.
@@ -130,35 +175,15 @@ impl<A: Allocator + Clone, C: Ledger, H: Ledger> Place<A, C, H> {
             × OnErr result (AreParked es) }
         ensures fault { IfErr result IsEventFault }
     {
-        let pid = maker(step);
-        let mut seated = self.seated.lock(rt);
-        let mut waits = try_once(
+        wait_at(
             rt,
             gate,
             book,
-            &mut *seated,
+            &self.seated,
             &self.next,
             seat,
             step,
             receipts,
-        )?;
-        for _ in rt.forever() {
-            if !waits {
-                return Ok(());
-            }
-            seated.is_awaited = true;
-            seated = self.next.wait(rt, seated);
-            waits = try_once(
-                rt,
-                gate,
-                book,
-                &mut *seated,
-                &self.next,
-                seat,
-                &Step::Resume { pid },
-                receipts,
-            )?;
-        }
-        unreachable!()
+        )
     }
 }

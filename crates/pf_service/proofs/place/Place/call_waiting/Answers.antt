@@ -1,52 +1,11 @@
--- The first event, and one more after each that was answered Parked.
-use Rattle.std.proofs.Common.{rules, ℕ, [], ◌∷◌, ◌++◌}
-use Rattle.std.specs.Prelude.{IsTrue}
-use Rattle.pf_base.specs.declared.step.Step.{Step}
-use Rattle.pf_base.specs.declared.step.Reply.{Reply}
-use Rattle.pf_service.specs.Seats.{event_at}
-use Rattle.pf_service.specs.Told.{Told}
-use Rattle.pf_service.specs.Waited.{resume_of}
-use Rattle.pf_service.proofs.FaultLaws.{refused_event, on_ok, on_err}
-use Rattle.std.proofs.lemmas.List.Elements.{All-push}
-use Rattle.pf_service.proofs.WaitingLaws.{begun, gone_on, answered, left, tried_at, IsParked}
+-- What the caller is told, and the gate, of all that is said of each event.
+use Rattle.pf_service.proofs.LockLaws.{fault_there, waited_alone}
 use Rattle.pf_service.proofs.place.Place.call_waiting.Goals as goal
 
-pub loop-init : goal.loop-init
-loop-init g c =
-    let t = c.in_ok-waits.ensures.tried in
-    ((tt, tt), ([], event_at t.0 c.args.step.now t.1, begun _ c.args.step.now _ _ _ _ t.0 t.1 t.2, t.3))
+pub returns-clause-waited : goal.returns-clause-waited
+returns-clause-waited g c =
+    let w = c.wait_at.ensures.waited in
+    (w.0, waited_alone (λ n p. g.G.Gate.passed c.args.gate.now n p) _ _ c.args.seat.now.ns _ _ _ _ _ w.0 w.1, w.2, w.3)
 
-pub returns-then-not-waits-clause-waited : goal.returns-then-not-waits-clause-waited
-returns-then-not-waits-clause-waited g c =
-    let i = c.loop.invariant.1 in
-    let no = c.if-not-waits.true in
-    (i.0 ++ i.1 ∷ [], i.2.waited, answered i.0 i.1 (λ parked. let yes = i.3.1 parked in absurd (cc)), tt)
-
-pub loop-preserved : goal.loop-preserved
-loop-preserved g c =
-    let i = c.loop.invariant.1 in
-    let t = c.in_ok-waits-2.ensures.tried in
-    let waits : IsTrue c.loop.waits = search rules in
-    let again =
-    tried_at (λ n p. g.G.Gate.passed c.args.gate.now n p) c.loop.seat.ns c.args.seat.now.ns c.maker-pid.result _ c.loop.seat c.try_once-in-loop.new.seat
-    c.loop.receipts.items c.try_once-in-loop.new.receipts.items t.0 t.1 i.2.waited.gains.ns c.maker-pid.ensures t.2 in
-    let go = gone_on (λ (s : Step) (p : ℕ) (r : Reply). Told s p r × g.G.Gate.passed c.args.gate.now c.args.seat.now.ns p) c.args.step.now
-    c.args.seat.now c.loop.seat c.try_once-in-loop.new.seat c.args.receipts.now.items c.loop.receipts.items c.try_once-in-loop.new.receipts.items i.0 i.1 t.0 t.1 i.2 (i.3.0 waits) again in
-    ((tt, tt), (i.0 ++ i.1 ∷ [], event_at t.0 (resume_of c.args.step.now) t.1, go, t.3))
-
-pub returns-in_err-waits-2-clause-waited : goal.returns-in_err-waits-2-clause-waited
-returns-in_err-waits-2-clause-waited g c =
-    let i = c.loop.invariant.1 in
-    let stays = left (λ (s : Step) (p : ℕ) (r : Reply). Told s p r × g.G.Gate.passed c.args.gate.now c.args.seat.now.ns p) c.args.step.now
-    c.args.seat.now c.loop.seat c.try_once-in-loop.new.seat c.args.receipts.now.items c.loop.receipts.items c.try_once-in-loop.new.receipts.items (i.0 ++ i.1 ∷ [])
-    i.2.waited c.in_err-waits-2.ensures.seat c.in_err-waits-2.ensures.receipts in
-    let waits : IsTrue c.loop.waits = search rules in (
-      i.0 ++ i.1 ∷ [],
-      stays,
-      on_ok _ c.from_residual-in_err-waits-2.result c.from_residual-in_err-waits-2.ensures.0,
-      on_err _ c.from_residual-in_err-waits-2.result (All-push IsParked i.0 i.1 i.2.parked (i.3.0 waits)),
-    )
-
-pub returns-in_err-waits-2-clause-fault : goal.returns-in_err-waits-2-clause-fault
-returns-in_err-waits-2-clause-fault g c =
-    refused_event _ _ c.from_residual-in_err-waits-2.result c.from_residual-in_err-waits-2.ensures.1 c.in_err-waits-2.ensures.fault
+pub returns-clause-fault : goal.returns-clause-fault
+returns-clause-fault g c = fault_there _ c.wait_at.result c.wait_at.ensures.fault

@@ -1,0 +1,79 @@
+-- What lay behind a namespace's lock when it was taken, and what is said of an event by it.
+
+use Rattle.std.proofs.Common.{◌≡◌, ℕ, List, ◌∷◌, [], sym, subst}
+use Rattle.std.specs.Prelude.{Bool, false, Result, Ok, Err, IfOk, IfErr, IsErrAnd}
+use Rattle.pf_base.specs.declared.step.Step.{Step}
+use Rattle.pf_base.specs.declared.step.Step.TheVariants.{Resume}
+use Rattle.pf_base.specs.declared.step.Reply.{Reply}
+use Rattle.pf_service.specs.declared.event.Event.{Event}
+use Rattle.pf_service.specs.declared.fault.ServiceFault.{ServiceFault}
+use Rattle.pf_service.specs.declared.living.Living.{Living as OneLiving}
+use Rattle.pf_service.specs.declared.receipt.Receipt.{Receipt}
+use Rattle.pf_service.specs.declared.seated.Seated.{Seated as OneSeated}
+use Rattle.pf_service.specs.declared.seated.Tenant.{Tenant}
+use Rattle.pf_service.specs.Faults.{IsEventFault}
+use Rattle.pf_service.specs.Said.{IsSaid, IsRefusedThere}
+use Rattle.pf_service.specs.Seats.{OneSeat}
+use Rattle.pf_service.specs.Tenants.{IsAwakening, IsEvent, IsTenantFault, is_idle_at}
+use Rattle.pf_service.specs.Told.{Told}
+use Rattle.pf_service.specs.Waited.{resume_of, Tries, IsWaited, IsTried}
+use Rattle.pf_service.proofs.FaultLaws.{unknown}
+
+module _ {A C H : Type 0} (Lay : Tenant (OneLiving A C H) → Bool → Type 0) where
+  -- the same one, as it is lent
+  pub lay_at : (s s' : OneSeated A C H) → s' ≡ s → Lay s.tenant s.is_awaited → Lay s'.tenant s'.is_awaited
+  lay_at s s' same lay = subst (λ (x : OneSeated A C H). Lay x.tenant x.is_awaited) (sym same) lay
+
+  -- what happened to it
+  pub awakened : (Woken : Bool → Type 0) (s : OneSeated A C H) (new : Tenant (OneLiving A C H)) (step : Step) (place : ℕ) (reply : Reply)
+      → Lay s.tenant s.is_awaited → IsEvent s.tenant new step place reply → (is_idle_at s.tenant new step reply ≡ false → Woken s.is_awaited)
+      → IsAwakening Lay Woken step place reply
+  awakened Woken s new step place reply lay event woken = (s.tenant, new, s.is_awaited, lay, event, woken)
+
+  -- and where an event was made
+  pub awakened_by : (Woken : Bool → Type 0) (s : OneSeated A C H) (new : Tenant (OneLiving A C H)) (step : Step) (r : Result Receipt ServiceFault)
+      → Lay s.tenant s.is_awaited → IfOk r (λ e. IsEvent s.tenant new step e.place e.reply)
+      → IfOk r (λ e. is_idle_at s.tenant new step e.reply ≡ false → Woken s.is_awaited)
+      → IfOk r (λ e. IsAwakening Lay Woken step e.place e.reply)
+  awakened_by Woken s new step (Ok e) lay event woken = awakened Woken s new step e.place e.reply lay event woken
+  awakened_by Woken s new step (Err x) lay event woken = tt
+
+  -- why an event was refused
+  pub refused_there : {T : Type 0} (s : OneSeated A C H) (r : Result T ServiceFault)
+      → Lay s.tenant s.is_awaited → IfErr r (IsTenantFault s.tenant) → IfErr r (IsRefusedThere Lay)
+  refused_there s (Ok x) lay fault = tt
+  refused_there s (Err e) lay fault = (s.tenant, s.is_awaited, lay, fault)
+
+  -- and where that is handed on
+  pub handed_on : {T : Type 0} (s : OneSeated A C H) (e : ServiceFault) (r : Result T ServiceFault)
+      → Lay s.tenant s.is_awaited → IsErrAnd r (λ x. x ≡ e) → IsTenantFault s.tenant e → IfErr r (IsRefusedThere Lay)
+  handed_on s e (Ok x) lay is fault = tt
+  handed_on s e (Err x) lay is fault = (s.tenant, s.is_awaited, lay, subst (IsTenantFault s.tenant) (sym is) fault)
+
+  -- where nothing is known of what lay there
+  pub fault_there : {T : Type 0} (r : Result T ServiceFault) → IfErr r (IsRefusedThere Lay) → IfErr r IsEventFault
+  fault_there (Ok x) fault = tt
+  fault_there (Err e) fault = unknown fault.0 e fault.3
+
+  module _ (Woken : Bool → Type 0) where
+    -- of one try of a process
+    pub awakened_at : (pid pid' place : ℕ) (reply : Reply) → pid ≡ pid' → IsAwakening Lay Woken (Resume pid) place reply → IsAwakening Lay Woken (Resume pid') place reply
+    awakened_at pid pid' place reply who happened = subst (λ (n : ℕ). IsAwakening Lay Woken (Resume n) place reply) who happened
+
+    -- besides what its caller is told
+    pub said_of : (Passed : ℕ → ℕ → Type 0) (ns : ℕ) (step : Step) (old new : OneSeat) (before after : List Receipt) (place : ℕ) (reply : Reply)
+        → IsTried (λ s p r. Told s p r × Passed ns p) step old new before after place reply → IsAwakening Lay Woken step place reply
+        → IsTried (IsSaid Passed Lay Woken ns) step old new before after place reply
+    said_of Passed ns step old new before after place reply t happened =
+        record { gains = t.gains; receipts = t.receipts; says = (t.says, happened) }
+
+-- what each caller is told, and the gate, of all that is said
+
+module _ {A C H : Type 0} (Passed : ℕ → ℕ → Type 0) (Lay : Tenant (OneLiving A C H) → Bool → Type 0) (Woken : Bool → Type 0) (ns : ℕ) where
+  tries_alone : (step : Step) (es : List Event) → Tries (IsSaid Passed Lay Woken ns) step es → Tries (λ s p r. Told s p r × Passed ns p) step es
+  tries_alone step [] tries = tt
+  tries_alone step (e ∷ es) tries = (tries.0, tries.1.0, tries.2, tries_alone (resume_of step) es tries.3)
+
+  pub waited_alone : (step : Step) (old new : OneSeat) (before after : List Receipt) (es : List Event)
+      → IsWaited (IsSaid Passed Lay Woken ns) step old new before after es → IsWaited (λ s p r. Told s p r × Passed ns p) step old new before after es
+  waited_alone step old new before after es w = record { gains = w.gains; receipts = w.receipts; tries = tries_alone step es w.tries }
