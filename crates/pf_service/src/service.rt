@@ -17,7 +17,7 @@ use pf_base::{AdmitFault, Config, RetireFault, Step};
 use pf_depot::DepotBook;
 use pf_frame::{Frame, PoolFault};
 use pf_hub::{first_fault, reserves_of};
-use pf_worker::{Gate, ToTheDepot};
+use pf_worker::{Gate, Returns, ToTheDepot};
 use std::alloc::{Allocator, Global};
 use std::marker::Model;
 use std::sync::ledger::{Blank, Ledger};
@@ -209,8 +209,17 @@ impl<A: Allocator + Clone, G: Gate, C: Ledger, H: Ledger> Service<A, G, C, H> {
         ensures missing { MAX_NUMBERS ≤ ns → result ≡ Err RetireFault.NoSuchNamespace }
         ensures fault { IfErr result IsRetirementFault }
     {
+        self.retire_by(rt, &ToTheDepot, ns)
+    }
+
+    // The same by any way to the depot.
+    fn retire_by<R: Wait, D: Returns>(&self, rt: &R, way: &D, ns: u32) -> Result<(), RetireFault>
+        ensures missing { MAX_NUMBERS ≤ ns → result ≡ Err RetireFault.NoSuchNamespace }
+        ensures returned { OnOk result ((reserve : ℕ) × (stock : ℕ) × D.returned way.now reserve stock) }
+        ensures fault { IfErr result IsRetirementFault }
+    {
         match self.place(ns) {
-            Ok(place) => place.retire(rt, &ToTheDepot, &self.book),
+            Ok(place) => place.retire(rt, way, &self.book),
             Err(_) => Err(RetireFault::NoSuchNamespace),
         }
     }
