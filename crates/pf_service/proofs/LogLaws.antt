@@ -19,7 +19,7 @@ use Rattle.pf_space.specs.declared.placed.Placed.{Placed}
 use Rattle.pf_tables.specs.Meaning.{Namespace, meaning}
 use Rattle.pf_tables.specs.Owns.{Owns}
 use Rattle.pf_service.specs.Log.{log_of, IsLog}
-use Rattle.pf_service.specs.Told.{Told}
+use Rattle.pf_service.specs.Told.{Told, IsAfterSome}
 use Rattle.pf_service.specs.Transcripts.{OneTranscript, steps_in, replies_in, IsLone}
 
 -- a transcript with these entries
@@ -80,3 +80,8 @@ told limits state es step reply ran is = (
         ∙ ap (λ (r : Reply). r ∷ []) (sym is);
   },
 )
+
+-- what is so of its state is so after some steps
+pub after_some : (Is : Limits → State Segment ℕ → Type 0) (limits : Limits) (state : State Segment ℕ) (es : List (Step × Reply))
+    → run_of limits opening (steps_in es) ≡ record { state = state; replies = replies_in es } → Is limits state → IsAfterSome Is
+after_some Is limits state es ran is = (limits, steps_in es, subst (λ (r : Run). Is limits r.state) (sym ran) is)

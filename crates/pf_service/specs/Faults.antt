@@ -30,6 +30,12 @@ IsCallFault first ns NoSuchNamespace = first ≤ ns
 IsCallFault first ns TooManySeats = ⊥
 IsCallFault first ns _ = ns < MAX_NUMBERS
 
+-- why a namespace isn't asked, where this is its number and so many were given from the start
+abbrev pub IsQueryFault : ℕ → ℕ → ServiceFault → Type 0
+IsQueryFault first ns NoSuchNamespace = first ≤ ns
+IsQueryFault first ns Gone = ns < MAX_NUMBERS
+IsQueryFault first ns _ = ⊥
+
 -- why a namespace that is there gives no seat, where nothing is known of it
 abbrev pub IsRefusal : ServiceFault → Type 0
 IsRefusal TooManySeats = Unit {0}

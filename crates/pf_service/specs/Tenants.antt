@@ -7,7 +7,7 @@ use Rattle.pf_base.specs.declared.step.Reply.{Reply}
 use Rattle.pf_base.specs.declared.step.Step.{Step}
 use Rattle.pf_machine.specs.Processes.{alive}
 use Rattle.pf_service.specs.Faults.{IsApplyFault}
-use Rattle.pf_service.specs.Log.{IsLogged}
+use Rattle.pf_service.specs.Log.{Log, IsLogged}
 use Rattle.pf_service.specs.Transcripts.{OneTranscript}
 use Rattle.pf_service.specs.declared.TheConstants.{MAX_ENTRIES, MAX_SEATS}
 use Rattle.pf_service.specs.declared.fault.ServiceFault.{ServiceFault}
@@ -42,6 +42,16 @@ abbrev pub IsSameTenant : {A C H : Type 0} → Tenant (OneLiving A C H) → Tena
 IsSameTenant (Living l) (Living m) = m.logged ≡ l.logged
 IsSameTenant (Retired t) (Retired u) = u ≡ t
 IsSameTenant _ _ = ⊥
+
+-- this is the one that lives there
+abbrev pub IsLivingAt : {A C H : Type 0} → Tenant (OneLiving A C H) → Log A → Type 0
+IsLivingAt (Living l) log = log ≡ l.logged
+IsLivingAt (Retired t) log = ⊥
+
+-- why it isn't asked: that it is retired
+abbrev pub IsGoneFault : {A C H : Type 0} → Tenant (OneLiving A C H) → ServiceFault → Type 0
+IsGoneFault (Living l) fault = ⊥
+IsGoneFault (Retired t) fault = fault ≡ Gone
 
 -- one event happened to it: at this place, the next one of a transcript that wasn't full, and nothing else
 abbrev pub IsEvent : {A C H : Type 0} → Tenant (OneLiving A C H) → Tenant (OneLiving A C H) → Step → ℕ → Reply → Type 0

@@ -3,7 +3,7 @@ use crate::fault::ServiceFault;
 use crate::retired::Retired;
 use crate::spare::Spare;
 use crate::transcript::Transcript;
-use pf_base::{Answer, Config, Reply, Step};
+use pf_base::{Answer, Config, Errno, Readiness, Reply, Step};
 use pf_depot::{Lender, Loans};
 use pf_hub::step_over;
 use pf_space::Placed;
@@ -40,6 +40,7 @@ impl<A: Allocator + Clone> Logged<A> {
     ghost use Rattle.pf_machine.specs.Processes.{alive};
     ghost use Rattle.pf_machine.specs.Runs.{run_of};
     ghost use Rattle.pf_machine.specs.Machine.{step_of, call_of};
+    ghost use Rattle.pf_machine.specs.Queries.{can_go_on, readiness, IsNext};
     ghost use Rattle.pf_machine.specs.Replies.{reply_length, most_of, written_in};
     ghost use Rattle.pf_frame.specs.Live.{IsIdle};
     ghost use Rattle.pf_depot.specs.AllLoans.{held_of, reserved_of};
@@ -136,6 +137,33 @@ impl<A: Allocator + Clone> Logged<A> {
         ensures none { result ≡ 0 → self.now.held ≡ 0 }
     {
         self.placed.processes()
+    }
+
+    /// Whether the call in which a process waits comes further when it is tried again (`Space::can_go_on`).
+    pub(crate) fn can_go_on(&self, pid: u32) -> bool
+        ensures answer { result ≡ can_go_on self.now.limits self.now.state pid }
+        ensures ran { run_of self.now.limits opening (steps_in self.now.transcript)
+            ≡ record { state = self.now.state; replies = replies_in self.now.transcript } }
+    {
+        self.placed.can_go_on(pid)
+    }
+
+    /// The least pid above `after` whose process can go on, if there is one.
+    pub(crate) fn next_to_go_on(&self, after: u32) -> Option<u32>
+        ensures answer { IsNext self.now.limits self.now.state after result }
+        ensures ran { run_of self.now.limits opening (steps_in self.now.transcript)
+            ≡ record { state = self.now.state; replies = replies_in self.now.transcript } }
+    {
+        self.placed.next_to_go_on(after)
+    }
+
+    /// What the pipe is ready for that a process's descriptor names (`Space::readiness`).
+    pub(crate) fn readiness(&self, pid: u32, fd: u32) -> Result<Readiness, Errno>
+        ensures answer { result ≡ readiness self.now.state pid fd }
+        ensures ran { run_of self.now.limits opening (steps_in self.now.transcript)
+            ≡ record { state = self.now.state; replies = replies_in self.now.transcript } }
+    {
+        self.placed.readiness(pid, fd)
     }
 
     /// What a namespace of the same limits was asked and told of which nothing was asked yet. It takes no memory.

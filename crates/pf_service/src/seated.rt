@@ -3,6 +3,7 @@ ghost use Rattle.std.specs.Prelude.{◌≡◌, ◌+◌, ◌<◌, ◌≤◌, fals
 use crate::MAX_SEATS;
 use crate::fault::ServiceFault;
 use crate::living::Living;
+use crate::logged::Logged;
 use crate::retired::Retired;
 use crate::transcript::Transcript;
 use crate::waiters::Waiters;
@@ -32,7 +33,7 @@ pub(crate) struct Seated<A: Allocator, C: Ledger, H: Ledger> {
 
 impl<A: Allocator + Clone, C: Ledger, H: Ledger> Seated<A, C, H> {
     ghost use Rattle.std.specs.Prelude.{IfOk, IfErr, OnOk, OnErr};
-    ghost use Rattle.pf_service.specs.Tenants.{Lives, IsGiveFault, IsRetirement, IsRetireFault, IsReturned, transcript_of};
+    ghost use Rattle.pf_service.specs.Tenants.{Lives, IsGiveFault, IsGoneFault, IsLivingAt, IsRetirement, IsRetireFault, IsReturned, transcript_of};
     ghost use Rattle.pf_service.specs.Transcripts.{IsLone};
     ghost use Rattle.pf_service.specs.declared.TheConstants.{MAX_SEATS};
 
@@ -46,6 +47,17 @@ impl<A: Allocator + Clone, C: Ledger, H: Ledger> Seated<A, C, H> {
             tenant: Tenant::Living(living),
             given: 0,
             is_awaited: false,
+        }
+    }
+
+    /// The namespace, where it lives, to look at.
+    pub(crate) fn get_ref(&self) -> Result<&Logged<A>, ServiceFault>
+        ensures living { IfOk result (λ l. IsLivingAt self.now.tenant l.now) }
+        ensures fault { IfErr result (IsGoneFault self.now.tenant) }
+    {
+        match &self.tenant {
+            Tenant::Living(living) => Ok(living.get_ref()),
+            Tenant::Retired(_) => Err(ServiceFault::Gone),
         }
     }
 

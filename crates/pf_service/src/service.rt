@@ -23,6 +23,8 @@ use std::marker::Model;
 use std::sync::ledger::{Blank, Ledger};
 use std::sync::{Mutex, Wait};
 
+mod queries;
+
 /// Many namespaces behind a lock each, over a depot of frames behind a lock of its own.
 ///
 /// Whoever calls has a seat at a namespace, which keeps what its caller asked and was told. At the end all seats are
