@@ -16,6 +16,8 @@ mod limits;
 #[cfg(test)]
 mod overlap;
 #[cfg(test)]
+mod queries;
+#[cfg(test)]
 mod services;
 #[cfg(test)]
 mod tenants;

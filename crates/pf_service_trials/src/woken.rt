@@ -1,13 +1,15 @@
-//! A call that waits for what another one writes that may wait too: the events of both wake who waits.
+//! A call that waits, and what wakes it: what another one writes that may wait too, and what ends its process, resumes it
+//! first, or lets it wait for something else.
 
 ghost use Rattle.std.specs.Prelude.{◌≡◌, ◌≤◌};
 ghost use Rattle.pf_base.specs.declared.TheConstants.{MAX_NAMESPACES};
 
-use crate::services::{Closed, RED, blank, closed, make, namespaces, service_of, spawn, write_by};
-use pf_base::{ByteString, Reply, Step};
+use crate::services::{RED, blank, closed, make, namespaces, service_of, spawn, write_by};
+use pf_base::{ByteString, Errno, Reply, Step};
 use pf_service::{Gate, Seat, Service};
 use std::alloc::{AllocError, Global};
 use std::marker::Brand;
+use std::process::Abort;
 use std::sync::Wait;
 use std::sync::atomic::{AtomicU64, Ordering};
 use std::sync::ledger::{Blank, Ledger};
@@ -15,7 +17,7 @@ use std::test::Fail;
 use std::thread;
 use std::thread::{Threads, join};
 
-// The most turns that the writer waits for the reader.
+// The most turns that a caller waits for another.
 const TURNS: u64 = 1_000_000;
 
 // Counts the events that it is told of.
@@ -39,14 +41,21 @@ impl Gate for Counter<'_> {
     }
 }
 
-// Yields until so many events were told. The last of them holds its namespace's lock until it waits.
-fn wait_for(events: &AtomicU64, number: u64) {
-    for _ in 0..TURNS {
+// Yields until so many events were told, or all these turns are used up. The last of the events holds its namespace's lock
+// until it waits.
+fn wait_for(events: &AtomicU64, number: u64, turns: u64) {
+    for _ in 0..turns {
         if events.load(Ordering::SeqCst) >= number {
             return;
         }
         thread::yield_now();
     }
+}
+
+// Ends the test where so many events don't come, since somebody waits then whom nobody wakes.
+fn watch<R: Abort>(rt: &R, events: &AtomicU64, number: u64) {
+    wait_for(events, number, 20 * TURNS);
+    assert!(rt; events.load(Ordering::SeqCst) >= number);
 }
 
 // A process with a pipe, and one that shares it.
@@ -61,107 +70,226 @@ fn opening(alloc: Global) -> Result<Vec<Step>, AllocError> {
     Ok(steps)
 }
 
-// What a thread brings: its seat, its step, and how many events are told before that.
+// What a thread brings: its seat, its steps, and how many events are told before these. Only the last of them may wait.
 #[derive(Drop)]
 struct Caller<'a> {
     alloc: Global,
     seat: Seat,
-    step: &'a Step,
+    steps: &'a [Step],
+    last: &'a Step,
     events: &'a AtomicU64,
     number: u64,
 }
 
-// A thread's part: once so many events were told, a step that may wait. Its seat comes back with the last reply.
-fn call_once<R: Wait, C: Ledger, H: Ledger>(
+// A thread's part: its steps, once so many events were told. Its seat comes back with the last reply.
+fn call_last<R: Wait, C: Ledger, H: Ledger>(
     rt: &R,
     service: &Service<Global, Counter<'_>, C, H>,
     caller: Caller<'_>,
 ) -> Option<(Seat, Reply)> {
     let Caller {
         alloc,
-        mut seat,
-        step,
+        seat,
+        steps,
+        last,
         events,
         number,
     } = caller;
-    wait_for(events, number);
+    wait_for(events, number, TURNS);
+    let mut seat = make(rt, service, seat, steps)?;
     let mut receipts = Vec::new(alloc);
     service
-        .call_waiting(rt, &mut seat, step, &mut receipts)
+        .call_waiting(rt, &mut seat, last, &mut receipts)
         .ok()?;
     Some((seat, receipts.pop()?.reply))
 }
 
-// A process waits for a page of bytes. Another, on a thread of its own, writes five more than the pipe has room for, and
-// waits until that page was read.
-fn one_for_the_other<C: Ledger + Send + Sync, H: Ledger + Send + Sync, R: Threads + Wait + Sync>(
+// What two threads do. The first makes a step that waits; the second, once that waits, steps that don't, and one that may.
+// So many events are told until both are done, and no fewer.
+#[derive(Clone, Copy)]
+struct Steps<'a> {
+    first: &'a Step,
+    then: &'a [Step],
+    last: &'a Step,
+    events: u64,
+}
+
+// The seats, and the last reply of each thread.
+fn two_threads<C: Ledger + Send + Sync, H: Ledger + Send + Sync, R: Threads + Wait + Abort + Sync>(
     rt: &R,
     alloc: Global,
     service: &Service<Global, Counter<'_>, C, H>,
     events: &AtomicU64,
-) -> Result<Vec<Seat>, Fail> {
-    let first = make(rt, service, service.seat(rt, RED)?, &opening(alloc)?);
-    let asked = Step::Read {
-        pid: 1,
-        fd: 0,
-        n: 4_096,
-    };
-    let written = write_by(alloc, 2, 0x61, 65_541)?;
+    steps: Steps<'_>,
+) -> Result<(Vec<Seat>, [Reply; 2]), Fail> {
+    let opened = make(rt, service, service.seat(rt, RED)?, &opening(alloc)?);
     let ours = Caller {
         alloc,
         seat: service.seat(rt, RED)?,
-        step: &asked,
+        steps: &[],
+        last: steps.first,
         events,
         number: 3,
     };
     let theirs = Caller {
         alloc,
         seat: service.seat(rt, RED)?,
-        step: &written,
+        steps: steps.then,
+        last: steps.last,
         events,
         number: 4,
     };
-    let (ours, theirs) = join(
+    let number = steps.events;
+    let (ours, (theirs, ())) = join(
         rt,
-        move || call_once(rt, service, ours),
-        move || call_once(rt, service, theirs),
+        move || call_last(rt, service, ours),
+        move || {
+            join(
+                rt,
+                move || call_last(rt, service, theirs),
+                move || watch(rt, events, number),
+            )
+        },
     );
-    let (ours, got) = ours.ok_or("refused")?;
-    let (theirs, put) = theirs.ok_or("refused")?;
-    let page = ByteString::new(alloc, Vec::from_elem(alloc, 0x61, 4_096)?)?;
-    if got != Reply::Bytes(page) || put != Reply::Num(65_541) {
-        return Err(Fail::from("told otherwise"));
-    }
+    let (ours, first) = ours.ok_or("refused")?;
+    let (theirs, last) = theirs.ok_or("refused")?;
     let mut seats = Vec::with_capacity(alloc, 3)?;
-    seats.push(first.ok_or("refused")?)?;
+    seats.push(opened.ok_or("refused")?)?;
     seats.push(ours)?;
     seats.push(theirs)?;
-    Ok(seats)
+    Ok((seats, [first, last]))
 }
 
-fn two_that_wait_named<C: Ledger + Send + Sync, H: Ledger + Send + Sync, R: Threads + Wait + Sync>(
+fn last_replies_named<
+    C: Ledger + Send + Sync,
+    H: Ledger + Send + Sync,
+    R: Threads + Wait + Abort + Sync,
+>(
     rt: &R,
     alloc: Global,
     events: &AtomicU64,
+    steps: Steps<'_>,
     credits: Blank,
     held: Blank,
-) -> Closed
+) -> Result<[Reply; 2], Fail>
     requires names { (credits.name ≡ C.name) × (held.name ≡ H.name) }
     requires cut { (credits.parts ≡ C.parts) × (held.parts ≡ H.parts) }
     requires parts { (MAX_NAMESPACES ≤ credits.parts) × (MAX_NAMESPACES ≤ held.parts) }
 {
     let service = service_of::<_, C, H>(alloc, namespaces(1), Counter { events }, credits, held)?;
-    let seats = one_for_the_other(rt, alloc, &service, events);
-    closed(service, seats)
+    let (seats, replies) = match two_threads(rt, alloc, &service, events, steps) {
+        Ok((seats, replies)) => (Ok(seats), Some(replies)),
+        Err(fail) => (Err(fail), None),
+    };
+    closed(service, seats)??;
+    Ok(replies.ok_or("refused")?)
 }
 
-fn two_that_wait<R: Threads + Wait + Sync>(rt: &R, alloc: Global, events: &AtomicU64) -> Closed {
-    two_that_wait_named::<Brand, Brand, R>(rt, alloc, events, blank(), blank())
+// The last reply of each of two threads, at a service that is closed with their seats.
+fn last_replies<R: Threads + Wait + Abort + Sync>(
+    rt: &R,
+    alloc: Global,
+    steps: Steps<'_>,
+) -> Result<[Reply; 2], Fail> {
+    let events = AtomicU64::new(0);
+    last_replies_named::<Brand, Brand, R>(rt, alloc, &events, steps, blank(), blank())
+}
+
+// Process 1 reads so many bytes.
+fn reading(n: u64) -> Step {
+    Step::Read { pid: 1, fd: 0, n }
+}
+
+const RESUME: Step = Step::Resume { pid: 1 };
+
+const WAITS_NO_MORE: Reply = Reply::Err(Errno::EINVAL);
+
+fn bytes(alloc: Global, bytes: &[u8]) -> Result<Reply, AllocError> {
+    Ok(Reply::Bytes(ByteString::from_slice(alloc, bytes)?))
+}
+
+// A process waits for a page of bytes. Another, on a thread of its own, writes five more than the pipe has room for, and
+// waits until that page was read.
+#[test]
+fn each_wakes_the_other(rt: HostRuntime) -> Result<(), Fail> {
+    let alloc = rt.alloc();
+    let steps = Steps {
+        first: &reading(4_096),
+        then: &[],
+        last: &write_by(alloc, 2, 0x61, 65_541)?,
+        events: 7,
+    };
+    let page = ByteString::new(alloc, Vec::from_elem(alloc, 0x61, 4_096)?)?;
+    assert_eq!(rt;
+        last_replies(&rt, alloc, steps)?,
+        [Reply::Bytes(page), Reply::Num(65_541)]
+    );
+    Ok(())
 }
 
 #[test]
-fn each_wakes_the_other(rt: HostRuntime) -> Result<(), Fail> {
-    let events = AtomicU64::new(0);
-    two_that_wait(&rt, rt.alloc(), &events)??;
+fn who_waits_is_told_that_its_process_is_gone(rt: HostRuntime) -> Result<(), Fail> {
+    let steps = Steps {
+        first: &reading(1),
+        then: &[],
+        last: &Step::Exit { pid: 1 },
+        events: 6,
+    };
+    assert_eq!(rt;
+        last_replies(&rt, rt.alloc(), steps)?,
+        [Reply::Err(Errno::ESRCH), Reply::Num(0)]
+    );
+    Ok(())
+}
+
+// A byte comes for the process that waits, and both callers resume it: whoever does so first is told the byte.
+#[test]
+fn one_of_two_resumes_a_process_that_waits_no_more(rt: HostRuntime) -> Result<(), Fail> {
+    let alloc = rt.alloc();
+    let steps = Steps {
+        first: &reading(1),
+        then: &[write_by(alloc, 2, 0x61, 1)?],
+        last: &RESUME,
+        events: 7,
+    };
+    let [ours, theirs] = last_replies(&rt, alloc, steps)?;
+    let byte = bytes(alloc, b"a")?;
+    let ours_is_first = ours == byte && theirs == WAITS_NO_MORE;
+    assert!(rt; ours_is_first || (ours == WAITS_NO_MORE && theirs == byte));
+    Ok(())
+}
+
+// The other caller takes the byte, and the process waits in another read since: then its caller is told what comes for that
+// one. But it may have been first, or come between.
+#[test]
+fn a_process_may_wait_in_another_call_since(rt: HostRuntime) -> Result<(), Fail> {
+    let alloc = rt.alloc();
+    let steps = Steps {
+        first: &reading(1),
+        then: &[write_by(alloc, 2, 0x61, 1)?, RESUME, reading(1)],
+        last: &write_by(alloc, 2, 0x62, 1)?,
+        events: 9,
+    };
+    let [ours, theirs] = last_replies(&rt, alloc, steps)?;
+    let is_first = ours == bytes(alloc, b"a")? || ours == WAITS_NO_MORE;
+    assert!(rt; is_first || ours == bytes(alloc, b"b")?);
+    assert_eq!(rt; theirs, Reply::Num(1));
+    Ok(())
+}
+
+// A Resume that moves nothing wakes nobody, and whoever waits is woken by what comes then.
+#[test]
+fn who_waits_is_woken_after_a_resume_that_moved_nothing(rt: HostRuntime) -> Result<(), Fail> {
+    let alloc = rt.alloc();
+    let steps = Steps {
+        first: &reading(1),
+        then: &[RESUME],
+        last: &write_by(alloc, 2, 0x61, 1)?,
+        events: 7,
+    };
+    assert_eq!(rt;
+        last_replies(&rt, alloc, steps)?,
+        [bytes(alloc, b"a")?, Reply::Num(1)]
+    );
     Ok(())
 }

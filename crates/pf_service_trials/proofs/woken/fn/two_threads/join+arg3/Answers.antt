@@ -8,9 +8,9 @@ use Rattle.pf_service_trials.proofs.woken.Caller.TheSendSync as caller
 use Rattle.pf_service_trials.proofs.woken.Counter.TheSendSync as its_gate
 use Rattle.pf_service_trials.specs.contracts.woken.Counter as Counter
 use Rattle.pf_service_trials.specs.contracts.woken.CounterGate.TheImpl.{ghosts as told}
-use Rattle.pf_service_trials.proofs.woken.one_for_the_other.Goals as goal
+use Rattle.pf_service_trials.proofs.woken.fn.two_threads.join+arg3.Goals as goal
 
-pub join-ours-requires-send-F : goal.join-ours-requires-send-F
-join-ours-requires-send-F g c κs within =
+pub join-requires-send-F : goal.join-requires-send-F
+join-requires-send-F g c κs within =
     let served = λ (κ : NamedLft) (C H : RattleType) (l : Ledger.Ghosts C.Denot) (m : Ledger.Ghosts H.Denot). gated_sync (Counter.the_row κ) C H told l m (its_gate.the_sync κ) in
     search (served, caller.the_send, sendable, send, crosses) depth 60 fits 200000
