@@ -11,3 +11,4 @@ pub mod Woken
 pub mod Waited
 pub mod Tenants
 pub mod Said
+pub mod Lodged

@@ -1,15 +1,19 @@
-ghost use Rattle.std.specs.Prelude.{◌≡◌, ◌+◌, ◌<◌, ◌≤◌, length, IfOk, IfSome};
+ghost use Rattle.std.specs.Prelude.{◌≡◌, ◌+◌, ◌<◌, ◌≤◌, length, IfOk, IfErr, IfSome};
 ghost use Rattle.std.specs.List.{range_with_len};
 ghost use Rattle.pf_base.specs.declared.TheConstants.{MAX_NUMBERS};
+ghost use Rattle.pf_service.specs.Lodged.{IsLodged, IsOfRoom};
 
 use crate::place::Place;
 use pf_base::MAX_NUMBERS;
 use std::alloc::{AllocError, Allocator, Global};
 use std::sync::ledger::Ledger;
-use std::sync::{OnceLock, Wait};
+use std::sync::{OnceLock, OnceToken, Wait};
 
 /// Memory for the place of a namespace that is admitted, made before it has its number, so that none is wanted afterwards.
 pub(crate) type Room<A, C, H> = Box<Option<Place<A, C, H>>>;
+
+/// What shows that a room is filled, and with what.
+pub(crate) type Lodged<'a, A, C, H> = OnceToken<'a, Room<A, C, H>>;
 
 /// The namespaces that come to a service: a room for each number that there may be, which is filled once, and from then on is
 /// found without a lock.
@@ -56,14 +60,28 @@ impl<A: Allocator + Clone, C: Ledger, H: Ledger> Guests<A, C, H> {
         Some(place)
     }
 
-    /// A namespace moves in where its number is. The number was given once, so nobody was there.
-    pub(crate) fn admit<R: Wait>(&self, rt: &R, room: Room<A, C, H>, place: Place<A, C, H>)
+    /// A namespace moves in where its number is, and what shows it is given. The number was given once, so nobody was there:
+    /// else what shows that somebody was.
+    pub(crate) fn admit<R: Wait>(
+        &self,
+        rt: &R,
+        room: Room<A, C, H>,
+        place: Place<A, C, H>,
+    ) -> Result<Lodged<'_, A, C, H>, Lodged<'_, A, C, H>>
         requires { place < MAX_NUMBERS }
+        ensures lodged { IfOk result (λ t. IsLodged self.now.rooms.items place t.of t.value.value) }
+        ensures taken { IfErr result (λ t. IsOfRoom self.now.rooms.items place t.of) }
     {
         let ns = place.ns();
         let mut room = room;
         drop(Box::replace(&mut room, Some(place)));
-        drop(self.rooms[ns as usize].set(rt, room));
+        match self.rooms[ns as usize].try_insert(rt, room) {
+            Ok(lodged) => Ok(lodged),
+            Err((lodged, room)) => {
+                drop(room);
+                Err(lodged)
+            }
+        }
     }
 
     // The place of a namespace that was admitted moves out.

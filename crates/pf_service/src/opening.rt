@@ -1,12 +1,16 @@
-ghost use Rattle.std.specs.Prelude.{◌≡◌, ◌≤◌, length, map, IfOk, OnOk, MatchResult, None};
+ghost use Rattle.std.specs.Prelude.{◌≡◌, ◌<◌, ◌≤◌, length, map, IfOk, IfErr, OnOk, MatchResult, None};
 ghost use Rattle.std.specs.List.{range_with_len};
+ghost use Rattle.pf_base.specs.declared.TheConstants.{MAX_NUMBERS};
 ghost use Rattle.pf_depot.specs.Admission.{admit_fault, IsAdmitFault};
 ghost use Rattle.pf_depot.specs.AllLoans.{reserved_of};
 ghost use Rattle.pf_depot.specs.Book.{Admits};
 ghost use Rattle.pf_hub.specs.Opening.{limits_of};
 ghost use Rattle.pf_machine.specs.State.{opening};
+ghost use Rattle.pf_service.specs.Faults.{IsAdmissionFault};
+ghost use Rattle.pf_service.specs.Lodged.{IsLodged};
 ghost use Rattle.pf_service.specs.Log.{new_log, AreLocked};
 
+use crate::guests::{Guests, Lodged};
 use crate::living::Living;
 use crate::locks::Locks;
 use crate::place::Place;
@@ -15,6 +19,7 @@ use pf_depot::{Allotment, DepotBook, Stock};
 use pf_space::Placed;
 use std::alloc::{AllocError, Allocator, Global};
 use std::sync::ledger::Ledger;
+use std::sync::{Mutex, Wait};
 
 /// The limits alone.
 pub(crate) fn configs_of<A: Allocator>(
@@ -63,6 +68,40 @@ pub(crate) fn admitted<A: Allocator + Clone, C: Ledger, H: Ledger>(
 {
     let (ns, allotment) = book.admit(config.reserve())?;
     Ok((ns, Living::new(alloc, placed, stock, config, allotment)))
+}
+
+/// A namespace comes, by any way to the locks, and moves in among the guests: what shows it is given with its number. Behind
+/// its lock lies a namespace of these limits, whose files stand in memory of the allocator `tree`.
+///
+/// What it needs is made first; then the depot's lock is held once.
+pub(crate) fn admit_by<'a, A: Allocator + Clone, C: Ledger, H: Ledger, R: Wait, L: Locks>(
+    rt: &R,
+    alloc: Global,
+    way: &L,
+    book: &Mutex<DepotBook<C, H>>,
+    guests: &'a Guests<A, C, H>,
+    config: Config,
+    tree: A,
+) -> Result<(u32, Lodged<'a, A, C, H>), AdmitFault>
+    ensures number { IfOk result (λ made. made.0 < MAX_NUMBERS) }
+    ensures locked { IfOk result (λ made. L.locked way.now made.0 A (new_log config tree)) }
+    ensures lodged { IfOk result (λ made.
+        IsLodged guests.now.rooms.items made.0 made.1.of made.1.value.value) }
+    ensures fault { IfErr result (IsAdmissionFault config.reserve) }
+{
+    let Ok((placed, stock)) = furnished(alloc, tree, config) else {
+        return Err(AdmitFault::NoMemory);
+    };
+    let Ok(room) = Box::new(alloc, None) else {
+        return Err(AdmitFault::NoMemory);
+    };
+    let (ns, living) = admitted(alloc, &mut *book.lock(rt), config, placed, stock)?;
+    let place = way.lock(ns, living);
+    // The depot gives a number once.
+    let Ok(lodged) = guests.admit(rt, room, place) else {
+        return Err(AdmitFault::TooManyNamespaces);
+    };
+    Ok((ns, lodged))
 }
 
 /// The namespaces of some limits, by their numbers, each with what it begins with at the depot. Behind each one's lock lies a

@@ -7,7 +7,7 @@ use crate::fault::{CloseFault, ServiceFault};
 use crate::guests::Guests;
 use crate::judge::compare;
 use crate::locks::{Locks, OneEach};
-use crate::opening::{admitted, configs_of, furnished, places_of};
+use crate::opening::{admit_by, configs_of, places_of};
 use crate::place::Place;
 use crate::receipt::Receipt;
 use crate::seat::Seat;
@@ -67,7 +67,7 @@ impl<A: Allocator + Clone, G: Gate, C: Ledger, H: Ledger> Service<A, G, C, H> {
     ghost use Rattle.pf_frame.specs.Faults.{IsFault};
     ghost use Rattle.pf_service.specs.declared.event.Event.{Event as OneEvent};
     ghost use Rattle.pf_service.specs.Faults.{IsCallFault, IsAdmissionFault, IsRetirementFault};
-    ghost use Rattle.pf_service.specs.Log.{new_log, AreLocked};
+    ghost use Rattle.pf_service.specs.Log.{AreLocked};
     ghost use Rattle.pf_service.specs.Judged.{IsClosed, IsClosedFault, IsUnlockedFault};
     ghost use Rattle.pf_hub.specs.Opening.{first_fault};
     ghost use Rattle.pf_service.specs.Seats.{AreGiven, Gains, event_at, IsSeatFault};
@@ -173,32 +173,9 @@ impl<A: Allocator + Clone, G: Gate, C: Ledger, H: Ledger> Service<A, G, C, H> {
         ensures number { IfOk result (λ ns. ns < MAX_NUMBERS) }
         ensures fault { IfErr result (IsAdmissionFault config.reserve) }
     {
-        self.admit_by(rt, &OneEach, config, tree)
-    }
-
-    // The same by any way to the locks. Behind its lock lies a namespace of these limits, whose files stand in memory of the
-    // allocator `tree`.
-    fn admit_by<R: Wait, L: Locks>(
-        &self,
-        rt: &R,
-        way: &L,
-        config: Config,
-        tree: A,
-    ) -> Result<u32, AdmitFault>
-        ensures number { IfOk result (λ ns. ns < MAX_NUMBERS) }
-        ensures locked { IfOk result (λ ns. L.locked way.now ns A (new_log config tree)) }
-        ensures fault { IfErr result (IsAdmissionFault config.reserve) }
-    {
-        let alloc = self.alloc;
-        let Ok((placed, stock)) = furnished(alloc, tree, config) else {
-            return Err(AdmitFault::NoMemory);
-        };
-        let Ok(room) = Box::new(alloc, None) else {
-            return Err(AdmitFault::NoMemory);
-        };
-        let (ns, living) = admitted(alloc, &mut *self.book.lock(rt), config, placed, stock)?;
-        let place = way.lock(ns, living);
-        self.guests.admit(rt, room, place);
+        let (book, guests) = (&self.book, &self.guests);
+        let (ns, lodged) = admit_by(rt, self.alloc, &OneEach, book, guests, config, tree)?;
+        drop(lodged);
         Ok(ns)
     }
 

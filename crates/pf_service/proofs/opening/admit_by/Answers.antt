@@ -1,7 +1,7 @@
 -- The number is one of those that there are.
 use Rattle.std.proofs.Common.{arith}
 use Rattle.pf_service.proofs.PlaceLaws.{number_fits}
-use Rattle.pf_service.proofs.service.Service.admit_by.Goals as goal
+use Rattle.pf_service.proofs.opening.admit_by.Goals as goal
 
 pub admit-requires : goal.admit-requires
 admit-requires g c = omega (arith, number_fits _ _ _ _ c.in_ok-ns.ns c.in_ok-ns.ensures.0 c.in_ok-ns.ensures.2, c.lock-place.ensures.number)
