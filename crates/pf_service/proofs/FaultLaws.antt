@@ -1,7 +1,7 @@
 -- What a call answers, of what its parts do.
 
-use Rattle.std.proofs.Common.{◌≡◌, ℕ, ◌<◌, List, sym, subst, ◌∙◌}
-use Rattle.std.specs.Prelude.{Result, Ok, Err, IfOk, IfErr, IsErr, IsErrAnd, OnOk, OnErr}
+use Rattle.std.proofs.Common.{◌≡◌, ℕ, ◌<◌, List, sym, subst}
+use Rattle.std.specs.Prelude.{Bool, Result, Ok, Err, IfOk, IfErr, IsErr, IsErrAnd, OnOk, OnErr}
 use Rattle.pf_base.specs.declared.TheConstants.{MAX_NUMBERS}
 use Rattle.pf_base.specs.declared.step.Step.{Step}
 use Rattle.pf_base.specs.declared.step.Reply.{Reply}
@@ -11,6 +11,7 @@ use Rattle.pf_service.specs.declared.receipt.Receipt.{Receipt}
 use Rattle.pf_service.specs.declared.living.Living.{Living as OneLiving}
 use Rattle.pf_service.specs.declared.seated.Tenant.{Tenant}
 use Rattle.pf_service.specs.declared.seated.Tenant.TheVariants.{Living, Retired}
+use Rattle.pf_service.specs.Asked.{IsGoneThere}
 use Rattle.pf_service.specs.Faults.{IsApplyFault, IsEventFault, IsCallFault, IsQueryFault}
 use Rattle.pf_service.specs.Tenants.{IsGoneFault, IsTenantFault, IsReturned}
 use Rattle.pf_service.specs.Told.{Told}
@@ -47,11 +48,14 @@ call_fault first ns (Err TooManySeats) there fault = absurd fault
 call_fault first ns (Err Gone) there fault = there
 
 -- it is there, and is retired
-pub gone_fault : {A C H T : Type 0} (first ns : ℕ) (t : Tenant (OneLiving A C H)) (e : ServiceFault) (r : Result T ServiceFault)
-    → ns < MAX_NUMBERS → IsErrAnd r (λ x. x ≡ e) → IsGoneFault t e → IfErr r (IsQueryFault first ns)
-gone_fault first ns t e (Ok x) there is gone = tt
-gone_fault first ns (Living l) e (Err x) there is gone = absurd gone
-gone_fault first ns (Retired t) e (Err x) there is gone = subst (IsQueryFault first ns) (sym (is ∙ gone)) there
+gone_is : {A C H : Type 0} (first ns : ℕ) (t : Tenant (OneLiving A C H)) (e : ServiceFault) → ns < MAX_NUMBERS → IsGoneFault t e → IsQueryFault first ns e
+gone_is first ns (Living l) e there gone = absurd gone
+gone_is first ns (Retired t) e there gone = subst (IsQueryFault first ns) (sym gone) there
+
+pub gone_fault : {A C H T : Type 0} (Lay : Tenant (OneLiving A C H) → Bool → Type 0) (first ns : ℕ) (r : Result T ServiceFault)
+    → ns < MAX_NUMBERS → IfErr r (IsGoneThere Lay) → IfErr r (IsQueryFault first ns)
+gone_fault Lay first ns (Ok x) there gone = tt
+gone_fault Lay first ns (Err e) there gone = gone_is first ns gone.0 e there gone.3
 
 -- a receipt's namespace, beside what its caller is told
 pub told_at : (ns place : ℕ) (step : Step) (r : Result Receipt ServiceFault) → IfOk r (λ x. (x.ns ≡ ns) × (x.place ≡ place))

@@ -11,10 +11,12 @@ use Rattle.pf_service.specs.declared.living.Living.{Living as OneLiving}
 use Rattle.pf_service.specs.declared.receipt.Receipt.{Receipt}
 use Rattle.pf_service.specs.declared.seated.Seated.{Seated as OneSeated}
 use Rattle.pf_service.specs.declared.seated.Tenant.{Tenant}
+use Rattle.pf_service.specs.Asked.{IsGoneThere, IsOfOneThere}
 use Rattle.pf_service.specs.Faults.{IsEventFault}
+use Rattle.pf_service.specs.Log.{Log}
 use Rattle.pf_service.specs.Said.{IsSaid, IsRefusedThere}
 use Rattle.pf_service.specs.Seats.{OneSeat}
-use Rattle.pf_service.specs.Tenants.{IsAwakening, IsEvent, IsTenantFault, is_idle_at}
+use Rattle.pf_service.specs.Tenants.{IsAwakening, IsEvent, IsGoneFault, IsLivingAt, IsTenantFault, is_idle_at}
 use Rattle.pf_service.specs.Told.{Told}
 use Rattle.pf_service.specs.Waited.{resume_of, Tries, IsWaited, IsTried}
 use Rattle.pf_service.proofs.FaultLaws.{unknown}
@@ -49,6 +51,17 @@ module _ {A C H : Type 0} (Lay : Tenant (OneLiving A C H) → Bool → Type 0) w
       → Lay s.tenant s.is_awaited → IsErrAnd r (λ x. x ≡ e) → IsTenantFault s.tenant e → IfErr r (IsRefusedThere Lay)
   handed_on s e (Ok x) lay is fault = tt
   handed_on s e (Err x) lay is fault = (s.tenant, s.is_awaited, lay, subst (IsTenantFault s.tenant) (sym is) fault)
+
+  -- an answer of what lives there
+  pub of_one_there : (Is : Log A → Type 0) (s : OneSeated A C H) (log : Log A) → Lay s.tenant s.is_awaited → IsLivingAt s.tenant log → Is log
+      → IsOfOneThere Lay Is
+  of_one_there Is s log lay lives is = (s.tenant, s.is_awaited, log, lay, lives, is)
+
+  -- and why there is none
+  pub gone_there : {T : Type 0} (s : OneSeated A C H) (e : ServiceFault) (r : Result T ServiceFault)
+      → Lay s.tenant s.is_awaited → IsErrAnd r (λ x. x ≡ e) → IsGoneFault s.tenant e → IfErr r (IsGoneThere Lay)
+  gone_there s e (Ok x) lay is gone = tt
+  gone_there s e (Err x) lay is gone = (s.tenant, s.is_awaited, lay, subst (IsGoneFault s.tenant) (sym is) gone)
 
   -- where nothing is known of what lay there
   pub fault_there : {T : Type 0} (r : Result T ServiceFault) → IfErr r (IsRefusedThere Lay) → IfErr r IsEventFault

@@ -12,3 +12,4 @@ pub mod Waited
 pub mod Tenants
 pub mod Said
 pub mod Lodged
+pub mod Asked

@@ -2,6 +2,7 @@
 //! callers were told, calls that wait, and at the end a comparison of all seats with all transcripts.
 #![tactic(auto)]
 
+mod asked;
 pub mod event;
 pub mod fault;
 pub mod given;

@@ -8,6 +8,7 @@ ghost use Rattle.pf_service.specs.Faults.{IsQueryFault};
 ghost use Rattle.pf_service.specs.Told.{IsAfterSome};
 
 use super::Service;
+use crate::asked::{can_go_on_at, next_to_go_on_at, readiness_at};
 use crate::fault::ServiceFault;
 use pf_base::{Errno, Readiness};
 use pf_worker::Gate;
@@ -26,9 +27,7 @@ impl<A: Allocator + Clone, G: Gate, C: Ledger, H: Ledger> Service<A, G, C, H> {
         ensures fault { IfErr result (IsQueryFault (length self.now) ns) }
     {
         let place = self.place(ns)?;
-        let seated = place.seated.lock(rt);
-        let logged = seated.get_ref()?;
-        Ok(logged.can_go_on(pid))
+        can_go_on_at(rt, &place.seated, &place.next, pid)
     }
 
     /// The least pid above `after` whose process can go on in a namespace, if there is one. So a loop from 0 finds them all.
@@ -44,9 +43,7 @@ impl<A: Allocator + Clone, G: Gate, C: Ledger, H: Ledger> Service<A, G, C, H> {
         ensures fault { IfErr result (IsQueryFault (length self.now) ns) }
     {
         let place = self.place(ns)?;
-        let seated = place.seated.lock(rt);
-        let logged = seated.get_ref()?;
-        Ok(logged.next_to_go_on(after))
+        next_to_go_on_at(rt, &place.seated, &place.next, after)
     }
 
     /// What the pipe is ready for that a descriptor of a namespace's process names (poll(2)), as `Space::readiness` says.
@@ -63,8 +60,6 @@ impl<A: Allocator + Clone, G: Gate, C: Ledger, H: Ledger> Service<A, G, C, H> {
         ensures fault { IfErr result (IsQueryFault (length self.now) ns) }
     {
         let place = self.place(ns)?;
-        let seated = place.seated.lock(rt);
-        let logged = seated.get_ref()?;
-        Ok(logged.readiness(pid, fd))
+        readiness_at(rt, &place.seated, &place.next, pid, fd)
     }
 }

@@ -1,8 +1,6 @@
 -- The first event, and one more after each that was answered Parked.
 use Rattle.std.proofs.Common.{rules, ℕ, [], ◌∷◌, ◌++◌}
 use Rattle.std.specs.Prelude.{Bool, IsTrue}
-use Rattle.pf_base.specs.declared.step.Step.{Step}
-use Rattle.pf_base.specs.declared.step.Reply.{Reply}
 use Rattle.pf_service.specs.declared.living.Living.{Living as OneLiving}
 use Rattle.pf_service.specs.declared.seated.Tenant.{Tenant}
 use Rattle.pf_service.specs.Seats.{event_at}

@@ -1,5 +1,5 @@
 -- There are events so far, of which the last is Parked exactly where the process waits, and those before it are.
-use Rattle.std.proofs.Common.{◌≡◌, ℕ, ◌↔◌, List}
+use Rattle.std.proofs.Common.{◌≡◌, ◌↔◌, List}
 use Rattle.std.specs.Prelude.{IsTrue}
 use Rattle.pf_base.specs.declared.step.Reply.TheVariants.{Parked}
 use Rattle.pf_service.specs.declared.event.Event.{Event}

@@ -1,16 +1,10 @@
--- What lies there came of some steps; or it is there, and is retired.
-use Rattle.std.proofs.Common.{◌≡◌, ◌<◌, rules}
-use Rattle.pf_base.specs.declared.TheConstants.{MAX_NUMBERS}
-use Rattle.pf_machine.specs.Queries.{can_go_on}
+-- The namespace is there, and nothing is told where it is retired.
+use Rattle.std.proofs.Common.{arith}
 use Rattle.pf_service.proofs.FaultLaws.{gone_fault}
-use Rattle.pf_service.proofs.LogLaws.{after_some}
 use Rattle.pf_service.proofs.service.Service.can_go_on.Goals as goal
 
-pub returns-clause-answer : goal.returns-clause-answer
-returns-clause-answer g c =
-    after_some (λ limits state. c.can_go_on.result ≡ can_go_on limits state c.args.pid) _ _ _ c.can_go_on.ensures.ran c.can_go_on.ensures.answer
+pub returns-clause-missing : goal.returns-clause-missing
+returns-clause-missing g c = λ past. absurd (omega (arith, c.in_ok-place.ensures.found.1, past))
 
-pub returns-in_err-logged-clause-fault : goal.returns-in_err-logged-clause-fault
-returns-in_err-logged-clause-fault g c =
-    let there : c.args.ns < MAX_NUMBERS = search rules in
-    gone_fault _ _ _ _ c.from_residual-in_err-logged.result there c.from_residual-in_err-logged.ensures.1 c.in_err-logged.ensures.fault
+pub returns-clause-fault : goal.returns-clause-fault
+returns-clause-fault g c = gone_fault _ _ _ _ c.in_ok-place.ensures.found.1 c.can_go_on_at.ensures.fault
