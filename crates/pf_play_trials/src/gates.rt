@@ -1,5 +1,5 @@
-//! A gate that holds two namespaces' first steps, so that a replay ends only where both are run at once; and one that counts
-//! the frames of each namespace.
+//! A gate that holds two namespaces' steps, so that a replay ends only where both are run at once, and where neither keeps the
+//! depot's lock between its steps; and one that counts the frames of each namespace.
 
 use crate::texts::played;
 use pf_play::Gate;
@@ -13,10 +13,10 @@ const TURNS: u64 = 1_000_000;
 /// What the gate was told.
 #[derive(Drop)]
 struct Meeting {
-    /// Not 0: the first namespace's first step is held.
+    /// How many steps of the first namespace are held, or were.
     held: AtomicU64,
-    /// Not 0: the second namespace's second step was passed.
-    passed: AtomicU64,
+    /// How many writes of the second one were answered, each of which took a frame.
+    written: AtomicU64,
     /// Not 0: a step was held for all its turns.
     used_up: AtomicU64,
 }
@@ -25,20 +25,26 @@ impl Meeting {
     fn new() -> Meeting {
         Meeting {
             held: AtomicU64::new(0),
-            passed: AtomicU64::new(0),
+            written: AtomicU64::new(0),
             used_up: AtomicU64::new(0),
         }
     }
 
-    /// Waits until this was told.
-    fn wait_for(&self, told: &AtomicU64) {
+    /// Waits until so many were told.
+    fn wait_for(&self, told: &AtomicU64, number: u64) {
         for _ in 0..TURNS {
-            if told.load(Ordering::SeqCst) != 0 {
+            if told.load(Ordering::SeqCst) >= number {
                 return;
             }
             thread::yield_now();
         }
         self.used_up.store(1, Ordering::SeqCst);
+    }
+
+    /// Holds a step of the first namespace until the second has written so often.
+    fn hold(&self, number: u64) {
+        self.held.store(number, Ordering::SeqCst);
+        self.wait_for(&self.written, number);
     }
 }
 
@@ -49,12 +55,14 @@ impl Gate for Meeting {
 
     fn pass(&self, ns: u32, place: u64) {
         match (ns, place) {
-            (0, 0) => {
-                self.held.store(1, Ordering::SeqCst);
-                self.wait_for(&self.passed);
+            (0, 0) => self.hold(1),
+            (0, 3) => self.hold(2),
+            (1, 0) => self.wait_for(&self.held, 1),
+            (1, 3) => {
+                self.written.store(1, Ordering::SeqCst);
+                self.wait_for(&self.held, 2);
             }
-            (1, 0) => self.wait_for(&self.held),
-            (1, 1) => self.passed.store(1, Ordering::SeqCst),
+            (1, 5) => self.written.store(2, Ordering::SeqCst),
             _ => {}
         }
     }
@@ -64,25 +72,38 @@ impl Gate for Meeting {
     }
 }
 
-const SCRIPT: &str = "pool 2
+const SCRIPT: &str = "pool 3
 space red 1
-space blue 1
+space blue 2
 red spawn 5 5 022
 red pipe 1
+red write 1 1 61
+red read 1 0 1
 blue spawn 5 5 022
 blue pipe 1
+blue write 1 1 62
+blue pipe 1
+blue write 1 3 63
+blue read 1 0 1
 ";
 
 const TEXT: &str = "== red
 1: pid 1
 2: fds 0 1
+3: num 1
+4: bytes 1 61
 == blue
 1: pid 1
 2: fds 0 1
+3: num 1
+4: fds 2 3
+5: num 1
+6: bytes 1 62
 ";
 
-/// The first namespace's first step is held until the second's second step is passed, and the second's first one until
-/// the first's is held.
+/// The first namespace's first step is held until the second's first write was answered, and its last one, behind the frame
+/// that it took, until the second's other write was, which is held for it: so no thread keeps the depot's lock while its
+/// gate is told of a step.
 #[test]
 fn two_namespaces_at_once(rt: HostRuntime) -> Result<(), Fail> {
     let gate = Meeting::new();

@@ -1,5 +1,6 @@
-//! Two namespaces' events overlap: a gate holds one of the first namespace, before its step or before a frame that it
-//! takes, until the second namespace has taken a frame too. With one lock around both, the turns would be used up.
+//! Two namespaces' events overlap: a gate holds one of the first namespace, before its step, before a frame that it takes, or
+//! behind that and before the next, until the second namespace has taken a frame too. With one lock around both, or with the
+//! depot's kept behind a frame, the turns would be used up.
 
 ghost use Rattle.std.specs.Prelude.{◌≡◌, ◌≤◌};
 ghost use Rattle.pf_base.specs.declared.TheConstants.{MAX_NAMESPACES};
@@ -26,6 +27,8 @@ const TURNS: u64 = 1_000_000;
 struct Signals {
     // Not 0: an event of the first namespace is held.
     held: AtomicU64,
+    // How many frames of the first namespace were told.
+    frames: AtomicU64,
     // Not 0: the second namespace was answered.
     done: AtomicU64,
     // Not 0: one waited for all its turns.
@@ -36,6 +39,7 @@ impl Signals {
     fn new() -> Signals {
         Signals {
             held: AtomicU64::new(0),
+            frames: AtomicU64::new(0),
             done: AtomicU64::new(0),
             used_up: AtomicU64::new(0),
         }
@@ -60,11 +64,11 @@ impl Signals {
     }
 }
 
-// Which event of the first namespace is held: its first one, or the first that takes a frame.
+// Where the first namespace is held: before its first step, or before a frame, by how many it has taken before.
 #[derive(Clone, Copy, PartialEq, Eq)]
 enum Held {
     AtItsStep,
-    AtItsFrame,
+    AtItsFrame(u64),
 }
 
 // Holds an event of the first namespace.
@@ -87,21 +91,24 @@ impl Gate for Holder<'_> {
     }
 
     fn frame(&self, ns: u32) {
-        if ns == RED && self.held == Held::AtItsFrame {
-            self.signals.hold();
+        if ns == RED {
+            let before = self.signals.frames.fetch_add(1, Ordering::SeqCst);
+            if self.held == Held::AtItsFrame(before) {
+                self.signals.hold();
+            }
         }
     }
 }
 
-// A process writes five bytes to its pipe.
-fn writing(alloc: Global) -> Result<Vec<Step>, AllocError> {
+// A process writes so many bytes to its pipe.
+fn writing(alloc: Global, count: usize) -> Result<Vec<Step>, AllocError> {
     let mut steps = Vec::with_capacity(alloc, 3)?;
     steps.push(spawn())?;
     steps.push(Step::Pipe {
         pid: 1,
         nonblock: false,
     })?;
-    steps.push(write(alloc, 0x61, 5)?)?;
+    steps.push(write(alloc, 0x61, count)?)?;
     Ok(steps)
 }
 
@@ -119,16 +126,17 @@ fn make_beside<R: Wait, C: Ledger, H: Ledger>(
     seat
 }
 
-// Both namespaces write on a thread each, and then another thread reads what the first wrote.
+// Both namespaces write so many bytes on a thread each, and then another thread reads the first of what the first wrote.
 fn beside<C: Ledger + Send + Sync, H: Ledger + Send + Sync, R: Threads + Wait + Sync>(
     rt: &R,
     alloc: Global,
     service: &Service<Global, Holder<'_>, C, H>,
     signals: &Signals,
+    count: usize,
 ) -> Result<Vec<Seat>, Fail> {
     let (ours, theirs) = (service.seat(rt, RED)?, service.seat(rt, BLUE)?);
     let reader = service.seat(rt, RED)?;
-    let owned = writing(alloc)?;
+    let owned = writing(alloc, count)?;
     let steps = owned.as_slice();
     let (ours, theirs) = join(
         rt,
@@ -155,6 +163,7 @@ fn both_beside_named<C: Ledger + Send + Sync, H: Ledger + Send + Sync, R: Thread
     alloc: Global,
     at: Held,
     signals: &Signals,
+    count: usize,
     credits: Blank,
     held: Blank,
 ) -> Closed
@@ -169,7 +178,7 @@ fn both_beside_named<C: Ledger + Send + Sync, H: Ledger + Send + Sync, R: Thread
         credits,
         held,
     )?;
-    let seats = beside(rt, alloc, &service, signals);
+    let seats = beside(rt, alloc, &service, signals, count);
     closed(service, seats)
 }
 
@@ -178,30 +187,43 @@ fn both_beside<R: Threads + Wait + Sync>(
     alloc: Global,
     at: Held,
     signals: &Signals,
+    count: usize,
 ) -> Closed {
-    both_beside_named::<Brand, Brand, R>(rt, alloc, at, signals, blank(), blank())
+    both_beside_named::<Brand, Brand, R>(rt, alloc, at, signals, count, blank(), blank())
 }
 
-// Whether the two went on beside each other, and what the first wrote was read.
-fn is_beside<R: Threads + Wait + Sync>(rt: &R, alloc: Global, held: Held) -> Result<bool, Fail> {
+// Whether the two went on beside each other, where each writes so many bytes, and what the first wrote was read.
+fn is_beside<R: Threads + Wait + Sync>(
+    rt: &R,
+    alloc: Global,
+    held: Held,
+    count: usize,
+) -> Result<bool, Fail> {
     let signals = Signals::new();
-    let transcripts = both_beside(rt, alloc, held, &signals)??;
+    let transcripts = both_beside(rt, alloc, held, &signals, count)??;
     let each = transcripts.as_slice();
     let red = each.first().ok_or("none")?.entries();
     let last = red.last().ok_or("none")?;
-    let told = Reply::Bytes(ByteString::from_slice(alloc, b"aaaaa")?);
+    let told = Reply::Bytes(ByteString::new(alloc, Vec::from_elem(alloc, 0x61, count.min(9))?)?);
     let waited = signals.used_up.load(Ordering::SeqCst) != 0;
     Ok(!waited && each.len() == 2 && red.len() == 4 && last.1 == told)
 }
 
 #[test]
 fn an_event_held_before_its_step_holds_nobody_else(rt: HostRuntime) -> Result<(), Fail> {
-    assert!(rt; is_beside(&rt, rt.alloc(), Held::AtItsStep)?);
+    assert!(rt; is_beside(&rt, rt.alloc(), Held::AtItsStep, 5)?);
     Ok(())
 }
 
 #[test]
 fn an_event_held_before_its_frame_holds_nobody_else(rt: HostRuntime) -> Result<(), Fail> {
-    assert!(rt; is_beside(&rt, rt.alloc(), Held::AtItsFrame)?);
+    assert!(rt; is_beside(&rt, rt.alloc(), Held::AtItsFrame(0), 5)?);
+    Ok(())
+}
+
+// A write of two pages has taken its first frame.
+#[test]
+fn an_event_held_behind_a_frame_holds_nobody_else(rt: HostRuntime) -> Result<(), Fail> {
+    assert!(rt; is_beside(&rt, rt.alloc(), Held::AtItsFrame(1), 8_192)?);
     Ok(())
 }

@@ -208,3 +208,15 @@ fn a_frame_is_there_for_each_credit(rt: HostRuntime) -> Result<(), Fail> {
     assert!(rt; watch.is_told(16, 1));
     Ok(())
 }
+
+// The second tenant is held within a write, behind the first of its 16 frames: the first one takes its frame meanwhile.
+#[test]
+fn a_step_held_behind_a_frame_holds_nobody_else(rt: HostRuntime) -> Result<(), Fail> {
+    let alloc = rt.alloc();
+    let (red, blue) = (has_one_page(alloc)?, fills_and_stays(alloc)?);
+    let watch = Watch::behind(1);
+    let held = beside_by_name(&rt, alloc, &watch, [1, 16], red.as_slice(), blue.as_slice());
+    assert_eq!(rt; held, Some((Some(1), Some(16), 0)));
+    assert!(rt; watch.is_told(1, 16));
+    Ok(())
+}

@@ -1,4 +1,5 @@
-//! A gate that counts the frames which it is told of, and holds the second tenant's until the first has done.
+//! A gate that counts the frames which it is told of, and holds the second tenant before one of its own until the first has
+//! done.
 
 use pf_worker::Gate;
 use std::sync::atomic::{AtomicU64, Ordering};
@@ -6,7 +7,7 @@ use std::thread;
 
 pub(crate) const RED: u32 = 0;
 
-// The most turns that the second tenant waits for the first.
+// The most turns that a tenant waits for the other.
 const TURNS: u64 = 1_000_000;
 
 // What a gate was told.
@@ -16,17 +17,30 @@ pub(crate) struct Watch {
     red: AtomicU64,
     // How many the second took.
     blue: AtomicU64,
+    // How many frames the second has taken where it is held.
+    taken: u64,
+    // Not 0: the second tenant is held.
+    held: AtomicU64,
     // Not 0: the first tenant has made its steps.
     done: AtomicU64,
-    // Not 0: the second one waited for all its turns.
+    // Not 0: one waited for all its turns.
     used_up: AtomicU64,
 }
 
 impl Watch {
+    // The second tenant is held before its first frame.
     pub(crate) fn new() -> Watch {
+        Watch::behind(0)
+    }
+
+    // The second tenant is held once it has taken so many frames, and before the next. Where it has taken one, the first
+    // tenant takes none before.
+    pub(crate) fn behind(taken: u64) -> Watch {
         Watch {
             red: AtomicU64::new(0),
             blue: AtomicU64::new(0),
+            taken,
+            held: AtomicU64::new(0),
             done: AtomicU64::new(0),
             used_up: AtomicU64::new(0),
         }
@@ -44,9 +58,9 @@ impl Watch {
             && self.used_up.load(Ordering::SeqCst) == 0
     }
 
-    fn wait_for_red(&self) {
+    fn wait_for(&self, told: &AtomicU64) {
         for _ in 0..TURNS {
-            if self.done.load(Ordering::SeqCst) != 0 {
+            if told.load(Ordering::SeqCst) != 0 {
                 return;
             }
             thread::yield_now();
@@ -66,9 +80,15 @@ impl Gate for Watch {
 
     fn frame(&self, ns: u32) {
         if ns == RED {
+            if self.taken != 0 {
+                self.wait_for(&self.held);
+            }
             self.red.fetch_add(1, Ordering::SeqCst);
         } else {
-            self.wait_for_red();
+            if self.blue.load(Ordering::SeqCst) == self.taken {
+                self.held.store(1, Ordering::SeqCst);
+                self.wait_for(&self.done);
+            }
             self.blue.fetch_add(1, Ordering::SeqCst);
         }
     }
