@@ -121,7 +121,7 @@ fn two_threads<C: Ledger + Send + Sync, H: Ledger + Send + Sync, R: Threads + Wa
     service: &Service<Global, Counter<'_>, C, H>,
     events: &AtomicU64,
     steps: Steps<'_>,
-) -> Result<(Vec<Seat>, [Reply; 2]), Fail> {
+) -> Result<(Vec<Seat>, Reply, Reply), Fail> {
     let opened = make(rt, service, service.seat(rt, RED)?, &opening(alloc)?);
     let ours = Caller {
         alloc,
@@ -157,7 +157,7 @@ fn two_threads<C: Ledger + Send + Sync, H: Ledger + Send + Sync, R: Threads + Wa
     seats.push(opened.ok_or("refused")?)?;
     seats.push(ours)?;
     seats.push(theirs)?;
-    Ok((seats, [first, last]))
+    Ok((seats, first, last))
 }
 
 fn last_replies_named<
@@ -171,14 +171,14 @@ fn last_replies_named<
     steps: Steps<'_>,
     credits: Blank,
     held: Blank,
-) -> Result<[Reply; 2], Fail>
+) -> Result<(Reply, Reply), Fail>
     requires names { (credits.name ≡ C.name) × (held.name ≡ H.name) }
     requires cut { (credits.parts ≡ C.parts) × (held.parts ≡ H.parts) }
     requires parts { (MAX_NAMESPACES ≤ credits.parts) × (MAX_NAMESPACES ≤ held.parts) }
 {
     let service = service_of::<_, C, H>(alloc, namespaces(1), Counter { events }, credits, held)?;
     let (seats, replies) = match two_threads(rt, alloc, &service, events, steps) {
-        Ok((seats, replies)) => (Ok(seats), Some(replies)),
+        Ok((seats, first, last)) => (Ok(seats), Some((first, last))),
         Err(fail) => (Err(fail), None),
     };
     closed(service, seats)??;
@@ -190,7 +190,7 @@ fn last_replies<R: Threads + Wait + Abort + Sync>(
     rt: &R,
     alloc: Global,
     steps: Steps<'_>,
-) -> Result<[Reply; 2], Fail> {
+) -> Result<(Reply, Reply), Fail> {
     let events = AtomicU64::new(0);
     last_replies_named::<Brand, Brand, R>(rt, alloc, &events, steps, blank(), blank())
 }
@@ -220,10 +220,9 @@ fn each_wakes_the_other(rt: HostRuntime) -> Result<(), Fail> {
         events: 7,
     };
     let page = ByteString::new(alloc, Vec::from_elem(alloc, 0x61, 4_096)?)?;
-    assert_eq!(rt;
-        last_replies(&rt, alloc, steps)?,
-        [Reply::Bytes(page), Reply::Num(65_541)]
-    );
+    let (ours, theirs) = last_replies(&rt, alloc, steps)?;
+    assert_eq!(rt; ours, Reply::Bytes(page));
+    assert_eq!(rt; theirs, Reply::Num(65_541));
     Ok(())
 }
 
@@ -235,10 +234,9 @@ fn who_waits_is_told_that_its_process_is_gone(rt: HostRuntime) -> Result<(), Fai
         last: &Step::Exit { pid: 1 },
         events: 6,
     };
-    assert_eq!(rt;
-        last_replies(&rt, rt.alloc(), steps)?,
-        [Reply::Err(Errno::ESRCH), Reply::Num(0)]
-    );
+    let (ours, theirs) = last_replies(&rt, rt.alloc(), steps)?;
+    assert_eq!(rt; ours, Reply::Err(Errno::ESRCH));
+    assert_eq!(rt; theirs, Reply::Num(0));
     Ok(())
 }
 
@@ -252,7 +250,7 @@ fn one_of_two_resumes_a_process_that_waits_no_more(rt: HostRuntime) -> Result<()
         last: &RESUME,
         events: 7,
     };
-    let [ours, theirs] = last_replies(&rt, alloc, steps)?;
+    let (ours, theirs) = last_replies(&rt, alloc, steps)?;
     let byte = bytes(alloc, b"a")?;
     let ours_is_first = ours == byte && theirs == WAITS_NO_MORE;
     assert!(rt; ours_is_first || (ours == WAITS_NO_MORE && theirs == byte));
@@ -270,7 +268,7 @@ fn a_process_may_wait_in_another_call_since(rt: HostRuntime) -> Result<(), Fail>
         last: &write_by(alloc, 2, 0x62, 1)?,
         events: 9,
     };
-    let [ours, theirs] = last_replies(&rt, alloc, steps)?;
+    let (ours, theirs) = last_replies(&rt, alloc, steps)?;
     let is_first = ours == bytes(alloc, b"a")? || ours == WAITS_NO_MORE;
     assert!(rt; is_first || ours == bytes(alloc, b"b")?);
     assert_eq!(rt; theirs, Reply::Num(1));
@@ -287,9 +285,8 @@ fn who_waits_is_woken_after_a_resume_that_moved_nothing(rt: HostRuntime) -> Resu
         last: &write_by(alloc, 2, 0x61, 1)?,
         events: 7,
     };
-    assert_eq!(rt;
-        last_replies(&rt, alloc, steps)?,
-        [bytes(alloc, b"a")?, Reply::Num(1)]
-    );
+    let (ours, theirs) = last_replies(&rt, alloc, steps)?;
+    assert_eq!(rt; ours, bytes(alloc, b"a")?);
+    assert_eq!(rt; theirs, Reply::Num(1));
     Ok(())
 }
