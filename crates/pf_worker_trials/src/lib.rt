@@ -7,6 +7,8 @@ mod beside;
 #[cfg(test)]
 mod jobs;
 #[cfg(test)]
+mod slices;
+#[cfg(test)]
 mod tenants;
 #[cfg(test)]
 mod watch;

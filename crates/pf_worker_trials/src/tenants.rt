@@ -58,6 +58,15 @@ fn exit() -> Row {
     }
 }
 
+/// A process makes a pipe, and a child of it has that too.
+pub(crate) fn begins() -> [Row; 3] {
+    let fork = Row {
+        step: Step::Fork { pid: 1 },
+        told: Reply::Pid(2),
+    };
+    [spawn(), pipe(Reply::Fds(0, 1)), fork]
+}
+
 /// A process fills two pipes with bytes 61, and exits: it gives back twice as many frames as are kept in stock.
 pub(crate) fn fills_and_exits(alloc: Global) -> Result<[Row; 6], AllocError> {
     let first = write(alloc, 1, 0x61, 65_536)?;
