@@ -17,6 +17,8 @@ mod paths;
 #[cfg(test)]
 mod replay;
 #[cfg(test)]
+mod resumes;
+#[cfg(test)]
 mod scripts;
 #[cfg(test)]
 mod slices;

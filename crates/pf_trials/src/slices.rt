@@ -10,9 +10,9 @@ use std::sync::Arc;
 use std::test::Fail;
 
 // One namespace writes and reads by steps, and the other one by slices.
-const BY_STEPS: u32 = 0;
+pub(crate) const BY_STEPS: u32 = 0;
 
-const BY_SLICES: u32 = 1;
+pub(crate) const BY_SLICES: u32 = 1;
 
 // A byte more than a write may have.
 const TOO_MANY: usize = 1_048_577;
@@ -46,7 +46,7 @@ fn all_writes() -> [Write; 14] {
 type Read = (u32, u32, usize, Result<Option<usize>, Errno>);
 
 // Each place of a slice before a read.
-const BEFORE: u8 = 253;
+pub(crate) const BEFORE: u8 = 253;
 
 // Out of 65,000 bytes of two writes: parts of a page, over its end, a page, and more than there is. Then what is refused,
 // and what waits.
@@ -81,7 +81,7 @@ fn frames(alloc: Global, count: u32) -> Result<Vec<Frame>, AllocError> {
 }
 
 // A hub of the two namespaces.
-fn opened(alloc: Global, limits: Config) -> Result<Hub<Global>, PoolFault> {
+pub(crate) fn opened(alloc: Global, limits: Config) -> Result<Hub<Global>, PoolFault> {
     let Ok(frames) = frames(alloc, 64) else {
         return Err(PoolFault::NoMemory);
     };
@@ -92,7 +92,7 @@ fn opened(alloc: Global, limits: Config) -> Result<Hub<Global>, PoolFault> {
 }
 
 // Whether both namespaces are told the same of these steps, and memory suffices.
-fn alike(hub: &mut Hub<Global>, steps: &[Step]) -> bool {
+pub(crate) fn alike(hub: &mut Hub<Global>, steps: &[Step]) -> bool {
     for step in steps {
         if !hub.lives(BY_STEPS) {
             return false;
@@ -299,7 +299,7 @@ fn a_write_that_waits_keeps_what_its_step_alone_has(rt: HostRuntime) -> Result<(
 }
 
 // The write of so many bytes by the third process.
-fn written(alloc: Global, count: usize) -> Result<Step, AllocError> {
+pub(crate) fn written(alloc: Global, count: usize) -> Result<Step, AllocError> {
     let bytes: Vec<u8> = (0..count).map(|i| (i % 251) as u8).collect(alloc)?;
     Ok(Step::Write {
         pid: 3,
