@@ -7,6 +7,15 @@ use pf_base::{Answer, ByteString, Config, Errno, EventAnswer, Reply, Step};
 use pf_hub::Hub;
 use std::alloc::Global;
 
+/// A process's read.
+#[derive(Clone, Copy)]
+struct Read {
+    ns: u32,
+    pid: u32,
+    /// How many bytes it asks for.
+    room: usize,
+}
+
 /// A hub that makes steps one by one, by slices where they move bytes to or from the host. No namespace comes or goes.
 #[derive(Drop)]
 pub(crate) struct BySlices<'a> {
@@ -14,6 +23,8 @@ pub(crate) struct BySlices<'a> {
     row: &'a Row<'a>,
     hub: &'a mut Hub<Global>,
     made: usize,
+    /// The last read that waits.
+    waiting: Option<Read>,
 }
 
 impl<'a> BySlices<'a> {
@@ -24,6 +35,26 @@ impl<'a> BySlices<'a> {
             row,
             hub,
             made: 0,
+            waiting: None,
+        }
+    }
+
+    /// The read that a step makes, or tries again.
+    fn read_of(&self, ns: u32, step: &Step) -> Option<Read> {
+        match (step, self.waiting) {
+            (Step::Read { pid, fd: _, n }, _) => Some(Read {
+                ns,
+                pid: *pid,
+                room: *n as usize,
+            }),
+            (Step::Resume { pid }, Some(read)) => {
+                if read.ns == ns && read.pid == *pid {
+                    Some(read)
+                } else {
+                    None
+                }
+            }
+            _ => None,
         }
     }
 }
@@ -35,28 +66,37 @@ enum Made {
     Read(Result<Option<usize>, Errno>),
 }
 
-/// Has a hub make a step of a namespace, if it lives: a read into this buffer.
-fn make_by_slices(hub: &mut Hub<Global>, ns: u32, step: &Step, buffer: &mut [u8]) -> Option<Made> {
+/// Has a hub make a step of a namespace, if it lives: a read, also one that is tried again, into the buffer that there
+/// is for it.
+fn make_by_slices(
+    hub: &mut Hub<Global>,
+    ns: u32,
+    step: &Step,
+    buffer: Option<&mut [u8]>,
+) -> Option<Made> {
     if !hub.lives(ns) {
         return None;
     }
-    Some(match step {
-        Step::Write { pid, fd, payload } => Made::Answer(hub.write_from(
+    Some(match (step, buffer) {
+        (Step::Write { pid, fd, payload }, _) => Made::Answer(hub.write_from(
             ns,
             *pid,
             *fd,
             payload.as_slice(),
         )),
-        Step::Read { pid, fd, n: _ } => Made::Read(hub.read_into(ns, *pid, *fd, buffer)),
+        (Step::Read { pid, fd, n: _ }, Some(buffer)) => {
+            Made::Read(hub.read_into(ns, *pid, *fd, buffer))
+        }
+        (Step::Resume { pid }, Some(buffer)) => Made::Read(hub.resume_into(ns, *pid, buffer)),
         _ => Made::Answer(hub.step(ns, step)),
     })
 }
 
-/// The buffer of a step: a read's has room for all that it asks for.
-fn buffer_of(alloc: Global, step: &Step) -> Result<Vec<u8>, End> {
-    let room = match step {
-        Step::Read { pid: _, fd: _, n } => *n as usize,
-        _ => 0,
+/// The buffer of a read, if a step is one: it has room for all that it asks for.
+fn buffer_of(alloc: Global, read: Option<Read>) -> Result<Vec<u8>, End> {
+    let room = match read {
+        Some(read) => read.room,
+        None => 0,
     };
     Ok(Vec::from_elem(alloc, 0, room)?)
 }
@@ -81,15 +121,22 @@ impl Host for BySlices<'_> {
     fn make(&mut self, ns: u32, step: &Step) -> Result<EventAnswer, End> {
         let place = self.made;
         self.made = place.saturating_add(1);
-        let mut buffer = buffer_of(self.alloc, step)?;
+        let read = self.read_of(ns, step);
+        let mut buffer = buffer_of(self.alloc, read)?;
+        let into = if read.is_some() {
+            Some(buffer.as_mut_slice())
+        } else {
+            None
+        };
         self.row.give_sign_within(self.alloc, place)?;
-        let made = make_by_slices(self.hub, ns, step, &mut buffer);
+        let made = make_by_slices(self.hub, ns, step, into);
         self.row.give_sign_within(self.alloc, place)?;
         Ok(match made {
             Some(Made::Answer(answer)) => EventAnswer::Answer(answer),
-            Some(Made::Read(read)) => EventAnswer::Answer(Answer::Done(reply_of(
-                self.alloc, read, &buffer,
-            )?)),
+            Some(Made::Read(told)) => {
+                self.waiting = if told == Ok(None) { read } else { None };
+                EventAnswer::Answer(Answer::Done(reply_of(self.alloc, told, &buffer)?))
+            }
             None => EventAnswer::Gone,
         })
     }
