@@ -2,7 +2,8 @@
 use Rattle.std.proofs.Common.{subst}
 use Rattle.pf_base.specs.Limits.{Limits}
 use Rattle.pf_machine.specs.Queries.{IsNext}
-use Rattle.pf_depot.specs.Loans.{loans_live, loans_sound}
+use Rattle.pf_depot.specs.Loans.{loans_live}
+use Rattle.pf_depot.specs.Lent.{loans_sound}
 use Rattle.pf_tables.specs.Meaning.{meaning}
 use Rattle.pf_service.specs.Log.{Log}
 use Rattle.pf_service.proofs.logged.Logged.next_to_go_on.Goals as goal

@@ -1,7 +1,8 @@
 -- What holds over any frames of its own holds over its loans.
 use Rattle.std.proofs.Common.{◌≡◌, subst}
 use Rattle.pf_machine.specs.Queries.{readiness}
-use Rattle.pf_depot.specs.Loans.{loans_live, loans_sound}
+use Rattle.pf_depot.specs.Loans.{loans_live}
+use Rattle.pf_depot.specs.Lent.{loans_sound}
 use Rattle.pf_service.specs.Log.{Log}
 use Rattle.pf_service.proofs.logged.Logged.readiness.Goals as goal
 

@@ -1,6 +1,7 @@
 -- The frames that a namespace owns are no more than its slots in use; and the lender knows how many they were at first.
 use Rattle.std.proofs.Common.{ap, ◌∙◌, arith}
-use Rattle.pf_depot.specs.Loans.{loans_live, loans_sound}
+use Rattle.pf_depot.specs.Loans.{loans_live}
+use Rattle.pf_depot.specs.Lent.{loans_sound}
 use Rattle.pf_hub.proofs.TenantLaws.{rising}
 use Rattle.pf_worker.proofs.GateLaws.{told_of_more}
 use Rattle.pf_worker.proofs.worker.Worker.read_into.Goals as goal

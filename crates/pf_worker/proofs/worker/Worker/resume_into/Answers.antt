@@ -4,7 +4,8 @@ use Rattle.pf_machine.specs.Machine.{Answers}
 use Rattle.pf_base.specs.declared.step.Answer.TheVariants.{Done}
 use Rattle.pf_base.specs.declared.step.Reply.{Reply}
 use Rattle.pf_base.specs.declared.step.Step.TheVariants.{Resume}
-use Rattle.pf_depot.specs.Loans.{loans_live, loans_sound}
+use Rattle.pf_depot.specs.Loans.{loans_live}
+use Rattle.pf_depot.specs.Lent.{loans_sound}
 use Rattle.pf_tables.specs.Buffers.{Replied}
 use Rattle.pf_tables.specs.Meaning.{meaning}
 use Rattle.pf_hub.proofs.TenantLaws.{rising}
