@@ -1,6 +1,6 @@
 //! What a host asks of a service's namespace besides its events: who can go on, and what an end of a pipe is ready for.
 
-use crate::services::{Callers, Plain, RED, make, namespaces, serve, spawn, write_by};
+use crate::services::{BLUE, Callers, Plain, RED, make, namespaces, serve, spawn, write_by};
 use pf_base::{Errno, Readiness, Step};
 use pf_service::{NoGate, Seat, ServiceFault};
 use std::alloc::{AllocError, Global};
@@ -31,7 +31,7 @@ const EMPTY: Readiness = Readiness {
     has_writer: true,
 };
 
-// Nobody can go on, until the other process writes.
+// Nobody can go on, until the other process writes. Another namespace has no process then either.
 struct OneWaits;
 
 impl Callers<NoGate> for OneWaits {
@@ -52,8 +52,11 @@ impl Callers<NoGate> for OneWaits {
         assert_eq!(rt; service.can_go_on(rt, RED, 1)?, true);
         assert_eq!(rt; service.next_to_go_on(rt, RED, 0)?, Some(1));
         assert_eq!(rt; service.next_to_go_on(rt, RED, 1)?, None);
+        assert_eq!(rt; service.can_go_on(rt, BLUE, 1)?, false);
+        assert_eq!(rt; service.next_to_go_on(rt, BLUE, 0)?, None);
+        assert_eq!(rt; service.readiness(rt, BLUE, 2, 0)?, Err(Errno::ESRCH));
         let none = Some(ServiceFault::NoSuchNamespace);
-        assert_eq!(rt; service.can_go_on(rt, 1, 1).err(), none);
+        assert_eq!(rt; service.can_go_on(rt, 2, 1).err(), none);
         let mut seats = Vec::new(alloc);
         seats.push(seat)?;
         Ok(seats)
@@ -62,7 +65,7 @@ impl Callers<NoGate> for OneWaits {
 
 #[test]
 fn a_host_is_told_who_can_go_on(rt: HostRuntime) -> Result<(), Fail> {
-    serve(&rt, rt.alloc(), namespaces(1), NoGate, &OneWaits)??;
+    serve(&rt, rt.alloc(), namespaces(2), NoGate, &OneWaits)??;
     Ok(())
 }
 

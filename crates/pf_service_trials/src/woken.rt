@@ -96,6 +96,10 @@ fn call_last<R: Wait, C: Ledger, H: Ledger>(
         number,
     } = caller;
     wait_for(events, number, TURNS);
+    // whoever waits by now is woken all the same behind what a host asks
+    service.can_go_on(rt, RED, 1).ok()?;
+    service.next_to_go_on(rt, RED, 0).ok()?;
+    let _asked = service.readiness(rt, RED, 1, 0).ok()?;
     let mut seat = make(rt, service, seat, steps)?;
     let mut receipts = Vec::new(alloc);
     service
