@@ -118,8 +118,8 @@ int64_t sag_exit(sag_hub *h, uint32_t ns, uint32_t pid);
  * where nobody reads any more, and then it waits no more. A call that waits is told no other error, whatever O_NONBLOCK
  * is. A read hands out as many bytes as it asked for when it began to wait, or what there is. They are laid into the
  * buffer from where they stand, as many as it has room for, and what is beyond is lost, as of recv(2) with MSG_TRUNC:
- * give it the buffer of the read that waits, and any other where the call is no read. A result above `count` says that
- * bytes were lost. No memory of the heap is wanted. This profile's own. */
+ * give it the buffer of the read that waits, and any other where the call is no read. Of a read, a result above `count`
+ * says that bytes were lost. No memory of the heap is wanted. This profile's own. */
 int64_t sag_resume(sag_hub *h, uint32_t ns, uint32_t pid, void *into, size_t count);
 
 /* Who can go on. An event loop asks after each step that may have let somebody go on: one of the same namespace. */

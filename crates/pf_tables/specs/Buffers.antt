@@ -80,14 +80,15 @@ abbrev pub HasReadTruncated : Live → Namespace → List ℕ → List ℕ → R
 HasReadTruncated g new before after (Ok progress) machine = Truncates g new machine progress before after
 HasReadTruncated g new before after (Err e) machine = (machine ≡ Err e) × (after ≡ before)
 
--- as what a reply is told: a number, where it has bytes how many; nothing, where the call waits; or an error
+-- as what a reply to such a call is told: a number, where it has bytes how many; an error; or nothing, where it waits on.
+-- It is told no other reply
 abbrev pub number_told : Reply → Result (Option ℕ) Errno
 number_told (replies.Num n) = Ok (Some n)
 number_told (replies.Bytes bytes) = Ok (Some (length bytes))
 number_told (replies.Err e) = Err e
 number_told _ = Ok None
 
--- the bytes that a reply to a call hands out which is no list
+-- the bytes that such a reply hands out
 abbrev pub bytes_told : Reply → List ℕ
 bytes_told (replies.Bytes bytes) = bytes
 bytes_told _ = []

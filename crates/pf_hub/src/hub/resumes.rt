@@ -53,8 +53,8 @@ impl<A: Allocator + Clone> Hub<A> {
     /// leaves is what `step` leaves with a `Step::Resume`, and what it is told is the same number, the same wait and
     /// the same error. Of a read the number is how many bytes it hands out, at most as many as it asked for when it
     /// began to wait: the first of them lie at the buffer's front, as many as it has room for, and the others are lost.
-    /// So it is given a buffer as long as that of the read. A number above the buffer's length says that bytes were
-    /// lost. It takes no memory, where `step` makes room for the bytes of a read.
+    /// So it is given a buffer as long as that of the read. Of a read, a number above the buffer's length says that
+    /// bytes were lost. It takes no memory, where `step` makes room for the bytes of a read.
     pub fn resume_into(
         &mut self,
         ns: u32,
