@@ -1,12 +1,11 @@
 //! Pairs of a write and a read through a hub, whose frames are on loan from a depot, tees and splices between two of its
-//! pipes, and reads that wait; the same through the plain form, whose frames are one array; and pairs from the host's
-//! slices and into them, through a worker, and through a service.
+//! pipes, and reads that wait; the same through the plain form, whose frames are one array; and pairs through a worker
+//! and through a service.
 //! With no word, it plays a short fixed load through each and looks at each byte; with a number, it plays so many of each
 //! size, and prints how long one takes.
 #![tactic(auto)]
 
 mod served;
-mod sliced;
 mod worked;
 
 use pf_base::{Answer, ByteString, Config, Crossing, Groups, PAGE_SIZE, Reply, Step};
@@ -386,15 +385,7 @@ fn play_hub(alloc: Global, shape: Shape) -> Result<bool, AllocError> {
     play_loads(alloc, &mut hub)
 }
 
-/// Pairs from slices and into them, through a hub.
-fn play_slices(alloc: Global, shape: Shape) -> Result<bool, AllocError> {
-    let Some(mut hub) = shape.hub(alloc) else {
-        return Ok(false);
-    };
-    sliced::play_loads(alloc, &mut hub)
-}
-
-/// The fixed load through the plain form of it.
+/// The same through the plain form of it.
 fn play_plain(alloc: Global, shape: Shape) -> Result<bool, AllocError> {
     let Some(mut plain) = shape.plain(alloc) else {
         return Ok(false);
@@ -402,7 +393,7 @@ fn play_plain(alloc: Global, shape: Shape) -> Result<bool, AllocError> {
     play_loads(alloc, &mut plain)
 }
 
-/// The same through a hub, also from slices and into them, through its plain form and through a worker.
+/// The same through a hub, through its plain form and through a worker.
 fn play_fixed<R: Wait>(rt: &R, alloc: Global) -> Result<bool, AllocError> {
     let shape = Shape {
         namespaces: 4,
@@ -410,7 +401,6 @@ fn play_fixed<R: Wait>(rt: &R, alloc: Global) -> Result<bool, AllocError> {
     };
     Ok(
         play_hub(alloc, shape)?
-            && play_slices(alloc, shape)?
             && play_plain(alloc, shape)?
             && worked::play_fixed(rt, alloc, shape)?,
     )
@@ -651,7 +641,6 @@ fn time_hub<R: Wait>(
     Ok(
         starts(hub)
             && time_with_plain(rt, shape, hub, pairs)?
-            && sliced::time(rt, hub, pairs)?
             && worked::time(rt, threads, shape, hub, pairs)?,
     )
 }
@@ -677,7 +666,6 @@ fn run<R: Threads + Wait + Sync>(rt: &HostRuntime, threads: &R) -> io::Result<bo
         println!(rt;
             "played 5000 pairs, 500 tees, 500 splices and 500 waiting reads through each form and a worker"
         )?;
-        println!(rt; "played 5000 pairs from slices and into them")?;
         if !served::play_fixed(threads, rt.alloc())? {
             return Ok(false);
         }
