@@ -6,3 +6,4 @@ pub mod Queues
 pub mod Segments
 pub mod WindowsShift
 pub mod TableLaws
+pub mod LaidLaws

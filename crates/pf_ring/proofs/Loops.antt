@@ -1,6 +1,6 @@
 -- What the loops over a ring's windows keep.
 
-use Rattle.std.proofs.Common.{◌≡◌, ℕ, zero, suc, ◌+◌, ◌-◌, ◌*◌, ◌<◌, ◌≤◌, min, List, [], ◌∷◌, ◌++◌, length, take, drop, refl, sym, ◌∙◌, ap, subst, inl, inr, append_assoc, arith}
+use Rattle.std.proofs.Common.{◌≡◌, ℕ, zero, suc, ◌+◌, ◌-◌, ◌*◌, ◌<◌, ◌≤◌, min, List, [], ◌∷◌, ◌++◌, length, take, drop, get_or, refl, sym, ◌∙◌, ap, subst, inl, inr, append_assoc, arith}
 use Rattle.std.proofs.lemmas.Bool.{cases_lt}
 use Rattle.std.proofs.lemmas.List.{append-nil, take-append-le, take_all, drop_all, take_at, take_min, drop_at, drop_min, drop-drop, length-take, length-drop}
 use Rattle.pf_base.specs.declared.TheConstants.{PAGE_SIZE}
@@ -12,7 +12,7 @@ use Rattle.pf_ring.specs.Ring.{Ring, segment_of, shown, queue_of}
 use Rattle.pf_ring.specs.Steps.{Puts, Cut}
 use Rattle.pf_ring.specs.Windows.{bytes_in, Stands, Drops}
 use Rattle.pf_ring.proofs.WindowLaws.{segments_length, window_whole, keeps_stands, keeps_then, behind_then, drops_keep, drops_then, drops_nothing}
-use Rattle.pf_ring.proofs.Changes.{First}
+use Rattle.pf_ring.proofs.Changes.{First, is_first}
 use Rattle.pf_ring.proofs.Queues.{without_more, without_rest, pieces_step, pieces_none}
 use Rattle.pf_ring.proofs.Segments.{without_none}
 
@@ -41,15 +41,20 @@ pub drops_stands : (f g : Live) (old new : List Window) → Stands f old → Dro
 drops_stands f g old new s d = keeps_stands f g [] old new s (drops_keep f g old new s d)
 
 -- bytes of the first window are the first of all
-pub taken_first : (f : Live) (ws : List Window) (w : Window) (most n : ℕ) (part : List ℕ) → IsSound f → First f ws w → n ≡ length part → part ≡ take most (segment_of f w).bytes
-    → (n ≡ min most w.len) × (part ≡ take n (joined (shown f ws)))
-taken_first f ws w most n part sound first is p =
+pub part_of : (f : Live) (ws : List Window) (w : Window) (most : ℕ) (part : List ℕ) → IsSound f → Stands f ws → 0 < length ws
+    → w ≡ get_or ws 0 w → 0 < most → part ≡ take most (segment_of f w).bytes
+    → (0 < length part) × (length part ≤ most) × (part ≡ take (length part) (joined (shown f ws)))
+part_of f ws w most part sound stands some here any p =
+    let first : First f ws w = is_first f ws w sound stands some here in
     let own : List ℕ = (segment_of f w).bytes in
+    let rest : List ℕ = joined (shown f (drop 1 ws)) in
     let size : length own ≡ w.len = window_whole f w (drop 1 ws) sound first.stands in
-    let number : n ≡ min most (length own) = is ∙ (ap (λ (b : List ℕ). length b) p ∙ length-take most own) in (
-      omega (arith, number, size),
-      p ∙ (sym (take_min most own) ∙ (ap (λ (k : ℕ). take k own) (sym number)
-          ∙ (sym (take-append-le n own (joined (shown f (drop 1 ws))) (omega (arith, number))) ∙ ap (λ (v : List Window). take n (joined (shown f v))) (sym first.split)))),
+    let number : length part ≡ min most (length own) = ap length p ∙ length-take most own in
+    let least : take most own ≡ take (length part) own = sym (take_min most own) ∙ ap (λ (k : ℕ). take k own) (sym number) in
+    let all : take (length part) own ≡ take (length part) (own ++ rest) = sym (take-append-le (length part) own rest (omega (arith, number))) in (
+      omega (arith, number, size, first.stands.some.0),
+      omega (arith, number),
+      p ∙ least ∙ all ∙ ap (λ (v : List Window). take (length part) (joined (shown f v))) (sym first.split),
     )
 
 -- bytes that were taken, and then more of what was left
@@ -59,22 +64,6 @@ taken_then f g old mid m n before out after c first then =
     let all : List ℕ = joined (shown f old) in
     let left : joined (shown g mid) ≡ drop m all = ap joined c.segments ∙ joined-without_front m (shown f old) in
     then ∙ ((λ i. first i ++ take n (left i)) ∙ (append_assoc before (take m all) (take n (drop m all)) ∙ ap (λ (b : List ℕ). before ++ b) (take_both m n all)))
-
--- the same into a buffer, whose rest took what came then
-pub filled_then : (f g : Live) (old mid : List Window) (m n : ℕ) (buffer0 buffer part : List ℕ) → IsSound f → Stands f old → Cut old mid m f g
-    → buffer ≡ take m (joined (shown f old)) ++ drop m buffer0 → part ≡ take n (joined (shown g mid)) ++ drop n (take (length buffer - m) (drop m buffer))
-    → take m buffer ++ (part ++ drop (length buffer - m) (drop m buffer)) ≡ take (m + n) (joined (shown f old)) ++ drop (m + n) buffer0
-filled_then f g old mid m n buffer0 buffer part sound s c filled then =
-    let all : List ℕ = joined (shown f old) in
-    let left : joined (shown g mid) ≡ drop m all = ap joined c.segments ∙ joined-without_front m (shown f old) in
-    let rest : take (length buffer - m) (drop m buffer) ≡ drop m buffer = take_all (length buffer - m) (drop m buffer) (omega (arith, length-drop m buffer)) in
-    let none : drop (length buffer - m) (drop m buffer) ≡ [] = drop_all (length buffer - m) (drop m buffer) (omega (arith, length-drop m buffer)) in
-    let front : length (take m all) ≡ m = omega (arith, length-take m all, segments_length f old sound s, c.bytes) in
-    let head : take m buffer ≡ take m all = ap (take m) filled ∙ take_at (take m all) (drop m buffer0) m front in
-    let tail : drop n (drop m buffer) ≡ drop (m + n) buffer0 = ap (λ (b : List ℕ). drop n (drop m b)) filled ∙ (ap (drop n) (drop_at (take m all) (drop m buffer0) m front) ∙ drop-drop n m buffer0) in
-    let came : part ≡ take n (drop m all) ++ drop (m + n) buffer0 = then ∙ ((λ i. take n (left i) ++ drop n (rest i)) ∙ ap (λ (b : List ℕ). take n (drop m all) ++ b) tail) in
-    (λ i. head i ++ (came i ++ none i)) ∙ (ap (λ (b : List ℕ). take m all ++ b) (append-nil (take n (drop m all) ++ drop (m + n) buffer0))
-    ∙ (sym (append_assoc (take m all) (take n (drop m all)) (drop (m + n) buffer0)) ∙ ap (λ (b : List ℕ). b ++ drop (m + n) buffer0) (take_both m n all)))
 
 -- the least of what there is and what may go is what goes
 pub taken_all : (f : Live) (ws : List Window) (most n : ℕ) → IsSound f → Stands f ws → n ≡ min (bytes_in ws) most

@@ -1,4 +1,4 @@
-ghost use Rattle.std.specs.Prelude.{◌≡◌, ◌+◌, ◌-◌, ◌*◌, ◌<◌, ◌≤◌, ◌^◌, [], ◌∷◌, ◌++◌, length, take, drop, min, get_or, vec_len, vec_capacity};
+ghost use Rattle.std.specs.Prelude.{◌≡◌, ◌+◌, ◌-◌, ◌*◌, ◌<◌, ◌≤◌, ◌^◌, [], ◌∷◌, ◌++◌, length, take, drop, min, get_or};
 ghost use Rattle.std.specs.VecDeque.{deque_len, deque_capacity};
 ghost use Rattle.pf_base.specs.declared.TheConstants.{PAGE_SIZE};
 ghost use Rattle.pf_machine.specs.Queue.{Segment, joined, last_room, topped_up, pieces, copied};
@@ -7,6 +7,7 @@ ghost use Rattle.pf_ring.specs.Ring.{segment_of, shown};
 ghost use Rattle.pf_ring.specs.Windows.{Stands, Drops, bytes_in};
 ghost use Rattle.pf_ring.specs.Steps.{Puts, Copies, Cut, Shifts};
 
+use crate::receive::{Laid, Receive};
 use crate::ring::Window;
 use pf_base::PAGE_SIZE;
 use pf_frame::Frames;
@@ -136,10 +137,8 @@ pub fn move_into<F: Frames>(windows: &mut VecDeque<Window>, door: &mut F, buffer
         ≡ take (length buffer.old) (joined (shown (F.live door.old) windows.old.items)) }
 {
     let number = buffer.len();
-    let mut done = 0;
-    while done < number {
-        done += move_front_into(windows, door, &mut buffer[done..]);
-    }
+    let mut laid = Laid { buffer };
+    move_onto(windows, door, number, &mut laid);
 }
 
 /// Moves the first bytes of the windows into the buffer, so many as it is long, and drops those behind them, until so
@@ -203,76 +202,49 @@ fn discard_front<F: Frames>(windows: &mut VecDeque<Window>, door: &mut F, most: 
     number
 }
 
-/// Moves bytes from the front of the first window into the buffer: as many as the window has and the buffer has room for.
-/// Where these are all, the window goes, and its frame is released.
-fn move_front_into<F: Frames>(
-    windows: &mut VecDeque<Window>,
-    door: &mut F,
-    buffer: &mut [u8],
-) -> usize
-    requires fact { F.fact door.old }
-    requires stands { Stands (F.live door.old) windows.old.items }
-    requires some { 0 < deque_len windows.old }
-    requires any { 0 < length buffer.old }
-    ensures fact { F.fact door.new }
-    ensures rest { F.rest door.new ≡ F.rest door.old }
-    ensures space { deque_capacity windows.new ≡ deque_capacity windows.old }
-    // How many they are, what is left, and the bytes.
-    ensures any { 0 < result }
-    ensures most { result ≤ length buffer.old }
-    ensures cut { Cut windows.old.items windows.new.items result (F.live door.old) (F.live door.new) }
-    ensures bytes { buffer.new
-        ≡ take result (joined (shown (F.live door.old) windows.old.items)) ++ drop result buffer.old }
-{
-    let first = windows[0];
-    let part = front(door, first, buffer.len());
-    let number = part.len();
-    buffer[..number].copy_from_slice(part);
-    cut_first(windows, door, first, number);
-    number
-}
-
-/// Moves so many bytes from the front of the windows onto the end of a vector that has room for them. A window that is
-/// emptied goes, and its frame is released.
+/// Moves so many bytes from the front of the windows to what receives them and has room. A window that is emptied goes, and
+/// its frame is released.
 #[inline(always)]
-pub fn move_onto<F: Frames>(
+pub fn move_onto<F: Frames, O: Receive>(
     windows: &mut VecDeque<Window>,
     door: &mut F,
     number: usize,
-    out: &mut Vec<u8>,
+    out: &mut O,
 )
     requires fact { F.fact door.old }
     requires stands { Stands (F.live door.old) windows.old.items }
     requires has { number ≤ bytes_in windows.old.items }
-    requires room { vec_len out.old + number ≤ vec_capacity out.old }
+    requires room { number ≤ O.room out.old 0 }
     ensures fact { F.fact door.new }
     ensures rest { F.rest door.new ≡ F.rest door.old }
     ensures space { deque_capacity windows.new ≡ deque_capacity windows.old }
     ensures cut { Cut windows.old.items windows.new.items number (F.live door.old) (F.live door.new) }
-    ensures bytes { out.new.items
-        ≡ out.old.items ++ take number (joined (shown (F.live door.old) windows.old.items)) }
+    ensures kept { O.kept out.new ≡ O.kept out.old }
+    ensures bytes { O.received out.new number
+        ≡ O.received out.old 0 ++ take number (joined (shown (F.live door.old) windows.old.items)) }
 {
     let mut done = 0;
     while done < number {
-        done += move_front_onto(windows, door, number - done, out);
+        done += move_front_onto(windows, door, number - done, done, out);
     }
 }
 
-/// Moves bytes from the front of the first window onto the end of a vector that has room for them: as many as it has, but
-/// at most so many. Where these are all, it goes, and its frame is released.
+/// Moves bytes from the front of the first window to what receives them, behind a place: as many as the window has, but at
+/// most so many. Where these are all, it goes, and its frame is released.
 // A take passes each slot once. A copy of all bytes and then a discard of them costs a small read some 20 instructions more.
 #[inline(always)]
-fn move_front_onto<F: Frames>(
+fn move_front_onto<F: Frames, O: Receive>(
     windows: &mut VecDeque<Window>,
     door: &mut F,
     most: usize,
-    out: &mut Vec<u8>,
+    place: usize,
+    out: &mut O,
 ) -> usize
     requires fact { F.fact door.old }
     requires stands { Stands (F.live door.old) windows.old.items }
     requires some { 0 < deque_len windows.old }
     requires any { 0 < most }
-    requires room { vec_len out.old + most ≤ vec_capacity out.old }
+    requires room { most ≤ O.room out.old place }
     ensures fact { F.fact door.new }
     ensures rest { F.rest door.new ≡ F.rest door.old }
     ensures space { deque_capacity windows.new ≡ deque_capacity windows.old }
@@ -280,16 +252,16 @@ fn move_front_onto<F: Frames>(
     ensures any { 0 < result }
     ensures most { result ≤ most }
     ensures cut { Cut windows.old.items windows.new.items result (F.live door.old) (F.live door.new) }
-    ensures bytes { out.new.items
-        ≡ out.old.items ++ take result (joined (shown (F.live door.old) windows.old.items)) }
-    // The vector still has room for the others.
-    ensures length { vec_len out.new ≡ vec_len out.old + result }
-    ensures room { vec_capacity out.old ≤ vec_capacity out.new }
+    ensures kept { O.kept out.new ≡ O.kept out.old }
+    ensures bytes { O.received out.new (place + result)
+        ≡ O.received out.old place ++ take result (joined (shown (F.live door.old) windows.old.items)) }
+    // There is still room for the others.
+    ensures room { O.room out.old place ≤ O.room out.new (place + result) + result }
 {
     let first = windows[0];
     let part = front(door, first, most);
     let number = part.len();
-    out.extend_from_slice(part).unwrap();
+    out.receive(place, part);
     cut_first(windows, door, first, number);
     number
 }

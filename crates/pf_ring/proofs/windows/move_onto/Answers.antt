@@ -11,6 +11,7 @@ loop-done-init g c = record {
   within = omega arith;
   stands = c.requires.stands;
   cut = cut_nothing _ _ (g.met.F.Frames.sound _ c.requires.fact) c.requires.stands;
+  kept = refl;
   room = omega (arith, c.requires.room);
   filled = sym (append-nil _);
 }
@@ -23,6 +24,7 @@ loop-done-preserved g c = record {
   within = omega arith;
   stands = drops_stands _ _ _ _ c.loop-done.invariant.stands c.move_front_onto-done.ensures.cut.drops;
   cut = cut_then _ _ _ _ _ _ _ _ c.loop-done.invariant.cut c.move_front_onto-done.ensures.cut;
-  room = omega (arith, c.loop-done.invariant.room, c.move_front_onto-done.ensures.length, c.move_front_onto-done.ensures.room);
+  kept = c.move_front_onto-done.ensures.kept ∙ c.loop-done.invariant.kept;
+  room = omega (arith, c.loop-done.invariant.room, c.move_front_onto-done.ensures.room, c.move_front_onto-done.ensures.most);
   filled = taken_then _ _ _ _ _ _ _ _ _ c.loop-done.invariant.cut c.loop-done.invariant.filled c.move_front_onto-done.ensures.bytes;
 }

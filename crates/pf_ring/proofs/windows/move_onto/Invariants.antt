@@ -1,5 +1,4 @@
-use Rattle.std.proofs.Common.{◌≡◌, ◌≤◌, ◌++◌, ◌+◌, ◌-◌, take}
-use Rattle.std.specs.Prelude.{vec_len, vec_capacity}
+use Rattle.std.proofs.Common.{◌≡◌, ◌≤◌, ◌++◌, ◌-◌, take}
 use Rattle.std.specs.VecDeque.{deque_capacity}
 use Rattle.pf_machine.specs.Queue.{joined}
 use Rattle.pf_ring.specs.Ring.{shown}
@@ -15,8 +14,10 @@ invariant-loop-done g l = record {
   within : l.done ≤ l.number;
   stands : Stands (g.F.Frames.live l.door) l.windows.items;
   cut : Cut l.fn.windows.items l.windows.items l.done (g.F.Frames.live l.fn.door) (g.F.Frames.live l.door);
-  room : vec_len l.out + (l.number - l.done) ≤ vec_capacity l.out;
-  filled : l.out.items ≡ l.fn.out.items ++ take l.done (joined (shown (g.F.Frames.live l.fn.door) l.fn.windows.items));
+  kept : g.O.Receive.kept l.out ≡ g.O.Receive.kept l.fn.out;
+  room : l.number - l.done ≤ g.O.Receive.room l.out l.done;
+  filled : g.O.Receive.received l.out l.done
+      ≡ g.O.Receive.received l.fn.out 0 ++ take l.done (joined (shown (g.F.Frames.live l.fn.door) l.fn.windows.items));
 }
 
 abbrev pub decreases-loop-done : goal.decreases-loop-done
