@@ -1,13 +1,11 @@
 pub mod SubtreeLaws
 pub mod Names
 pub mod Places
+pub mod Entries
 pub mod Levels
 pub mod Paths
-pub mod Inserts
-pub mod Locals
-pub mod Removes
+pub mod Changes
 pub mod NodeList
 pub mod NodeWalk
-pub mod Alone
 pub mod Sendable
 pub mod WordOrder

@@ -1,6 +1,6 @@
 -- What is found below a path is what is found at the longer path.
 
-use Rattle.std.proofs.Common.{◌≡◌, [], ◌∷◌, ◌++◌, refl, ap, ◌∙◌, cond, Some}
+use Rattle.std.proofs.Common.{◌≡◌, [], ◌∷◌, ◌++◌, refl, sym, ap, ◌∙◌, cond, Some}
 use Rattle.std.specs.Ordering.{ordering_then, is_eq}
 use Rattle.std.specs.declared.cmp.Ordering.TheVariants.{Less, Equal, Greater}
 use Rattle.pf_machine.specs.FileMap.{Name, Path, Files, name_cmp, path_cmp, find}
@@ -24,3 +24,7 @@ find_subtree (n ∷ p) fs = find_under n p fs ∙ find_subtree p (under n fs)
 pub subtree_append : (p q : Path) (fs : Files) → subtree (p ++ q) fs ≡ subtree q (subtree p fs)
 subtree_append [] q fs = refl
 subtree_append (n ∷ p) q fs = subtree_append p q (under n fs)
+
+pub find_below : (p q : Path) (fs : Files) → find q (subtree p fs) ≡ find (p ++ q) fs
+find_below [] q fs = refl
+find_below (n ∷ p) q fs = find_below p q (under n fs) ∙ sym (find_under n (p ++ q) fs)

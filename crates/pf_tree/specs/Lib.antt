@@ -1,4 +1,5 @@
 pub mod Subtrees
+pub mod Local
 pub mod Node
 pub mod NodeFalls
 pub mod Place

@@ -2,8 +2,9 @@
 
 ghost use Rattle.std.specs.Prelude.{◌≡◌, ◌<◌, ◌≤◌, ◌^◌, ◌+◌, [], ◌∷◌, ◌++◌, length, Some, None, IsSome, IfSome, IfNone, IfOk, OnOk, if◌then◌else◌, is_ok};
 ghost use Rattle.std.specs.List.{FoldsTo};
-ghost use Rattle.pf_machine.specs.FileMap.{find, front, IsDirectory, insert, remove, set_mode, names_below, listed};
+ghost use Rattle.pf_machine.specs.FileMap.{Files, Path, find, front, IsDirectory, insert, remove, set_mode, names_below, listed};
 ghost use Rattle.pf_machine.specs.Paths.{is_nonempty};
+ghost use Rattle.pf_tree.specs.Local.{IsLocal};
 ghost use Rattle.pf_tree.specs.Node.{Rises};
 ghost use Rattle.pf_tree.specs.Place.{IsPlace};
 ghost use Rattle.pf_tree.specs.Subtrees.{under, subtree, path_of};
@@ -180,28 +181,19 @@ impl<A: Allocator> Node<A> {
         }
     }
 
-    /// Takes the file at a path away. Nothing may stand below it.
+    /// Takes the file at a path away. A directory may have no entries.
     pub fn remove(&mut self, path: &[&[u8]])
         requires below { 0 < length path.now }
         requires present { IsSome (find (path_of path.now) self.old) }
-        requires alone { length (subtree (path_of path.now) self.old) ≤ 1 }
+        requires empty { IsDirectory (find (path_of path.now) self.old)
+            → names_below (path_of path.now) self.old ≡ [] }
         ensures { self.new ≡ remove (path_of path.now) self.old }
     {
-        let Body::Directory(entries) = &mut self.body else {
+        let Some((name, parent)) = path.split_last() else {
             unreachable!()
         };
-        let Some((name, rest)) = path.split_first() else {
-            unreachable!()
-        };
-        let Ok(at) = locate(entries.as_slice(), name) else {
-            unreachable!()
-        };
-        if rest.is_empty() {
-            entries.remove(at);
-            return;
-        }
-        let entry = &mut entries[at];
-        entry.node.remove(rest);
+        let removal = Removal { name: *name };
+        self.change(parent, &removal);
     }
 
     /// Gives the file at a path another mode.
@@ -209,9 +201,19 @@ impl<A: Allocator> Node<A> {
         requires present { IsSome (find (path_of path.now) self.old) }
         ensures { self.new ≡ set_mode (path_of path.now) mode self.old }
     {
+        let new_mode = NewMode { mode };
+        self.change(path, &new_mode);
+    }
+
+    // Makes a change at the end of a path from here. It stands there if anything stands there or below.
+    fn change<C: Change<A>>(&mut self, path: &[&[u8]], change: &C) -> C::Answer
+        requires local { (answer : C.Answer) → IsLocal (C.made change.now answer) }
+        requires there { 0 < length (subtree (path_of path.now) self.old) }
+        requires fit { C.IsFit change.now (subtree (path_of path.now) self.old) }
+        ensures { self.new ≡ C.made change.now result (path_of path.now) self.old }
+    {
         let Some((name, rest)) = path.split_first() else {
-            self.mode = mode;
-            return;
+            return change.make(self);
         };
         let Body::Directory(entries) = &mut self.body else {
             unreachable!()
@@ -220,7 +222,11 @@ impl<A: Allocator> Node<A> {
             unreachable!()
         };
         let entry = &mut entries[at];
-        entry.node.set_mode(rest, mode);
+        let node = &mut entry.node;
+        let answer = node.change(rest, change);
+        // Whatever was changed is a node, which has a file of its own.
+        let _ = &node.mode;
+        answer
     }
 
     /// Calls a function on this file, under a depth and a name of the caller's, and then on all below it, a directory before
@@ -273,22 +279,98 @@ impl<A: Allocator + Clone> Node<A> {
         requires parent { IsDirectory (find (front (path_of path.now)) self.old) }
         ensures { self.new ≡ (if is_ok result then insert (path_of path.now) file self.old else self.old) }
     {
-        let Body::Directory(entries) = &mut self.body else {
+        let Some((name, parent)) = path.split_last() else {
             unreachable!()
         };
-        let Some((name, rest)) = path.split_first() else {
+        let insertion = Insertion { name: *name, file };
+        self.change(parent, &insertion)
+    }
+}
+
+// A change of the node that a path leads to. A contract sees what it makes of the files of a directory on the way, with the
+// rest of the path from there.
+trait Change<A: Allocator> {
+    type Answer;
+
+    // What the node's own files must be.
+    ghost IsFit: { Self → Files → Type 0 };
+
+    ghost made: { Self → Self.Answer → Path → Files → Files };
+
+    fn make(&self, node: &mut Node<A>) -> Self::Answer
+        requires { IsFit self.now node.old }
+        ensures { node.new ≡ made self.now result [] node.old };
+}
+
+// A file with nothing below it comes into the directory.
+#[derive(Drop)]
+struct Insertion<'a> {
+    name: &'a [u8],
+    file: File,
+}
+
+impl<A: Allocator + Clone> Change<A> for Insertion<'_> {
+    type Answer = Result<(), AllocError>;
+
+    ghost IsFit = { λ c s. (find (c.name.now ∷ []) s ≡ None) × IsDirectory (find [] s) };
+
+    ghost made = { λ c answer p s. if is_ok answer then insert (p ++ c.name.now ∷ []) c.file s else s };
+
+    fn make(&self, node: &mut Node<A>) -> Result<(), AllocError> {
+        let Body::Directory(entries) = &mut node.body else {
             unreachable!()
         };
-        match locate(entries.as_slice(), name) {
-            Ok(at) => {
-                let entry = &mut entries[at];
-                return entry.node.insert(rest, file);
-            }
-            Err(at) => {
-                let entry = Entry::new(entries.allocator(), name, file)?;
-                entries.insert(at, entry)?;
-                return Ok(());
-            }
-        }
+        let Err(at) = locate(entries.as_slice(), self.name) else {
+            unreachable!()
+        };
+        let entry = Entry::new(entries.allocator(), self.name, self.file)?;
+        entries.insert(at, entry)?;
+        Ok(())
+    }
+}
+
+// A file goes out of the directory: a FIFO, or a directory that has no entries.
+#[derive(Drop)]
+struct Removal<'a> {
+    name: &'a [u8],
+}
+
+impl<A: Allocator> Change<A> for Removal<'_> {
+    type Answer = ();
+
+    ghost IsFit = { λ c s. IsSome (find (c.name.now ∷ []) s)
+        × (IsDirectory (find (c.name.now ∷ []) s) → names_below (c.name.now ∷ []) s ≡ []) };
+
+    ghost made = { λ c answer p s. remove (p ++ c.name.now ∷ []) s };
+
+    fn make(&self, node: &mut Node<A>) {
+        let Body::Directory(entries) = &mut node.body else {
+            unreachable!()
+        };
+        let Ok(at) = locate(entries.as_slice(), self.name) else {
+            unreachable!()
+        };
+        let entry = entries.remove(at);
+        // What goes is a node: where it has no names it has no entries.
+        let gone = &entry.node;
+        let _ = &gone.mode;
+    }
+}
+
+// The file gets another mode.
+#[derive(Drop)]
+struct NewMode {
+    mode: Mode,
+}
+
+impl<A: Allocator> Change<A> for NewMode {
+    type Answer = ();
+
+    ghost IsFit = { λ c s. Unit {0} };
+
+    ghost made = { λ c answer p s. set_mode p c.mode s };
+
+    fn make(&self, node: &mut Node<A>) {
+        node.mode = self.mode;
     }
 }

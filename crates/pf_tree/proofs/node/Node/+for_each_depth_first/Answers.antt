@@ -2,7 +2,7 @@ use Rattle.std.proofs.Common.{rules, of_calls, ◌≡◌, ◌+◌, suc, refl, sy
 use Rattle.std.specs.List.{FoldsTo}
 use Rattle.pf_tree.specs.Visits.{Visits, visits}
 use Rattle.pf_tree.specs.Node.{files_of_body, all_below, below}
-use Rattle.pf_tree.proofs.Inserts.{seen}
+use Rattle.pf_tree.proofs.Levels.{seen}
 use Rattle.pf_tree.proofs.NodeWalk.{folds_append, visits_below, below_from, first_file}
 use Rattle.pf_tree.proofs.node.Node.+for_each_depth_first.Goals as goal
 

@@ -2,15 +2,9 @@ use Rattle.std.proofs.Common.{◌≡◌, ◌+◌, ◌<◌, sym, ap, subst, arith
 use Rattle.pf_machine.specs.FileMap.{find, names_below, IsDirectory, IsFileMap, remove}
 use Rattle.pf_machine.proofs.FileLaws.{remove-map, length-remove}
 use Rattle.pf_tree.specs.Subtrees.{path_of}
-use Rattle.pf_tree.proofs.Alone.{alone}
-use Rattle.pf_tree.proofs.Removes.{long}
+use Rattle.pf_tree.proofs.Paths.{long}
 use Rattle.std.specs.Prelude.{IsSome}
 use Rattle.pf_tree.proofs.tree.Tree.remove.Goals as goal
-
-pub remove-requires-clause-alone : goal.remove-requires-clause-alone
-remove-requires-clause-alone g c =
-    let p = path_of c.args.path.now in
-    alone p c.self.inside.root c.self.invariant.0 (subst (λ s. IsDirectory (find p s) → names_below p s ≡ []) (sym c.self.view_is) c.requires.empty)
 
 pub invariant_of-self : goal.invariant_of-self
 invariant_of-self g c =
