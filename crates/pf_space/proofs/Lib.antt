@@ -1,3 +1,4 @@
+mod Books
 mod ParkedResume
 pub mod Sendable
 mod Steps

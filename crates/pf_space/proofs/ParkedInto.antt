@@ -1,7 +1,6 @@
 -- A call that is tried again into a buffer: what is told of it stands for the machine's reply, whose first bytes lie there.
 
-use Rattle.std.proofs.Common.{◌≡◌, ◌⊎◌, inl, inr, ℕ, ◌≤◌, true, false, List, [], ◌∷◌, ◌++◌, length, take, drop, Option, Some, None, is_ok, IsOk, Result, Ok, Err, refl, sym, ap, subst, ◌∙◌, arith}
-use Rattle.std.specs.Prelude.{min}
+use Rattle.std.proofs.Common.{◌≡◌, ◌⊎◌, inl, inr, ℕ, ◌≤◌, true, false, List, [], ◌∷◌, length, Option, Some, None, is_ok, IsOk, Result, Ok, Err, refl, sym, ap, subst, ◌∙◌, arith}
 use Rattle.pf_machine.specs.Calls.{Reading, Writing, Bringing, Call, Opening, Moving}
 use Rattle.pf_machine.specs.Attempts.{Finished, transfer_told}
 use Rattle.pf_machine.specs.Machine.{Answers, call, call_of, hands_out, step_of}
@@ -24,6 +23,7 @@ use Rattle.pf_base.specs.declared.step.Reply.TheVariants as replies
 use Rattle.pf_base.specs.declared.step.Step.TheVariants as steps
 use Rattle.pf_frame.specs.Live.{Live}
 use Rattle.pf_ring.specs.Laid.{laid}
+use Rattle.pf_ring.proofs.LaidLaws.{no_byte_lies}
 use Rattle.pf_tables.specs.declared.tables.parked.ParkedRead.{ParkedRead}
 use Rattle.pf_tables.specs.Buffers.{read_in, Truncates, Replied, number_told, bytes_told}
 use Rattle.pf_tables.specs.Meaning.{Namespace, meaning}
@@ -60,12 +60,6 @@ lives_there s pid fd n waits =
     ap (λ (o : Option (Process ℕ)). is_ok (or_refuse ESRCH o)) w.lives
 
 -- A read
-
--- a buffer stays as it is where there is nothing to lay into it
-no_byte_lies : (buffer : List ℕ) → buffer ≡ laid [] buffer
-no_byte_lies buffer =
-    let zero : min 0 (length buffer) ≡ 0 = omega arith in
-    sym (ap (λ (n : ℕ). take n [] ++ drop n buffer) zero)
 
 none : (xs : List ℕ) → length xs ≡ 0 → xs ≡ []
 none [] e = refl

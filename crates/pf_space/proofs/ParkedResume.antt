@@ -1,10 +1,9 @@
 -- A transfer that waits is tried again: its process is woken, and the transfer tried as a call of its own, which waits
 -- where it has to.
 
-use Rattle.std.proofs.Common.{◌≡◌, ℕ, zero, suc, ◌+◌, ◌-◌, Bool, true, false, List, length, set, Option, Some, None, is_some, Result, Ok, Err, refl, sym, ap, ◌∙◌, inl, inr, arith, nat_eq, nat_lt, if◌then◌else◌}
+use Rattle.std.proofs.Common.{◌≡◌, ℕ, zero, suc, ◌+◌, ◌-◌, Bool, true, false, List, length, set, Option, Some, None, is_some, Result, Ok, Err, refl, sym, ap, ◌∙◌, arith, nat_eq, nat_lt, if◌then◌else◌}
 use Rattle.std.specs.Option.{option_map, option_and_then}
-use Rattle.std.proofs.lemmas.Bool.{cases_lt}
-use Rattle.std.proofs.lemmas.List.{set-set, set_past}
+use Rattle.std.proofs.lemmas.List.{set-set}
 use Rattle.pf_machine.specs.Calls.{Transfer, Reading, Writing, Bringing, Call, Opening, Moving, made_by}
 use Rattle.pf_base.specs.Limits.{Limits}
 use Rattle.pf_machine.specs.Machine.{call, call_of}
@@ -32,7 +31,7 @@ use Rattle.pf_tables.specs.Owns.{Owns}
 use Rattle.pf_tables.specs.Tables.{over, woken, awoken, HasLowest}
 use Rattle.pf_tables.specs.Opened.{IsOver}
 use Rattle.pf_tables.specs.Told.{Becomes, Told, Says, tried_call, waits_in, settled, ended}
-use Rattle.pf_tables.proofs.ProcessesDrop.{change-change}
+use Rattle.pf_machine.proofs.ExitLaws.{change-change}
 use Rattle.pf_tables.proofs.TablesShown.{set_same}
 use Rattle.pf_space.proofs.ParkedTransfers.{sweep-waiting}
 
@@ -106,10 +105,7 @@ module _ (pid : ℕ) where
   parked-again : (s : State Segment ℕ) (c : Call ℕ) → change_process (waiting (Some c)) (awake s) pid ≡ change_process (waiting (Some c)) s pid
   parked-again s c =
       ap (λ ps. record s { processes = ps })
-      (elim (cases_lt (pid - 1) (length s.processes)) [
-        | inl within ↦ change-change (waiting (Some c)) (waiting None) (waiting (Some c)) s.processes (pid - 1) within (λ p. refl)
-        | inr past ↦ ap (λ ps. change_at (waiting (Some c)) ps (pid - 1)) (set_past s.processes (pid - 1) (option_map (waiting None) (at s.processes (pid - 1))) past)
-      ])
+      (change-change (waiting (Some c)) (waiting None) (waiting (Some c)) s.processes (pid - 1) (λ p. refl))
 
 -- who waits in a transfer
 pub record WaitsIn (s : State Segment ℕ) (pid : ℕ) (t : Transfer) : Type 0 where

@@ -1,19 +1,16 @@
 ghost use Rattle.std.specs.Prelude.{◌≡◌, ◌≢◌, Err};
 ghost use Rattle.pf_machine.specs.Machine.{call};
 
-use pf_base::{Answer, Config, Crossing, Fault, Reply, Step};
+use pf_base::{Answer, Config, Crossing, Fault, Kind, Reply, Step};
 use pf_frame::Frames;
 use pf_tables::Tables;
 use std::alloc::{AllocError, Allocator, Global};
 use std::marker::Model;
 
 mod bounds;
-mod descriptors;
-mod files;
 mod opens;
 mod parked;
 mod pipes;
-mod processes;
 mod queries;
 mod transfers;
 
@@ -79,6 +76,8 @@ impl<A: Allocator + Clone> Space<A> {
     {
         self.tables.settled();
         match self.call(door, step) {
+            // By itself, or the compiler copies each answer as a whole at every call above.
+            Ok(Reply::Num(number)) => Answer::Done(Reply::Num(number)),
             Ok(reply) => Answer::Done(reply),
             Err(Fault::Errno(errno)) => Answer::Done(Reply::Err(errno)),
             Err(Fault::NoMemory) => Answer::NoMemory,
@@ -104,19 +103,21 @@ impl<A: Allocator + Clone> Space<A> {
                 gid,
                 umask,
                 groups,
-            } => self.spawn(door, *uid, *gid, *umask, groups),
-            Step::Exit { pid } => self.exit(door, *pid),
+            } => self.tables.spawn(self.alloc, *uid, *gid, *umask, groups),
+            Step::Exit { pid } => self.tables.drop_process(door, *pid),
             Step::Pipe { pid, nonblock } => self.pipe(door, *pid, *nonblock),
-            Step::Close { pid, fd } => self.close(door, *pid, *fd),
+            Step::Close { pid, fd } => self.tables.drop_descriptor(door, *pid, *fd),
             Step::Read { pid, fd, n } => self.read(door, *pid, *fd, *n),
             Step::Write { pid, fd, payload } => {
                 self.write(door, *pid, *fd, payload.as_slice(), Some(payload))
             }
-            Step::SetSize { pid, fd, bytes } => self.set_size(door, *pid, *fd, *bytes),
-            Step::GetSize { pid, fd } => self.get_size(door, *pid, *fd),
-            Step::Fork { pid } => self.fork(door, *pid),
-            Step::Dup { pid, fd } => self.dup(door, *pid, *fd),
-            Step::SetNonblock { pid, fd, on } => self.set_nonblock(door, *pid, *fd, *on),
+            Step::SetSize { pid, fd, bytes } => {
+                self.tables.set_size(self.alloc, *pid, *fd, *bytes)
+            }
+            Step::GetSize { pid, fd } => self.tables.size(*pid, *fd),
+            Step::Fork { pid } => self.tables.fork(self.alloc, *pid),
+            Step::Dup { pid, fd } => self.tables.dup(*pid, *fd),
+            Step::SetNonblock { pid, fd, on } => self.tables.set_nonblocking(*pid, *fd, *on),
             Step::Tee {
                 pid,
                 source,
@@ -149,13 +150,20 @@ impl<A: Allocator + Clone> Space<A> {
                 *nonblock,
                 false,
             ),
-            Step::Mkdir { pid, path, mode } => self.mkdir(door, *pid, path.as_slice(), *mode),
-            Step::Mkfifo { pid, path, mode } => self.mkfifo(door, *pid, path.as_slice(), *mode),
-            Step::Unlink { pid, path } => self.unlink(door, *pid, path.as_slice()),
-            Step::Rmdir { pid, path } => self.rmdir(door, *pid, path.as_slice()),
-            Step::Chmod { pid, path, mode } => self.chmod(door, *pid, path.as_slice(), *mode),
-            Step::Stat { pid, path } => self.stat(door, *pid, path.as_slice()),
-            Step::List { pid, path } => self.list(door, *pid, path.as_slice()),
+            Step::Mkdir { pid, path, mode } => self
+                .tables
+                .make_file(self.alloc, *pid, Kind::Directory, path.as_slice(), *mode),
+            Step::Mkfifo { pid, path, mode } => {
+                self.tables
+                    .make_file(self.alloc, *pid, Kind::Fifo, path.as_slice(), *mode)
+            }
+            Step::Unlink { pid, path } => self.tables.unlink(self.alloc, *pid, path.as_slice()),
+            Step::Rmdir { pid, path } => self.tables.rmdir(self.alloc, *pid, path.as_slice()),
+            Step::Chmod { pid, path, mode } => {
+                self.tables.chmod(self.alloc, *pid, path.as_slice(), *mode)
+            }
+            Step::Stat { pid, path } => self.tables.stat(self.alloc, *pid, path.as_slice()),
+            Step::List { pid, path } => self.tables.list(self.alloc, *pid, path.as_slice()),
             Step::Open { pid, path, flags } => self.open(door, *pid, path.as_slice(), *flags),
             Step::Resume { pid } => self.resume(door, *pid),
         }

@@ -80,13 +80,13 @@ module _ {files : Files} {files_made : ℕ} (limits : Limits) (charges : UserPag
       by_end (Ok d) h = absurd (none d h)
       by_end (Err e) h =
           few (shows f) 0 (call limits (shows f) (steps.Read pid fd count)) (read-few (shows f) 0 limits pid fd count
-          (λ x is. let both : ◌≡◌ {A = Result (End Segment ℕ) Errno} (Err e) (Ok x) = sym (refused f (Some sides.Read) ps ds pipes files files_made k.tied pid fd e h) ∙ is in absurd (cc)))
+          (λ x is. let both : ◌≡◌ {A = Result (End Segment ℕ) Errno} (Err e) (Ok x) = sym (refused (pipe_meaning f) (Some sides.Read) ps ds pipes files files_made k.tied pid fd e h) ∙ is in absurd (cc)))
 
   module _ (d : Description) (h : end_in (Some sides.Read) ps ds pid fd ≡ Ok d) where
     -- it has a pipe
     pub no_pipe : find pipes d.pipe.slot d.pipe.serial ≡ None → Covers n (steps.Read pid fd count) 0
     no_pipe none f sound owns =
-        let e = found f (Some sides.Read) ps ds pipes files files_made k.tied pid fd d h in
+        let e = found (pipe_meaning f) (Some sides.Read) ps ds pipes files files_made k.tied pid fd d h in
         let there = find_at pipes d.pipe.slot d.pipe.serial e.pipe e.stands in
         let both : ◌≡◌ {A = Option Pipe} None (Some e.pipe) = sym none ∙ there in
         absurd (cc)
@@ -95,7 +95,7 @@ module _ {files : Files} {files_made : ℕ} (limits : Limits) (charges : UserPag
     pub reads : (r : Pipe) → find pipes d.pipe.slot d.pipe.serial ≡ Some r → (held : ℕ) → ((f : Live) → IsSound f → Stands f r.ring.segments → held ≡ length (bytes_of (queue_of f r.ring)))
         → Covers n (steps.Read pid fd count) (min held count)
     reads r handed held holds f sound owns =
-        let e = found f (Some sides.Read) ps ds pipes files files_made k.tied pid fd d h in
+        let e = found (pipe_meaning f) (Some sides.Read) ps ds pipes files files_made k.tied pid fd d h in
         let rows : ◌≡◌ {A = Option Pipe} (Some e.pipe) (Some r) = sym (find_at pipes d.pipe.slot d.pipe.serial e.pipe e.stands) ∙ handed in
         let same : e.pipe ≡ r = cc in
         let stands : Stands f r.ring.segments = transfers.stands_in f limits charges ps ds pipes k n view owns d r handed in
@@ -103,8 +103,8 @@ module _ {files : Files} {files_made : ℕ} (limits : Limits) (charges : UserPag
         subst (AtMost f (steps.Read pid fd count) (min held count)) view
         (few (shows f) (min held count) (call limits (shows f) (steps.Read pid fd count)) (read-few (shows f) (min held count) limits pid fd count
         (λ x is.
-        let ends : ◌≡◌ {A = Result (End Segment ℕ) Errno} (Ok (end_of_rows f d e.pipe)) (Ok x) = sym e.is ∙ is in
-        let end : end_of_rows f d e.pipe ≡ x = cc in
+        let ends : ◌≡◌ {A = Result (End Segment ℕ) Errno} (Ok (end_of_rows (pipe_meaning f) d e.pipe)) (Ok x) = sym e.is ∙ is in
+        let end : end_of_rows (pipe_meaning f) d e.pipe ≡ x = cc in
         let bytes : length (bytes_of (queue_of f r.ring)) ≡ length (bytes_of x.pipe.queue) = ap (λ (q : Pipe). length (bytes_of (queue_of f q.ring))) (sym same) ∙ ap (λ (y : End Segment ℕ). length (bytes_of y.pipe.queue)) end in
         omega (arith, read_bytes (shows f) x count, bytes, number))))
 

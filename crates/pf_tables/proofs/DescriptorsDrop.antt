@@ -1,20 +1,20 @@
 -- What goes, in the meaning of the state that it leaves: a descriptor with whatever nobody can reach any more, and a
 -- process.
 
-use Rattle.std.proofs.Common.{◌≡◌, ℕ, zero, suc, ◌+◌, ◌-◌, ◌<◌, ◌≤◌, List, [], map, set, Option, Some, None, Ok, Err, refl, ap, sym, ◌∙◌, subst, arith}
+use Rattle.std.proofs.Common.{◌≡◌, ℕ, zero, suc, ◌+◌, ◌-◌, ◌<◌, ◌≤◌, List, [], map, set, Option, Some, None, Result, Ok, Err, refl, ap, sym, ◌∙◌, subst, arith}
 use Rattle.std.specs.Option.{option_map, option_and_then}
 use Rattle.std.proofs.lemmas.List.{map-set}
-use Rattle.pf_machine.specs.Refusals.{◌>>=◌, or_refuse}
+use Rattle.pf_machine.specs.Refusals.{◌>>=◌}
 use Rattle.pf_machine.specs.FileMap.{Files}
 use Rattle.pf_base.specs.Limits.{Limits}
 use Rattle.pf_machine.specs.Numbered.{at, clear_at}
-use Rattle.pf_machine.proofs.NumberedLaws.{at-map}
 use Rattle.pf_machine.specs.Machine.{call_of}
 use Rattle.pf_machine.specs.State as machine
-use Rattle.pf_machine.specs.State.{itself, Pipe, with_process, without_process}
-use Rattle.pf_machine.specs.Descriptors.{named, without_descriptor}
+use Rattle.pf_machine.specs.State.{itself, State, Outcome, Pipe, living, of_ready, with_process, done}
+use Rattle.pf_machine.specs.Descriptors.{close, without_descriptor}
+use Rattle.pf_machine.specs.Processes.{exit}
+use Rattle.pf_machine.specs.Queue.{Segment}
 use Rattle.pf_base.specs.declared.errno.Errno.{Errno}
-use Rattle.pf_base.specs.declared.errno.Errno.TheVariants.{EBADF}
 use Rattle.pf_machine.specs.Sweep.{sweep}
 use Rattle.pf_machine.proofs.SweepLaws.{with_processes}
 use Rattle.pf_base.specs.declared.TheConstants.{MAX_PROCESSES}
@@ -31,10 +31,11 @@ use Rattle.pf_tables.proofs.MeaningLaws.{sweep-meaning, pipes-without}
 use Rattle.pf_tables.specs.Owns.{Owns}
 use Rattle.pf_tables.proofs.OwnsLaws.{stands_at, joined_gone, others_written}
 use Rattle.pf_tables.specs.Rows as rows
-use Rattle.pf_tables.specs.Rows.{pipe_of, ProcessRows, DescriptionRows, PipeRows, Key, Process, process_in, ready_in, key_at, keys_of, process_of, processes_of, descriptions_of, pipes_of, state_of, Tied, Kept}
-use Rattle.pf_tables.specs.Tables.{closed, exited, descriptor, emptied, without_place, Left}
+use Rattle.pf_tables.specs.Rows.{key_in, pipe_of, ProcessRows, DescriptionRows, PipeRows, Key, Process, process_in, ready_in, key_at, keys_of, process_of, processes_of, descriptions_of, pipes_of, state_of, Tied, Kept}
+use Rattle.pf_tables.specs.Tables.{descriptor, emptied, without_place, Left}
 use Rattle.pf_tables.specs.Told.{Becomes}
-use Rattle.pf_tables.proofs.ProcessTableReady.{lives, lives_not, readies, place_is}
+use Rattle.pf_tables.proofs.ProcessTableReady.{lives, lives_not, place_is}
+use Rattle.pf_tables.proofs.DescriptorsNamed.{Has, named_is, names_nothing}
 use Rattle.pf_tables.proofs.DescriptorsLetGo.{descriptor_shown}
 use Rattle.pf_tables.proofs.TablesShown.{shown, set_same}
 use Rattle.pf_tables.proofs.TablesSettled.{changed-swept, within_same}
@@ -140,25 +141,45 @@ module _ {files : Files} {files_made : ℕ} (f : Live) (limits : Limits) (charge
             ∙ sym (sweep-meaning f (without_place (state_of ps ds pipes files files_made) i));
       }) owns
 
--- What the machine does, from what the tables find
+-- What the machine's call does, from what the tables find
 
-module _ {files : Files} {files_made : ℕ} (f : Live) (ps : ProcessRows) (ds : DescriptionRows) (pipes : PipeRows) (limits : Limits) (n : Namespace) (view : record { limits = limits; state = state_of ps ds pipes files files_made } ≡ n)
-    (pid : ℕ) (p : Process) (caller : ready_in ps pid ≡ Ok p) where
-  pub closed_is : (fd : ℕ) (k : Key) → at p.descriptors fd ≡ Some k → closed (meaning f n.state) pid fd ≡ Ok (emptied (meaning f n.state) (pid - 1) fd)
-  closed_is fd k h =
-      subst (λ (m : Namespace). closed (meaning f m.state) pid fd ≡ Ok (emptied (meaning f m.state) (pid - 1) fd)) view
-      (ap (λ r. r >>= (λ q. named q fd >>= (λ _. Ok (with_process (meaning f (state_of ps ds pipes files files_made)) pid (without_descriptor fd q))))) (readies f ps ds pipes files files_made pid p caller)
-      ∙ ap (λ o. or_refuse EBADF o >>= (λ _. Ok (with_process (meaning f (state_of ps ds pipes files files_made)) pid (without_descriptor fd (process_of p))))) (at-map (λ (k : Key). k.serial) p.descriptors fd ∙ ap (option_map (λ (k : Key). k.serial)) h)
-      ∙ ap (λ o. Ok (record (meaning f (state_of ps ds pipes files files_made)) { processes = set (processes_of ps) (pid - 1) (option_map (without_descriptor fd) o) })) (sym (shown process_of ps (pid - 1) p (place_is ps pid p caller))))
+module _ (f : Live) {ps : ProcessRows} {ds : DescriptionRows} {pipes : PipeRows} (t : Tied ps ds pipes)
+    {limits : Limits} {files : Files} {files_made : ℕ} {n : Namespace}
+    (view : record { limits = limits; state = state_of ps ds pipes files files_made } ≡ n) (pid : ℕ) where
+  abbrev s : State Segment ℕ
+  s = meaning f (state_of ps ds pipes files files_made)
 
-module _ {files : Files} {files_made : ℕ} (f : Live) (ps : ProcessRows) (ds : DescriptionRows) (pipes : PipeRows) (limits : Limits) (n : Namespace) (view : record { limits = limits; state = state_of ps ds pipes files files_made } ≡ n)
-    (pid : ℕ) where
-  pub exited_is : {p : Process} → process_in ps pid ≡ Ok p → exited (meaning f n.state) pid ≡ Ok (without_place (meaning f n.state) (pid - 1))
+  abbrev exits : State Segment ℕ → Result (Outcome Segment ℕ) Errno
+  exits m = living m pid >>= (λ p. exit m pid)
+
+  pub exited_is : {p : Process} → process_in ps pid ≡ Ok p
+      → exits (meaning f n.state) ≡ Ok (done (without_place (meaning f n.state) (pid - 1)) 0)
   exited_is {p} h =
-      subst (λ (m : Namespace). exited (meaning f m.state) pid ≡ Ok (without_place (meaning f m.state) (pid - 1))) view
-      (ap (λ r. r >>= (λ _. Ok (without_process (meaning f (state_of ps ds pipes files files_made)) pid))) (lives f ps ds pipes files files_made pid p h))
+      subst (λ (m : Namespace). exits (meaning f m.state)
+      ≡ Ok (done (without_place (meaning f m.state) (pid - 1)) 0)) view
+      (ap (λ r. r >>= (λ q. exit s pid)) (lives ps pid p h))
 
-  pub exited_not : (e : Errno) → process_in ps pid ≡ Err e → exited (meaning f n.state) pid ≡ Err e
+  pub exited_not : (e : Errno) → process_in ps pid ≡ Err e → exits (meaning f n.state) ≡ Err e
   exited_not e h =
-      subst (λ (m : Namespace). exited (meaning f m.state) pid ≡ Err e) view
-      (ap (λ r. r >>= (λ _. Ok (without_process (meaning f (state_of ps ds pipes files files_made)) pid))) (lives_not f ps ds pipes files files_made pid e h))
+      subst (λ (m : Namespace). exits (meaning f m.state) ≡ Err e) view
+      (ap (λ r. r >>= (λ q. exit s pid)) (lives_not ps pid e h))
+
+  module _ (fd : ℕ) where
+    abbrev closes : State Segment ℕ → Result (Outcome Segment ℕ) Errno
+    closes m = of_ready m pid (λ q. close m pid q fd)
+
+    pub closed_is : {k : Key} → Has ps pid fd k
+        → closes (meaning f n.state) ≡ Ok (done (emptied (meaning f n.state) (pid - 1) fd) 0)
+    closed_is w =
+        subst (λ (m : Namespace). closes (meaning f m.state)
+        ≡ Ok (done (emptied (meaning f m.state) (pid - 1) fd) 0)) view
+        (named_is ps pid fd (λ p _. Ok (done (with_process s pid (without_descriptor fd p)) 0)) w
+        ∙ ap (λ o. Ok (done (record s {
+          processes = set (processes_of ps) (pid - 1) (option_map (without_descriptor fd) o);
+        }) 0))
+        (sym (shown process_of ps (pid - 1) w.p (place_is ps pid w.p w.caller))))
+
+    pub closed_not : {e : Errno} → key_in ps pid fd ≡ Err e → closes (meaning f n.state) ≡ Err e
+    closed_not {e} h =
+        subst (λ (m : Namespace). closes (meaning f m.state) ≡ Err e) view
+        (names_nothing ps pid fd (λ p _. Ok (done (with_process s pid (without_descriptor fd p)) 0)) h)

@@ -1,39 +1,44 @@
 -- A description gets O_NONBLOCK or loses it, in the meaning of the state that it leaves.
 
-use Rattle.std.proofs.Common.{◌≡◌, ℕ, Bool, [], set, Option, Some, Ok, refl, sym, ap, subst, ◌∙◌}
+use Rattle.std.proofs.Common.{◌≡◌, ℕ, Bool, [], set, Option, Some, Result, Ok, refl, sym, ap, subst, ◌∙◌}
 use Rattle.std.specs.Option.{option_map}
 use Rattle.std.proofs.lemmas.List.{map-set}
 use Rattle.pf_machine.specs.FileMap.{Files}
 use Rattle.pf_base.specs.Limits.{Limits}
 use Rattle.pf_machine.specs.Numbered.{at, put_at, change_at}
-use Rattle.pf_machine.specs.Descriptors.{with_nonblocking, with_flag}
+use Rattle.pf_machine.specs.Descriptors.{with_nonblocking, with_flag, set_nonblock}
+use Rattle.pf_machine.specs.State.{itself, State, Outcome, of_ready, done}
+use Rattle.pf_base.specs.declared.errno.Errno.{Errno}
+use Rattle.pf_base.specs.declared.step.Reply.TheVariants.{Num}
 use Rattle.pf_fds.specs.Descriptions.{revalued}
 use Rattle.pf_fds.specs.Registry.{find}
-use Rattle.pf_frame.specs.Live.{Live}
 use Rattle.pf_limits.specs.UserPages.{UserPages}
-use Rattle.pf_tables.specs.Meaning.{Namespace, meaning}
-use Rattle.pf_tables.specs.Owns.{Owns}
-use Rattle.pf_tables.specs.Rows.{ProcessRows, DescriptionRows, PipeRows, Key, Named, Description, description_of, processes_of, descriptions_of, pipes_of, state_of, IsEnd, TiedWith, Kept}
-use Rattle.pf_tables.specs.Tables.{flagged}
-use Rattle.pf_tables.specs.Told.{Becomes}
+use Rattle.pf_ring.specs.declared.ring.Window.{Window}
+use Rattle.pf_tables.specs.Meaning.{Namespace}
+use Rattle.pf_tables.specs.Rows.{ProcessRows, DescriptionRows, PipeRows, Key, Named, Description, description_of, descriptions_of, state_of, IsEnd, TiedWith, Kept}
+use Rattle.pf_tables.specs.Tables.{Makes}
 use Rattle.pf_tables.proofs.TablesTied.{redescribed, names_row}
-use Rattle.pf_tables.proofs.Arrivals.{becomes}
 use Rattle.pf_tables.proofs.DescriptorsNamed.{Has, key_row, named_is}
 use Rattle.pf_tables.proofs.TablesShown.{shown, find_at}
-use Rattle.pf_tables.proofs.TablesSettled.{settled}
+use Rattle.pf_tables.proofs.TablesSettled.{makes}
 
 -- the same end with the flag, or without
 abbrev pub flag : Bool → Description → Description
 flag on d = record d { nonblocking = on }
 
-module _ (f : Live) {charges : UserPages} {limits : Limits} {ps : ProcessRows} {ds : DescriptionRows} {pipes : PipeRows} {files : Files} {files_made : ℕ} (kept : Kept charges ps ds pipes)
-    {n : Namespace} (view : record { limits = limits; state = state_of ps ds pipes files files_made } ≡ n) {pid fd : ℕ} {k : Key} (w : Has ps pid fd k)
-    (d : Description) (handed : option_map (λ (e : Named Description). e.value) (find ds k.slot k.serial) ≡ Some d) (on : Bool) where
+module _ {charges : UserPages} {limits : Limits} {ps : ProcessRows} {ds : DescriptionRows} {pipes : PipeRows}
+    {files : Files} {files_made : ℕ} (kept : Kept charges ps ds pipes) {n : Namespace}
+    (view : record { limits = limits; state = state_of ps ds pipes files files_made } ≡ n) {pid fd : ℕ} {k : Key}
+    (w : Has ps pid fd k) (d : Description)
+    (handed : option_map (λ (e : Named Description). e.value) (find ds k.slot k.serial) ≡ Some d) (on : Bool) where
   row : (e : Named Description) × (at ds k.serial ≡ Some (k.slot, e))
-  row = key_row f kept.tied view pid fd w
+  row = key_row kept.tied pid fd w
 
   same : row.0.value ≡ d
-  same = let one : ◌≡◌ {A = Option Description} (Some row.0.value) (Some d) = sym (ap (option_map (λ (e : Named Description). e.value)) (find_at ds k.slot k.serial row.0 row.1)) ∙ handed in cc
+  same =
+      let one : ◌≡◌ {A = Option Description} (Some row.0.value) (Some d) =
+      sym (ap (option_map (λ (e : Named Description). e.value)) (find_at ds k.slot k.serial row.0 row.1)) ∙ handed in
+      cc
 
   abbrev after : DescriptionRows
   after = change_at (revalued (flag on d)) ds k.serial
@@ -42,28 +47,36 @@ module _ (f : Live) {charges : UserPages} {limits : Limits} {ps : ProcessRows} {
   row' = (k.slot, record row.0 { value = flag on row.0.value })
 
   after_is : after ≡ put_at ds k.serial row'
-  after_is = ap (λ (o : Option (ℕ × Named Description)). set ds k.serial (option_map (revalued (flag on d)) o)) row.1 ∙ ap (λ (x : Description). put_at ds k.serial (k.slot, record row.0 { value = flag on x })) (sym same)
+  after_is =
+      ap (λ (o : Option (ℕ × Named Description)). set ds k.serial (option_map (revalued (flag on d)) o)) row.1
+      ∙ ap (λ (x : Description). put_at ds k.serial (k.slot, record row.0 { value = flag on x })) (sym same)
 
   pub flagged-kept : Kept charges ps after pipes
   flagged-kept = record {
     tied = subst (λ x. TiedWith [] [] ps x pipes) (sym after_is)
         (redescribed [] [] ps ds pipes kept.tied k.serial (k.slot, row.0) row.1 (Some row') [] []
-        (λ e h. let it : ◌≡◌ {A = ℕ × Named Description} row' e = cc in
-        (ap (λ (x : ℕ × Named Description). x.0) (sym it), subst (λ (x : ℕ × Named Description). IsEnd pipes x.1.value) it (kept.tied.is_end k.serial (k.slot, row.0) row.1)))
+        (λ e h. let it : ◌≡◌ {A = ℕ × Named Description} row' e = cc in (
+          ap (λ (x : ℕ × Named Description). x.0) (sym it),
+          subst (λ (x : ℕ × Named Description). IsEnd pipes x.1.value) it
+              (kept.tied.is_end k.serial (k.slot, row.0) row.1),
+        ))
         tt (λ m ne. refl) (names_row [] [] ps ds pipes k row.0 row.1 kept.tied) tt (λ m. refl) (λ m. refl));
     charged = kept.charged;
   }
 
-  pub flagged-shown : descriptions_of after ≡ change_at (with_nonblocking on) (descriptions_of ds) k.serial
+  flagged-shown : descriptions_of after ≡ change_at (with_nonblocking on) (descriptions_of ds) k.serial
   flagged-shown =
       ap descriptions_of after_is ∙ map-set (option_map description_of) ds k.serial (Some row')
-      ∙ ap (λ o. set (descriptions_of ds) k.serial (option_map (with_nonblocking on) o)) (sym (shown description_of ds k.serial (k.slot, row.0) row.1))
+      ∙ ap (λ o. set (descriptions_of ds) k.serial (option_map (with_nonblocking on) o))
+      (sym (shown description_of ds k.serial (k.slot, row.0) row.1))
 
-  pub flagged-becomes : Owns f n → Becomes f f n (record { limits = limits; state = state_of ps after pipes files files_made }) (with_flag (meaning f n.state) k.serial on)
-  flagged-becomes owns =
-      subst (λ (m : Namespace). Owns f m → Becomes f f m (record { limits = limits; state = state_of ps after pipes files files_made }) (with_flag (meaning f m.state) k.serial on)) view
-      (λ o. becomes f f (record { limits = limits; state = state_of ps ds pipes files files_made }) (record { limits = limits; state = state_of ps after pipes files files_made }) _ (record { joined = o.joined; reserve = o.reserve }) refl
-      (ap (λ xs. meaning f (record { processes = processes_of ps; descriptions = xs; pipes = pipes_of pipes; files = files; files_made = files_made })) flagged-shown) (settled ps after pipes files files_made flagged-kept.tied)) owns
+  abbrev call : State Window ℕ → Result (Outcome Window ℕ) Errno
+  call t = of_ready t pid (λ q. set_nonblock itself t q fd on)
 
-  pub flagged_is : flagged (meaning f n.state) pid fd on ≡ Ok (with_flag (meaning f n.state) k.serial on)
-  flagged_is = named_is f kept.tied view pid fd (λ _ m. Ok (with_flag (meaning f n.state) m on)) w
+  pub flagged : Makes n (record { limits = limits; state = state_of ps after pipes files files_made }) (call n.state)
+      (Num 0)
+  flagged =
+      let s : State Window ℕ = state_of ps ds pipes files files_made in
+      makes flagged-kept.tied files files_made view refl call (Num 0)
+      (named_is ps pid fd (λ _ m. Ok (done (with_flag s m on) 0)) w
+      ∙ ap (λ xs. Ok (done (record s { descriptions = xs }) 0)) (sym flagged-shown))

@@ -1,21 +1,16 @@
 -- The description that a descriptor names, as the tables find it and as the machine does.
 
-use Rattle.std.proofs.Common.{◌≡◌, ℕ, suc, ◌-◌, Option, Some, None, IsSome, is_some, Result, Ok, Err, refl, sym, ap, subst, ◌∙◌}
+use Rattle.std.proofs.Common.{◌≡◌, ℕ, suc, ◌-◌, Option, Some, None, IsSome, is_some, Result, Ok, Err, refl, sym, ap, ◌∙◌}
 use Rattle.std.specs.Option.{option_map}
 use Rattle.pf_machine.specs.Refusals.{◌>>=◌, or_refuse}
-use Rattle.pf_machine.specs.FileMap.{Files}
-use Rattle.pf_base.specs.Limits.{Limits}
 use Rattle.pf_machine.specs.Numbered.{at}
 use Rattle.pf_machine.proofs.NumberedLaws.{at-map}
 use Rattle.pf_machine.specs.State as machine
-use Rattle.pf_machine.specs.State.{ready}
 use Rattle.pf_machine.specs.Descriptors.{named}
 use Rattle.pf_base.specs.declared.errno.Errno.{Errno}
 use Rattle.pf_base.specs.declared.errno.Errno.TheVariants.{EBADF}
 use Rattle.pf_fds.specs.Registry.{find}
-use Rattle.pf_frame.specs.Live.{Live}
-use Rattle.pf_tables.specs.Meaning.{Namespace, meaning}
-use Rattle.pf_tables.specs.Rows.{ProcessRows, DescriptionRows, PipeRows, Key, Named, Process, Description, process_of, ready_in, key_in, state_of, Tied}
+use Rattle.pf_tables.specs.Rows.{ProcessRows, DescriptionRows, PipeRows, Key, Named, Process, Description, process_of, processes_of, ready_in, key_in, Tied}
 use Rattle.pf_tables.proofs.ProcessTableReady.{shown_in, ready_shown, readies, place_is}
 use Rattle.pf_tables.proofs.TablesTied.{finds}
 use Rattle.pf_tables.proofs.TablesShown.{find_at}
@@ -56,8 +51,7 @@ has_key ps pid fd {p} {k} caller is =
 abbrev pub has_by : (ps : ProcessRows) (pid fd : ℕ) {p : Process} {k : Key} → ready_in ps pid ≡ Ok p → key_in ps pid fd ≡ Ok k → Has ps pid fd k
 has_by ps pid fd {p = p} caller is = record { p = p; caller = caller; names = has_key ps pid fd caller is }
 
-module _ (f : Live) {limits : Limits} {ps : ProcessRows} {ds : DescriptionRows} {pipes : PipeRows} {files : Files} {files_made : ℕ} (t : Tied ps ds pipes)
-    {n : Namespace} (view : record { limits = limits; state = state_of ps ds pipes files files_made } ≡ n) (pid fd : ℕ) where
+module _ {ps : ProcessRows} {ds : DescriptionRows} {pipes : PipeRows} (t : Tied ps ds pipes) (pid fd : ℕ) where
   -- its description stands
   pub key_row : {k : Key} → Has ps pid fd k → (d : Named Description) × (at ds k.serial ≡ Some (k.slot, d))
   key_row {k} w = finds ds k (t.finds (pid - 1) (suc fd) w.p k (place_is ps pid w.p w.caller) w.names)
@@ -65,23 +59,25 @@ module _ (f : Live) {limits : Limits} {ps : ProcessRows} {ds : DescriptionRows} 
   pub key_stands : {k : Key} → Has ps pid fd k → IsSome (find ds k.slot k.serial)
   key_stands {k} w = let row = key_row w in ap is_some (find_at ds k.slot k.serial row.0 row.1)
 
-  module _ {A : Type 0} (go : machine.Process ℕ → ℕ → Result A Errno) where
-    -- the machine finds what the tables find
-    pub named_is : {k : Key} (w : Has ps pid fd k) → (ready (meaning f n.state) pid >>= goes_on go fd) ≡ go (process_of w.p) k.serial
-    named_is {k} w =
-        subst (λ (m : Namespace). (ready (meaning f m.state) pid >>= goes_on go fd) ≡ go (process_of w.p) k.serial) view
-        (ap (λ r. r >>= goes_on go fd) (readies f ps ds pipes files files_made pid w.p w.caller) ∙ goes go fd w.p ∙ ap (λ o. or_refuse EBADF (option_map (λ (k : Key). k.serial) o) >>= go (process_of w.p)) w.names)
+module _ (ps : ProcessRows) (pid fd : ℕ) {A : Type 0} (go : machine.Process ℕ → ℕ → Result A Errno) where
+  -- the machine finds what the tables find
+  pub named_is : {k : Key} (w : Has ps pid fd k)
+      → (machine.ready_in (processes_of ps) pid >>= goes_on go fd) ≡ go (process_of w.p) k.serial
+  named_is {k} w =
+      ap (λ r. r >>= goes_on go fd) (readies ps pid w.p w.caller) ∙ goes go fd w.p
+      ∙ ap (λ o. or_refuse EBADF (option_map (λ (k : Key). k.serial) o) >>= go (process_of w.p)) w.names
 
-    -- and refuses what they refuse
-    pub names_nothing : {e : Errno} → key_in ps pid fd ≡ Err e → (ready (meaning f n.state) pid >>= goes_on go fd) ≡ Err e
-    names_nothing {e} h =
-        subst (λ (m : Namespace). (ready (meaning f m.state) pid >>= goes_on go fd) ≡ Err e) view
-        (ap (λ r. r >>= goes_on go fd) (ready_shown f ps ds pipes files files_made pid) ∙ by_row (ready_in ps pid) h)
-      where
-        by_key : (p : Process) (o : Option Key) → or_refuse EBADF o ≡ Err e → (or_refuse EBADF (option_map (λ (k : Key). k.serial) o) >>= go (process_of p)) ≡ Err e
-        by_key p None g = let same : EBADF ≡ e = cc in ap Err same
-        by_key p (Some k) g = absurd (cc)
+  -- and refuses what they refuse
+  pub names_nothing : {e : Errno} → key_in ps pid fd ≡ Err e
+      → (machine.ready_in (processes_of ps) pid >>= goes_on go fd) ≡ Err e
+  names_nothing {e} h = ap (λ r. r >>= goes_on go fd) (ready_shown ps pid) ∙ by_row (ready_in ps pid) h
+    where
+      by_key : (p : Process) (o : Option Key) → or_refuse EBADF o ≡ Err e
+          → (or_refuse EBADF (option_map (λ (k : Key). k.serial) o) >>= go (process_of p)) ≡ Err e
+      by_key p None g = let same : EBADF ≡ e = cc in ap Err same
+      by_key p (Some k) g = absurd (cc)
 
-        by_row : (r : Result Process Errno) → (r >>= (λ p. or_refuse EBADF (at p.descriptors fd))) ≡ Err e → (shown_in r >>= goes_on go fd) ≡ Err e
-        by_row (Err x) g = let same : x ≡ e = cc in ap Err same
-        by_row (Ok p) g = goes go fd p ∙ by_key p (at p.descriptors fd) g
+      by_row : (r : Result Process Errno) → (r >>= (λ p. or_refuse EBADF (at p.descriptors fd))) ≡ Err e
+          → (shown_in r >>= goes_on go fd) ≡ Err e
+      by_row (Err x) g = let same : x ≡ e = cc in ap Err same
+      by_row (Ok p) g = goes go fd p ∙ by_key p (at p.descriptors fd) g

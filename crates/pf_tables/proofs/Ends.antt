@@ -1,10 +1,9 @@
 -- The end of a pipe that a descriptor names, as the tables find it and as the machine does.
 
-use Rattle.std.proofs.Common.{◌≡◌, ℕ, suc, ◌+◌, ◌-◌, Bool, true, false, not, Option, Some, None, IsOk, is_ok, Result, Ok, Err, refl, sym, ap, subst, ◌∙◌, arith}
+use Rattle.std.proofs.Common.{◌≡◌, ℕ, suc, List, [], ◌∷◌, map, ◌+◌, ◌-◌, Bool, true, false, not, Option, Some, None, IsOk, is_ok, Result, Ok, Err, refl, sym, ap, subst, ◌∙◌, arith}
 use Rattle.std.specs.Option.{option_map, option_and_then}
 use Rattle.pf_machine.specs.FileMap.{Files}
 use Rattle.pf_machine.specs.Refusals.{◌>>=◌, ◌>>◌, refuse_if, or_refuse}
-use Rattle.pf_machine.specs.Queue.{Segment}
 use Rattle.pf_machine.specs.Numbered.{at}
 use Rattle.pf_machine.proofs.NumberedLaws.{at-map}
 use Rattle.pf_machine.specs.State as machine
@@ -14,40 +13,56 @@ use Rattle.pf_base.specs.declared.errno.Errno.{Errno}
 use Rattle.pf_base.specs.declared.errno.Errno.TheVariants.{EBADF}
 use Rattle.pf_base.specs.declared.progress.Side.{Side}
 use Rattle.pf_base.specs.declared.progress.Side.TheVariants as sides
-use Rattle.pf_frame.specs.Live.{Live}
-use Rattle.pf_tables.specs.Meaning.{meaning, pipe_meaning}
-use Rattle.pf_tables.specs.Rows.{ProcessRows, DescriptionRows, PipeRows, Key, Named, Process, Description, Pipe, process_of, description_of, pipe_of, pipes_of, state_of, ready_in, has, description_in, end_in, read_by, written_by, UsedRow, Tied}
+use Rattle.pf_ring.specs.declared.ring.Window.{Window}
+use Rattle.pf_tables.specs.Rows.{ProcessRows, DescriptionRows, PipeRows, Key, Named, Process, Description, Pipe, process_of, description_of, pipe_of, processes_of, descriptions_of, pipes_of, state_of, ready_in, has, description_in, end_in, read_by, written_by, UsedRow, Tied}
 use Rattle.pf_tables.proofs.ProcessTableReady.{shown_in, ready_shown, place_is}
 use Rattle.pf_tables.proofs.TablesTied.{finds}
 use Rattle.pf_tables.proofs.TablesShown.{shown, find_at}
 use Rattle.pf_tables.proofs.TablesSettled.{readers_shown, writers_shown}
 
 -- the machine's end of a side, or any where none is asked for
-abbrev pub side_end : Option Side → State Segment ℕ → machine.Process ℕ → ℕ → Result (End Segment ℕ) Errno
+abbrev pub side_end : {X : Type 0} → Option Side → State X ℕ → machine.Process ℕ → ℕ → Result (End X ℕ) Errno
 side_end None s p fd = end_of itself s p fd
 side_end (Some sides.Read) s p fd = reading_end itself s p fd
 side_end (Some sides.Write) s p fd = writing_end itself s p fd
 
--- the machine's end that two rows show
-abbrev pub end_of_rows : Live → Description → Pipe → End Segment ℕ
+-- what a pipe is seen as: by itself with its ring, or with the queue that its ring shows
+abbrev pub Sight : Type 0 → Type 0
+Sight X = machine.Pipe Window → machine.Pipe X
+
+-- the end that two rows show
+abbrev pub end_of_rows : {X : Type 0} → Sight X → Description → Pipe → End X ℕ
 end_of_rows f d r = record {
   description = description_of (0, record { value = d; names = 0 });
-  pipe = pipe_meaning f (pipe_of (0, r));
+  pipe = f (pipe_of (0, r));
+}
+
+-- the state that rows show
+abbrev pub state_seen : {X : Type 0} → Sight X → ProcessRows → DescriptionRows → PipeRows → Files → ℕ → State X ℕ
+state_seen f ps ds pipes files files_made = record {
+  processes = processes_of ps;
+  descriptions = descriptions_of ds;
+  pipes = map (option_map f) (pipes_of pipes);
+  files = files;
+  files_made = files_made;
 }
 
 -- what is known of an end that the tables found: its pipe, and that the machine finds the same
-pub record Found (f : Live) (side : Option Side) (ps : ProcessRows) (ds : DescriptionRows) (pipes : PipeRows) (files : Files) (files_made : ℕ) (pid fd : ℕ) (d : Description) : Type 0 where
+pub record Found {X : Type 0} (f : Sight X) (side : Option Side) (ps : ProcessRows) (ds : DescriptionRows)
+    (pipes : PipeRows) (files : Files) (files_made : ℕ) (pid fd : ℕ) (d : Description) : Type 0 where
   pub pipe : Pipe
   pub stands : at pipes d.pipe.serial ≡ Some (d.pipe.slot, pipe)
-  pub is : (ready (meaning f (state_of ps ds pipes files files_made)) pid >>= (λ p. side_end side (meaning f (state_of ps ds pipes files files_made)) p fd)) ≡ Ok (end_of_rows f d pipe)
+  pub is : (ready (state_seen f ps ds pipes files files_made) pid
+      >>= (λ p. side_end side (state_seen f ps ds pipes files files_made) p fd)) ≡ Ok (end_of_rows f d pipe)
   pub caller : IsOk (ready_in ps pid)
 
-module _ (f : Live) (side : Option Side) (ps : ProcessRows) (ds : DescriptionRows) (pipes : PipeRows) (files : Files) (files_made : ℕ) (t : Tied ps ds pipes) (pid fd : ℕ) where
-  abbrev s : State Segment ℕ
-  s = meaning f (state_of ps ds pipes files files_made)
+module _ {X : Type 0} (f : Sight X) (side : Option Side) (ps : ProcessRows) (ds : DescriptionRows) (pipes : PipeRows)
+    (files : Files) (files_made : ℕ) (t : Tied ps ds pipes) (pid fd : ℕ) where
+  abbrev s : State X ℕ
+  s = state_seen f ps ds pipes files files_made
 
   -- whether an end is of the side
-  abbrev sided : Bool → End Segment ℕ → Result (End Segment ℕ) Errno
+  abbrev sided : Bool → End X ℕ → Result (End X ℕ) Errno
   sided b e = refuse_if (not b) EBADF >> Ok e
 
   -- the machine's test of the side is that of the rows
@@ -73,12 +88,12 @@ module _ (f : Live) (side : Option Side) (ps : ProcessRows) (ds : DescriptionRow
   -- a description's end of its pipe
   pub end_shown : (k : Key) (e : Named Description) (r : Pipe) → at ds k.serial ≡ Some (k.slot, e) → at pipes e.value.pipe.serial ≡ Some (e.value.pipe.slot, r) → end_at itself s k.serial ≡ Some (end_of_rows f e.value r)
   end_shown k e r h g =
-      ap (option_and_then (λ (d : machine.Description ℕ). option_map (λ (pipe : machine.Pipe Segment). record { description = d; pipe = pipe }) (at s.pipes d.pipe))) (shown description_of ds k.serial (k.slot, e) h)
-      ∙ ap (option_map (λ (pipe : machine.Pipe Segment). record { description = description_of (k.slot, e); pipe = pipe }))
-      (at-map (pipe_meaning f) (pipes_of pipes) e.value.pipe.serial ∙ ap (option_map (pipe_meaning f)) (shown pipe_of pipes e.value.pipe.serial (e.value.pipe.slot, r) g))
+      ap (option_and_then (λ (d : machine.Description ℕ). option_map (λ (pipe : machine.Pipe X). record { description = d; pipe = pipe }) (at s.pipes d.pipe))) (shown description_of ds k.serial (k.slot, e) h)
+      ∙ ap (option_map (λ (pipe : machine.Pipe X). record { description = description_of (k.slot, e); pipe = pipe }))
+      (at-map f (pipes_of pipes) e.value.pipe.serial ∙ ap (option_map f) (shown pipe_of pipes e.value.pipe.serial (e.value.pipe.slot, r) g))
 
   -- what the tables find and what the machine finds: one refusal, or the end that the rows show
-  abbrev pub Agrees : Result Description Errno → Result (End Segment ℕ) Errno → Type 0
+  abbrev pub Agrees : Result Description Errno → Result (End X ℕ) Errno → Type 0
   Agrees (Err e) machine = machine ≡ Err e
   Agrees (Ok d) machine = (r : Pipe) × (at pipes d.pipe.serial ≡ Some (d.pipe.slot, r)) × (machine ≡ Ok (end_of_rows f d r))
 
@@ -108,7 +123,7 @@ module _ (f : Live) (side : Option Side) (ps : ProcessRows) (ds : DescriptionRow
   both_find : (r : Result Description Errno) → end_in side ps ds pid fd ≡ r → Agrees r (ready s pid >>= (λ p. side_end side s p fd))
   both_find r h =
       subst (λ x. Agrees x (ready s pid >>= (λ p. side_end side s p fd))) h
-      (subst (λ x. Agrees (end_in side ps ds pid fd) (x >>= (λ p. side_end side s p fd))) (sym (ready_shown f ps ds pipes files files_made pid)) (by_caller (ready_in ps pid) refl))
+      (subst (λ x. Agrees (end_in side ps ds pid fd) (x >>= (λ p. side_end side s p fd))) (sym (ready_shown ps pid)) (by_caller (ready_in ps pid) refl))
 
   -- The machine refuses what the tables refuse
   pub refused : (err : Errno) → end_in side ps ds pid fd ≡ Err err → (ready s pid >>= (λ p. side_end side s p fd)) ≡ Err err
@@ -127,3 +142,19 @@ module _ (f : Live) (side : Option Side) (ps : ProcessRows) (ds : DescriptionRow
   counted n place r h =
       let row = subst (UsedRow (read_by ds n + 0) (written_by ds n + 0)) h (t.uses n) in
       (omega (arith, row.0, readers_shown ps ds pipes files files_made n), omega (arith, row.1, writers_shown ps ds pipes files files_made n))
+
+-- Pipes with their rings are seen as they are
+
+as_it_is : {A : Type 0} (xs : List (Option A)) → map (option_map (λ x. x)) xs ≡ xs
+as_it_is [] = refl
+as_it_is (None ∷ xs) = ap (λ ys. None ∷ ys) (as_it_is xs)
+as_it_is (Some x ∷ xs) = ap (λ ys. Some x ∷ ys) (as_it_is xs)
+
+abbrev pub as_kept : Sight Window
+as_kept p = p
+
+pub seen_as_kept : (ps : ProcessRows) (ds : DescriptionRows) (pipes : PipeRows) (files : Files) (files_made : ℕ)
+    → state_seen as_kept ps ds pipes files files_made ≡ state_of ps ds pipes files files_made
+seen_as_kept ps ds pipes files files_made =
+    ap (λ (xs : List (Option (machine.Pipe Window))). record (state_of ps ds pipes files files_made) { pipes = xs })
+    (as_it_is (pipes_of pipes))

@@ -10,20 +10,20 @@ mod DescriptorsDup
 mod Ends
 mod OpensOutcome
 mod OpensDescribe
-pub mod ProcessesDrop
+mod ProcessesDrop
 mod Fifos
-pub mod Files
+mod Files
 mod OpensFind
 mod DescriptorsFlag
 mod OpensNew
 mod ProcessesFork
+mod ProcessesSpawn
 mod DescriptorsDrop
 mod TablesTied
 mod OpensFound
-mod Arrivals
 mod DescriptorsNamed
 mod PipesOpen
-pub mod PipesSetSize
+mod PipesSetSize
 pub mod OpensResolve
 mod ProcessTable
 pub mod Sendable

@@ -1,6 +1,6 @@
 -- How the meaning of a state goes through looking up, changing and sweeping.
 
-use Rattle.std.proofs.Common.{◌≡◌, ◌≢◌, ℕ, zero, suc, List, [], ◌∷◌, length, map, refl, ap, sym, ◌∙◌, arith}
+use Rattle.std.proofs.Common.{◌≡◌, ◌≢◌, ℕ, zero, suc, List, [], ◌∷◌, length, map, set, refl, ap, sym, ◌∙◌, arith}
 use Rattle.std.specs.Prelude.{Option, Some, None, nat_lt, slice_index_or, slice_set, unwrap_or}
 use Rattle.std.proofs.lemmas.List.{length-map}
 use Rattle.std.proofs.Common.{subst}
@@ -9,19 +9,15 @@ use Rattle.pf_ring.specs.declared.ring.Window.{Window}
 use Rattle.pf_machine.specs.Queue.{Segment, bytes_of}
 use Rattle.pf_machine.specs.Numbered.{at, change_at, sum_of}
 use Rattle.pf_machine.proofs.NumberedLaws.{at-map, sum_of-map}
-use Rattle.pf_machine.proofs.MapLaws.{keep_from-map}
+use Rattle.pf_machine.proofs.MapLaws.{keep_from-map, set-agree}
 use Rattle.pf_machine.specs.Counts.{total, ends}
-use Rattle.pf_machine.specs.State.{itself, State, Pipe, process, with_queue, holding}
+use Rattle.pf_machine.specs.State.{itself, State, Pipe, with_queue, holding}
 use Rattle.pf_machine.specs.Sweep.{sweep, live_descriptions}
 use Rattle.pf_frame.specs.Live.{Live}
 use Rattle.pf_ring.specs.Ring.{Ring, queue_of, no_ring, segment_of}
 use Rattle.pf_tables.specs.Meaning.{meaning, pipe_meaning, ring_or, occupied, AreEmpty}
 
 module _ (f : Live) where
-  pub process-meaning : (s : State Window ℕ) (pid : ℕ) → process (meaning f s) pid ≡ process s pid
-  process-meaning s zero = refl
-  process-meaning s (suc i) = refl
-
   -- the segments of all queues are the slots in use of all rings
   pub occupied-meaning : (s : State Window ℕ) → sum_of (λ p. length p.queue.segments) (meaning f s).pipes ≡ occupied s
   occupied-meaning s = segments s.pipes
@@ -80,23 +76,19 @@ module _ (f g : Live) where
       → ((k : ℕ) → k ≢ n → queue_of g (slice_index_or (map ring_or pipes) k no_ring) ≡ queue_of f (slice_index_or (map ring_or pipes) k no_ring)) → Others pipes n
   others_stay pipes n h = record { stay = λ k ne. pipe_stays pipes k (subst (λ (r : Ring). queue_of g r ≡ queue_of f r) (ring_at-rings pipes k) (h k ne)) }
 
-  -- the numbers that change nothing mean the same
-  pub all_stay : (pipes : List (Option (Pipe Window))) → ((k : ℕ) → option_map (pipe_meaning g) (at pipes k) ≡ option_map (pipe_meaning f) (at pipes k))
-      → map (option_map (pipe_meaning g)) pipes ≡ map (option_map (pipe_meaning f)) pipes
-  all_stay [] h = refl
-  all_stay (p ∷ ps) h = λ i. h 0 i ∷ all_stay ps (λ k. h (suc k)) i
-
   -- a pipe's ring changes
-  pub pipes-with_queue : (pipes : List (Option (Pipe Window))) (n : ℕ) (r : Ring) → Others pipes n
-      → map (option_map (pipe_meaning g)) (change_at (holding r) pipes n) ≡ change_at (holding (queue_of g r)) (map (option_map (pipe_meaning f)) pipes) n
-  pipes-with_queue [] n r o = refl
-  pipes-with_queue (p ∷ ps) zero r o = λ i. here p i ∷ all_stay ps (λ k. o.stay (suc k) (λ (e : suc k ≡ 0). omega arith)) i
+  pipes-with_queue : (pipes : List (Option (Pipe Window))) (n : ℕ) (r : Ring) → Others pipes n
+      → map (option_map (pipe_meaning g)) (change_at (holding r) pipes n)
+      ≡ change_at (holding (queue_of g r)) (map (option_map (pipe_meaning f)) pipes) n
+  pipes-with_queue pipes n r o =
+      set-agree (pipe_meaning f) (pipe_meaning g) pipes n (option_map (holding r) (at pipes n)) o.stay
+      ∙ ap (set (map (option_map (pipe_meaning f)) pipes) n)
+      (here (at pipes n) ∙ ap (option_map (holding (queue_of g r))) (sym (at-map (pipe_meaning f) pipes n)))
     where
-      here : (p : Option (Pipe Window)) → option_map (pipe_meaning g) (option_map (holding r) p) ≡ option_map (holding (queue_of g r)) (option_map (pipe_meaning f) p)
+      here : (p : Option (Pipe Window)) → option_map (pipe_meaning g) (option_map (holding r) p)
+          ≡ option_map (holding (queue_of g r)) (option_map (pipe_meaning f) p)
       here None = refl
       here (Some p) = refl
-  pipes-with_queue (p ∷ ps) (suc n) r o =
-      λ i. o.stay 0 (λ (e : 0 ≡ suc n). omega arith) i ∷ pipes-with_queue ps n r (record { stay = λ k ne. o.stay (suc k) (λ (e : suc k ≡ suc n). ne (omega arith)) }) i
 
   pub meaning-with_queue : (s : State Window ℕ) (n : ℕ) (r : Ring) → Others s.pipes n → meaning g (with_queue s n r) ≡ with_queue (meaning f s) n (queue_of g r)
   meaning-with_queue s n r o = λ i. record { processes = s.processes; descriptions = s.descriptions; pipes = pipes-with_queue s.pipes n r o i; files = s.files; files_made = s.files_made }
@@ -104,7 +96,4 @@ module _ (f g : Live) where
   -- a pipe goes
   pub pipes-without : (pipes : List (Option (Pipe Window))) (n : ℕ) → Others pipes n
       → map (option_map (pipe_meaning g)) (slice_set pipes n None) ≡ slice_set (map (option_map (pipe_meaning f)) pipes) n None
-  pipes-without [] n o = refl
-  pipes-without (p ∷ ps) zero o = λ i. None ∷ all_stay ps (λ k. o.stay (suc k) (λ (e : suc k ≡ 0). omega arith)) i
-  pipes-without (p ∷ ps) (suc n) o =
-      λ i. o.stay 0 (λ (e : 0 ≡ suc n). omega arith) i ∷ pipes-without ps n (record { stay = λ k ne. o.stay (suc k) (λ (e : suc k ≡ suc n). ne (omega arith)) }) i
+  pipes-without pipes n o = set-agree (pipe_meaning f) (pipe_meaning g) pipes n None o.stay

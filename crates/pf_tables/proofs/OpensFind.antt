@@ -119,7 +119,7 @@ module _ (f : Live) {limits : Limits} {charges : UserPages} {es : List (ℕ × K
       let same : ◌≡◌ {A = Option Pipe} (Some x.0) (Some p) = sym (find_at pipes k.slot k.serial x.0 x.1) ∙ g in
       let it : x.0 ≡ p = cc in
       ap (fifo_readers itself (meaning f n.state)) (fifo_shown (Some k) h)
-      ∙ subst (λ (m : Namespace). fifo_readers itself (meaning f m.state) (Some k.serial) ≡ x.0.readers) view (counted f None ps ds pipes files files_made w.kept.tied 0 0 k.serial k.slot x.0 x.1).0
+      ∙ subst (λ (m : Namespace). fifo_readers itself (meaning f m.state) (Some k.serial) ≡ x.0.readers) view (counted (pipe_meaning f) None ps ds pipes files files_made w.kept.tied 0 0 k.serial k.slot x.0 x.1).0
       ∙ ap (λ (q : Pipe). q.readers) it
 
   pub not_lost : (k : Key) → lookup (nat_eq file) es ≡ Some k → find pipes k.slot k.serial ≢ None

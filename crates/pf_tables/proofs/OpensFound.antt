@@ -28,7 +28,7 @@ use Rattle.pf_frame.specs.Live.{Live}
 use Rattle.pf_limits.specs.UserPages.{UserPages}
 use Rattle.pf_ring.specs.Table.{Joined}
 use Rattle.pf_tables.specs.declared.tables.opens.Access.{Access as Stored}
-use Rattle.pf_tables.specs.Meaning.{Namespace, meaning, ring_or}
+use Rattle.pf_tables.specs.Meaning.{Namespace, meaning, ring_or, pipe_meaning}
 use Rattle.pf_tables.specs.Opened.{access_seen, before, counted, end_of, told_at, lacks_readers, may_open, opening, waits, HasFree, HasOpened, Describes}
 use Rattle.pf_tables.specs.Owns.{Owns}
 use Rattle.pf_tables.specs.Rows.{ProcessRows, DescriptionRows, PipeRows, Key, Process, Pipe, process_in, ready_in, process_of, description_of, pipe_of, pipes_of, opens_at, state_of, reads_it, writes_it, Whole, Tied}
@@ -38,10 +38,9 @@ use Rattle.pf_tables.proofs.Ends.{counted as ends_counted}
 use Rattle.pf_tables.proofs.OpensOutcome as entered
 use Rattle.pf_tables.proofs.OpensDescribe.{IsSided, entered as entering, admitted, entered-charged, entered-fifos, seated_is}
 use Rattle.pf_tables.proofs.OpensFind.{fifo_is, fifo_shown}
-use Rattle.pf_tables.proofs.Arrivals.{becomes}
 use Rattle.pf_tables.proofs.TablesShown.{shown, find_was}
 use Rattle.pf_tables.proofs.TablesTied.{pipe_row}
-use Rattle.pf_tables.proofs.TablesSettled.{settled}
+use Rattle.pf_tables.proofs.TablesSettled.{becomes, settled}
 
 -- at most one of each
 sum-le-length : {X : Type 0} (h : X → ℕ) (xs : List (Option X)) → ((x : X) → h x ≤ 1) → sum_of h xs ≤ length xs
@@ -96,9 +95,9 @@ module _ {files : Files} {files_made : ℕ} (f : Live) (limits : Limits) (charge
       machine_caller = ready_is (meaning f old.state) pid (access_seen a) file may_here
 
       by_row : (r : Result Process Errno) → ready_in ps pid ≡ r → (q : Process) × (ready_in ps pid ≡ Ok q) × (first_free q.descriptors < MAX_DESCRIPTORS)
-      by_row (Err e) h = let shows = sym machine_caller.1 ∙ ready_shown f ps ds pipes files files_made pid ∙ ap shown_in h in absurd (cc)
+      by_row (Err e) h = let shows = sym machine_caller.1 ∙ ready_shown ps pid ∙ ap shown_in h in absurd (cc)
       by_row (Ok q) h =
-          let shows : ◌≡◌ {A = Result (machine.Process ℕ) Errno} (Ok machine_caller.0) (Ok (process_of q)) = sym machine_caller.1 ∙ ready_shown f ps ds pipes files files_made pid ∙ ap shown_in h in
+          let shows : ◌≡◌ {A = Result (machine.Process ℕ) Errno} (Ok machine_caller.0) (Ok (process_of q)) = sym machine_caller.1 ∙ ready_shown ps pid ∙ ap shown_in h in
           let same : machine_caller.0 ≡ process_of q = cc in
           let free = ap (λ (x : machine.Process ℕ). first_free x.descriptors) same ∙ first_free-map (λ (k : Key). k.serial) q.descriptors in
           let under = leb-false _ _ machine_caller.2 in
@@ -189,9 +188,9 @@ module _ {files : Files} {files_made : ℕ} (f : Live) (limits : Limits) (charge
         machine_is : opening limits (meaning f old.state) pid (access_seen a) file ≡ Ok (told (outcome (before a p)) (reply (before a p)))
         machine_is =
             let s = meaning f old.state in
-            let numbers = ends_counted f None ps ds pipes files files_made w.kept.tied pid 0 k.serial k.slot p stands in
+            let numbers = ends_counted (pipe_meaning f) None ps ds pipes files files_made w.kept.tied pid 0 k.serial k.slot p stands in
             let others = ap (opens.kept_by (access_seen a)) (entered.there files files_made f a k p ps ds pipes stands pid z.p opener z.k z.k_is) in
-            entered.goes limits s pid (process_of z.p) (access_seen a) file (readies f ps ds pipes files files_made pid z.p (caller.1 ∙ ap Ok (same_caller z.p z.is))) may_here
+            entered.goes limits s pid (process_of z.p) (access_seen a) file (readies ps pid z.p (caller.1 ∙ ap Ok (same_caller z.p z.is))) may_here
             ∙ ap (λ o. opens.pipe_of limits s (process_of z.p) file o >>= (λ at_pipe. first pid false (opens.open_pipe itself (length s.descriptions) at_pipe.pipe at_pipe.state pid (process_of z.p) (access_seen a) at_pipe.pipe))) (fifo_is es pipes w.filed file f ps ds files files_made (Some k) found)
             ∙ entered.waits_or_not files files_made f a k p ps ds pipes stands pid z.p opener z.k z.k_is (waits a p.readers p.writers) (λ i. is_waiting (access_seen a) (numbers.0 i) (numbers.1 i))
             ∙ ap (λ m. Ok (told (outcome (if waits a p.readers p.writers then Some m else None)) (reply (if waits a p.readers p.writers then Some m else None)))) others

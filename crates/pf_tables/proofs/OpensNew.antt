@@ -46,8 +46,7 @@ use Rattle.pf_tables.proofs.OpensDescribe.{IsSided, founded, admitted, entered-f
 use Rattle.pf_tables.proofs.OpensFind.{fifo_shown}
 use Rattle.pf_tables.proofs.TablesTied.{by_push}
 use Rattle.pf_tables.proofs.OpensFound.{ready_is, may_here, caller, has_free}
-use Rattle.pf_tables.proofs.Arrivals.{becomes}
-use Rattle.pf_tables.proofs.TablesSettled.{settled, readers_shown, writers_shown}
+use Rattle.pf_tables.proofs.TablesSettled.{becomes, settled, readers_shown, writers_shown}
 
 -- The keys
 
@@ -166,7 +165,7 @@ module _ {files : Files} {files_made : ℕ} (f : Live) (limits : Limits) (charge
 
   pub unspent-pipes : length pipes < 2 ^ 64 - 1
   unspent-pipes =
-      let under = ltb-false _ _ (unspent_in limits (meaning f old.state) pid slots (process_of opener.0) (readies f ps ds pipes files files_made pid opener.0 opener.1) given_now) in
+      let under = ltb-false _ _ (unspent_in limits (meaning f old.state) pid slots (process_of opener.0) (readies ps pid opener.0 opener.1) given_now) in
       let same = length-map (pipes_of pipes) (option_map (pipe_meaning f)) in
       let also = length-map pipes (option_map pipe_of) in
       omega (arith, under, same, also)
@@ -269,7 +268,7 @@ module _ {files : Files} {files_made : ℕ} (f : Live) (limits : Limits) (charge
           found = record { state = meaning f (state_of ps ds with_fresh files files_made); pipe = k.serial }
 
           lives : ready s pid ≡ Ok (process_of z.p)
-          lives = readies f ps ds pipes files files_made pid z.p (is ∙ ap Ok same_opener)
+          lives = readies ps pid z.p (is ∙ ap Ok same_opener)
 
           found_is : record { state = with_pipe limits s pid slots (process_of z.p) lives given_now file; pipe = length s.pipes } ≡ found
           found_is =

@@ -27,7 +27,7 @@ use Rattle.pf_fds.specs.Registry.{find}
 use Rattle.pf_frame.specs.Live.{Live}
 use Rattle.pf_limits.specs.UserPages.{UserPages, charged_to}
 use Rattle.pf_parked.specs.declared.call.Call.TheVariants.{Open}
-use Rattle.pf_tables.specs.Meaning.{Namespace, meaning}
+use Rattle.pf_tables.specs.Meaning.{Namespace, meaning, pipe_meaning}
 use Rattle.pf_tables.specs.Opened.{lacks_readers, may_open, fifo_capacity, other_opens, IsOver}
 use Rattle.pf_tables.specs.Rows.{ProcessRows, DescriptionRows, PipeRows, Key, Named, Process, Description, Pipe, call_of, call_in, made_by, process_at, process_in, ready_in, process_of, description_of, pipe_of, state_of, Kept}
 use Rattle.pf_tables.proofs.ProcessTableReady.{shown_in, readies, living_shown, place_of}
@@ -49,7 +49,7 @@ module _ {files : Files} {files_made : ℕ} (f : Live) {charges : UserPages} {li
     s = meaning f n.state
 
     opener : ready s pid ≡ Ok (process_of p)
-    opener = subst (λ (m : Namespace). ready (meaning f m.state) pid ≡ Ok (process_of p)) view (readies f ps ds pipes files files_made pid p is)
+    opener = subst (λ (m : Namespace). ready (meaning f m.state) pid ≡ Ok (process_of p)) view (readies ps pid p is)
 
     drawn_is : length s.descriptions ≡ length ds
     drawn_is = sym (ap (λ (m : Namespace). length m.state.descriptions) view) ∙ length-map ds (option_map description_of)
@@ -117,10 +117,10 @@ module _ {files : Files} {files_made : ℕ} (f : Live) {charges : UserPages} {li
       p = process_of sleeper.0;
       n = d.serial;
       before = before;
-      lives = living_shown f ps ds pipes files files_made pid ∙ ap shown_in sleeper.1;
+      lives = living_shown ps pid ∙ ap shown_in sleeper.1;
       waits = ap (option_map call_of) sleeper.2;
       is = ap (λ o. or_refuse EBADF o >>= (λ e. Ok (open_told (meaning f (state_of ps ds pipes files files_made)) pid (process_of sleeper.0) d.serial before e)))
-          (end_shown f None ps ds pipes files files_made kept.tied pid 0 d row.0 pipe_row.0 row.1 pipe_row.1);
+          (end_shown (pipe_meaning f) None ps ds pipes files files_made kept.tied pid 0 d row.0 pipe_row.0 row.1 pipe_row.1);
     }
 
     pub over_is : IsOver (meaning f n.state) pid (nat_lt before (other_opens row.0.value.reads pipe_row.0))

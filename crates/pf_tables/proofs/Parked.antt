@@ -23,16 +23,15 @@ use Rattle.pf_tables.specs.Tables.{over, woken, awoken, HasLowest}
 use Rattle.pf_tables.specs.Told.{Becomes, waits_in}
 use Rattle.pf_tables.proofs.ProcessTableReady.{shown_in, found_in, living_shown, ready_shown, place_of, place_is, is_awake}
 use Rattle.pf_tables.proofs.TablesTied.{moved, put}
-use Rattle.pf_tables.proofs.Arrivals.{becomes}
 use Rattle.pf_tables.proofs.TablesShown.{shown}
-use Rattle.pf_tables.proofs.TablesSettled.{settled}
+use Rattle.pf_tables.proofs.TablesSettled.{becomes, settled}
 
 -- Who lives for the machine lives in the tables
 pub who : (f : Live) (limits : Limits) (ps : ProcessRows) (ds : DescriptionRows) (pipes : PipeRows) (files : Files) (files_made : ℕ) (n : Namespace) → record { limits = limits; state = state_of ps ds pipes files files_made } ≡ n → (pid : ℕ)
     → IsOk (living (meaning f n.state) pid) → (p : Process) × (process_in ps pid ≡ Ok p)
 who f limits ps ds pipes files files_made n view pid lives =
     found_in (process_in ps pid)
-    (subst (λ r. IsOk r) (living_shown f ps ds pipes files files_made pid)
+    (subst (λ r. IsOk r) (living_shown ps pid)
     (subst (λ (m : Namespace). IsOk (living (meaning f m.state) pid)) (sym view) lives))
 
 -- its lowest free descriptor
@@ -40,7 +39,7 @@ pub lowest_shown : (f : Live) (limits : Limits) (ps : ProcessRows) (ds : Descrip
     → (p : Process) → process_in ps pid ≡ Ok p → HasLowest (meaning f n.state) pid (first_free p.descriptors)
 lowest_shown f limits ps ds pipes files files_made n view pid p lives q h =
     let one : ◌≡◌ {A = Result (machine.Process ℕ) Errno} (Ok (process_of p)) (Ok q) =
-    sym (subst (λ (m : Namespace). living (meaning f m.state) pid ≡ Ok (process_of p)) view (living_shown f ps ds pipes files files_made pid ∙ ap shown_in lives)) ∙ h in
+    sym (subst (λ (m : Namespace). living (meaning f m.state) pid ≡ Ok (process_of p)) view (living_shown ps pid ∙ ap shown_in lives)) ∙ h in
     let same : process_of p ≡ q = cc in
     sym (first_free-map (λ (k : Key). k.serial) p.descriptors) ∙ ap (λ (x : machine.Process ℕ). first_free x.descriptors) same
 
@@ -129,7 +128,7 @@ module _ {files : Files} {files_made : ℕ} (f : Live) (limits : Limits) (charge
   pub ready_row : (p : Process) × (ready_in ps pid ≡ Ok p)
   ready_row =
       found_in (ready_in ps pid)
-      (subst (λ r. IsOk r) (ready_shown f ps ds pipes files files_made pid)
+      (subst (λ r. IsOk r) (ready_shown ps pid)
       (subst (λ (m : Namespace). IsOk (ready (meaning f m.state) pid)) (sym view) is_ready))
 
   module _ (call : Call Key) (moving : made_by (Some call) ≡ None) (qs : ProcessRows) (are : qs ≡ change_at (rows.with_call (Some call)) ps (pid - 1)) where

@@ -37,10 +37,9 @@ use Rattle.pf_tables.specs.Owns.{Owns}
 use Rattle.pf_tables.proofs.OwnsLaws.{joined_opened, meaning-opened}
 use Rattle.pf_tables.specs.Rows.{ProcessRows, DescriptionRows, PipeRows, Key, Process, Description, Pipe, ready_in, with_keys, process_of, description_of, pipe_of, processes_of, descriptions_of, pipes_of, state_of, NamedRow, TiedWith, Tied, Kept, Named}
 use Rattle.pf_tables.specs.Tables.{HasTwo, FindsTwo, Opens, opened_next, capacity_of_caller}
-use Rattle.pf_tables.proofs.ProcessTableReady.{readies, readies_not, place_is}
+use Rattle.pf_tables.proofs.ProcessTableReady.{readies, place_is}
 use Rattle.pf_tables.proofs.TablesTied.{finds-new, miss, once, sides, described, piped, put}
-use Rattle.pf_tables.proofs.Arrivals.{becomes}
-use Rattle.pf_tables.proofs.TablesSettled.{settled}
+use Rattle.pf_tables.proofs.TablesSettled.{becomes, settled}
 
 -- what is in the hand has no order
 module _ (K : List Key) (E : List Description) (ps : ProcessRows) (ds : DescriptionRows) (pipes : PipeRows) where
@@ -133,16 +132,12 @@ module _ {files : Files} {files_made : ℕ} (f : Live) {charges : UserPages} {li
   pub capacity_is : (pid : ℕ) (p : Process) → ready_in ps pid ≡ Ok p → limits ≡ charges.limits
       → capacity_of_caller n.limits (meaning f n.state) pid ≡ told_as ENFILE (new_capacity charges.limits (is_privileged p.cred) (charged_to charges p.cred.uid) charges.total)
   capacity_is pid p is same =
-      ap (λ r. r >>= (λ q. told_as ENFILE (capacity_for n.limits (meaning f n.state) q.cred))) (subst (λ (m : Namespace). ready (meaning f m.state) pid ≡ Ok (process_of p)) view (readies f ps ds pipes files files_made pid p is))
+      ap (λ r. r >>= (λ q. told_as ENFILE (capacity_for n.limits (meaning f n.state) q.cred))) (subst (λ (m : Namespace). ready (meaning f m.state) pid ≡ Ok (process_of p)) view (readies ps pid p is))
       ∙ (λ j. told_as ENFILE (new_capacity ((sym (ap (λ (m : Namespace). m.limits) view) ∙ same) j) (is_privileged p.cred) (sym (charged_is p.cred.uid) j) (sym total_is j)))
-
-  pub no_capacity : (pid : ℕ) (e : Errno) → ready_in ps pid ≡ Err e → capacity_of_caller n.limits (meaning f n.state) pid ≡ Err e
-  no_capacity pid e is =
-      ap (λ r. r >>= (λ q. told_as ENFILE (capacity_for n.limits (meaning f n.state) q.cred))) (subst (λ (m : Namespace). ready (meaning f m.state) pid ≡ Err e) view (readies_not f ps ds pipes files files_made pid e is))
 
   module _ (pid : ℕ) {p : Process} (is : ready_in ps pid ≡ Ok p) where
     opener : ready (meaning f n.state) pid ≡ Ok (process_of p)
-    opener = subst (λ (m : Namespace). ready (meaning f m.state) pid ≡ Ok (process_of p)) view (readies f ps ds pipes files files_made pid p is)
+    opener = subst (λ (m : Namespace). ready (meaning f m.state) pid ≡ Ok (process_of p)) view (readies ps pid p is)
 
     stands : at ps (pid - 1) ≡ Some p
     stands = place_is ps pid p is

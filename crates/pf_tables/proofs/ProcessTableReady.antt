@@ -2,18 +2,14 @@
 
 use Rattle.std.proofs.Common.{◌≡◌, ℕ, zero, suc, ◌-◌, Bool, true, false, Option, Some, None, is_some, IsOk, Result, Ok, Err, refl, sym, ap, ◌∙◌, arith}
 use Rattle.std.specs.Option.{option_map}
-use Rattle.pf_machine.specs.FileMap.{Files}
 use Rattle.pf_machine.specs.Refusals.{◌>>=◌, ◌>>◌, refuse_if, or_refuse}
 use Rattle.pf_machine.specs.Numbered.{at}
 use Rattle.pf_machine.proofs.NumberedLaws.{at-map}
 use Rattle.pf_machine.specs.State as machine
-use Rattle.pf_machine.specs.State.{living, ready}
+use Rattle.pf_machine.specs.State.{living_in}
 use Rattle.pf_base.specs.declared.errno.Errno.{Errno}
 use Rattle.pf_base.specs.declared.errno.Errno.TheVariants.{ESRCH, EBUSY}
-use Rattle.pf_machine.specs.Queue.{Segment}
-use Rattle.pf_frame.specs.Live.{Live}
-use Rattle.pf_tables.specs.Meaning.{meaning}
-use Rattle.pf_tables.specs.Rows.{ProcessRows, DescriptionRows, PipeRows, Key, Process, Call, call_of, process_of, state_of, process_in, awake, ready_in}
+use Rattle.pf_tables.specs.Rows.{ProcessRows, Key, Process, Call, call_of, process_of, processes_of, process_in, awake, ready_in}
 
 -- a process with what the machine sees of it
 abbrev pub shown_in : Result Process Errno → Result (machine.Process ℕ) Errno
@@ -34,39 +30,36 @@ awake_shown p = by_call p.parked
     by_call None = refl
     by_call (Some call) = refl
 
-module _ (f : Live) (ps : ProcessRows) (ds : DescriptionRows) (pipes : PipeRows) (files : Files) (files_made : ℕ) (pid : ℕ) where
-  abbrev s : machine.State Segment ℕ
-  s = meaning f (state_of ps ds pipes files files_made)
-
+module _ (ps : ProcessRows) (pid : ℕ) where
   -- the machine's process is the one that the tables show
-  pub living_shown : living s pid ≡ shown_in (process_in ps pid)
+  pub living_shown : living_in (processes_of ps) pid ≡ shown_in (process_in ps pid)
   living_shown = by_pid pid
     where
       same : (o : Option Process) → or_refuse ESRCH (option_map process_of o) ≡ shown_in (or_refuse ESRCH o)
       same None = refl
       same (Some p) = refl
 
-      by_pid : (n : ℕ) → living s n ≡ shown_in (process_in ps n)
+      by_pid : (n : ℕ) → living_in (processes_of ps) n ≡ shown_in (process_in ps n)
       by_pid zero = refl
       by_pid (suc i) = ap (or_refuse ESRCH) (at-map process_of ps i) ∙ same (at ps i)
 
-  pub ready_shown : ready s pid ≡ shown_in (ready_in ps pid)
+  pub ready_shown : machine.ready_in (processes_of ps) pid ≡ shown_in (ready_in ps pid)
   ready_shown = ap (λ r. r >>= machine_awake) living_shown ∙ by_row (process_in ps pid)
     where
       by_row : (r : Result Process Errno) → (shown_in r >>= machine_awake) ≡ shown_in (r >>= awake)
       by_row (Err e) = refl
       by_row (Ok p) = awake_shown p
 
-  pub lives : (p : Process) → process_in ps pid ≡ Ok p → living s pid ≡ Ok (process_of p)
+  pub lives : (p : Process) → process_in ps pid ≡ Ok p → living_in (processes_of ps) pid ≡ Ok (process_of p)
   lives p h = living_shown ∙ ap shown_in h
 
-  pub lives_not : (e : Errno) → process_in ps pid ≡ Err e → living s pid ≡ Err e
+  pub lives_not : (e : Errno) → process_in ps pid ≡ Err e → living_in (processes_of ps) pid ≡ Err e
   lives_not e h = living_shown ∙ ap shown_in h
 
-  pub readies : (p : Process) → ready_in ps pid ≡ Ok p → ready s pid ≡ Ok (process_of p)
+  pub readies : (p : Process) → ready_in ps pid ≡ Ok p → machine.ready_in (processes_of ps) pid ≡ Ok (process_of p)
   readies p h = ready_shown ∙ ap shown_in h
 
-  pub readies_not : (e : Errno) → ready_in ps pid ≡ Err e → ready s pid ≡ Err e
+  pub readies_not : (e : Errno) → ready_in ps pid ≡ Err e → machine.ready_in (processes_of ps) pid ≡ Err e
   readies_not e h = ready_shown ∙ ap shown_in h
 
 -- who is ready lives

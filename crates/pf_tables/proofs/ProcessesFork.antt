@@ -10,28 +10,24 @@ use Rattle.pf_base.specs.Limits.{Limits}
 use Rattle.pf_machine.specs.Numbered.{at, put_at, change_at, first_free, sum_of, weight}
 use Rattle.pf_machine.proofs.NumberedLaws.{at-map, at_within, at-first_free, first_free-map}
 use Rattle.pf_machine.specs.Refusals.{◌>>=◌, ◌>>◌, refuse_if}
-use Rattle.pf_machine.specs.Queue.{Segment}
 use Rattle.pf_machine.specs.Processes.{fork}
-use Rattle.pf_machine.specs.State.{State, Outcome, with_process, told}
+use Rattle.pf_machine.specs.State.{State, Outcome, of_ready, with_process, told}
 use Rattle.pf_base.specs.declared.TheConstants.{MAX_PROCESSES, MAX_DESCRIPTORS}
 use Rattle.pf_base.specs.declared.errno.Errno.{Errno}
 use Rattle.pf_base.specs.declared.errno.Errno.TheVariants.{EAGAIN}
 use Rattle.pf_base.specs.declared.step.Reply.TheVariants.{Pid}
 use Rattle.pf_fds.specs.Descriptions.{names_of, one_more}
 use Rattle.pf_fds.specs.Registry.{find}
-use Rattle.pf_frame.specs.Live.{Live}
 use Rattle.pf_limits.specs.UserPages.{UserPages}
-use Rattle.pf_tables.specs.Meaning.{Namespace, meaning}
-use Rattle.pf_tables.specs.Owns.{Owns}
+use Rattle.pf_ring.specs.declared.ring.Window.{Window}
+use Rattle.pf_tables.specs.Meaning.{Namespace}
 use Rattle.pf_tables.specs.Rows.{ProcessRows, DescriptionRows, PipeRows, Key, Named, Process, Description, ready_in, made_by, keys_of, keys_to, names_it, held, holding, process_of, description_of, processes_of, descriptions_of, pipes_of, state_of, Finds, AllFind, AreFew, with_name, with_first_names, named_once_more, TiedWith, Tied, Kept}
-use Rattle.pf_tables.specs.Tables.{Tells, forked}
-use Rattle.pf_tables.specs.Told.{Becomes}
-use Rattle.pf_tables.proofs.ProcessTableReady.{readies, readies_not, place_is, is_awake}
+use Rattle.pf_tables.specs.Tables.{Makes}
+use Rattle.pf_tables.proofs.ProcessTableReady.{readies, place_is, is_awake}
 use Rattle.pf_tables.proofs.TablesTied.{finds, by_set, held-holding, reseated}
-use Rattle.pf_tables.proofs.Arrivals.{becomes}
 use Rattle.pf_tables.proofs.DescriptorsDup.{few_names, named_row, named_again}
 use Rattle.pf_tables.proofs.TablesShown.{find_at, set_same}
-use Rattle.pf_tables.proofs.TablesSettled.{settled}
+use Rattle.pf_tables.proofs.TablesSettled.{makes}
 
 -- What one name more leaves of the rows
 
@@ -170,70 +166,77 @@ pub as_many : (n : ℕ) (ks : List (Option Key)) (ds : DescriptionRows) → leng
 as_many zero ks ds = refl
 as_many (suc n) ks ds = named_length (at ks n) (with_first_names n ks ds) ∙ as_many n ks ds
 
-module _ (f : Live) {charges : UserPages} {limits : Limits} {ps : ProcessRows} {ds : DescriptionRows} {pipes : PipeRows} {files : Files} {files_made : ℕ} (kept : Kept charges ps ds pipes)
-    {n : Namespace} (view : record { limits = limits; state = state_of ps ds pipes files files_made } ≡ n) (pid : ℕ) where
-  abbrev s : State Segment ℕ
-  s = meaning f n.state
+module _ {charges : UserPages} {limits : Limits} {ps : ProcessRows} {ds : DescriptionRows} {pipes : PipeRows}
+    {files : Files} {files_made : ℕ} (kept : Kept charges ps ds pipes) {n : Namespace}
+    (view : record { limits = limits; state = state_of ps ds pipes files files_made } ≡ n) (pid : ℕ) {p : Process}
+    (caller : ready_in ps pid ≡ Ok p) where
+  there : at ps (pid - 1) ≡ Some p
+  there = place_is ps pid p caller
 
-  pub has_no_parent : (e : Errno) → ready_in ps pid ≡ Err e → forked s pid ≡ Err e
-  has_no_parent e h =
-      subst (λ (m : Namespace). forked (meaning f m.state) pid ≡ Err e) view (ap (λ r. r >>= (λ q. fork (meaning f (state_of ps ds pipes files files_made)) q)) (readies_not f ps ds pipes files files_made pid e h))
+  pub wide : length p.descriptors ≡ MAX_DESCRIPTORS
+  wide = kept.tied.wide (pid - 1) p there
 
-  module _ {p : Process} (caller : ready_in ps pid ≡ Ok p) where
-    there : at ps (pid - 1) ≡ Some p
-    there = place_is ps pid p caller
+  pub all_find : AllFind p.descriptors ds
+  all_find fd k h = kept.tied.finds (pid - 1) (suc fd) p k there h
 
-    pub wide : length p.descriptors ≡ MAX_DESCRIPTORS
-    wide = kept.tied.wide (pid - 1) p there
+  pub are_few : AreFew ds
+  are_few m e h = few_names [] ps ds pipes kept.tied m e h
 
-    pub all_find : AllFind p.descriptors ds
-    all_find fd k h = kept.tied.finds (pid - 1) (suc fd) p k there h
+  module _ (i : ℕ) (lowest : i ≡ first_free ps) where
+    abbrev s : State Window ℕ
+    s = state_of ps ds pipes files files_made
 
-    pub are_few : AreFew ds
-    are_few m e h = few_names [] ps ds pipes kept.tied m e h
+    abbrev call : State Window ℕ → Result (Outcome Window ℕ) Errno
+    call t = of_ready t pid (λ q. fork t q)
 
-    module _ (i : ℕ) (lowest : i ≡ first_free ps) where
-      -- by the test of the lowest free pid
-      abbrev tested : State Segment ℕ → Bool → Result (Outcome Segment ℕ) Errno
-      tested z full = refuse_if full EAGAIN >> Ok (told (with_process z (i + 1) (process_of p)) (Pid (i + 1)))
+    -- what it says, by the test of the lowest free pid
+    abbrev tested : Bool → Result (Outcome Window ℕ) Errno
+    tested full = refuse_if full EAGAIN >> Ok (told (with_process s (i + 1) (process_of p)) (Pid (i + 1)))
 
-      forked_is : forked s pid ≡ tested s (nat_le MAX_PROCESSES i)
-      forked_is =
-          subst (λ (m : Namespace). forked (meaning f m.state) pid ≡ tested (meaning f m.state) (nat_le MAX_PROCESSES i)) view
-          (ap (λ r. r >>= (λ q. fork (meaning f (state_of ps ds pipes files files_made)) q)) (readies f ps ds pipes files files_made pid p caller)
-          ∙ ap (λ m. refuse_if (nat_le MAX_PROCESSES m) EAGAIN >> Ok (told (with_process (meaning f (state_of ps ds pipes files files_made)) (m + 1) (process_of p)) (Pid (m + 1)))) (first_free-map process_of ps ∙ sym lowest))
+    call_is : call s ≡ tested (nat_le MAX_PROCESSES i)
+    call_is =
+        ap (λ r. r >>= (λ q. fork s q)) (readies ps pid p caller)
+        ∙ ap (λ m. refuse_if (nat_le MAX_PROCESSES m) EAGAIN
+        >> Ok (told (with_process s (m + 1) (process_of p)) (Pid (m + 1)))) (first_free-map process_of ps ∙ sym lowest)
 
-      pub has_no_room : MAX_PROCESSES ≤ i → forked s pid ≡ Err EAGAIN
-      has_no_room past = let full : nat_le MAX_PROCESSES i ≡ true = grind (arith, nat_tests) in forked_is ∙ ap (tested s) full
+    pub has_no_room : MAX_PROCESSES ≤ i → call n.state ≡ Err EAGAIN
+    has_no_room past =
+        let full : nat_le MAX_PROCESSES i ≡ true = grind (arith, nat_tests) in
+        subst (λ (m : Namespace). call m.state ≡ Err EAGAIN) view (call_is ∙ ap tested full)
 
-      module _ (i_in : i < MAX_PROCESSES) {child : Process} (same : child ≡ p) {qs : ProcessRows} {es : DescriptionRows} (put : qs ≡ put_at ps i child) (named : es ≡ named_once_more child.descriptors ds) where
-        put_is : qs ≡ put_at ps i p
-        put_is = put ∙ ap (put_at ps i) same
+    module _ (i_in : i < MAX_PROCESSES) {child : Process} (same : child ≡ p) {qs : ProcessRows} {es : DescriptionRows}
+        (put : qs ≡ put_at ps i child) (named : es ≡ named_once_more child.descriptors ds) where
+      put_is : qs ≡ put_at ps i p
+      put_is = put ∙ ap (put_at ps i) same
 
-        named_is : es ≡ named_once_more p.descriptors ds
-        named_is = named ∙ ap (λ (q : Process). named_once_more q.descriptors ds) same
+      named_is : es ≡ named_once_more p.descriptors ds
+      named_is = named ∙ ap (λ (q : Process). named_once_more q.descriptors ds) same
 
-        now_tied : Tied qs es pipes
-        now_tied =
-            subst (λ x. Tied x es pipes) (sym put_is) (subst (λ y. Tied (put_at ps i p) y pipes) (sym named_is) (forked-tied ps ds pipes kept.tied (pid - 1) p there (is_awake ps pid p caller) i (ap (at ps) lowest ∙ at-first_free ps) i_in))
+      now_tied : Tied qs es pipes
+      now_tied =
+          subst (λ x. Tied x es pipes) (sym put_is) (subst (λ y. Tied (put_at ps i p) y pipes) (sym named_is)
+          (forked-tied ps ds pipes kept.tied (pid - 1) p there (is_awake ps pid p caller) i
+          (ap (at ps) lowest ∙ at-first_free ps) i_in))
 
-        pub forked-kept : Kept charges qs es pipes
-        forked-kept = record { tied = now_tied; charged = kept.charged }
+      pub forked-kept : Kept charges qs es pipes
+      forked-kept = record { tied = now_tied; charged = kept.charged }
 
-        now_shown : state_of qs es pipes files files_made ≡ with_process (state_of ps ds pipes files files_made) (i + 1) (process_of p)
-        now_shown =
-            (λ j. state_of (put_is j) (named_is j) pipes files files_made)
-            ∙ (λ j. record { processes = map-set (option_map process_of) ps i (Some p) j; descriptions = names_unshown (length p.descriptors) p.descriptors ds j; pipes = pipes_of pipes; files = files; files_made = files_made })
-            ∙ (let place : i ≡ i + 1 - 1 = omega arith in ap (λ m. record (state_of ps ds pipes files files_made) { processes = put_at (processes_of ps) m (process_of p) }) place)
+      now_shown : state_of qs es pipes files files_made ≡ with_process s (i + 1) (process_of p)
+      now_shown =
+          (λ j. state_of (put_is j) (named_is j) pipes files files_made)
+          ∙ (λ j. record {
+            processes = map-set (option_map process_of) ps i (Some p) j;
+            descriptions = names_unshown (length p.descriptors) p.descriptors ds j;
+            pipes = pipes_of pipes;
+            files = files;
+            files_made = files_made;
+          })
+          ∙ (let place : i ≡ i + 1 - 1 = omega arith in
+          ap (λ m. record s { processes = put_at (processes_of ps) m (process_of p) }) place)
 
-        pub forked-tells : Owns f n → Tells f n (record { limits = limits; state = state_of qs es pipes files files_made }) (forked s pid) (Pid (i + 1))
-        forked-tells owns =
-            let room : nat_le MAX_PROCESSES i ≡ false = grind (arith, nat_tests) in
-            record {
-              state = with_process s (i + 1) (process_of p);
-              is = forked_is ∙ ap (tested s) room;
-              becomes =
-                  subst (λ (m : Namespace). Owns f m → Becomes f f m (record { limits = limits; state = state_of qs es pipes files files_made }) (with_process (meaning f m.state) (i + 1) (process_of p))) view
-                  (λ o. becomes f f (record { limits = limits; state = state_of ps ds pipes files files_made }) (record { limits = limits; state = state_of qs es pipes files files_made }) _ (record { joined = o.joined; reserve = o.reserve }) refl
-                  (ap (meaning f) now_shown) (settled qs es pipes files files_made now_tied)) owns;
-            }
+      pub forked : Makes n (record { limits = limits; state = state_of qs es pipes files files_made }) (call n.state)
+          (Pid (i + 1))
+      forked =
+          let room : nat_le MAX_PROCESSES i ≡ false = grind (arith, nat_tests) in
+          makes now_tied files files_made view refl call (Pid (i + 1))
+          (call_is ∙ ap tested room ∙ ap (λ t. Ok (told t (Pid (i + 1)))) (sym now_shown))

@@ -30,7 +30,7 @@ use Rattle.pf_parked.specs.declared.call.Call.TheVariants.{Open, Read, Write, Cr
 use Rattle.pf_parked.specs.UnfinishedWrite.{UnfinishedWrite}
 use Rattle.pf_ring.specs.Ring.{queue_of}
 use Rattle.pf_ring.specs.Windows.{Stands}
-use Rattle.pf_tables.specs.Meaning.{Namespace, meaning}
+use Rattle.pf_tables.specs.Meaning.{Namespace, meaning, pipe_meaning}
 use Rattle.pf_tables.specs.Opened.{other_opens}
 use Rattle.pf_tables.specs.Owns.{Owns}
 use Rattle.pf_tables.specs.Queries.{GoesOn}
@@ -62,7 +62,7 @@ module _ {files : Files} {files_made : ℕ} (limits : Limits) (charges : UserPag
   -- Nobody waits
   pub lives_not_on : (e : Errno) → process_in ps pid ≡ Err e → GoesOn n pid false
   lives_not_on e h = over_rows false (λ f sound owns.
-      sym (waits_in_none limits (shows f) pid (ap (option_and_then (λ (p : machine.Process ℕ). p.parked)) (was_none ESRCH e (process (shows f) pid) (lives_not f ps ds pipes files files_made pid e h)))))
+      sym (waits_in_none limits (shows f) pid (ap (option_and_then (λ (p : machine.Process ℕ). p.parked)) (was_none ESRCH e (process (shows f) pid) (lives_not ps pid e h)))))
 
   pub above_all : MAX_PROCESSES < pid → GoesOn n pid false
   above_all past = lives_not_on ESRCH (by_pid pid past)
@@ -73,7 +73,7 @@ module _ {files : Files} {files_made : ℕ} (limits : Limits) (charges : UserPag
 
   module _ (p : Process) (here : process_in ps pid ≡ Ok p) where
     there : (f : Live) → process (shows f) pid ≡ Some (process_of p)
-    there f = was_there ESRCH (process (shows f) pid) (process_of p) (lives f ps ds pipes files files_made pid p here)
+    there f = was_there ESRCH (process (shows f) pid) (process_of p) (lives ps pid p here)
 
     pub waits_not : None ≡ p.parked → GoesOn n pid false
     waits_not none = over_rows false (λ f sound owns.
@@ -86,15 +86,15 @@ module _ {files : Files} {files_made : ℕ} (limits : Limits) (charges : UserPag
 
     -- Its ends
 
-    agrees : (f : Live) (side : Option Side) (fd : ℕ) → Agrees f side ps ds pipes files files_made k.tied pid fd (end_of_row side p ds fd) (side_end side (shows f) (process_of p) fd)
-    agrees f side fd = by_key f side ps ds pipes files files_made k.tied pid fd (pid - 1) p (place_of ps pid p here) (at p.descriptors fd) refl
+    agrees : (f : Live) (side : Option Side) (fd : ℕ) → Agrees (pipe_meaning f) side ps ds pipes files files_made k.tied pid fd (end_of_row side p ds fd) (side_end side (shows f) (process_of p) fd)
+    agrees f side fd = by_key (pipe_meaning f) side ps ds pipes files files_made k.tied pid fd (pid - 1) p (place_of ps pid p here) (at p.descriptors fd) refl
 
     no_end : (f : Live) (side : Option Side) (fd : ℕ) (e : Errno) → Err e ≡ end_of_row side p ds fd → side_end side (shows f) (process_of p) fd ≡ Err e
-    no_end f side fd e h = subst (λ r. Agrees f side ps ds pipes files files_made k.tied pid fd r (side_end side (shows f) (process_of p) fd)) (sym h) (agrees f side fd)
+    no_end f side fd e h = subst (λ r. Agrees (pipe_meaning f) side ps ds pipes files files_made k.tied pid fd r (side_end side (shows f) (process_of p) fd)) (sym h) (agrees f side fd)
 
     module _ (f : Live) (side : Option Side) (fd : ℕ) (d : Description) (h : Ok d ≡ end_of_row side p ds fd) where
-      an_end : (r : Pipe) × (at pipes d.pipe.serial ≡ Some (d.pipe.slot, r)) × (side_end side (shows f) (process_of p) fd ≡ Ok (end_of_rows f d r))
-      an_end = subst (λ r. Agrees f side ps ds pipes files files_made k.tied pid fd r (side_end side (shows f) (process_of p) fd)) (sym h) (agrees f side fd)
+      an_end : (r : Pipe) × (at pipes d.pipe.serial ≡ Some (d.pipe.slot, r)) × (side_end side (shows f) (process_of p) fd ≡ Ok (end_of_rows (pipe_meaning f) d r))
+      an_end = subst (λ r. Agrees (pipe_meaning f) side ps ds pipes files files_made k.tied pid fd r (side_end side (shows f) (process_of p) fd)) (sym h) (agrees f side fd)
 
       -- it has a pipe
       not_lost : None ≡ find pipes d.pipe.slot d.pipe.serial → ⊥
@@ -103,16 +103,16 @@ module _ {files : Files} {files_made : ℕ} (limits : Limits) (charges : UserPag
           let both : ◌≡◌ {A = Option Pipe} None (Some an_end.0) = none ∙ found in
           absurd (cc)
 
-      the_end : (r : Pipe) → Some r ≡ find pipes d.pipe.slot d.pipe.serial → side_end side (shows f) (process_of p) fd ≡ Ok (end_of_rows f d r)
+      the_end : (r : Pipe) → Some r ≡ find pipes d.pipe.slot d.pipe.serial → side_end side (shows f) (process_of p) fd ≡ Ok (end_of_rows (pipe_meaning f) d r)
       the_end r handed =
           let found = find_at pipes d.pipe.slot d.pipe.serial an_end.0 an_end.1 in
           let both : ◌≡◌ {A = Option Pipe} (Some r) (Some an_end.0) = handed ∙ found in
           let same : an_end.0 ≡ r = cc in
-          an_end.2 ∙ ap (λ (q : Pipe). Ok (end_of_rows f d q)) same
+          an_end.2 ∙ ap (λ (q : Pipe). Ok (end_of_rows (pipe_meaning f) d q)) same
 
     -- the counts of a pipe that was found are the machine's
     counts : (f : Live) (d : Description) (r : Pipe) → Some r ≡ find pipes d.pipe.slot d.pipe.serial → (readers itself (shows f) d.pipe.serial ≡ r.readers) × (writers itself (shows f) d.pipe.serial ≡ r.writers)
-    counts f d r handed = counted f None ps ds pipes files files_made k.tied pid 0 d.pipe.serial d.pipe.slot r (find_was pipes d.pipe.slot d.pipe.serial r (sym handed))
+    counts f d r handed = counted (pipe_meaning f) None ps ds pipes files files_made k.tied pid 0 d.pipe.serial d.pipe.slot r (find_was pipes d.pipe.slot d.pipe.serial r (sym handed))
 
     stands : (f : Live) → Owns f n → (d : Description) (r : Pipe) → Some r ≡ find pipes d.pipe.slot d.pipe.serial → Stands f r.ring.segments
     stands f owns d r handed = transfers.stands_in f limits charges ps ds pipes k n view owns d r (sym handed)
@@ -177,14 +177,14 @@ module _ {files : Files} {files_made : ℕ} (limits : Limits) (charges : UserPag
         sink_is_over e g =
             answers (Cross c source sink m) waits tt true (λ f sound owns.
             let there = an_end f (Some sides.Read) source d h in
-            sym (ap (λ r. tested f r (machine.writing_end itself (shows f) (process_of p) sink)) there.2 ∙ ap (tested f (Ok (end_of_rows f d there.0))) (no_end f (Some sides.Write) sink e g)))
+            sym (ap (λ r. tested f r (machine.writing_end itself (shows f) (process_of p) sink)) there.2 ∙ ap (tested f (Ok (end_of_rows (pipe_meaning f) d there.0))) (no_end f (Some sides.Write) sink e g)))
 
         module _ (d' : Description) (g : Ok d' ≡ end_of_row (Some sides.Write) p ds sink) where
           both_ends : (f : Live) (r r' : Pipe) → Some r ≡ find pipes d.pipe.slot d.pipe.serial → Some r' ≡ find pipes d'.pipe.slot d'.pipe.serial
-              → tested f (Ok (end_of_rows f d r)) (Ok (end_of_rows f d' r')) ≡ goes_on (shows f) (process_of p) (call_of (Cross c source sink m))
+              → tested f (Ok (end_of_rows (pipe_meaning f) d r)) (Ok (end_of_rows (pipe_meaning f) d' r')) ≡ goes_on (shows f) (process_of p) (call_of (Cross c source sink m))
           both_ends f r r' handed handed' =
               sym (ap (λ x. tested f x (machine.writing_end itself (shows f) (process_of p) sink)) (the_end f (Some sides.Read) source d h r handed)
-              ∙ ap (tested f (Ok (end_of_rows f d r))) (the_end f (Some sides.Write) sink d' g r' handed'))
+              ∙ ap (tested f (Ok (end_of_rows (pipe_meaning f) d r))) (the_end f (Some sides.Write) sink d' g r' handed'))
 
           pub one_pipe : d.pipe.serial ≡ d'.pipe.serial → GoesOn n pid true
           one_pipe same =
@@ -192,7 +192,7 @@ module _ {files : Files} {files_made : ℕ} (limits : Limits) (charges : UserPag
               let from = an_end f (Some sides.Read) source d h in
               let to = an_end f (Some sides.Write) sink d' g in
               let equal : nat_eq d.pipe.serial d'.pipe.serial ≡ true = grind (arith, nat_tests) in
-              ap (λ b. or_is_over (cross_test f) (refuse_if b EINVAL >> Ok (record { source = end_of_rows f d from.0; sink = end_of_rows f d' to.0 }))) (sym equal)
+              ap (λ b. or_is_over (cross_test f) (refuse_if b EINVAL >> Ok (record { source = end_of_rows (pipe_meaning f) d from.0; sink = end_of_rows (pipe_meaning f) d' to.0 }))) (sym equal)
               ∙ both_ends f from.0 to.0 (sym (find_at pipes d.pipe.slot d.pipe.serial from.0 from.1)) (sym (find_at pipes d'.pipe.slot d'.pipe.serial to.0 to.1)))
 
           pub source_has_pipe : None ≡ find pipes d.pipe.slot d.pipe.serial → GoesOn n pid true
@@ -208,7 +208,7 @@ module _ {files : Files} {files_made : ℕ} (limits : Limits) (charges : UserPag
               let differ : nat_eq d.pipe.serial d'.pipe.serial ≡ false = grind (arith, nat_tests) in
               told f sound (stands f owns d r handed)
               ∙ (λ i. cross_goes_on (queue_of f r.ring) (queue_of f r'.ring) (sym (counts f d r handed).1 i) (sym (counts f d' r' handed').0 i) m)
-              ∙ ap (λ t. or_is_over (cross_test f) (refuse_if t EINVAL >> Ok (record { source = end_of_rows f d r; sink = end_of_rows f d' r' }))) (sym differ)
+              ∙ ap (λ t. or_is_over (cross_test f) (refuse_if t EINVAL >> Ok (record { source = end_of_rows (pipe_meaning f) d r; sink = end_of_rows (pipe_meaning f) d' r' }))) (sym differ)
               ∙ both_ends f r r' handed handed')
 
     -- An open
@@ -241,7 +241,7 @@ module _ {files : Files} {files_made : ℕ} (limits : Limits) (charges : UserPag
             let same : pipe_row.0 ≡ r = cc in
             answers (Open j kept) waits tt (nat_lt kept x) (λ f sound owns.
             ap (nat_lt kept) (x_is ∙ sym (λ i. other_opens (same_end i).reads (same i)))
-            ∙ sym (ap (λ o. or_is_over (λ (e : End Segment ℕ). nat_lt kept (attempts.other_opens e)) (or_refuse EBADF o)) (end_shown f None ps ds pipes files files_made k.tied pid 0 j row.0 pipe_row.0 row.1 pipe_row.1)))
+            ∙ sym (ap (λ o. or_is_over (λ (e : End Segment ℕ). nat_lt kept (attempts.other_opens e)) (or_refuse EBADF o)) (end_shown (pipe_meaning f) None ps ds pipes files files_made k.tied pid 0 j row.0 pipe_row.0 row.1 pipe_row.1)))
 
   -- who waits in no call, and who doesn't live, can't go on
   place_found : 0 < pid → process_in ps pid ≡ or_refuse ESRCH (at ps (pid - 1))
@@ -270,12 +270,12 @@ module _ {files : Files} {files_made : ℕ} (limits : Limits) (charges : UserPag
     from_end s r h = transfers.bind-bind (machine.ready s pid) (λ p. machine.end_of itself s p fd) (λ e. Ok (ready_for s e)) ∙ ap (λ x. x >>= (λ e. Ok (ready_for s e))) h
 
     pub ready_refused : (e : Errno) → end_in None ps ds pid fd ≡ Err e → (f : Live) → readiness (meaning f n.state) pid fd ≡ Err e
-    ready_refused e h f = subst (λ (m : Namespace). readiness (meaning f m.state) pid fd ≡ Err e) view (from_end (shows f) (Err e) (refused f None ps ds pipes files files_made k.tied pid fd e h))
+    ready_refused e h f = subst (λ (m : Namespace). readiness (meaning f m.state) pid fd ≡ Err e) view (from_end (shows f) (Err e) (refused (pipe_meaning f) None ps ds pipes files files_made k.tied pid fd e h))
 
     module _ (d : Description) (h : end_in None ps ds pid fd ≡ Ok d) where
       pub ready_has_pipe : None ≡ find pipes d.pipe.slot d.pipe.serial → (f : Live) → readiness (meaning f n.state) pid fd ≡ Err EBADF
       ready_has_pipe none f =
-          let e = found f None ps ds pipes files files_made k.tied pid fd d h in
+          let e = found (pipe_meaning f) None ps ds pipes files files_made k.tied pid fd d h in
           let both : ◌≡◌ {A = Option Pipe} None (Some e.pipe) = none ∙ find_at pipes d.pipe.slot d.pipe.serial e.pipe e.stands in
           absurd (cc)
 
@@ -284,11 +284,11 @@ module _ {files : Files} {files_made : ℕ} (limits : Limits) (charges : UserPag
           → reading ≡ r.readers → writing ≡ r.writers → (f : Live) → IsSound f → Owns f n
           → Ok (record { bytes = bytes; room = room; has_reader = nat_lt 0 reading; has_writer = nat_lt 0 writing }) ≡ readiness (meaning f n.state) pid fd
       ready_is r handed bytes room reading writing bytes_is room_is reading_is writing_is f sound owns =
-          let e = found f None ps ds pipes files files_made k.tied pid fd d h in
+          let e = found (pipe_meaning f) None ps ds pipes files files_made k.tied pid fd d h in
           let both : ◌≡◌ {A = Option Pipe} (Some r) (Some e.pipe) = handed ∙ find_at pipes d.pipe.slot d.pipe.serial e.pipe e.stands in
           let same : e.pipe ≡ r = cc in
-          let c = counted f None ps ds pipes files files_made k.tied pid fd d.pipe.serial d.pipe.slot r (find_was pipes d.pipe.slot d.pipe.serial r (sym handed)) in
+          let c = counted (pipe_meaning f) None ps ds pipes files files_made k.tied pid fd d.pipe.serial d.pipe.slot r (find_was pipes d.pipe.slot d.pipe.serial r (sym handed)) in
           let stands : Stands f r.ring.segments = transfers.stands_in f limits charges ps ds pipes k n view owns d r (sym handed) in
           subst (λ (m : Namespace). Ok (record { bytes = bytes; room = room; has_reader = nat_lt 0 reading; has_writer = nat_lt 0 writing }) ≡ readiness (meaning f m.state) pid fd) view
           ((λ i. Ok (record { bytes = bytes_is f sound stands i; room = room_is f i; has_reader = nat_lt 0 ((reading_is ∙ sym c.0) i); has_writer = nat_lt 0 ((writing_is ∙ sym c.1) i) }))
-          ∙ sym (from_end (shows f) (Ok (end_of_rows f d r)) (e.is ∙ ap (λ (q : Pipe). Ok (end_of_rows f d q)) same)))
+          ∙ sym (from_end (shows f) (Ok (end_of_rows (pipe_meaning f) d r)) (e.is ∙ ap (λ (q : Pipe). Ok (end_of_rows (pipe_meaning f) d q)) same)))

@@ -1,21 +1,34 @@
 -- What the tables mean to the lone machine: its counts are theirs, they are swept, and where nothing new stands after
 -- a change the rest is as the sweep leaves it.
 
-use Rattle.std.proofs.Common.{◌≡◌, ℕ, ◌+◌, ◌<◌, ◌&&◌, List, [], ◌∷◌, length, map, set, length-set, Option, Some, None, refl, sym, ap, subst, ◌∙◌, arith, nat_eq}
+use Rattle.std.proofs.Common.{◌≡◌, ℕ, ◌+◌, ◌<◌, ◌&&◌, List, [], ◌∷◌, length, map, set, length-set, Option, Some, None, Result, Ok, Err, refl, sym, ap, subst, ◌∙◌, arith, nat_eq}
 use Rattle.std.proofs.lemmas.List.{length-map}
 use Rattle.std.specs.Option.{option_map}
 use Rattle.pf_machine.specs.Calls as calls
 use Rattle.pf_ring.specs.declared.ring.Window.{Window}
 use Rattle.pf_machine.specs.FileMap.{Files}
+use Rattle.pf_base.specs.Limits.{Limits}
+use Rattle.pf_base.specs.declared.errno.Errno.{Errno}
+use Rattle.pf_base.specs.declared.fault.Fault.TheVariants as faults
+use Rattle.pf_base.specs.declared.step.Reply.{Reply}
+use Rattle.pf_base.specs.declared.step.Reply.TheVariants.{Num}
 use Rattle.pf_parked.specs.declared.call.Call.TheVariants.{Open, Read, Write, Cross}
 use Rattle.pf_machine.specs.Numbered.{at, weight, one_if}
 use Rattle.pf_machine.proofs.NumberedLaws.{at_within, sum_of-map}
 use Rattle.pf_machine.specs.State as machine
-use Rattle.pf_machine.specs.State.{itself, State}
+use Rattle.pf_machine.specs.State.{itself, State, Outcome, told}
 use Rattle.pf_machine.specs.Counts.{names, readers, writers, ends}
 use Rattle.pf_machine.specs.Sweep.{sweep}
 use Rattle.pf_machine.proofs.SweepLaws.{with_processes, swept, ends-le-sides, readers-le-ends, writers-le-ends}
 use Rattle.pf_tables.specs.Rows.{ProcessRows, DescriptionRows, PipeRows, Key, Named, Description, Pipe, Call, call_of, made_by, keys_of, named, read_by, written_by, NamedRow, UsedRow, Tied, description_of, pipe_of, processes_of, descriptions_of, pipes_of, state_of}
+use Rattle.pf_machine.specs.Queue.{Segment}
+use Rattle.pf_frame.specs.Live.{Live}
+use Rattle.pf_ring.specs.Table.{Joined}
+use Rattle.pf_tables.specs.Meaning.{Namespace, meaning, ring_or}
+use Rattle.pf_tables.specs.Owns.{Owns}
+use Rattle.pf_tables.specs.Tables.{Makes}
+use Rattle.pf_tables.specs.Told.{Becomes, Told, settled as all_settled}
+use Rattle.pf_tables.proofs.MeaningLaws.{settled-meaning}
 use Rattle.pf_tables.proofs.TablesShown.{was, shown}
 use Rattle.pf_tables.proofs.TablesTied.{by_set}
 
@@ -78,3 +91,44 @@ within_row f xs n x y h same = record {
 
 pub within_same : {X : Type 0} (xs : List (Option X)) → Within xs xs
 within_same xs = record { numbers = refl; stood = λ n x h. h }
+
+-- a change that leaves nothing that nobody can reach
+pub becomes : (f g : Live) (old new : Namespace) (s : machine.State Segment ℕ) → Owns g new → new.limits ≡ old.limits
+    → meaning g new.state ≡ s → new.state ≡ sweep itself new.state → Becomes f g old new s
+becomes f g old new s owns limits is still =
+    record { owns = owns; limits = limits; state = settled-meaning g new.state still ∙ ap (sweep itself) is }
+
+-- a call that lets things go was made, or is refused
+pub leaves : {f g : Live} {old new : Namespace} {s : machine.State Segment ℕ}
+    {call : Result (Outcome Segment ℕ) Errno} → Becomes f g old new s → call ≡ Ok (machine.done s 0)
+    → Told f g old new (Ok (Num 0)) call
+leaves b is = record {
+  owns = b.owns;
+  limits = b.limits;
+  says = ap all_settled is ∙ (λ i. Ok (record { state = sym b.state i; reply = Num 0 }));
+}
+
+pub leaves_not : {f : Live} {old : Namespace} {call : Result (Outcome Segment ℕ) Errno} {e : Errno} → Owns f old
+    → call ≡ Err e → Told f f old old (Err (faults.Errno e)) call
+leaves_not owns is = record { owns = owns; limits = refl; says = (is, refl) }
+
+-- a call that leaves the pipes as they were, by what it leaves at the rows
+pub makes : {qs : ProcessRows} {es : DescriptionRows} {pipes : PipeRows} → Tied qs es pipes → (files : Files)
+    (files_made : ℕ) {limits : Limits} {s : State Window ℕ} {n : Namespace}
+    → record { limits = limits; state = s } ≡ n → s.pipes ≡ pipes_of pipes
+    → (call : State Window ℕ → Result (Outcome Window ℕ) Errno) (reply : Reply)
+    → call s ≡ Ok (told (state_of qs es pipes files files_made) reply)
+    → Makes n (record { limits = limits; state = state_of qs es pipes files files_made }) (call n.state) reply
+makes {qs} {es} {pipes} t files files_made {limits} view same call reply is =
+    subst (λ (m : Namespace). Makes m (record {
+      limits = limits;
+      state = state_of qs es pipes files files_made;
+    }) (call m.state) reply) view (record {
+      is = is;
+      limits = refl;
+      owned = λ f o. record {
+        joined = subst (λ (ps : List (Option (machine.Pipe Window))). Joined f (map ring_or ps)) same o.joined;
+        reserve = o.reserve;
+      };
+      swept = settled qs es pipes files files_made t;
+    })

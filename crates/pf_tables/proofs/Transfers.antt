@@ -31,7 +31,7 @@ use Rattle.pf_ring.specs.Windows.{Stands}
 use Rattle.pf_ring.specs.Table.{Joined, slots_used, slots_of}
 use Rattle.pf_ring.proofs.TableLaws.{no_source}
 use Rattle.pf_limits.specs.UserPages.{UserPages}
-use Rattle.pf_tables.specs.Meaning.{Namespace, meaning, rings_of, Charged}
+use Rattle.pf_tables.specs.Meaning.{Namespace, meaning, rings_of, Charged, pipe_meaning}
 use Rattle.pf_tables.proofs.MeaningLaws.{meaning-with_queue, settled-meaning}
 use Rattle.pf_tables.specs.Owns.{Owns}
 use Rattle.pf_tables.proofs.OwnsLaws.{ring_at-pipe, stands_at, credits_at, others_written, joined_written, charged-with_queue}
@@ -127,21 +127,21 @@ module _ {files : Files} {files_made : ℕ} (f : Live) (limits : Limits) (charge
     pub no_write : (x : List ℕ) (written : ℕ) (e : Errno) → end_in (Some sides.Write) ps ds pid fd ≡ Err e → attempted (meaning f n.state) pid (Writing fd x written) ≡ Err e
     no_write x written e h =
         subst (λ (v : Namespace). attempted (meaning f v.state) pid (Writing fd x written) ≡ Err e) view
-        (bind-bind (ready s pid) (λ p. writing_end itself s p fd) _ ∙ ap (λ r. r >>= (λ e. refuse_if (nat_lt MAX_WRITE (length x)) EINVAL >> Ok (try_write s e x written))) (refused f (Some sides.Write) ps ds pipes files files_made k.tied pid fd e h))
+        (bind-bind (ready s pid) (λ p. writing_end itself s p fd) _ ∙ ap (λ r. r >>= (λ e. refuse_if (nat_lt MAX_WRITE (length x)) EINVAL >> Ok (try_write s e x written))) (refused (pipe_meaning f) (Some sides.Write) ps ds pipes files files_made k.tied pid fd e h))
 
     pub no_read : (m : ℕ) (e : Errno) → end_in (Some sides.Read) ps ds pid fd ≡ Err e → attempted (meaning f n.state) pid (Reading fd m) ≡ Err e
     no_read m e h =
         subst (λ (v : Namespace). attempted (meaning f v.state) pid (Reading fd m) ≡ Err e) view
-        (bind-bind (ready s pid) (λ p. reading_end itself s p fd) _ ∙ ap (λ r. r >>= (λ e. Ok (try_read s e m))) (refused f (Some sides.Read) ps ds pipes files files_made k.tied pid fd e h))
+        (bind-bind (ready s pid) (λ p. reading_end itself s p fd) _ ∙ ap (λ r. r >>= (λ e. Ok (try_read s e m))) (refused (pipe_meaning f) (Some sides.Read) ps ds pipes files files_made k.tied pid fd e h))
 
     module _ (d : Description) where
       pub pipe_there : (side : Option Side) → end_in side ps ds pid fd ≡ Ok d → IsSome (find pipes d.pipe.slot d.pipe.serial)
-      pipe_there side h = let w = found f side ps ds pipes files files_made k.tied pid fd d h in ap is_some (find_at pipes d.pipe.slot d.pipe.serial w.pipe w.stands)
+      pipe_there side h = let w = found (pipe_meaning f) side ps ds pipes files files_made k.tied pid fd d h in ap is_some (find_at pipes d.pipe.slot d.pipe.serial w.pipe w.stands)
 
       pub caller : (side : Option Side) → end_in side ps ds pid fd ≡ Ok d → IsOk (ready (meaning f n.state) pid)
       caller side h =
           subst (λ (v : Namespace). IsOk (ready (meaning f v.state) pid)) view
-          (rw (ready_shown f ps ds pipes files files_made pid) (shown_ok (ready_in ps pid) (found f side ps ds pipes files files_made k.tied pid fd d h).caller))
+          (rw (ready_shown ps pid) (shown_ok (ready_in ps pid) (found (pipe_meaning f) side ps ds pipes files files_made k.tied pid fd d h).caller))
         where
           shown_ok : (r : Result Process Errno) → IsOk r → IsOk (shown_in r)
           shown_ok (Ok p) g = refl
@@ -149,18 +149,18 @@ module _ {files : Files} {files_made : ℕ} (f : Live) (limits : Limits) (charge
 
       -- how a transfer through the pipe that was found goes on
       through : (side : Option Side) {B : Type 0} (go : End Segment ℕ → Result B Errno) (r : Pipe) → end_in side ps ds pid fd ≡ Ok d → find pipes d.pipe.slot d.pipe.serial ≡ Some r
-          → (ready s pid >>= (λ p. side_end side s p fd >>= go)) ≡ go (end_of_rows f d r)
+          → (ready s pid >>= (λ p. side_end side s p fd >>= go)) ≡ go (end_of_rows (pipe_meaning f) d r)
       through side go r h handed =
-          let w = found f side ps ds pipes files files_made k.tied pid fd d h in
+          let w = found (pipe_meaning f) side ps ds pipes files files_made k.tied pid fd d h in
           let one : ◌≡◌ {A = Option (ℕ × Pipe)} (Some (d.pipe.slot, w.pipe)) (Some (d.pipe.slot, r)) = sym w.stands ∙ find_was pipes d.pipe.slot d.pipe.serial r handed in
           let pair : ◌≡◌ {A = ℕ × Pipe} (d.pipe.slot, w.pipe) (d.pipe.slot, r) = cc in
           let same : w.pipe ≡ r = ap (λ (x : ℕ × Pipe). x.1) pair in
-          bind-bind (ready s pid) (λ p. side_end side s p fd) go ∙ ap (λ x. x >>= go) w.is ∙ ap (λ x. go (end_of_rows f d x)) same
+          bind-bind (ready s pid) (λ p. side_end side s p fd) go ∙ ap (λ x. x >>= go) w.is ∙ ap (λ x. go (end_of_rows (pipe_meaning f) d x)) same
 
       pub too_long : (x : List ℕ) (written : ℕ) → end_in (Some sides.Write) ps ds pid fd ≡ Ok d → MAX_WRITE < length x → attempted (meaning f n.state) pid (Writing fd x written) ≡ Err EINVAL
       too_long x written h long =
-          let w = found f (Some sides.Write) ps ds pipes files files_made k.tied pid fd d h in
-          let go : Bool → Result Tried Errno = λ b. refuse_if b EINVAL >> Ok (try_write s (end_of_rows f d w.pipe) x written) in
+          let w = found (pipe_meaning f) (Some sides.Write) ps ds pipes files files_made k.tied pid fd d h in
+          let go : Bool → Result Tried Errno = λ b. refuse_if b EINVAL >> Ok (try_write s (end_of_rows (pipe_meaning f) d w.pipe) x written) in
           subst (λ (v : Namespace). attempted (meaning f v.state) pid (Writing fd x written) ≡ Err EINVAL) view
           (through (Some sides.Write) (λ e. refuse_if (nat_lt MAX_WRITE (length x)) EINVAL >> Ok (try_write s e x written)) w.pipe h (find_at pipes d.pipe.slot d.pipe.serial w.pipe w.stands)
           ∙ ap go (lt-ltb MAX_WRITE (length x) long))
@@ -168,7 +168,7 @@ module _ {files : Files} {files_made : ℕ} (f : Live) (limits : Limits) (charge
       -- what a transfer through the pipe that was found left
       module _ (r : Pipe) (handed : find pipes d.pipe.slot d.pipe.serial ≡ Some r) (g : Live) (r' : Pipe) (progress : Progress) where
         counts : (readers itself s d.pipe.serial ≡ r.readers) × (writers itself s d.pipe.serial ≡ r.writers)
-        counts = counted f (Some sides.Read) ps ds pipes files files_made k.tied pid fd d.pipe.serial d.pipe.slot r (find_was pipes d.pipe.slot d.pipe.serial r handed)
+        counts = counted (pipe_meaning f) (Some sides.Read) ps ds pipes files files_made k.tied pid fd d.pipe.serial d.pipe.slot r (find_was pipes d.pipe.slot d.pipe.serial r handed)
 
         abbrev after : Namespace
         after = record { limits = limits; state = state_of ps ds (put_at pipes d.pipe.serial (d.pipe.slot, r')) files files_made }
@@ -179,10 +179,10 @@ module _ {files : Files} {files_made : ℕ} (f : Live) (limits : Limits) (charge
             let machine : Passed = write_now (queue_of f r.ring) (readers itself s d.pipe.serial) (nat_le (length x) PIPE_BUF) (drop written x) in
             let same : write_now (queue_of f r.ring) r.readers whole (drop written x) ≡ machine = (λ i. write_now (queue_of f r.ring) (sym counts.0 i) (is_whole i) (drop written x)) in
             let told : machine.progress ≡ progress = ap (λ (m : Passed). m.progress) (sym same ∙ passes.told) in
-            let go : Bool → Result Tried Errno = λ b. refuse_if b EINVAL >> Ok (try_write s (end_of_rows f d r) x written) in
+            let go : Bool → Result Tried Errno = λ b. refuse_if b EINVAL >> Ok (try_write s (end_of_rows (pipe_meaning f) d r) x written) in
             subst (λ (v : Namespace). Came g after (attempted (meaning f v.state) pid (Writing fd x written)) progress (take (moved progress) (drop written x))) view
             (record {
-              tried = try_write s (end_of_rows f d r) x written;
+              tried = try_write s (end_of_rows (pipe_meaning f) d r) x written;
               is = through (Some sides.Write) (λ e. refuse_if (nat_lt MAX_WRITE (length x)) EINVAL >> Ok (try_write s e x written)) r h handed ∙ ap go (le-ltb MAX_WRITE (length x) short);
               progress_is = told;
               bytes_are = ap (λ p. take (moved p) (drop written x)) told;
@@ -197,7 +197,7 @@ module _ {files : Files} {files_made : ℕ} (f : Live) (limits : Limits) (charge
             let told : machine.progress ≡ progress = ap (λ (p : Passed). p.progress) (sym same ∙ passes.told) in
             subst (λ (v : Namespace). Came g after (attempted (meaning f v.state) pid (Reading fd m)) progress bytes) view
             (record {
-              tried = try_read s (end_of_rows f d r) m;
+              tried = try_read s (end_of_rows (pipe_meaning f) d r) m;
               is = through (Some sides.Read) (λ e. Ok (try_read s e m)) r h handed;
               progress_is = told;
               bytes_are = ap (λ p. taken (queue_of f r.ring) (moved p)) told ∙ sym are;

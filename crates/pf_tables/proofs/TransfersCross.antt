@@ -32,7 +32,7 @@ use Rattle.pf_ring.specs.Windows.{reach, limit, Stands, Keeps}
 use Rattle.pf_ring.specs.Table.{Joined, ring_at, slots_used, slots_of}
 use Rattle.pf_ring.proofs.TableLaws.{no_source, source_at, rings_stand, queue_stays}
 use Rattle.pf_limits.specs.UserPages.{UserPages}
-use Rattle.pf_tables.specs.Meaning.{Namespace, meaning, rings_of, pages, occupied, Charged}
+use Rattle.pf_tables.specs.Meaning.{Namespace, meaning, rings_of, pages, occupied, Charged, pipe_meaning}
 use Rattle.pf_tables.proofs.MeaningLaws.{meaning-with_queue, settled-meaning}
 use Rattle.pf_tables.specs.Owns.{Owns}
 use Rattle.pf_tables.proofs.OwnsLaws.{ring_at-pipe, others_written, joined_written, charged-with_queue, pages-without, pages_within, occupied_pages, used-rings}
@@ -258,30 +258,30 @@ module _ {files : Files} {files_made : ℕ} (f : Live) (limits : Limits) (charge
     in_view r h = subst (λ (v : Namespace). attempted (meaning f v.state) pid (Bringing c source sink m) ≡ r) view h
 
     pub no_source_end : (e : Errno) → end_in (Some sides.Read) ps ds pid source ≡ Err e → attempted (meaning f n.state) pid (Bringing c source sink m) ≡ Err e
-    no_source_end e h = in_view (Err e) (goes_on (Err e) (first_err (λ p. reading_end itself s p source) (λ p. writing_end itself s p sink) test (ready s pid) e (refused f (Some sides.Read) ps ds pipes files files_made k.tied pid source e h)))
+    no_source_end e h = in_view (Err e) (goes_on (Err e) (first_err (λ p. reading_end itself s p source) (λ p. writing_end itself s p sink) test (ready s pid) e (refused (pipe_meaning f) (Some sides.Read) ps ds pipes files files_made k.tied pid source e h)))
 
     module _ (i : Description) (reads : end_in (Some sides.Read) ps ds pid source ≡ Ok i) where
-      at_source : Found f (Some sides.Read) ps ds pipes files files_made pid source i
-      at_source = found f (Some sides.Read) ps ds pipes files files_made k.tied pid source i reads
+      at_source : Found (pipe_meaning f) (Some sides.Read) ps ds pipes files files_made pid source i
+      at_source = found (pipe_meaning f) (Some sides.Read) ps ds pipes files files_made k.tied pid source i reads
 
       pub no_sink_end : (e : Errno) → end_in (Some sides.Write) ps ds pid sink ≡ Err e → attempted (meaning f n.state) pid (Bringing c source sink m) ≡ Err e
       no_sink_end e h =
-          in_view (Err e) (goes_on (Err e) (second_err (λ p. reading_end itself s p source) (λ p. writing_end itself s p sink) test (ready s pid) (end_of_rows f i at_source.pipe) e at_source.is (refused f (Some sides.Write) ps ds pipes files files_made k.tied pid sink e h)))
+          in_view (Err e) (goes_on (Err e) (second_err (λ p. reading_end itself s p source) (λ p. writing_end itself s p sink) test (ready s pid) (end_of_rows (pipe_meaning f) i at_source.pipe) e at_source.is (refused (pipe_meaning f) (Some sides.Write) ps ds pipes files files_made k.tied pid sink e h)))
 
       pub source_stands : IsSome (find pipes i.pipe.slot i.pipe.serial)
       source_stands = ap is_some (find_at pipes i.pipe.slot i.pipe.serial at_source.pipe at_source.stands)
 
       module _ (o : Description) (writes : end_in (Some sides.Write) ps ds pid sink ≡ Ok o) where
-        at_sink : Found f (Some sides.Write) ps ds pipes files files_made pid sink o
-        at_sink = found f (Some sides.Write) ps ds pipes files files_made k.tied pid sink o writes
+        at_sink : Found (pipe_meaning f) (Some sides.Write) ps ds pipes files files_made pid sink o
+        at_sink = found (pipe_meaning f) (Some sides.Write) ps ds pipes files files_made k.tied pid sink o writes
 
         pub sink_stands : IsSome (find pipes o.pipe.slot o.pipe.serial)
         sink_stands = ap is_some (find_at pipes o.pipe.slot o.pipe.serial at_sink.pipe at_sink.stands)
 
-        two_found : (b : Bool) → nat_eq i.pipe.serial o.pipe.serial ≡ b → (ready s pid >>= (λ p. two_ends s p source sink)) ≡ (refuse_if b EINVAL >> Ok (record { source = end_of_rows f i at_source.pipe; sink = end_of_rows f o at_sink.pipe }))
+        two_found : (b : Bool) → nat_eq i.pipe.serial o.pipe.serial ≡ b → (ready s pid >>= (λ p. two_ends s p source sink)) ≡ (refuse_if b EINVAL >> Ok (record { source = end_of_rows (pipe_meaning f) i at_source.pipe; sink = end_of_rows (pipe_meaning f) o at_sink.pipe }))
         two_found b h =
-            both_ok (λ p. reading_end itself s p source) (λ p. writing_end itself s p sink) test (ready s pid) (end_of_rows f i at_source.pipe) (end_of_rows f o at_sink.pipe) at_source.is at_sink.is
-            ∙ ap (λ x. refuse_if x EINVAL >> Ok (record { source = end_of_rows f i at_source.pipe; sink = end_of_rows f o at_sink.pipe })) h
+            both_ok (λ p. reading_end itself s p source) (λ p. writing_end itself s p sink) test (ready s pid) (end_of_rows (pipe_meaning f) i at_source.pipe) (end_of_rows (pipe_meaning f) o at_sink.pipe) at_source.is at_sink.is
+            ∙ ap (λ x. refuse_if x EINVAL >> Ok (record { source = end_of_rows (pipe_meaning f) i at_source.pipe; sink = end_of_rows (pipe_meaning f) o at_sink.pipe })) h
 
         pub one_pipe : i.pipe.serial ≡ o.pipe.serial → attempted (meaning f n.state) pid (Bringing c source sink m) ≡ Err EINVAL
         one_pipe e = in_view (Err EINVAL) (goes_on _ (two_found true (eq-eqb i.pipe.serial o.pipe.serial e)))
@@ -289,7 +289,7 @@ module _ {files : Files} {files_made : ℕ} (f : Live) (limits : Limits) (charge
         module _ (differ : i.pipe.serial ≢ o.pipe.serial) (r t : Pipe) (from : find pipes i.pipe.slot i.pipe.serial ≡ Some r) (to : find pipes o.pipe.slot o.pipe.serial ≡ Some t)
             (g : Live) (r' t' : Pipe) (progress : Progress) (crosses : Crosses r r' t t' f g progress (cross_now c (queue_of f r.ring) (queue_of f t.ring) r.writers t.readers m)) where
           abbrev ends : Ends
-          ends = record { source = end_of_rows f i r; sink = end_of_rows f o t }
+          ends = record { source = end_of_rows (pipe_meaning f) i r; sink = end_of_rows (pipe_meaning f) o t }
 
           same_row : (d : Description) (x y : Pipe) → at pipes d.pipe.serial ≡ Some (d.pipe.slot, x) → find pipes d.pipe.slot d.pipe.serial ≡ Some y → x ≡ y
           same_row d x y h g =
@@ -300,13 +300,13 @@ module _ {files : Files} {files_made : ℕ} (f : Live) (limits : Limits) (charge
           is_tried : attempted (meaning f n.state) pid (Bringing c source sink m) ≡ Ok (try_cross c s ends m)
           is_tried =
               in_view _ (goes_on _ (two_found false (ne_eqb i.pipe.serial o.pipe.serial differ))
-              ∙ (λ j. Ok (try_cross c s (record { source = end_of_rows f i (same_row i at_source.pipe r at_source.stands from j); sink = end_of_rows f o (same_row o at_sink.pipe t at_sink.stands to j) }) m)))
+              ∙ (λ j. Ok (try_cross c s (record { source = end_of_rows (pipe_meaning f) i (same_row i at_source.pipe r at_source.stands from j); sink = end_of_rows (pipe_meaning f) o (same_row o at_sink.pipe t at_sink.stands to j) }) m)))
 
           source_counts : (readers itself s i.pipe.serial ≡ r.readers) × (writers itself s i.pipe.serial ≡ r.writers)
-          source_counts = counted f (Some sides.Read) ps ds pipes files files_made k.tied pid source i.pipe.serial i.pipe.slot r (find_was pipes i.pipe.slot i.pipe.serial r from)
+          source_counts = counted (pipe_meaning f) (Some sides.Read) ps ds pipes files files_made k.tied pid source i.pipe.serial i.pipe.slot r (find_was pipes i.pipe.slot i.pipe.serial r from)
 
           sink_counts : (readers itself s o.pipe.serial ≡ t.readers) × (writers itself s o.pipe.serial ≡ t.writers)
-          sink_counts = counted f (Some sides.Write) ps ds pipes files files_made k.tied pid sink o.pipe.serial o.pipe.slot t (find_was pipes o.pipe.slot o.pipe.serial t to)
+          sink_counts = counted (pipe_meaning f) (Some sides.Write) ps ds pipes files files_made k.tied pid sink o.pipe.serial o.pipe.slot t (find_was pipes o.pipe.slot o.pipe.serial t to)
 
           abbrev result : Crossed
           result = cross_now c (queue_of f r.ring) (queue_of f t.ring) (writers itself s i.pipe.serial) (readers itself s o.pipe.serial) m

@@ -20,7 +20,7 @@ use Rattle.pf_fds.specs.Registry.{find}
 use Rattle.pf_frame.specs.Live.{Live}
 use Rattle.pf_ring.specs.Ring.{queue_of}
 use Rattle.pf_limits.specs.UserPages.{UserPages}
-use Rattle.pf_tables.specs.Meaning.{Namespace, meaning}
+use Rattle.pf_tables.specs.Meaning.{Namespace, meaning, pipe_meaning}
 use Rattle.pf_tables.specs.Rows.{ProcessRows, DescriptionRows, PipeRows, Description, Pipe, state_of, end_in, Kept}
 use Rattle.pf_tables.specs.Told.{attempted, flag_of, is_nonblocking_at, IsDone, IsShort, Stops}
 use Rattle.pf_tables.proofs.Ends.{end_of_rows, refused, found, counted}
@@ -93,26 +93,26 @@ module _ {files : Files} {files_made : ℕ} (f : Live) (limits : Limits) (charge
   pub flag_told : (d : Description) → end_in None ps ds pid fd ≡ Ok d → d.nonblocking ≡ is_nonblocking_at (meaning f n.state) pid fd
   flag_told d h =
       subst (λ (v : Namespace). d.nonblocking ≡ is_nonblocking_at (meaning f v.state) pid fd) view
-      (sym (flag_found s fd (ready s pid) ∙ ap flagged (found f None ps ds pipes files files_made kept.tied pid fd d h).is))
+      (sym (flag_found s fd (ready s pid) ∙ ap flagged (found (pipe_meaning f) None ps ds pipes files files_made kept.tied pid fd d h).is))
 
   pub no_flag : (e : Errno) → end_in None ps ds pid fd ≡ Err e → false ≡ is_nonblocking_at (meaning f n.state) pid fd
   no_flag e h =
       subst (λ (v : Namespace). false ≡ is_nonblocking_at (meaning f v.state) pid fd) view
-      (sym (flag_found s fd (ready s pid) ∙ ap flagged (refused f None ps ds pipes files files_made kept.tied pid fd e h)))
+      (sym (flag_found s fd (ready s pid) ∙ ap flagged (refused (pipe_meaning f) None ps ds pipes files files_made kept.tied pid fd e h)))
 
   -- a write into a pipe that was found, which has readers and no room for all bytes, stops short of its end
   pub stops_at : (d : Description) (r : Pipe) (x : List ℕ) → end_in (Some Write) ps ds pid fd ≡ Ok d → find pipes d.pipe.slot d.pipe.serial ≡ Some r → length x ≤ MAX_WRITE
       → 0 < r.readers → room_of (queue_of f r.ring) < length x → Stops (attempted (meaning f n.state) pid (Writing fd x 0)) (length x)
   stops_at d r x h handed fits some short =
-      let w = found f (Some Write) ps ds pipes files files_made kept.tied pid fd d h in
+      let w = found (pipe_meaning f) (Some Write) ps ds pipes files files_made kept.tied pid fd d h in
       let one : ◌≡◌ {A = Option (ℕ × Pipe)} (Some (d.pipe.slot, w.pipe)) (Some (d.pipe.slot, r)) = sym w.stands ∙ find_was pipes d.pipe.slot d.pipe.serial r handed in
       let pair : ◌≡◌ {A = ℕ × Pipe} (d.pipe.slot, w.pipe) (d.pipe.slot, r) = cc in
       let same : w.pipe ≡ r = ap (λ (p : ℕ × Pipe). p.1) pair in
-      let counts = counted f (Some Write) ps ds pipes files files_made kept.tied pid fd d.pipe.serial d.pipe.slot w.pipe w.stands in
-      let go : Bool → Result Tried Errno = λ b. refuse_if b EINVAL >> Ok (try_write s (end_of_rows f d w.pipe) x 0) in
+      let counts = counted (pipe_meaning f) (Some Write) ps ds pipes files files_made kept.tied pid fd d.pipe.serial d.pipe.slot w.pipe w.stands in
+      let go : Bool → Result Tried Errno = λ b. refuse_if b EINVAL >> Ok (try_write s (end_of_rows (pipe_meaning f) d w.pipe) x 0) in
       subst (λ (v : Namespace). Stops (attempted (meaning f v.state) pid (Writing fd x 0)) (length x)) view
       (record {
-        tried = try_write s (end_of_rows f d w.pipe) x 0;
+        tried = try_write s (end_of_rows (pipe_meaning f) d w.pipe) x 0;
         is = bind-bind (ready s pid) (λ p. writing_end itself s p fd) _ ∙ ap (λ m. m >>= (λ e. refuse_if (nat_lt MAX_WRITE (length x)) EINVAL >> Ok (try_write s e x 0))) w.is ∙ ap go (le-ltb MAX_WRITE (length x) fits);
         short = stops (queue_of f w.pipe.ring) (nat_le (length x) PIPE_BUF) x (readers itself s d.pipe.serial)
             (subst (λ k. 0 < k) (ap (λ (p : Pipe). p.readers) (sym same) ∙ sym counts.0) some) (subst (λ (p : Pipe). room_of (queue_of f p.ring) < length x) (sym same) short);

@@ -1,43 +1,35 @@
 -- What the calls of the tables do, in terms of the lone machine's state.
 
-use Rattle.std.specs.Prelude.{◌≡◌, ℕ, ◌+◌, ◌*◌, ◌<◌, ◌≤◌, ⊤, ◌||◌, length, nat_lt, if◌then◌else◌, Bool, true, false, List, Option, Some, None, Result, Ok, Err, nat_le, nat_eq}
+use Rattle.std.specs.Prelude.{◌≡◌, ℕ, ◌+◌, ◌<◌, ◌≤◌, ⊤, ◌||◌, length, nat_lt, if◌then◌else◌, Bool, true, false, List, Option, Some, None, Result, Ok, Err, nat_le, nat_eq}
 use Rattle.std.specs.Map.{lookup}
 use Rattle.std.specs.Option.{option_and_then}
 use Rattle.pf_machine.specs.Refusals.{◌>>=◌, refuse_if, or_refuse}
 use Rattle.pf_machine.specs.FileMap.{Files}
 use Rattle.pf_machine.specs.Queue.{Segment, Slots, empty}
-use Rattle.pf_machine.specs.Numbered.{at, clear_at, change_at, first_free, keep}
+use Rattle.pf_machine.specs.Numbered.{at, clear_at, change_at, first_free}
 use Rattle.pf_machine.specs.Calls.{Call, Opening, Moving}
-use Rattle.pf_machine.specs.State.{itself, State, Process, Pipe, Outcome, living, ready, end_of, told, with_process, change_process, without_process, with_descriptor, waiting}
-use Rattle.pf_machine.specs.Processes.{fork}
-use Rattle.pf_machine.specs.Descriptors.{named, dup, without_descriptor, with_flag}
+use Rattle.pf_machine.specs.State.{itself, State, Process, Pipe, Outcome, living, ready, told, change_process, with_descriptor, waiting}
+use Rattle.pf_machine.specs.Descriptors.{without_descriptor}
 use Rattle.pf_machine.specs.Sweep.{sweep}
-use Rattle.pf_machine.specs.FileCalls as calls
-use Rattle.pf_machine.specs.Files.{make, unlink, rmdir, chmod}
-use Rattle.pf_base.specs.declared.meta.Kind.{Kind}
-use Rattle.pf_base.specs.declared.meta.Meta.{Meta}
-use Rattle.pf_machine.specs.Pipes.{first_descriptor, second_descriptor, is_spent, capacity_for, set_size, opened}
+use Rattle.pf_machine.specs.Pipes.{first_descriptor, second_descriptor, is_spent, capacity_for, opened}
 use Rattle.pf_base.specs.Capacities.{may_grow, told_as}
 use Rattle.pf_base.specs.Limits.{Limits}
-use Rattle.pf_base.specs.declared.TheConstants.{PAGE_SIZE, MAX_DESCRIPTORS}
+use Rattle.pf_base.specs.declared.TheConstants.{MAX_DESCRIPTORS}
 use Rattle.pf_base.specs.declared.errno.Errno.{Errno}
 use Rattle.pf_base.specs.declared.errno.Errno.TheVariants.{EMFILE, ENFILE, EPERM, EBUSY, EINVAL}
 use Rattle.pf_base.specs.declared.fault.Fault.{Fault}
 use Rattle.pf_base.specs.declared.fault.Fault.TheVariants as faults
 use Rattle.pf_base.specs.declared.step.Reply.{Reply}
-use Rattle.pf_base.specs.declared.step.Reply.TheVariants.{Num, Pid}
+use Rattle.pf_base.specs.declared.step.Reply.TheVariants.{Num}
 use Rattle.pf_limits.specs.UserPages.{UserPages, charged_to}
 use Rattle.pf_frame.specs.Live.{Live}
 use Rattle.pf_ring.specs.declared.ring.Window.{Window}
 use Rattle.pf_tables.specs.Meaning.{Namespace, meaning}
 use Rattle.pf_tables.specs.Rows as rows
 use Rattle.pf_tables.specs.Rows.{ProcessRows, DescriptionRows, PipeRows, state_of, Tied}
+use Rattle.pf_tables.specs.Owns.{Owns}
 use Rattle.pf_tables.specs.Recharging.{Recharges}
 use Rattle.pf_tables.specs.Told.{Becomes}
-
--- a process without its first n descriptors
-abbrev pub empty_first : ℕ → Process ℕ → Process ℕ
-empty_first n p = record p { descriptors = keep (λ fd. nat_le n fd) p.descriptors }
 
 module _ {X : Type 0} where
   -- the description's number at a descriptor of the process in place i
@@ -51,10 +43,6 @@ module _ {X : Type 0} where
   -- no process is in place i
   abbrev pub without_place : State X ℕ → ℕ → State X ℕ
   without_place s i = record s { processes = clear_at s.processes i }
-
-  -- the process in place i has none of its first n descriptors
-  abbrev pub without_first : State X ℕ → ℕ → ℕ → State X ℕ
-  without_first s i n = record s { processes = change_at (empty_first n) s.processes i }
 
 -- a process whose call is over: the description that an open made gets the lowest free descriptor
 abbrev pub over : Option (Call ℕ) → Process ℕ → Process ℕ
@@ -82,33 +70,6 @@ waits_in_open s pid = do
   call ← or_refuse EINVAL p.parked
   Ok (is_open call)
 
--- a process that waits in no call loses a descriptor; one that lives goes
-abbrev pub closed : State Segment ℕ → ℕ → ℕ → Result (State Segment ℕ) Errno
-closed s pid fd = do
-  p ← ready s pid
-  n ← named p fd
-  Ok (with_process s pid (without_descriptor fd p))
-
-abbrev pub exited : State Segment ℕ → ℕ → Result (State Segment ℕ) Errno
-exited s pid = do
-  p ← living s pid
-  Ok (without_process s pid)
-
--- such a process gets a child
-abbrev pub forked : State Segment ℕ → ℕ → Result (Outcome Segment ℕ) Errno
-forked s pid = ready s pid >>= (λ p. fork s p)
-
--- its lowest free descriptor names what another one names
-abbrev pub duped : State Segment ℕ → ℕ → ℕ → Result (Outcome Segment ℕ) Errno
-duped s pid fd = ready s pid >>= (λ p. dup s pid p fd)
-
--- the description that its descriptor names gets O_NONBLOCK, or loses it
-abbrev pub flagged : State Segment ℕ → ℕ → ℕ → Bool → Result (State Segment ℕ) Errno
-flagged s pid fd on = do
-  p ← ready s pid
-  n ← named p fd
-  Ok (with_flag s n on)
-
 -- a process lives and waits in no call, and these are its two lowest free descriptors
 pub record HasTwo (s : State Segment ℕ) (pid : ℕ) (free : ℕ × ℕ) : Type 0 where
   pub p : Process ℕ
@@ -132,63 +93,31 @@ capacity_of_caller c s pid = do
   p ← ready s pid
   told_as ENFILE (capacity_for c s p.cred)
 
--- the capacity in bytes of the pipe that a process's descriptor names
-abbrev pub size_of_end : State Segment ℕ → ℕ → ℕ → Result ℕ Errno
-size_of_end s pid fd = do
-  p ← ready s pid
-  e ← end_of itself s p fd
-  Ok (PAGE_SIZE * e.pipe.queue.capacity)
-
--- a call that gives it another one
-abbrev pub sized : Limits → State Segment ℕ → ℕ → ℕ → ℕ → Result (Outcome Segment ℕ) Errno
-sized c s pid fd bytes = ready s pid >>= (λ p. set_size itself c s p fd bytes)
-
 -- it was made, and this is told
 pub record Tells (f : Live) (old new : Namespace) (machine : Result (Outcome Segment ℕ) Errno) (reply : Reply) : Type 0 where
   pub state : State Segment ℕ
   pub is : machine ≡ Ok (told state reply)
   pub becomes : Becomes f f old new state
 
--- or its refusal is the machine's
-abbrev pub HasDuped : Live → Namespace → Namespace → Result ℕ Errno → Result (Outcome Segment ℕ) Errno → Type 0
-HasDuped f old new (Ok to) machine = Tells f old new machine (Num to)
-HasDuped f old new (Err e) machine = machine ≡ Err e
+-- A call that moves no bytes and lets nothing go was made: what it leaves and is told is what the machine's call leaves
+-- and is told at the tables' own state. Whatever frames were the namespace's own still are, and nothing stands that
+-- nobody can reach
+pub record Makes (old new : Namespace) (call : Result (Outcome Window ℕ) Errno) (reply : Reply) : Type 0 where
+  pub is : call ≡ Ok (told new.state reply)
+  pub limits : new.limits ≡ old.limits
+  pub owned : (f : Live) → Owns f old → Owns f new
+  pub swept : new.state ≡ sweep itself new.state
 
--- or memory was wanted
-abbrev pub HasResized : Live → Namespace → Namespace → Result ℕ Fault → Result (Outcome Segment ℕ) Errno → Type 0
-HasResized f old new (Ok size) machine = Tells f old new machine (Num size)
-HasResized f old new (Err (faults.Errno e)) machine = machine ≡ Err e
-HasResized f old new (Err faults.NoMemory) machine = ⊤
+-- or its refusal is the call's; or memory was wanted
+abbrev pub Says : Namespace → Namespace → Result Reply Fault → Result (Outcome Window ℕ) Errno → Type 0
+Says old new (Ok reply) call = Makes old new call reply
+Says old new (Err (faults.Errno e)) call = call ≡ Err e
+Says old new (Err faults.NoMemory) call = ⊤
 
-abbrev pub HasForked : Live → Namespace → Namespace → Result ℕ Fault → Result (Outcome Segment ℕ) Errno → Type 0
-HasForked f old new (Ok pid) machine = Tells f old new machine (Pid pid)
-HasForked f old new (Err (faults.Errno e)) machine = machine ≡ Err e
-HasForked f old new (Err faults.NoMemory) machine = ⊤
-
--- a call on files that is told nothing but that it was made; or its refusal is the machine's; or memory was wanted
-abbrev pub HasFiled : Live → Namespace → Namespace → Result (Unit {0}) Fault → Result (Outcome Segment ℕ) Errno → Type 0
-HasFiled f old new (Ok made) machine = Tells f old new machine (Num 0)
-HasFiled f old new (Err (faults.Errno e)) machine = machine ≡ Err e
-HasFiled f old new (Err faults.NoMemory) machine = ⊤
-
-abbrev pub making : Kind → State Segment ℕ → ℕ → List ℕ → ℕ → Result (Outcome Segment ℕ) Errno
-making kind s pid path bits = ready s pid >>= (λ p. make kind s p path bits)
-
-abbrev pub unlinking : State Segment ℕ → ℕ → List ℕ → Result (Outcome Segment ℕ) Errno
-unlinking s pid path = ready s pid >>= (λ p. unlink s p path)
-
-abbrev pub removing : State Segment ℕ → ℕ → List ℕ → Result (Outcome Segment ℕ) Errno
-removing s pid path = ready s pid >>= (λ p. rmdir s p path)
-
-abbrev pub remoding : State Segment ℕ → ℕ → List ℕ → ℕ → Result (Outcome Segment ℕ) Errno
-remoding s pid path bits = ready s pid >>= (λ p. chmod s p path bits)
-
--- what is known of a file, and the names in a directory, as a process is told them
-abbrev pub known : State Segment ℕ → ℕ → List ℕ → Result Meta Errno
-known s pid path = ready s pid >>= (λ p. calls.stat s.files p.cred path)
-
-abbrev pub names_in : State Segment ℕ → ℕ → List ℕ → Result (List ℕ) Errno
-names_in s pid path = ready s pid >>= (λ p. calls.list s.files p.cred path)
+-- what a call is told that only was made
+abbrev pub made_reply : Result (Unit {0}) Fault → Result Reply Fault
+made_reply (Ok done) = Ok (Num 0)
+made_reply (Err fault) = Err fault
 
 -- whether a pipe of an owner with so many pages may have so many slots
 abbrev pub verdict : UserPages → Bool → rows.Pipe → ℕ → Result (Unit {0}) Errno

@@ -32,17 +32,6 @@ pub record Becomes (f g : Live) (old new : Namespace) (s : State Segment ℕ) : 
   pub limits : new.limits ≡ old.limits
   pub state : meaning g new.state ≡ sweep itself s
 
--- the state is as it was
-pub record Stays (f g : Live) (old new : Namespace) : Type 0 where
-  pub owns : Owns g new
-  pub limits : new.limits ≡ old.limits
-  pub state : meaning g new.state ≡ meaning f old.state
-
--- a change is the machine's, or its refusal is, and then the state is as it was
-abbrev pub Leaves : {X : Type 0} → Live → Live → Namespace → Namespace → Result X Errno → Result (State Segment ℕ) Errno → Type 0
-Leaves f g old new (Ok x) machine = (s : State Segment ℕ) × (machine ≡ Ok s) × Becomes f g old new s
-Leaves f g old new (Err e) machine = (machine ≡ Err e) × Stays f g old new
-
 -- Transfers
 
 -- a transfer that a process tries

@@ -1,6 +1,6 @@
-//! Pipes: pipe(2), and their capacities: fcntl(2), F_SETPIPE_SZ and F_GETPIPE_SZ.
+//! Pipes: pipe(2).
 
-ghost use Rattle.std.specs.Prelude.{IsOk, ◌≡◌, ◌≢◌, Err};
+ghost use Rattle.std.specs.Prelude.{IsOk, ◌≡◌, Err};
 ghost use Rattle.pf_machine.specs.Machine.{call};
 ghost use Rattle.pf_machine.specs.State.{ready};
 ghost use Rattle.pf_tables.specs.Meaning.{meaning};
@@ -39,48 +39,5 @@ impl<A: Allocator + Clone> Space<A> {
         self.tables
             .open_pipe(door, self.alloc, pid, free, nonblock, slots)?;
         Ok(Reply::Fds(free.0, free.1))
-    }
-
-    /// Gives the pipe that a process's descriptor names another capacity (fcntl(2), F_SETPIPE_SZ).
-    pub(super) fn set_size<F: Frames>(
-        &mut self,
-        door: &mut F,
-        pid: u32,
-        fd: u32,
-        bytes: u64,
-    ) -> Result<Reply, Fault>
-        requires fact { F.fact door.old }
-        requires owns { Owns (F.live door.old) self.old }
-        ensures fact { F.fact door.new }
-        ensures rest { F.rest door.new ≡ F.rest door.old }
-        ensures told { Told (F.live door.old) (F.live door.new) self.old self.new result
-            (call self.old.limits (meaning (F.live door.old) self.old.state) (Step.SetSize pid fd bytes)) }
-        // Memory is wanted for a process that lives and waits in no call, and then nothing has changed.
-        ensures unchanged { result ≡ Err Fault.NoMemory → (self.new ≡ self.old) × (door.new ≡ door.old) }
-        ensures ready { result ≡ Err Fault.NoMemory
-            → IsOk (ready (meaning (F.live door.old) self.old.state) pid) }
-    {
-        let size = self.tables.set_size(door, self.alloc, pid, fd, bytes)?;
-        Ok(Reply::Num(size))
-    }
-
-    /// Tells the capacity of the pipe that a process's descriptor names, in bytes (fcntl(2), F_GETPIPE_SZ).
-    pub(super) fn get_size<F: Frames>(
-        &mut self,
-        door: &mut F,
-        pid: u32,
-        fd: u32,
-    ) -> Result<Reply, Fault>
-        requires fact { F.fact door.old }
-        requires owns { Owns (F.live door.old) self.old }
-        ensures fact { F.fact door.new }
-        ensures rest { F.rest door.new ≡ F.rest door.old }
-        ensures told { Told (F.live door.old) (F.live door.new) self.old self.new result
-            (call self.old.limits (meaning (F.live door.old) self.old.state) (Step.GetSize pid fd)) }
-        ensures succeeds { result ≢ Err Fault.NoMemory }
-    {
-        self.tables.settled();
-        let size = self.tables.size(door, pid, fd)?;
-        Ok(Reply::Num(size))
     }
 }

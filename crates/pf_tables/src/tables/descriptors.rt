@@ -2,21 +2,23 @@
 //! description's last name goes, so does its end of the pipe; where a pipe's last end goes, so does the pipe: its slots
 //! are released, and its pages are charged no more.
 
-ghost use Rattle.std.specs.Prelude.{◌≡◌, ℕ, ◌+◌, ◌<◌, ◌≤◌, None, IsSome, IfSome, OnErr, is_some, length, slice_set};
+ghost use Rattle.std.specs.Prelude.{◌≡◌, ◌≢◌, ℕ, ◌+◌, ◌<◌, ◌≤◌, Err, None, IsSome, IfSome, OnErr, is_some, length, slice_set};
 ghost use Rattle.pf_base.specs.declared.TheConstants.{MAX_DESCRIPTORS, MAX_PROCESSES};
-ghost use Rattle.pf_machine.specs.Machine.{call_of};
+ghost use Rattle.pf_machine.specs.Descriptors.{dup, set_nonblock};
+ghost use Rattle.pf_machine.specs.Machine.{call, call_of};
 ghost use Rattle.pf_machine.specs.Numbered.{at, one_if};
+ghost use Rattle.pf_machine.specs.State.{itself, of_ready};
 ghost use Rattle.pf_fds.specs.Registry.{find};
 ghost use Rattle.pf_tables.specs.Meaning.{meaning};
 ghost use Rattle.pf_tables.specs.Owns.{Owns};
 ghost use Rattle.pf_tables.specs.Rows.{key_at, with_fewer, left, gone, opens_of, pipes_of, state_of, Tied};
-ghost use Rattle.pf_tables.specs.Tables.{closed, descriptor, duped, emptied, flagged, without_place};
-ghost use Rattle.pf_tables.specs.Tables.{Forgets, HasDuped, Left, LetsGo, LetsGoOpens};
-ghost use Rattle.pf_tables.specs.Told.{Becomes, Leaves};
+ghost use Rattle.pf_tables.specs.Tables.{descriptor, emptied, without_place};
+ghost use Rattle.pf_tables.specs.Tables.{Forgets, Left, LetsGo, LetsGoOpens, Says};
+ghost use Rattle.pf_tables.specs.Told.{Becomes, Told};
 
 use super::{Description, Tables, key_of};
 use crate::process_table::ProcessTable;
-use pf_base::{Errno, MAX_DESCRIPTORS, Side};
+use pf_base::{Errno, Fault, MAX_DESCRIPTORS, Reply, Side, Step};
 use pf_fds::{Descriptions, Key, Registry};
 use pf_frame::Frames;
 use pf_pipe::Pipe;
@@ -137,44 +139,35 @@ impl<A: Allocator> Tables<A> {
         was_open
     }
 
-    /// Gives the description that a process's descriptor names one name more, the lowest free descriptor (dup(2)), and
-    /// tells which that is.
-    pub fn dup<F: Frames>(&mut self, door: &F, pid: u32, fd: u32) -> Result<u32, Errno>
-        requires owns { Owns (F.live door.now) self.old }
-        ensures duped { HasDuped (F.live door.now) self.old self.new result
-            (duped (meaning (F.live door.now) self.old.state) pid fd) }
+    /// Gives the description that a process's descriptor names one name more, the lowest free descriptor (dup(2)).
+    pub fn dup(&mut self, pid: u32, fd: u32) -> Result<Reply, Fault>
+        ensures says { Says self.old self.new result (of_ready self.old.state pid (λ p. dup self.old.state pid p fd)) }
         ensures refused { OnErr result (self.new ≡ self.old) }
+        ensures succeeds { result ≢ Err Fault.NoMemory }
     {
-        let _door = door;
         let key = key_of(&self.processes, pid, fd)?;
         let to = self.processes.ready(pid)?.descriptors.lowest();
         if to >= MAX_DESCRIPTORS {
-            return Err(Errno::EMFILE);
+            return Err(Errno::EMFILE.into());
         }
         self.descriptions.name(key);
         self.processes.give_key(pid, to, key);
-        Ok(to as u32)
+        Ok(Reply::Num(to as u64))
     }
 
-    /// Sets O_NONBLOCK of the description that a process's descriptor names, or takes it away. Whatever else names the
-    /// description sees it.
-    pub fn set_nonblocking<F: Frames>(
-        &mut self,
-        door: &F,
-        pid: u32,
-        fd: u32,
-        on: bool,
-    ) -> Result<(), Errno>
-        requires owns { Owns (F.live door.now) self.old }
-        ensures left { Leaves (F.live door.now) (F.live door.now) self.old self.new result
-            (flagged (meaning (F.live door.now) self.old.state) pid fd on) }
+    /// Sets O_NONBLOCK of the description that a process's descriptor names, or takes it away (fcntl(2), F_SETFL).
+    /// Whatever else names the description sees it.
+    pub fn set_nonblocking(&mut self, pid: u32, fd: u32, on: bool) -> Result<Reply, Fault>
+        ensures says { Says self.old self.new result
+            (of_ready self.old.state pid (λ p. set_nonblock itself self.old.state p fd on)) }
+        ensures refused { OnErr result (self.new ≡ self.old) }
+        ensures succeeds { result ≢ Err Fault.NoMemory }
     {
-        let _door = door;
         let end = self
             .descriptions
             .value_mut(key_of(&self.processes, pid, fd)?);
         end.nonblocking = on;
-        Ok(())
+        Ok(Reply::Num(0))
     }
 
     /// Drops a process's descriptor (close(2)), and what nobody can reach any more.
@@ -183,17 +176,18 @@ impl<A: Allocator> Tables<A> {
         door: &mut F,
         pid: u32,
         fd: u32,
-    ) -> Result<(), Errno>
+    ) -> Result<Reply, Fault>
         requires fact { F.fact door.old }
         requires owns { Owns (F.live door.old) self.old }
         ensures fact { F.fact door.new }
         ensures rest { F.rest door.new ≡ F.rest door.old }
-        ensures left { Leaves (F.live door.old) (F.live door.new) self.old self.new result
-            (closed (meaning (F.live door.old) self.old.state) pid fd) }
+        ensures told { Told (F.live door.old) (F.live door.new) self.old self.new result
+            (call self.old.limits (meaning (F.live door.old) self.old.state) (Step.Close pid fd)) }
+        ensures succeeds { result ≢ Err Fault.NoMemory }
     {
         key_of(&self.processes, pid, fd)?;
         self.empty(door, pid as usize - 1, fd as usize);
-        Ok(())
+        Ok(Reply::Num(0))
     }
 
     // The least descriptor from this one on that the process in a place has, MAX_DESCRIPTORS where it has none.

@@ -1,18 +1,19 @@
 //! Pipes: what makes one with its two ends.
 
-ghost use Rattle.std.specs.Prelude.{◌≡◌, ◌+◌, ◌-◌, ◌^◌, ◌<◌, ◌≤◌, false, Err, Some, None, IsOk, IfOk, OnOk, OnErr, slice_set, length, [], ◌∷◌, ◌++◌, not, ◌&&◌, nat_lt};
+ghost use Rattle.std.specs.Prelude.{◌≡◌, ◌≢◌, ◌+◌, ◌-◌, ◌^◌, ◌<◌, ◌≤◌, false, Err, Some, None, IsOk, IfOk, OnOk, OnErr, slice_set, length, [], ◌∷◌, ◌++◌, not, ◌&&◌, nat_lt};
 ghost use Rattle.pf_machine.specs.Numbered.{at};
 ghost use Rattle.pf_machine.specs.Counts.{total};
 ghost use Rattle.pf_tables.specs.Meaning.{meaning};
-ghost use Rattle.pf_machine.specs.State.{ready};
+ghost use Rattle.pf_machine.specs.Pipes.{get_size, set_size};
+ghost use Rattle.pf_machine.specs.State.{itself, of_ready, ready};
 ghost use Rattle.pf_limits.specs.UserPages.{charged_to};
 ghost use Rattle.pf_pipe.specs.Pipe.{unopened};
 ghost use Rattle.pf_tables.specs.Owns.{Owns};
-ghost use Rattle.pf_tables.specs.Tables.{HasTwo, FindsTwo, Opens, Resizing, HasResized, is_spent_for_pipe, capacity_of_caller, size_of_end, sized};
+ghost use Rattle.pf_tables.specs.Tables.{HasTwo, FindsTwo, Opens, Resizing, Says, is_spent_for_pipe, capacity_of_caller};
 
 use super::{Description, Tables, end};
 use pf_base::{
-    Config, Errno, Fault, MAX_DESCRIPTORS, MAX_MADE, MAX_SIZE, PAGE_SIZE, Side, pages_for,
+    Config, Errno, Fault, MAX_DESCRIPTORS, MAX_MADE, MAX_SIZE, PAGE_SIZE, Reply, Side, pages_for,
 };
 use pf_fds::{Descriptions, Key};
 use pf_frame::Frames;
@@ -178,36 +179,29 @@ impl<A: Allocator> Tables<A> {
         Ok(())
     }
 
-    /// The capacity in bytes of the pipe that a process's descriptor names.
-    pub fn size<F: Frames>(&self, door: &F, pid: u32, fd: u32) -> Result<u64, Errno>
-        ensures { result ≡ size_of_end (meaning (F.live door.now) self.now.state) pid fd }
+    /// The capacity in bytes of the pipe that a process's descriptor names (fcntl(2), F_GETPIPE_SZ).
+    pub fn size(&self, pid: u32, fd: u32) -> Result<Reply, Fault>
+        ensures says { Says self.now self.now result
+            (of_ready self.now.state pid (λ p. get_size itself self.now.state p fd)) }
+        ensures succeeds { result ≢ Err Fault.NoMemory }
     {
-        let _door = door;
         let end = end(&self.processes, &self.descriptions, pid, fd, None)?;
         let Some(pipe) = self.pipes.get(end.pipe) else {
-            return Err(Errno::EBADF);
+            return Err(Errno::EBADF.into());
         };
-        Ok(pipe.slots() as u64 * PAGE_SIZE as u64)
+        Ok(Reply::Num(pipe.slots() as u64 * PAGE_SIZE as u64))
     }
 
-    /// Gives the pipe that a process's descriptor names the capacity that holds so many bytes, and tells it in bytes. Its
-    /// owner is charged with the pages by which it grows, and gets those back by which it shrinks.
-    pub fn set_size<F: Frames>(
-        &mut self,
-        door: &F,
-        alloc: Global,
-        pid: u32,
-        fd: u32,
-        bytes: u64,
-    ) -> Result<u64, Fault>
-        requires owns { Owns (F.live door.now) self.old }
-        ensures resized { HasResized (F.live door.now) self.old self.new result
-            (sized self.old.limits (meaning (F.live door.now) self.old.state) pid fd bytes) }
-        ensures ready { result ≡ Err Fault.NoMemory
-            → IsOk (ready (meaning (F.live door.now) self.old.state) pid) }
+    /// Gives the pipe that a process's descriptor names the capacity that holds so many bytes, and tells it in bytes
+    /// (fcntl(2), F_SETPIPE_SZ). Its owner is charged with the pages by which it grows, and gets those back by which it
+    /// shrinks.
+    pub fn set_size(&mut self, alloc: Global, pid: u32, fd: u32, bytes: u64) -> Result<Reply, Fault>
+        ensures says { Says self.old self.new result
+            (of_ready self.old.state pid (λ p. set_size itself self.old.limits self.old.state p fd bytes)) }
+        // Memory is wanted for a process that lives and waits in no call.
+        ensures ready { result ≡ Err Fault.NoMemory → IsOk (ready self.old.state pid) }
         ensures refused { OnErr result (self.new ≡ self.old) }
     {
-        let _door = door;
         let end = end(&self.processes, &self.descriptions, pid, fd, None)?;
         let privileged = self.processes.ready(pid)?.cred.is_privileged();
         if bytes > MAX_SIZE {
@@ -220,6 +214,6 @@ impl<A: Allocator> Tables<A> {
         }
         let pipe = self.pipes.value_mut(end.pipe);
         resize(&mut self.pages, pipe, alloc, privileged, slots as u32)?;
-        Ok(size)
+        Ok(Reply::Num(size))
     }
 }

@@ -1,23 +1,23 @@
 //! Processes: what makes one, and what lets one go.
 
-ghost use Rattle.std.specs.Prelude.{◌≡◌, ◌+◌, ◌≤◌, Err, IsOk, IfSome, IfNone, OnOk, OnErr, length};
-ghost use Rattle.pf_machine.specs.Numbered.{first_free};
-ghost use Rattle.pf_machine.specs.Processes.{alive};
-ghost use Rattle.pf_machine.specs.State.{ready, with_process, vacant};
-ghost use Rattle.pf_base.specs.declared.TheConstants.{MAX_DESCRIPTORS, MAX_PROCESSES};
+ghost use Rattle.std.specs.Prelude.{◌≡◌, ◌≢◌, Err, IsOk, OnErr, length};
+ghost use Rattle.pf_machine.specs.Machine.{call};
+ghost use Rattle.pf_machine.specs.Processes.{alive, fork, spawn};
+ghost use Rattle.pf_machine.specs.State.{of_ready, ready};
+ghost use Rattle.pf_base.specs.declared.TheConstants.{MAX_DESCRIPTORS};
 ghost use Rattle.pf_tables.specs.Held.{HoldsNone};
 ghost use Rattle.pf_tables.specs.Meaning.{meaning};
 ghost use Rattle.pf_tables.specs.Owns.{Owns};
 ghost use Rattle.pf_tables.specs.Rows.{AllFind, AreFew, named_once_more};
-ghost use Rattle.pf_tables.specs.Tables.{exited, forked, HasForked};
-ghost use Rattle.pf_tables.specs.Told.{Becomes, Leaves};
+ghost use Rattle.pf_tables.specs.Tables.{Says};
+ghost use Rattle.pf_tables.specs.Told.{Told};
 
 use super::{Description, Tables};
 use crate::process_table::Process;
-use pf_base::{Cred, Errno, Fault, MAX_DESCRIPTORS, MAX_PROCESSES};
+use pf_base::{Cred, Errno, Fault, Groups, MAX_DESCRIPTORS, MAX_PROCESSES, Reply, Step};
 use pf_fds::{Descriptions, FdTable};
 use pf_frame::Frames;
-use std::alloc::{AllocError, Allocator, Global};
+use std::alloc::{Allocator, Global};
 
 // Gives each description that descriptors name one name more for each of them. The names can be counted: so far there
 // are at most those of MAX_PROCESSES processes, each with MAX_DESCRIPTORS descriptors and a parked open.
@@ -40,19 +40,6 @@ fn name_all(descriptions: &mut Descriptions<Description>, descriptors: &FdTable)
 }
 
 impl<A: Allocator> Tables<A> {
-    /// The lowest pid under which no process lives, if there is one.
-    pub fn free_pid(&self) -> Option<u32>
-        ensures some { IfSome result
-            (λ pid. (pid ≡ first_free self.now.state.processes + 1) × (pid ≤ MAX_PROCESSES)) }
-        ensures none { IfNone result (MAX_PROCESSES ≤ first_free self.now.state.processes) }
-    {
-        let i = self.processes.lowest();
-        if i >= MAX_PROCESSES {
-            return None;
-        }
-        Some(i as u32 + 1)
-    }
-
     /// How many processes live, also those that wait in a call. Where none does, nobody can reach a pipe: so none is
     /// there, and no frame is this namespace's.
     pub fn processes(&self) -> u32
@@ -62,44 +49,49 @@ impl<A: Allocator> Tables<A> {
         self.processes.alive()
     }
 
-    /// Makes a process with no descriptors under the lowest free pid. Where memory is refused, nothing has changed.
-    pub fn put_process<F: Frames>(
+    /// Makes a process with these credentials and no descriptors, under the lowest free pid (the profile's own).
+    pub fn spawn(
         &mut self,
-        door: &F,
         alloc: Global,
-        pid: u32,
-        cred: Cred,
-    ) -> Result<(), AllocError>
-        requires owns { Owns (F.live door.now) self.old }
-        requires lowest { pid ≡ first_free self.old.state.processes + 1 }
-        requires within { pid ≤ MAX_PROCESSES }
-        ensures made { OnOk result (Becomes (F.live door.now) (F.live door.now) self.old self.new
-            (with_process (meaning (F.live door.now) self.old.state) pid
-            (record { cred = cred; descriptors = vacant MAX_DESCRIPTORS; parked = None }))) }
+        uid: u32,
+        gid: u32,
+        umask: u32,
+        groups: &Groups,
+    ) -> Result<Reply, Fault>
+        ensures says { Says self.old self.new result
+            (spawn self.old.state (record { uid = uid; gid = gid; groups = groups.now; umask = umask })) }
         ensures refused { OnErr result (self.new ≡ self.old) }
     {
-        let _door = door;
+        if !Cred::may_have(groups, umask) {
+            return Err(Errno::EINVAL.into());
+        }
+        let i = self.processes.lowest();
+        if i >= MAX_PROCESSES {
+            return Err(Errno::EAGAIN.into());
+        }
+        let groups = groups.copy(alloc)?;
         let descriptors = FdTable::new(alloc)?;
         let process = Process {
-            cred,
+            cred: Cred {
+                uid,
+                gid,
+                groups,
+                umask,
+            },
             descriptors,
             parked: None,
         };
-        self.processes.put(pid as usize - 1, process);
-        Ok(())
+        self.processes.put(i, process);
+        Ok(Reply::Pid(i as u32 + 1))
     }
 
-    /// Makes a process with the credentials and the descriptors of another one under the lowest free pid, and tells
-    /// which that is (fork(2)). Where memory is refused, nothing has changed.
-    pub fn fork<F: Frames>(&mut self, door: &F, alloc: Global, pid: u32) -> Result<u32, Fault>
-        requires owns { Owns (F.live door.now) self.old }
-        ensures forked { HasForked (F.live door.now) self.old self.new result
-            (forked (meaning (F.live door.now) self.old.state) pid) }
-        ensures ready { result ≡ Err Fault.NoMemory
-            → IsOk (ready (meaning (F.live door.now) self.old.state) pid) }
+    /// Makes a process with the credentials and the descriptors of another one, under the lowest free pid (fork(2)).
+    pub fn fork(&mut self, alloc: Global, pid: u32) -> Result<Reply, Fault>
+        ensures says { Says self.old self.new result (of_ready self.old.state pid (λ p. fork self.old.state p)) }
+        // Memory is wanted for a process that lives and waits in no call.
+        ensures ready { result ≡ Err Fault.NoMemory → IsOk (ready self.old.state pid) }
         ensures refused { OnErr result (self.new ≡ self.old) }
     {
-        let _door = door;
         let parent = self.processes.ready(pid)?;
         let i = self.processes.lowest();
         if i >= MAX_PROCESSES {
@@ -116,17 +108,18 @@ impl<A: Allocator> Tables<A> {
             parked: None,
         };
         self.processes.put(i, child);
-        Ok(i as u32 + 1)
+        Ok(Reply::Pid(i as u32 + 1))
     }
 
     /// Takes a process away, with its descriptors. What nobody can reach any more goes.
-    pub fn drop_process<F: Frames>(&mut self, door: &mut F, pid: u32) -> Result<(), Errno>
+    pub fn drop_process<F: Frames>(&mut self, door: &mut F, pid: u32) -> Result<Reply, Fault>
         requires fact { F.fact door.old }
         requires owns { Owns (F.live door.old) self.old }
         ensures fact { F.fact door.new }
         ensures rest { F.rest door.new ≡ F.rest door.old }
-        ensures left { Leaves (F.live door.old) (F.live door.new) self.old self.new result
-            (exited (meaning (F.live door.old) self.old.state) pid) }
+        ensures told { Told (F.live door.old) (F.live door.new) self.old self.new result
+            (call self.old.limits (meaning (F.live door.old) self.old.state) (Step.Exit pid)) }
+        ensures succeeds { result ≢ Err Fault.NoMemory }
     {
         self.processes.living(pid)?;
         self.wake(door, pid);
@@ -141,6 +134,6 @@ impl<A: Allocator> Tables<A> {
             }
         }
         self.take_process(door, i);
-        Ok(())
+        Ok(Reply::Num(0))
     }
 }

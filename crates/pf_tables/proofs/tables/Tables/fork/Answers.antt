@@ -9,18 +9,20 @@ use Rattle.pf_tables.proofs.tables.Tables.fork.Given.{Over}
 use Rattle.pf_tables.proofs.tables.Tables.fork.Goals.{After-put}
 use Rattle.pf_tables.proofs.tables.Tables.fork.Goals as goal
 
-pub returns-then-i-ge-MAX_PROCESSES-clause-forked : goal.returns-then-i-ge-MAX_PROCESSES-clause-forked
-returns-then-i-ge-MAX_PROCESSES-clause-forked g c =
-    let refused = lemmas.has_no_room (g.F.Frames.live c.args.door.now) c.self.invariant.kept c.self.view_is c.args.pid c.in_ok-parent.ensures _ c.lowest-i.ensures.lowest c.if-i-ge-MAX_PROCESSES.true in
+pub returns-then-i-ge-MAX_PROCESSES-clause-says : goal.returns-then-i-ge-MAX_PROCESSES-clause-says
+returns-then-i-ge-MAX_PROCESSES-clause-says g c =
+    let refused =
+    lemmas.has_no_room c.self.invariant.kept c.self.view_is c.args.pid c.in_ok-parent.ensures _
+    c.lowest-i.ensures.lowest c.if-i-ge-MAX_PROCESSES.true in
     search rules
 
 pub name_all-requires-clause-stand : goal.name_all-requires-clause-stand
 name_all-requires-clause-stand g c =
     subst (λ (keys : List (Option Key)). AllFind keys c.self.inside.descriptions.items) (sym c.in_ok-descriptors.ensures)
-    (lemmas.all_find (g.F.Frames.live c.args.door.now) c.self.invariant.kept c.self.view_is c.args.pid c.in_ok-parent.ensures)
+    (lemmas.all_find c.self.invariant.kept c.self.view_is c.args.pid c.in_ok-parent.ensures)
 
 pub name_all-requires-clause-few : goal.name_all-requires-clause-few
-name_all-requires-clause-few g c = lemmas.are_few (g.F.Frames.live c.args.door.now) c.self.invariant.kept c.self.view_is c.args.pid c.in_ok-parent.ensures
+name_all-requires-clause-few g c = lemmas.are_few c.self.invariant.kept c.self.view_is c.args.pid c.in_ok-parent.ensures
 
 same : (g : Over) (c : After-put g) → ◌≡◌ {A = Process} (record { cred = c.in_ok-cred.cred; descriptors = c.in_ok-descriptors.descriptors; parked = None }) c.in_ok-parent.parent.now
 same g c =
@@ -34,10 +36,12 @@ pub invariant_of-self : goal.invariant_of-self
 invariant_of-self g c =
     record {
       kept =
-          lemmas.forked-kept (g.F.Frames.live c.args.door.now) c.self.invariant.kept c.self.view_is c.args.pid c.in_ok-parent.ensures _ c.lowest-i.ensures.lowest c.if-i-ge-MAX_PROCESSES.false (same g c) c.put.ensures c.name_all.ensures;
+          lemmas.forked-kept c.self.invariant.kept c.self.view_is c.args.pid c.in_ok-parent.ensures _
+          c.lowest-i.ensures.lowest c.if-i-ge-MAX_PROCESSES.false (same g c) c.put.ensures c.name_all.ensures;
       filed = fifos-changed _ _ _ (ap length c.name_all.ensures ∙ lemmas.as_many (length c.in_ok-descriptors.descriptors) c.in_ok-descriptors.descriptors c.self.inside.descriptions.items) c.self.invariant.filed;
     }
 
-pub returns-clause-forked : goal.returns-clause-forked
-returns-clause-forked g c =
-    lemmas.forked-tells (g.F.Frames.live c.args.door.now) c.self.invariant.kept c.self.view_is c.args.pid c.in_ok-parent.ensures _ c.lowest-i.ensures.lowest c.if-i-ge-MAX_PROCESSES.false (same g c) c.put.ensures c.name_all.ensures c.requires.owns
+pub returns-clause-says : goal.returns-clause-says
+returns-clause-says g c =
+    lemmas.forked c.self.invariant.kept c.self.view_is c.args.pid c.in_ok-parent.ensures _ c.lowest-i.ensures.lowest
+    c.if-i-ge-MAX_PROCESSES.false (same g c) c.put.ensures c.name_all.ensures
