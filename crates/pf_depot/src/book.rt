@@ -11,9 +11,9 @@ ghost use Rattle.pf_depot.specs.Loans.{loans_live};
 
 use crate::allotment::Allotment;
 use crate::depot::Depot;
+use crate::leaving::Leaving;
 use crate::lender::Lender;
 use crate::loans::Loans;
-use crate::stock::Stock;
 use pf_base::{AdmitFault, MAX_NAMESPACES, MAX_NUMBERS};
 use pf_frame::{Frame, FrameNo, PoolFault};
 use std::alloc::{AllocError, Global};
@@ -191,20 +191,17 @@ impl<C: Ledger, H: Ledger> DepotBook<C, H> {
         Ok((number, allotment))
     }
 
-    /// Takes all that a namespace has which goes: its loans, which hold no frame, its shares, and its stock. The frames
-    /// of the stock are free again, and its reservation passes from the credits to the slack. Its number isn't given
-    /// again.
-    ///
-    /// For each frame that it may take there is a credit or a frame of its stock, and these are all that it holds.
-    pub fn retire(&mut self, loans: Loans, credits: Share<C>, held: Share<H>, stock: Stock)
-        requires none { held_of loans ≡ 0 }
-        requires unspent { credits.amount + stock ≡ reserved_of loans }
-        requires stocked { held.amount ≡ stock }
-        requires parts { (0 < credits.parts) × (0 < held.parts) }
-        ensures { Retires self.old self.new (reserved_of loans) stock }
+    /// Takes all that a namespace has which goes. The frames of its stock are free again, and its reservation passes from
+    /// the credits to the slack. Its number isn't given again.
+    pub fn retire(&mut self, leaving: Leaving<C, H>)
+        ensures { Retires self.old self.new (reserved_of leaving.loans) leaving.stock }
     {
-        let mut credits = credits;
-        let mut held = held;
+        let Leaving {
+            loans,
+            mut credits,
+            mut held,
+            stock,
+        } = leaving;
         let stocked = u64::from(stock.len());
         self.held.sub(&mut held, stocked);
         self.credits.add(&mut credits, stocked);

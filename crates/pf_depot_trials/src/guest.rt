@@ -5,7 +5,7 @@ ghost use Rattle.pf_depot.specs.AllLoans.{held_of, reserved_of};
 
 use crate::borrowing::borrow_from;
 use pf_base::AdmitFault;
-use pf_depot::{Allotment, DepotBook, Loans, Stock, StockedDepot};
+use pf_depot::{Allotment, DepotBook, Leaving, Loans, Stock, StockedDepot};
 use std::alloc::Global;
 use std::sync::ledger::{Ledger, Share};
 use std::sync::{Mutex, Wait};
@@ -70,7 +70,8 @@ impl<C: Ledger, H: Ledger> Guest<C, H> {
         if loans.held() != 0 {
             return false;
         }
-        book.lock(rt).retire(loans, credits, held, stock);
+        book.lock(rt)
+            .retire(Leaving::new(loans, credits, held, stock));
         true
     }
 

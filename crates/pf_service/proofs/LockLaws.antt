@@ -16,7 +16,7 @@ use Rattle.pf_service.specs.Faults.{IsEventFault}
 use Rattle.pf_service.specs.Log.{Log}
 use Rattle.pf_service.specs.Said.{IsSaid, IsRefusedThere}
 use Rattle.pf_service.specs.Seats.{OneSeat}
-use Rattle.pf_service.specs.Tenants.{IsAwakening, IsEvent, IsGoneFault, IsLivingAt, IsTenantFault, is_idle_at}
+use Rattle.pf_service.specs.Tenants.{IsEvent, IsGoneFault, IsHappening, IsLivingAt, IsTenantFault, IsToldOfMore, is_idle_at}
 use Rattle.pf_service.specs.Told.{Told}
 use Rattle.pf_service.specs.Waited.{resume_of, Tries, IsWaited, IsTried}
 use Rattle.pf_service.proofs.FaultLaws.{unknown}
@@ -27,18 +27,20 @@ module _ {A C H : Type 0} (Lay : Tenant (OneLiving A C H) → Bool → Type 0) w
   lay_at s s' same lay = subst (λ (x : OneSeated A C H). Lay x.tenant x.is_awaited) (sym same) lay
 
   -- what happened to it
-  pub awakened : (Woken : Bool → Type 0) (s : OneSeated A C H) (new : Tenant (OneLiving A C H)) (step : Step) (place : ℕ) (reply : Reply)
+  pub happened : (Woken : Bool → Type 0) (Framed : Type 0) (s : OneSeated A C H) (new : Tenant (OneLiving A C H)) (step : Step) (place : ℕ) (reply : Reply)
       → Lay s.tenant s.is_awaited → IsEvent s.tenant new step place reply → (is_idle_at s.tenant new step reply ≡ false → Woken s.is_awaited)
-      → IsAwakening Lay Woken step place reply
-  awakened Woken s new step place reply lay event woken = (s.tenant, new, s.is_awaited, lay, event, woken)
+      → IsToldOfMore Framed s.tenant new
+      → IsHappening Lay Woken Framed step place reply
+  happened Woken Framed s new step place reply lay event woken framed = (s.tenant, new, s.is_awaited, lay, event, woken, framed)
 
   -- and where an event was made
-  pub awakened_by : (Woken : Bool → Type 0) (s : OneSeated A C H) (new : Tenant (OneLiving A C H)) (step : Step) (r : Result Receipt ServiceFault)
+  pub happened_by : (Woken : Bool → Type 0) (Framed : ℕ → Type 0) (s : OneSeated A C H) (new : Tenant (OneLiving A C H)) (step : Step) (r : Result Receipt ServiceFault)
       → Lay s.tenant s.is_awaited → IfOk r (λ e. IsEvent s.tenant new step e.place e.reply)
       → IfOk r (λ e. is_idle_at s.tenant new step e.reply ≡ false → Woken s.is_awaited)
-      → IfOk r (λ e. IsAwakening Lay Woken step e.place e.reply)
-  awakened_by Woken s new step (Ok e) lay event woken = awakened Woken s new step e.place e.reply lay event woken
-  awakened_by Woken s new step (Err x) lay event woken = tt
+      → IfOk r (λ e. IsToldOfMore (Framed e.ns) s.tenant new)
+      → IfOk r (λ e. IsHappening Lay Woken (Framed e.ns) step e.place e.reply)
+  happened_by Woken Framed s new step (Ok e) lay event woken framed = happened Woken (Framed e.ns) s new step e.place e.reply lay event woken framed
+  happened_by Woken Framed s new step (Err x) lay event woken framed = tt
 
   -- why an event was refused
   pub refused_there : {T : Type 0} (s : OneSeated A C H) (r : Result T ServiceFault)
@@ -70,23 +72,26 @@ module _ {A C H : Type 0} (Lay : Tenant (OneLiving A C H) → Bool → Type 0) w
 
   module _ (Woken : Bool → Type 0) where
     -- of one try of a process
-    pub awakened_at : (pid pid' place : ℕ) (reply : Reply) → pid ≡ pid' → IsAwakening Lay Woken (Resume pid) place reply → IsAwakening Lay Woken (Resume pid') place reply
-    awakened_at pid pid' place reply who happened = subst (λ (n : ℕ). IsAwakening Lay Woken (Resume n) place reply) who happened
+    pub happened_at : (Framed : ℕ → Type 0) (ns ns' pid pid' place : ℕ) (reply : Reply) → ns ≡ ns' → pid ≡ pid'
+        → IsHappening Lay Woken (Framed ns) (Resume pid) place reply → IsHappening Lay Woken (Framed ns') (Resume pid') place reply
+    happened_at Framed ns ns' pid pid' place reply at who it =
+        subst (λ (n : ℕ). IsHappening Lay Woken (Framed n) (Resume pid') place reply) at
+        (subst (λ (n : ℕ). IsHappening Lay Woken (Framed ns) (Resume n) place reply) who it)
 
     -- besides what its caller is told
-    pub said_of : (Passed : ℕ → ℕ → Type 0) (ns : ℕ) (step : Step) (old new : OneSeat) (before after : List Receipt) (place : ℕ) (reply : Reply)
-        → IsTried (λ s p r. Told s p r × Passed ns p) step old new before after place reply → IsAwakening Lay Woken step place reply
-        → IsTried (IsSaid Passed Lay Woken ns) step old new before after place reply
-    said_of Passed ns step old new before after place reply t happened =
-        record { gains = t.gains; receipts = t.receipts; says = (t.says, happened) }
+    pub said_of : (Passed : ℕ → ℕ → Type 0) (Framed : ℕ → Type 0) (ns : ℕ) (step : Step) (old new : OneSeat) (before after : List Receipt) (place : ℕ) (reply : Reply)
+        → IsTried (λ s p r. Told s p r × Passed ns p) step old new before after place reply → IsHappening Lay Woken (Framed ns) step place reply
+        → IsTried (IsSaid Passed Framed Lay Woken ns) step old new before after place reply
+    said_of Passed Framed ns step old new before after place reply t it =
+        record { gains = t.gains; receipts = t.receipts; says = (t.says, it) }
 
 -- what each caller is told, and the gate, of all that is said
 
-module _ {A C H : Type 0} (Passed : ℕ → ℕ → Type 0) (Lay : Tenant (OneLiving A C H) → Bool → Type 0) (Woken : Bool → Type 0) (ns : ℕ) where
-  tries_alone : (step : Step) (es : List Event) → Tries (IsSaid Passed Lay Woken ns) step es → Tries (λ s p r. Told s p r × Passed ns p) step es
+module _ {A C H : Type 0} (Passed : ℕ → ℕ → Type 0) (Framed : ℕ → Type 0) (Lay : Tenant (OneLiving A C H) → Bool → Type 0) (Woken : Bool → Type 0) (ns : ℕ) where
+  tries_alone : (step : Step) (es : List Event) → Tries (IsSaid Passed Framed Lay Woken ns) step es → Tries (λ s p r. Told s p r × Passed ns p) step es
   tries_alone step [] tries = tt
   tries_alone step (e ∷ es) tries = (tries.0, tries.1.0, tries.2, tries_alone (resume_of step) es tries.3)
 
   pub waited_alone : (step : Step) (old new : OneSeat) (before after : List Receipt) (es : List Event)
-      → IsWaited (IsSaid Passed Lay Woken ns) step old new before after es → IsWaited (λ s p r. Told s p r × Passed ns p) step old new before after es
+      → IsWaited (IsSaid Passed Framed Lay Woken ns) step old new before after es → IsWaited (λ s p r. Told s p r × Passed ns p) step old new before after es
   waited_alone step old new before after es w = record { gains = w.gains; receipts = w.receipts; tries = tries_alone step es w.tries }

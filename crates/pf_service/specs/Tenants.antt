@@ -79,12 +79,13 @@ abbrev pub is_idle_at : {A C H : Type 0} → Tenant (OneLiving A C H) → Tenant
 is_idle_at (Living l) (Living m) step reply = is_idle l.logged.state m.logged.state step reply
 is_idle_at _ _ _ _ = false
 
--- one event happened to what lay behind a lock when it was taken, and those who wait there were woken, but for an event that
--- is of no use to them
-abbrev pub IsAwakening : {A C H : Type 0} → (Tenant (OneLiving A C H) → Bool → Type 0) → (Bool → Type 0) → Step → ℕ → Reply → Type 0
-IsAwakening {A} {C} {H} Lay Woken step place reply =
+-- one event happened to what lay behind a lock when it was taken; those who wait there were woken, but for an event that is
+-- of no use to them; and where it holds more frames than before, a gate was told
+abbrev pub IsHappening : {A C H : Type 0} → (Tenant (OneLiving A C H) → Bool → Type 0) → (Bool → Type 0) → Type 0 → Step → ℕ → Reply → Type 0
+IsHappening {A} {C} {H} Lay Woken Framed step place reply =
     (old new : Tenant (OneLiving A C H)) × (is_awaited : Bool) × Lay old is_awaited × IsEvent old new step place reply
     × (is_idle_at old new step reply ≡ false → Woken is_awaited)
+    × IsToldOfMore Framed old new
 
 -- why it isn't retired
 abbrev pub IsRetireFault : {A C H : Type 0} → Tenant (OneLiving A C H) → RetireFault → Type 0

@@ -1,4 +1,4 @@
-ghost use Rattle.std.specs.Prelude.{◌≡◌, ◌+◌, ◌<◌, ◌≤◌, length, IfOk, IfErr, IfSome};
+ghost use Rattle.std.specs.Prelude.{◌≡◌, ◌+◌, ◌<◌, ◌≤◌, length, IfOk, IfErr, IfSome, Some};
 ghost use Rattle.std.specs.List.{range_with_len};
 ghost use Rattle.pf_base.specs.declared.TheConstants.{MAX_NUMBERS};
 ghost use Rattle.pf_service.specs.Lodged.{IsLodged, IsOfRoom};
@@ -61,27 +61,21 @@ impl<A: Allocator + Clone, C: Ledger, H: Ledger> Guests<A, C, H> {
     }
 
     /// A namespace moves in where its number is, and what shows it is given. The number was given once, so nobody was there:
-    /// else what shows that somebody was.
+    /// else what shows that somebody was, and the namespace in its room.
     pub(crate) fn admit<R: Wait>(
         &self,
         rt: &R,
         room: Room<A, C, H>,
         place: Place<A, C, H>,
-    ) -> Result<Lodged<'_, A, C, H>, Lodged<'_, A, C, H>>
+    ) -> Result<Lodged<'_, A, C, H>, (Lodged<'_, A, C, H>, Room<A, C, H>)>
         requires { place < MAX_NUMBERS }
         ensures lodged { IfOk result (λ t. IsLodged self.now.rooms.items place t.of t.value.value) }
-        ensures taken { IfErr result (λ t. IsOfRoom self.now.rooms.items place t.of) }
+        ensures taken { IfErr result (λ e. IsOfRoom self.now.rooms.items place e.0.of × (e.1.value ≡ Some place)) }
     {
         let ns = place.ns();
         let mut room = room;
         drop(Box::replace(&mut room, Some(place)));
-        match self.rooms[ns as usize].try_insert(rt, room) {
-            Ok(lodged) => Ok(lodged),
-            Err((lodged, room)) => {
-                drop(room);
-                Err(lodged)
-            }
-        }
+        self.rooms[ns as usize].try_insert(rt, room)
     }
 
     // The place of a namespace that was admitted moves out.

@@ -5,7 +5,7 @@ use crate::retired::Retired;
 use crate::spare::{ReplyRoom, Spare};
 use crate::transcript::Transcript;
 use pf_base::{Config, Reply, Step};
-use pf_depot::{Allotment, DepotBook, Stock};
+use pf_depot::{Allotment, DepotBook, Leaving, Stock};
 use pf_space::Placed;
 use pf_worker::{Gate, GatedDepot, Returns};
 use std::alloc::{AllocError, Allocator, Global};
@@ -130,7 +130,8 @@ impl<A: Allocator + Clone, C: Ledger, H: Ledger> Living<A, C, H> {
         logged.log(&mut depot, step, bound)
     }
 
-    /// Gives what the namespace has at the depot back, and keeps what it was asked and told. It holds no frame.
+    /// Gives what the namespace of this number has at the depot back, and keeps what it was asked and told. It holds no
+    /// frame.
     ///
     /// The depot's lock is held once.
     pub(crate) fn retire<R: Wait, D: Returns>(
@@ -138,10 +139,11 @@ impl<A: Allocator + Clone, C: Ledger, H: Ledger> Living<A, C, H> {
         rt: &R,
         way: &D,
         book: &Mutex<DepotBook<C, H>>,
+        ns: u32,
     ) -> Retired
         requires none { self.logged.held ≡ 0 }
         ensures kept { result ≡ record { limits = self.logged.limits; entries = self.logged.transcript } }
-        ensures returned { D.returned way.now self.logged.limits.reserve self.stock }
+        ensures returned { D.returned way.now ns self.logged.limits.reserve self.stock }
     {
         let Living {
             logged,
@@ -152,7 +154,8 @@ impl<A: Allocator + Clone, C: Ledger, H: Ledger> Living<A, C, H> {
         } = self;
         drop(spare);
         let (transcript, loans) = logged.into_parts();
-        way.give_back(rt, book, loans, credits, held, stock);
+        let leaving = Leaving::new(loans, credits, held, stock);
+        way.give_back(rt, book, ns, leaving);
         Retired::new(transcript)
     }
 

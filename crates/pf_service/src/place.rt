@@ -3,7 +3,7 @@ ghost use Rattle.pf_service.specs.Faults.{IsApplyFault, IsEventFault, IsRefusal,
 ghost use Rattle.pf_service.specs.Log.{IsLogged};
 ghost use Rattle.pf_service.specs.Said.{IsRefusedThere};
 ghost use Rattle.pf_service.specs.Seats.{Gains, event_at};
-ghost use Rattle.pf_service.specs.Tenants.{IsAwakening, IsEvent, IsSameTenant, IsTenantFault, IsToldOfMore, is_idle_at};
+ghost use Rattle.pf_service.specs.Tenants.{IsEvent, IsHappening, IsSameTenant, IsTenantFault, IsToldOfMore, is_idle_at};
 ghost use Rattle.pf_service.specs.Told.{Told};
 ghost use Rattle.pf_service.specs.Transcripts.{IsLone};
 ghost use Rattle.pf_service.specs.declared.TheConstants.{MAX_ENTRIES};
@@ -191,8 +191,8 @@ pub(crate) fn event_of<A: Allocator + Clone, R: Wait, G: Gate, C: Ledger, H: Led
     }
 }
 
-// One event of a seat of the namespace that lies behind a lock. It happens to what lay there, or is refused because of that,
-// and those who wait there are woken.
+// One event of a seat of the namespace that lies behind a lock. It happens to what lay there, or is refused because of that;
+// those who wait there are woken, and where the namespace then holds more frames, the gate was told.
 fn call_at<A: Allocator + Clone, R: Wait, G: Gate, C: Ledger, H: Ledger, W: Waiters>(
     rt: &R,
     gate: &G,
@@ -205,8 +205,8 @@ fn call_at<A: Allocator + Clone, R: Wait, G: Gate, C: Ledger, H: Ledger, W: Wait
     ensures kept { IfOk result (λ r. Gains seat.old seat.new (event_at r.place step.now r.reply ∷ [])) }
     ensures told { IfOk result (λ r. (r.ns ≡ seat.old.ns) × Told step.now r.place r.reply) }
     ensures passed { IfOk result (λ r. G.passed gate.now r.ns r.place) }
-    ensures woken { IfOk result (λ r. IsAwakening (λ t awaited. W.lay waiters.now A C H t awaited)
-        (λ awaited. W.woken waiters.now awaited) step.now r.place r.reply) }
+    ensures happened { IfOk result (λ r. IsHappening (λ t awaited. W.lay waiters.now A C H t awaited)
+        (λ awaited. W.woken waiters.now awaited) (G.framed gate.now r.ns) step.now r.place r.reply) }
     ensures fault { IfErr result (IsRefusedThere (λ t awaited. W.lay waiters.now A C H t awaited)) }
     ensures refused { OnErr result (Gains seat.old seat.new []) }
 {
@@ -271,10 +271,11 @@ impl<A: Allocator + Clone, C: Ledger, H: Ledger> Place<A, C, H> {
         way: &D,
         book: &Mutex<DepotBook<C, H>>,
     ) -> Result<(), RetireFault>
-        ensures returned { OnOk result ((reserve : ℕ) × (stock : ℕ) × D.returned way.now reserve stock) }
+        ensures returned { OnOk result ((reserve : ℕ) × (stock : ℕ) × D.returned way.now self.now reserve stock) }
         ensures fault { IfErr result IsRetirementFault }
     {
-        self.seated.lock(rt).retire(rt, way, book, &self.next)
+        let mut seated = self.seated.lock(rt);
+        seated.retire(rt, way, book, self.ns, &self.next)
     }
 
     /// What the namespace was asked and told, and how many seats it gave.

@@ -82,8 +82,8 @@ impl<A: Allocator + Clone, C: Ledger, H: Ledger> Seated<A, C, H> {
         Ok(number)
     }
 
-    /// The namespace is retired, where it lives and has no process: what it has at the depot goes back there, and what it
-    /// was asked and told stays. Those who wait are woken.
+    /// The namespace, of this number, is retired, where it lives and has no process: what it has at the depot goes back
+    /// there, and what it was asked and told stays. Those who wait are woken.
     ///
     /// It takes no memory, and holds the depot's lock once.
     pub(crate) fn retire<R: Wait, D: Returns, W: Waiters>(
@@ -91,10 +91,11 @@ impl<A: Allocator + Clone, C: Ledger, H: Ledger> Seated<A, C, H> {
         rt: &R,
         way: &D,
         book: &Mutex<DepotBook<C, H>>,
+        ns: u32,
         waiters: &W,
     ) -> Result<(), RetireFault>
         ensures retired { OnOk result (IsRetirement self.old.tenant self.new.tenant) }
-        ensures returned { OnOk result (IsReturned (λ reserve stock. D.returned way.now reserve stock) self.old.tenant) }
+        ensures returned { OnOk result (IsReturned (λ reserve stock. D.returned way.now ns reserve stock) self.old.tenant) }
         ensures woken { OnOk result (W.woken waiters.now true) }
         ensures fault { IfErr result (IsRetireFault self.old.tenant) }
         ensures unchanged { OnErr result (self.new.tenant ≡ self.old.tenant) }
@@ -110,7 +111,7 @@ impl<A: Allocator + Clone, C: Ledger, H: Ledger> Seated<A, C, H> {
         }
         let nothing = Tenant::Retired(living.get_ref().nothing());
         if let Tenant::Living(living) = mem::replace(&mut self.tenant, nothing) {
-            self.tenant = Tenant::Retired(living.retire(rt, way, book));
+            self.tenant = Tenant::Retired(living.retire(rt, way, book, ns));
         }
         waiters.wake_all(true);
         Ok(())

@@ -194,7 +194,7 @@ impl<A: Allocator + Clone, G: Gate, C: Ledger, H: Ledger> Service<A, G, C, H> {
     // The same by any way to the depot.
     fn retire_by<R: Wait, D: Returns>(&self, rt: &R, way: &D, ns: u32) -> Result<(), RetireFault>
         ensures missing { MAX_NUMBERS ≤ ns → result ≡ Err RetireFault.NoSuchNamespace }
-        ensures returned { OnOk result ((reserve : ℕ) × (stock : ℕ) × D.returned way.now reserve stock) }
+        ensures returned { OnOk result ((reserve : ℕ) × (stock : ℕ) × D.returned way.now ns reserve stock) }
         ensures fault { IfErr result IsRetirementFault }
     {
         match self.place(ns) {
@@ -218,9 +218,9 @@ impl<A: Allocator + Clone, G: Gate, C: Ledger, H: Ledger> Service<A, G, C, H> {
     /// One event of a seat's namespace: the step is made, and the seat keeps it with its place and its reply.
     ///
     /// The reply is the last that the lone machine gives on some steps of which this is the last, as many as the place
-    /// says before it. `NoSuchNamespace` where the seat's namespace isn't there, as that of another service may be; then
-    /// `Gone` where it is retired; then `TranscriptFull` where the namespace had 1,000,000 events; then `NoMemory`. Nothing is logged or changed by a
-    /// refused event.
+    /// says before it. `NoSuchNamespace` where the seat's namespace isn't there, as that of another service may be;
+    /// then `Gone` where it is retired; then `TranscriptFull` where the namespace had 1,000,000 events; then `NoMemory`.
+    /// Nothing is logged or changed by a refused event.
     pub fn call<R: Wait>(
         &self,
         rt: &R,

@@ -110,8 +110,9 @@ fn try_once<A: Allocator + Clone, R: Wait, G: Gate, C: Ledger, H: Ledger, W: Wai
 }
 
 // An event of a seat of the namespace that lies behind a lock, and, as long as its process waits, after each further event of
-// the namespace a Resume of that process. Each happens to what lay there, and those who wait there are woken. It is given up
-// only where an event is refused because of what lay there.
+// the namespace a Resume of that process. Each happens to what lay there, those who wait there are woken, and where the
+// namespace then holds more frames, the gate was told. It is given up only where an event is refused because of what lay
+// there.
 fn wait_at<A: Allocator + Clone, R: Wait, G: Gate, C: Ledger, H: Ledger, W: Waiters>(
     rt: &R,
     gate: &G,
@@ -123,8 +124,9 @@ fn wait_at<A: Allocator + Clone, R: Wait, G: Gate, C: Ledger, H: Ledger, W: Wait
     receipts: &mut Vec<Receipt>,
 ) -> Result<(), ServiceFault>
     ensures waited { (es : List OneEvent)
-        × IsWaited (IsSaid (λ n p. G.passed gate.now n p) (λ t awaited. W.lay waiters.now A C H t awaited)
-        (λ awaited. W.woken waiters.now awaited) seat.old.ns) step.now seat.old seat.new
+        × IsWaited (IsSaid (λ n p. G.passed gate.now n p) (λ n. G.framed gate.now n)
+        (λ t awaited. W.lay waiters.now A C H t awaited) (λ awaited. W.woken waiters.now awaited) seat.old.ns)
+        step.now seat.old seat.new
         receipts.old.items receipts.new.items es
         × OnOk result (IsAnswered es)
         × OnErr result (AreParked es) }

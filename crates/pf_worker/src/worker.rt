@@ -10,7 +10,7 @@ use crate::gate::Gate;
 use crate::gated::GatedDepot;
 use crate::returns::{Returns, ToTheDepot};
 use pf_base::{AdmitFault, Answer, Config, RetireFault, Step};
-use pf_depot::{Allotment, DepotBook, Loans, Stock};
+use pf_depot::{Allotment, DepotBook, Leaving, Loans, Stock};
 use pf_frame::{Frame, PoolFault};
 use pf_hub::{first_fault, reserves_of, step_over};
 use pf_space::Placed;
@@ -184,14 +184,14 @@ impl<A: Allocator + Clone, C: Ledger, H: Ledger> Worker<A, C, H> {
             (λ _. alive self.tenant.state ≡ 0)
             (λ e. (e.0 ≡ self) × (e.1 ≡ RetireFault.Alive (alive self.tenant.state))
             × (0 < alive self.tenant.state)) }
-        ensures returned { OnOk result ((stock : ℕ) × D.returned way.now self.tenant.limits.reserve stock) }
+        ensures returned { OnOk result ((stock : ℕ) × D.returned way.now self.number self.tenant.limits.reserve stock) }
     {
         let processes = self.placed.processes();
         if processes > 0 {
             return Err((self, RetireFault::Alive { processes }));
         }
         let Worker {
-            number: _,
+            number,
             placed,
             loans,
             credits,
@@ -200,7 +200,8 @@ impl<A: Allocator + Clone, C: Ledger, H: Ledger> Worker<A, C, H> {
         } = self;
         // no other worker waits while the files go
         drop(placed);
-        way.give_back(rt, book, loans, credits, held, stock);
+        let leaving = Leaving::new(loans, credits, held, stock);
+        way.give_back(rt, book, number, leaving);
         Ok(())
     }
 

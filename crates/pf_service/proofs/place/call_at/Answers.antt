@@ -1,16 +1,17 @@
 -- What lay behind the lock is what the event happened to, or why it was refused.
-use Rattle.std.specs.Prelude.{Bool}
+use Rattle.std.specs.Prelude.{ℕ, Bool}
 use Rattle.pf_service.specs.declared.living.Living.{Living as OneLiving}
 use Rattle.pf_service.specs.declared.seated.Tenant.{Tenant}
-use Rattle.pf_service.proofs.LockLaws.{lay_at, awakened_by, refused_there}
+use Rattle.pf_service.proofs.LockLaws.{lay_at, happened_by, refused_there}
 use Rattle.pf_service.proofs.place.call_at.Goals as goal
 
-pub returns-clause-woken : goal.returns-clause-woken
-returns-clause-woken g c =
+pub returns-clause-happened : goal.returns-clause-happened
+returns-clause-happened g c =
     let Lay : Tenant (OneLiving g.row.A.Denot g.row.C.Denot g.row.H.Denot) → Bool → Type 0
     = λ t awaited. g.W.Waiters.lay c.args.waiters.now g.row.A.Denot g.row.C.Denot g.row.H.Denot t awaited in
-    awakened_by Lay (λ awaited. g.W.Waiters.woken c.args.waiters.now awaited) c.deref_mut.result.now _ c.args.step.now c.event_of.result
-    (lay_at Lay _ _ c.deref_mut.ensures.value c.lock-seated.ensures) c.event_of.ensures.event c.event_of.ensures.woken
+    let Framed : ℕ → Type 0 = λ n. g.G.Gate.framed c.args.gate.now n in
+    happened_by Lay (λ awaited. g.W.Waiters.woken c.args.waiters.now awaited) Framed c.deref_mut.result.now _ c.args.step.now c.event_of.result
+    (lay_at Lay _ _ c.deref_mut.ensures.value c.lock-seated.ensures) c.event_of.ensures.event c.event_of.ensures.woken c.event_of.ensures.framed
 
 pub returns-clause-fault : goal.returns-clause-fault
 returns-clause-fault g c =

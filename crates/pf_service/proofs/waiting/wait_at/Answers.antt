@@ -8,7 +8,7 @@ use Rattle.pf_service.specs.Said.{IsSaid}
 use Rattle.pf_service.specs.Waited.{resume_of}
 use Rattle.std.proofs.lemmas.List.Elements.{All-push}
 use Rattle.pf_service.proofs.FaultLaws.{on_ok, on_err}
-use Rattle.pf_service.proofs.LockLaws.{lay_at, awakened, awakened_at, handed_on, said_of}
+use Rattle.pf_service.proofs.LockLaws.{lay_at, happened, happened_at, handed_on, said_of}
 use Rattle.pf_service.proofs.WaitingLaws.{begun, gone_on, answered, left, tried_at, IsParked}
 use Rattle.pf_service.proofs.waiting.wait_at.Goals as goal
 
@@ -18,10 +18,11 @@ loop-init g c =
     = λ t awaited. g.W.Waiters.lay c.args.waiters.now g.row.A.Denot g.row.C.Denot g.row.H.Denot t awaited in
     let Woken : Bool → Type 0 = λ awaited. g.W.Waiters.woken c.args.waiters.now awaited in
     let Passed : ℕ → ℕ → Type 0 = λ n p. g.G.Gate.passed c.args.gate.now n p in
+    let Framed : ℕ → Type 0 = λ n. g.G.Gate.framed c.args.gate.now n in
     let t = c.in_ok-waits.ensures.tried in
     let here = lay_at Lay _ _ c.deref_mut.ensures.value c.lock-seated.ensures in
-    let happened = awakened Lay Woken c.deref_mut.result.now _ c.args.step.now t.0 t.1 here t.4 t.5 in
-    let said = said_of Lay Woken Passed c.args.seat.now.ns c.args.step.now _ _ _ _ t.0 t.1 t.2 happened in
+    let it = happened Lay Woken (Framed c.args.seat.now.ns) c.deref_mut.result.now _ c.args.step.now t.0 t.1 here t.4 t.5 c.in_ok-waits.ensures.framed in
+    let said = said_of Lay Woken Passed Framed c.args.seat.now.ns c.args.step.now _ _ _ _ t.0 t.1 t.2 it in
     ((tt, tt), ([], event_at t.0 c.args.step.now t.1, begun _ c.args.step.now _ _ _ _ t.0 t.1 said, t.3))
 
 pub returns-then-not-waits-clause-waited : goal.returns-then-not-waits-clause-waited
@@ -36,16 +37,17 @@ loop-preserved g c =
     = λ t awaited. g.W.Waiters.lay c.args.waiters.now g.row.A.Denot g.row.C.Denot g.row.H.Denot t awaited in
     let Woken : Bool → Type 0 = λ awaited. g.W.Waiters.woken c.args.waiters.now awaited in
     let Passed : ℕ → ℕ → Type 0 = λ n p. g.G.Gate.passed c.args.gate.now n p in
+    let Framed : ℕ → Type 0 = λ n. g.G.Gate.framed c.args.gate.now n in
     let i = c.loop.invariant.1 in
     let t = c.in_ok-waits-2.ensures.tried in
     let waits : IsTrue c.loop.waits = search rules in
     let again = tried_at Passed c.loop.seat.ns c.args.seat.now.ns c.maker-pid.result _ c.loop.seat c.try_once-in-loop.new.seat
     c.loop.receipts.items c.try_once-in-loop.new.receipts.items t.0 t.1 i.2.waited.gains.ns c.maker-pid.ensures t.2 in
     let here = lay_at Lay _ _ c.deref_mut-in-loop-2.ensures.value c.wait-seated.ensures in
-    let happened = awakened Lay Woken c.deref_mut-in-loop-2.result.now _ _ t.0 t.1 here t.4 t.5 in
-    let said = said_of Lay Woken Passed c.args.seat.now.ns (resume_of c.args.step.now) _ _ _ _ t.0 t.1 again
-    (awakened_at Lay Woken c.maker-pid.result _ t.0 t.1 c.maker-pid.ensures happened) in
-    let go = gone_on (IsSaid Passed Lay Woken c.args.seat.now.ns) c.args.step.now
+    let it = happened Lay Woken (Framed c.loop.seat.ns) c.deref_mut-in-loop-2.result.now _ _ t.0 t.1 here t.4 t.5 c.in_ok-waits-2.ensures.framed in
+    let said = said_of Lay Woken Passed Framed c.args.seat.now.ns (resume_of c.args.step.now) _ _ _ _ t.0 t.1 again
+    (happened_at Lay Woken Framed c.loop.seat.ns c.args.seat.now.ns c.maker-pid.result _ t.0 t.1 i.2.waited.gains.ns c.maker-pid.ensures it) in
+    let go = gone_on (IsSaid Passed Framed Lay Woken c.args.seat.now.ns) c.args.step.now
     c.args.seat.now c.loop.seat c.try_once-in-loop.new.seat c.args.receipts.now.items c.loop.receipts.items c.try_once-in-loop.new.receipts.items i.0 i.1 t.0 t.1 i.2 (i.3.0 waits) said in
     ((tt, tt), (i.0 ++ i.1 ∷ [], event_at t.0 (resume_of c.args.step.now) t.1, go, t.3))
 
@@ -55,8 +57,9 @@ returns-in_err-waits-2-clause-waited g c =
     = λ t awaited. g.W.Waiters.lay c.args.waiters.now g.row.A.Denot g.row.C.Denot g.row.H.Denot t awaited in
     let Woken : Bool → Type 0 = λ awaited. g.W.Waiters.woken c.args.waiters.now awaited in
     let Passed : ℕ → ℕ → Type 0 = λ n p. g.G.Gate.passed c.args.gate.now n p in
+    let Framed : ℕ → Type 0 = λ n. g.G.Gate.framed c.args.gate.now n in
     let i = c.loop.invariant.1 in
-    let stays = left (IsSaid Passed Lay Woken c.args.seat.now.ns) c.args.step.now
+    let stays = left (IsSaid Passed Framed Lay Woken c.args.seat.now.ns) c.args.step.now
     c.args.seat.now c.loop.seat c.try_once-in-loop.new.seat c.args.receipts.now.items c.loop.receipts.items c.try_once-in-loop.new.receipts.items (i.0 ++ i.1 ∷ [])
     i.2.waited c.in_err-waits-2.ensures.seat c.in_err-waits-2.ensures.receipts in
     let waits : IsTrue c.loop.waits = search rules in (

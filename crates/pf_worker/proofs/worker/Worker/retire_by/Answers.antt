@@ -4,18 +4,18 @@ use Rattle.pf_depot.specs.AllLoans.{reserved_of}
 use Rattle.pf_worker.proofs.WorkerLaws.{is_vacated}
 use Rattle.pf_worker.proofs.worker.Worker.retire_by.Goals as goal
 
-pub give_back-requires-clause-none : goal.give_back-requires-clause-none
-give_back-requires-clause-none g c =
+pub new-leaving-requires-clause-none : goal.new-leaving-requires-clause-none
+new-leaving-requires-clause-none g c =
     (is_vacated c.self.inside.placed.space c.self.inside.loans _ _ _ _ _ c.self.invariant
     (c.processes-processes.ensures.none (omega (arith, c.if-processes-gt0.false)))).none
 
-pub give_back-requires-clause-unspent : goal.give_back-requires-clause-unspent
-give_back-requires-clause-unspent g c =
+pub new-leaving-requires-clause-unspent : goal.new-leaving-requires-clause-unspent
+new-leaving-requires-clause-unspent g c =
     (is_vacated c.self.inside.placed.space c.self.inside.loans _ _ _ _ _ c.self.invariant
     (c.processes-processes.ensures.none (omega (arith, c.if-processes-gt0.false)))).unspent
 
-pub give_back-requires-clause-stocked : goal.give_back-requires-clause-stocked
-give_back-requires-clause-stocked g c =
+pub new-leaving-requires-clause-stocked : goal.new-leaving-requires-clause-stocked
+new-leaving-requires-clause-stocked g c =
     (is_vacated c.self.inside.placed.space c.self.inside.loans _ _ _ _ _ c.self.invariant
     (c.processes-processes.ensures.none (omega (arith, c.if-processes-gt0.false)))).stocked
 
@@ -23,5 +23,11 @@ pub returns-clause-returned : goal.returns-clause-returned
 returns-clause-returned g c =
     let dealt : reserved_of c.self.inside.loans ≡ c.args.self.tenant.limits.reserve =
     sym c.self.invariant.owns.reserve ∙ ap (λ w. w.tenant.limits.reserve) c.self.view_is in
+    let number : c.self.inside.number ≡ c.args.self.number = ap (λ w. w.number) c.self.view_is in
     let stock = c.self.inside.stock in
-    (stock, subst (λ reserve. g.D.Returns.returned c.args.way.now reserve stock) dealt c.give_back.ensures)
+    let made = c.new-leaving.ensures in
+    let back = subst (λ n. g.D.Returns.returned c.args.way.now c.self.inside.number (reserved_of c.new-leaving.result.loans) n)
+    made.stock c.give_back.ensures in
+    let all = subst (λ reserve. g.D.Returns.returned c.args.way.now c.self.inside.number reserve stock)
+    (ap reserved_of made.loans ∙ dealt) back in
+    (stock, subst (λ n. g.D.Returns.returned c.args.way.now n c.args.self.tenant.limits.reserve stock) number all)
