@@ -1,10 +1,9 @@
 -- An open handle's hub is stepped, and the handle stays open.
 
-use Rattle.std.proofs.Common.{◌≡◌, ℕ, Bool, true, false, List, [], ◌++◌, length, take, drop, refl, sym, ap, arith}
-use Rattle.std.specs.Prelude.{Option, None, min}
+use Rattle.std.proofs.Common.{◌≡◌, ℕ, Bool, true, false, refl}
+use Rattle.std.specs.Prelude.{Option, None}
 use Rattle.pf_base.specs.declared.step.Answer.{Answer}
 use Rattle.pf_base.specs.declared.step.Step.{Step}
-use Rattle.pf_ring.specs.Laid.{laid}
 use Rattle.pf_c.specs.Handle.{hub_at}
 use Rattle.pf_c.specs.Rows.{Held}
 use Rattle.pf_c.specs.Told.{Answered, IsAnswered}
@@ -21,9 +20,3 @@ pub shut : (is_open : Bool) (held : Held) (n : ℕ) (step : Step) (fits : Bool) 
     → IsAnswered (hub_at is_open held) (hub_at is_open held) n step fits None
 shut true held n step fits is = absurd (cc)
 shut false held n step fits is = refl
-
--- and its host's buffer stays as it is
-pub no_byte_lies : (buffer : List ℕ) → buffer ≡ laid [] buffer
-no_byte_lies buffer =
-    let zero : min 0 (length buffer) ≡ 0 = omega arith in
-    sym (ap (λ (n : ℕ). take n [] ++ drop n buffer) zero)

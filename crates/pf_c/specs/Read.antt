@@ -54,10 +54,3 @@ pub record Handed (Is : Option Reply → Type 0) (told : Option (Result (Option 
   pub is : Is reply
   pub told_is : told ≡ option_map number_told reply
   pub bytes_lie : after ≡ laid (bytes_handed reply) before
-
--- what C is told of it: it never wants memory
-pub record Resumed (old new : Option Held) (n : ℕ) (step : Step) (code : ℤ) (before after : List ℕ) : Type 0 where
-  pub reply : Option Reply
-  pub answered : IsAnswered old new n step true (option_map Done reply)
-  pub says : code ≡ code_of_read (option_map number_told reply)
-  pub bytes : after ≡ laid (bytes_handed reply) before

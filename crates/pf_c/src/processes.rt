@@ -3,7 +3,7 @@ ghost use Rattle.std.specs.Prelude.{true};
 ghost use Rattle.std.specs.Option.{option_map};
 ghost use Rattle.pf_base.specs.declared.step.Step.TheVariants as steps;
 ghost use Rattle.pf_c.specs.Handle.{hub_of};
-ghost use Rattle.pf_c.specs.Read.{Handed, Resumed};
+ghost use Rattle.pf_c.specs.Read.{Handed, Laid};
 ghost use Rattle.pf_c.specs.Told.{Answered, IsAnswered, Told};
 
 use crate::handle::SagHub;
@@ -98,7 +98,7 @@ fn resume_of(
 /// wanted.
 #[unsafe(no_mangle)]
 pub extern "C" fn sag_resume(h: &mut SagHub, ns: u32, pid: u32, into: &mut [u8]) -> i64
-    ensures { Resumed (hub_of h.old) (hub_of h.new) ns (steps.Resume pid) result into.old into.new }
+    ensures { Laid (hub_of h.old) (hub_of h.new) ns (steps.Resume pid) result into.old into.new }
 {
     let told = resume_of(h, ns, pid, into);
     code_of_read(&told)

@@ -1,5 +1,5 @@
 use Rattle.std.proofs.Common.{Some, None, refl, sym, ap, ◌∙◌}
-use Rattle.pf_c.proofs.Stepped.{no_byte_lies}
+use Rattle.pf_ring.proofs.LaidLaws.{no_byte_lies}
 use Rattle.pf_c.proofs.processes.resume_in.Goals as goal
 
 pub returns-then-not-lives : goal.returns-then-not-lives

@@ -2,7 +2,8 @@ use Rattle.std.proofs.Common.{None, true, refl}
 use Rattle.std.specs.Option.{option_map}
 use Rattle.pf_base.specs.declared.step.Answer.TheVariants.{Done}
 use Rattle.pf_base.specs.declared.step.Step.TheVariants as steps
-use Rattle.pf_c.proofs.Stepped.{stepped, shut, no_byte_lies}
+use Rattle.pf_ring.proofs.LaidLaws.{no_byte_lies}
+use Rattle.pf_c.proofs.Stepped.{stepped, shut}
 use Rattle.pf_c.proofs.processes.resume_of.Goals as goal
 
 pub returns-then-not-h : goal.returns-then-not-h
