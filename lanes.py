@@ -7,6 +7,8 @@ out/ is copied to the other lanes, as not every kit keeps it elsewhere. Then its
 What was seen refused is kept in the user's cache folder, where the untouched text checked again behind it: by checksums
 of the edit, of all files of the repository that the check reads, and of wrong_bodies.py, which judges; and by the kit's
 version. A later run on the same machine, in any checkout, takes it from there.
+
+In the end it is said what each crate took, as it stands and of its wrong bodies, and which of these took the longest.
 """
 import contextlib
 import hashlib
@@ -23,6 +25,7 @@ from concurrent.futures import ThreadPoolExecutor
 import wrong_bodies
 from wrong_bodies import Trial, bytes_of, check, edits_of, groups_of, is_proved, read, run, say
 
+DEAREST = 25  # how many wrong bodies are named at the end, with what each took
 CHECKS = 3  # how many checks of a crate with wrong bodies one lane makes, where another lane can take the others
 LANE_BYTES = 4 << 30  # what a check may take of memory
 DAYS = 30  # how long what was seen is kept where no run asks for it
@@ -194,6 +197,8 @@ class WrongBodies:
         self.edits = {crate: edits for crate, edits in every.items() if edits}
         self.kept = Kept(trees[0], self.edits)
         self.parts = {it: parts_of(groups_of(f"{trees[0]}/crates/{it}", self.unseen(it))) for it in self.edits}
+        # processor seconds by a crate, as it stands and of its wrong bodies; seconds of the clock by a wrong body
+        self.proved, self.tried, self.took = Counter(), Counter(), Counter()
 
     def unseen(self, crate):
         """A crate's wrong bodies that no earlier run saw refused, or all of them with --anew."""
@@ -216,7 +221,16 @@ class WrongBodies:
         for crate, name, _ in besides:
             held, unheld = given[name] or (0, [f"{name} ({crate} isn't proved)"])
             passed, lost = passed + held, lost + unheld
+        self.tell_costs()
         return passed, lost
+
+    def tell_costs(self):
+        """Says what each crate took, and which wrong bodies took the longest, the dearest first."""
+        for crate, seconds in (self.proved + self.tried).most_common():
+            parts = f"as it stands {self.proved[crate]:.0f}, wrong bodies {self.tried[crate]:.0f}"
+            say(f"{crate}: {seconds:.0f} processor seconds: {parts}")
+        for name, seconds in (+self.took).most_common(DEAREST):
+            say(f"{name}: {seconds:.0f} seconds of the clock")
 
     def proofs(self, crates):
         """The check of each crate that others wait for. Those come first that the most others stand on."""
@@ -229,10 +243,13 @@ class WrongBodies:
         """Checks a crate as it stands, in one lane, and hands on what that leaves to the others, as not every kit keeps
         it elsewhere. Where others stand on the crate, its library is built too, once for all lanes."""
         when, folder = "as it stands, so its wrong bodies and what stands on it aren't tried", f"crates/{crate}"
-        if not is_proved(check(f"{tree}/{folder}"), crate, when):
-            return False
-        if is_stood_on and not is_proved(run(["rt", "lib"], f"{tree}/{folder}"), crate, "as a library"):
-            return False
+        works = [(lambda: check(f"{tree}/{folder}"), when)]
+        works += [(lambda: run(["rt", "lib"], f"{tree}/{folder}"), "as a library")] if is_stood_on else []
+        for work, how in works:
+            ran = work()
+            self.proved[crate] += ran.seconds
+            if not is_proved(ran, crate, how):
+                return False
         for other in self.trees if os.path.isdir(f"{tree}/{folder}/out") else []:
             if other != tree:  # under another name first, so that no command there sees the half of it
                 shutil.copytree(f"{tree}/{folder}/out", f"{other}/{folder}/out.new", symlinks=True)
@@ -259,9 +276,11 @@ class WrongBodies:
         refused = earlier + sum(it.verdict == wrong_bodies.WAS_REFUSED for it in shown)
         hollow = sorted(it.name for it in shown if it.verdict == wrong_bodies.BY_NAMES_ALONE)
         lost += [f"{crate}/{it} (by names alone)" for it in hollow]
+        self.tried[crate] = sum(it.seconds for it in trials if it)
+        self.took.update({f"{crate}/{name}": it for trial in trials if trial for name, it in trial.took.items()})
         counts = Counter(it.said.partition(":")[0] for it in tried if it.verdict == wrong_bodies.WAS_REFUSED)
         how = [f"{earlier} by an earlier run", f"{counts['refused']} in company", f"{counts['alone']} alone"]
-        how += [f"{counts['whole']} by rt must-fail", f"{sum(it.seconds for it in trials if it):.0f} processor seconds"]
+        how += [f"{counts['whole']} by rt must-fail", f"{self.tried[crate]:.0f} processor seconds"]
         say(f"{crate}: {refused} of {len(self.edits[crate])} wrong bodies refused ({', '.join(how)})")
         if hollow:
             say(f"{crate}: {len(hollow)} refused by names alone, which shows nothing of a contract: {' '.join(hollow)}")

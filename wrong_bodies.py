@@ -16,6 +16,8 @@ as long again as the refusal. It doesn't where the file has a fault of its own. 
 has a proof file with a planted fault, which is no reason: there a function counts as refused where the prover says
 which part of its contract isn't proved, or finds another fault in the file.
 
+A check says when it is done with a function. So what each wrong body took is known, but for those that the kit judged.
+
 A crate's checks are made over what the one before kept. So its untouched text must check before the first wrong body
 (lanes.py sees to that) and, over the same folder, behind the last one: else its check would refuse anything.
 """
@@ -24,6 +26,7 @@ import os
 import re
 import shutil
 import subprocess
+import time
 from collections import Counter, namedtuple
 
 # How many wrong bodies stand in one check. Where there are many more (42 and not yet 31) the prover has copies of
@@ -44,6 +47,7 @@ UNREAD = re.compile(r"^(?:\./)?(?:src|specs)/\S+?:\d+:\d+: error|\berror\[[\w-]+
 HOLLOW = re.compile(r"has no field|is not in scope|has no `|was not admitted|which was rejected")
 BROKEN = re.compile(rf"\n +(?={HOLLOW.pattern})")
 PLANTED = "\nplanted : Type 0\nplanted = Type 0\n"  # it is refused: the type of a type isn't one of its own kind
+CHECKED = re.compile(r"^checked \w+::(\S+), \d+ of \d+$")  # as it is done with a function, for good or ill
 JUDGED = re.compile(r"^rt: (?:must-fail \w+|crates/\w+/must-fail)/(\S+?): (.*)$", re.M)
 HOLLOW_VERDICT = re.compile(  # of a record without a field the kit gives the first line alone, where its line is broken
     rf"refused, as it must be(?: \(only because a proof file|: \S*proofs/.*(?:{HOLLOW.pattern}|record `.*` \(nearest:))"
@@ -99,9 +103,22 @@ def known(words, folder):
     return [it for it in words if it in helps]
 
 
-def check(folder, spots=()):
+class Laps:
+    """The seconds of the clock that a check takes with each function: until it is done with it, since it was with the
+    one before. The first one also has what the check takes before it."""
+
+    def __init__(self):
+        self.last, self.seconds = time.monotonic(), Counter()
+
+    def __call__(self, line):
+        if found := CHECKED.match(line):
+            before, self.last = self.last, time.monotonic()
+            self.seconds[found[1]] += self.last - before
+
+
+def check(folder, spots=(), each=lambda line: None):
     """Checks a crate, or functions of it alone."""
-    return run(["rt", "check", "--jobs", "1", *(word for spot in spots for word in ("--only", spot))], folder)
+    return run(["rt", "check", "--jobs", "1", *(word for spot in spots for word in ("--only", spot))], folder, each)
 
 
 def is_proved(ran, crate, when):
@@ -116,16 +133,18 @@ def is_proved(ran, crate, when):
 
 
 def owner_of(head):
-    """What an impl block of these words is of: its type, and what the prover calls it, as Fault and FaultFromErrno."""
-    said, depth = re.sub(r"\bwhere\b.*", "", head, flags=re.S).strip(), 0
+    """What an impl block of these words is of: its type, and what the prover calls it, as Fault and FaultFromErrno. The
+    block's own parameters aren't in that name."""
+    said, own, depth = re.sub(r"\bwhere\b.*", "", head, flags=re.S).strip(), set(), 0
     for place, it in enumerate(said if said.startswith("<") else ""):
         depth += (it == "<") - (it == ">" and said[place - 1] != "-")
         if not depth:
+            own = set(re.findall(r"[<,]\s*(?:const )?'?(\w+)", said[:place]))
             said = said[place + 1 :].strip()
             break
     trait, _, of = said.rpartition(" for ")
     name = re.match(r"(?:\w+::)*(\w+)", of.strip())[1]
-    return name, name + "".join(it[0].upper() + it[1:] for it in re.findall(r"\w+", trait))
+    return name, name + "".join(it[0].upper() + it[1:] for it in re.findall(r"\w+", trait) if it not in own)
 
 
 def module_of(file):
@@ -302,7 +321,7 @@ class Trial:
 
     def __init__(self, tree, crate, words):
         self.tree, self.crate, self.folder, self.words = tree, crate, f"{tree}/crates/{crate}", words
-        self.tried, self.holds, self.seconds = [], False, 0.0
+        self.tried, self.holds, self.seconds, self.took = [], False, 0.0, Counter()  # took: seconds by an edit's name
 
     def counted(self, ran):
         self.seconds += ran.seconds
@@ -339,9 +358,10 @@ class Trial:
         if not all(map(is_of_functions, group)):
             return {}, {}
         texts, spots = edited(self.folder, group), sorted(set().union(*(it.spots for it in group)))
-        planted = planted_in(self.folder, spots, texts) if plants else {}
+        planted, laps = planted_in(self.folder, spots, texts) if plants else {}, Laps()
         with in_place(self.folder, texts | dict(planted.values())):
-            ran = self.counted(check(self.folder, spots))
+            ran = self.counted(check(self.folder, spots, laps))
+        self.took.update({it.name: sum(laps.seconds[spot] for spot in it.spots) for it in group})
         text = lambda file: texts.get(file) or text_of(self.folder, file)
         spot_at_goal = lambda file, *place: spot_of_goal(self.folder, file, text(file), *place)
         return reasons_in(ran.said, spot_at_goal, planted) if ran.status == 1 else ({}, {})
