@@ -257,8 +257,8 @@ impl<A: Allocator> Node<A> {
 }
 
 impl<A: Allocator + Clone> Entry<A> {
-    // A file with nothing below it, under a name. It stays out of line: its caller goes down a path by calling itself, and
-    // would take this function's part of the stack at each level.
+    // A file with nothing below it, under a name. It stays out of line: its caller may be inlined into the walk of a change,
+    // which goes down a path by calling itself, and would take this function's part of the stack at each level.
     #[inline(never)]
     fn new(alloc: &A, name: &[u8], file: File) -> Result<Box<Entry<A>, A>, AllocError>
         ensures name { IfOk result (λ e. e.value.name.items ≡ name.now) }
