@@ -55,6 +55,7 @@ HOLLOW_VERDICT = re.compile(  # of a record without a field the kit gives the fi
 
 Edit = namedtuple("Edit", "name text pairs spots")  # pairs: (file, old, new); spots: what it edits, as spot_at names it
 Tried = namedtuple("Tried", "name verdict said")
+NO_REASONS = {}, {}
 WAS_REFUSED, BY_NAMES_ALONE, LET_THROUGH = "refused", "by names alone", "let through"  # the verdicts
 Ran = namedtuple("Ran", "status said seconds")
 
@@ -272,10 +273,10 @@ def spot_of_fault(fault):
 
 def reasons_in(said, spot_at_goal, planted):
     """By their functions, lines of what a check said: those that are a reason of the function's own not to be proved,
-    and those that are one of names."""
+    and those that are one of names. None where it couldn't read the source, and so judged nothing."""
     lines = BROKEN.sub(" ", said).split("\n")
     if any(UNREAD.search(it) for it in lines):
-        return {}, {}
+        return None
     found = lambda pattern: [it for it in map(pattern.match, lines) if it]
     faults = [(spot_of_fault(it), it.string) for it in reversed(found(FAULT))]
     hollow = {spot: line for spot, line in faults if HOLLOW.search(line)}
@@ -338,15 +339,20 @@ class Trial:
         return self
 
     def try_together(self, group):
-        """Tries edits in one check of their functions, and returns those that it doesn't show to be refused."""
-        reasons, _ = self.reasons(group, plants=True)
+        """Tries edits in one check of their functions, and returns those that it doesn't show to be refused. Where it
+        judges nothing, since one of them can't be read, each half is tried by itself."""
+        found = self.reasons(group, plants=True)
+        if not found and len(group) > 1:
+            middle = len(group) // 2
+            return [*self.try_together(group[:middle]), *self.try_together(group[middle:])]
+        reasons, _ = found or NO_REASONS
         for edit in (it for it in group if line_of(it, reasons)):
             self.tell(edit, WAS_REFUSED, f"refused: {line_of(edit, reasons)}")
         return [it for it in group if not line_of(it, reasons)]
 
     def try_alone(self, edit):
         """Tries an edit in a check of its functions, and returns whether that shows what there is to say of it."""
-        reasons, hollow = self.reasons([edit], plants=False)
+        reasons, hollow = self.reasons([edit], plants=False) or NO_REASONS
         if line_of(edit, reasons):
             self.tell(edit, WAS_REFUSED, f"alone: refused: {line_of(edit, reasons)}")
         elif line_of(edit, hollow):
@@ -354,9 +360,9 @@ class Trial:
         return bool(line_of(edit, reasons | hollow))
 
     def reasons(self, group, plants):
-        """Why a check with these edits doesn't prove functions, as reasons_in has it."""
+        """Why a check with these edits doesn't prove functions, as reasons_in has it, or None where it judges nothing."""
         if not all(map(is_of_functions, group)):
-            return {}, {}
+            return None
         texts, spots = edited(self.folder, group), sorted(set().union(*(it.spots for it in group)))
         planted, laps = planted_in(self.folder, spots, texts) if plants else {}, Laps()
         with in_place(self.folder, texts | dict(planted.values())):
@@ -364,7 +370,7 @@ class Trial:
         self.took.update({it.name: sum(laps.seconds[spot] for spot in it.spots) for it in group})
         text = lambda file: texts.get(file) or text_of(self.folder, file)
         spot_at_goal = lambda file, *place: spot_of_goal(self.folder, file, text(file), *place)
-        return reasons_in(ran.said, spot_at_goal, planted) if ran.status == 1 else ({}, {})
+        return reasons_in(ran.said, spot_at_goal, planted) if ran.status == 1 else None if ran.status else NO_REASONS
 
     def leave_to_the_kit(self, edits):
         """Tries edits by `rt must-fail`, with no others in must-fail/."""
