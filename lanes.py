@@ -267,15 +267,15 @@ class WrongBodies:
         return trial
 
     def outcome(self, crate, trials):
-        """How many of a crate's wrong bodies the prover refuses, and which it doesn't, or by names alone."""
+        """How many of a crate's wrong bodies the prover refuses, and which it doesn't, or so that it shows nothing."""
         earlier = len(self.edits[crate]) - sum(len(group) for part in self.parts[crate] for group in part)
         tried = [it for trial in trials if trial for it in trial.tried]
         lost = [f"{crate}/{it.name}" for it in tried if it.verdict == wrong_bodies.LET_THROUGH]
         lost += [] if all(it and it.holds for it in trials) else [f"{crate} (its untouched text)"]
         shown = [it for trial in trials if trial and trial.holds for it in trial.tried]
         refused = earlier + sum(it.verdict == wrong_bodies.WAS_REFUSED for it in shown)
-        hollow = sorted(it.name for it in shown if it.verdict == wrong_bodies.BY_NAMES_ALONE)
-        lost += [f"{crate}/{it} (by names alone)" for it in hollow]
+        hollow = sorted(it.name for it in shown if it.verdict == wrong_bodies.SHOWS_NOTHING)
+        lost += [f"{crate}/{it} (it shows nothing)" for it in hollow]
         self.tried[crate] = sum(it.seconds for it in trials if it)
         self.took.update({f"{crate}/{name}": it for trial in trials if trial for name, it in trial.took.items()})
         counts = Counter(it.said.partition(":")[0] for it in tried if it.verdict == wrong_bodies.WAS_REFUSED)
@@ -283,7 +283,7 @@ class WrongBodies:
         how += [f"{counts['whole']} by rt must-fail", f"{self.tried[crate]:.0f} processor seconds"]
         say(f"{crate}: {refused} of {len(self.edits[crate])} wrong bodies refused ({', '.join(how)})")
         if hollow:
-            say(f"{crate}: {len(hollow)} refused by names alone, which shows nothing of a contract: {' '.join(hollow)}")
+            say(f"{crate}: {len(hollow)} refused, which shows nothing of a contract: {' '.join(hollow)}")
         return refused, lost
 
 

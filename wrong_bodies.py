@@ -7,9 +7,11 @@ A body is checked against the contracts of what it calls and not against their b
 functions stand in one check, of these functions alone. One counts as refused where its own function isn't proved
 there, for a reason of its own and not only because of a function that it calls. What isn't seen so in company is tried
 alone. What isn't seen so either, can't be read, or is in no function goes to the copy's must-fail/, and the kit says.
+Where a check judges nothing, as one of its edits can't be read or it was cut off, each half of them is tried together.
 
-That a proof file names what an edit took away says nothing of the contract. Where there is no other reason, the wrong
-body is told apart, NAMES ONLY: it wants a form that keeps the names. It is tried again in each run until it has one.
+That a proof file names what an edit took away, or that the borrow checker doesn't cover what it brings, says nothing of
+the contract. Where there is no other reason, the wrong body is told apart, SHOWS NOTHING: it wants a form that keeps
+the names and is covered. It is tried again in each run until it has one.
 
 For a function that it refuses the prover works out what could be written in the function's proof file, which can take
 as long again as the refusal. It doesn't where the file has a fault of its own. So in company each wrong body's function
@@ -43,8 +45,11 @@ VERDICT = re.compile(r"^fn (\S+): (?:no proof|not proved)(?![;:] it calls)")
 FAULT = re.compile(r"^(?:\./)?proofs/(\S+)/(?:Answers|Invariants|Proof)\.antt:\d+:\d+: error: (?!`planted`)")
 UNPROVED = re.compile(r"^note: (?:\./)?(src/\S+?):(\d+):(\d+): (?:it is not proved that|`search` found no proof)")
 UNREAD = re.compile(r"^(?:\./)?(?:src|specs)/\S+?:\d+:\d+: error|\berror\[[\w-]+\]")
-# A fault that is one of names, or that follows from another; and where its line may be broken
-HOLLOW = re.compile(r"has no field|is not in scope|has no `|was not admitted|which was rejected")
+# A fault that is one of names, that follows from another, or that is no fault of what the function does; and where its
+# line may be broken
+HOLLOW = re.compile(
+    r"has no field|is not in scope|has no `|was not admitted|which was rejected|borrow checker does not cover"
+)
 BROKEN = re.compile(rf"\n +(?={HOLLOW.pattern})")
 PLANTED = "\nplanted : Type 0\nplanted = Type 0\n"  # it is refused: the type of a type isn't one of its own kind
 CHECKED = re.compile(r"^checked \w+::(\S+), \d+ of \d+$")  # as it is done with a function, for good or ill
@@ -56,7 +61,7 @@ HOLLOW_VERDICT = re.compile(  # of a record without a field the kit gives the fi
 Edit = namedtuple("Edit", "name text pairs spots")  # pairs: (file, old, new); spots: what it edits, as spot_at names it
 Tried = namedtuple("Tried", "name verdict said")
 NO_REASONS = {}, {}
-WAS_REFUSED, BY_NAMES_ALONE, LET_THROUGH = "refused", "by names alone", "let through"  # the verdicts
+WAS_REFUSED, SHOWS_NOTHING, LET_THROUGH = "refused", "shows nothing", "let through"  # the verdicts
 Ran = namedtuple("Ran", "status said seconds")
 
 
@@ -273,17 +278,23 @@ def spot_of_fault(fault):
 
 def reasons_in(said, spot_at_goal, planted):
     """By their functions, lines of what a check said: those that are a reason of the function's own not to be proved,
-    and those that are one of names. None where it couldn't read the source, and so judged nothing."""
+    and those that say nothing of its contract. None where it couldn't read the source, and so judged nothing."""
     lines = BROKEN.sub(" ", said).split("\n")
     if any(UNREAD.search(it) for it in lines):
         return None
     found = lambda pattern: [it for it in map(pattern.match, lines) if it]
     faults = [(spot_of_fault(it), it.string) for it in reversed(found(FAULT))]
-    hollow = {spot: line for spot, line in faults if HOLLOW.search(line)}
     verdicts = {it[1].partition("::")[2]: it.string for it in found(VERDICT)}
+    hollow = {spot: line for spot, line in [*verdicts.items(), *faults] if HOLLOW.search(line)}
     reasons = {spot: line for spot, line in verdicts.items() if spot not in planted and spot not in hollow}
     reasons |= {spot: line for spot, line in faults if not HOLLOW.search(line)}
     return reasons | {spot_at_goal(it[1], int(it[2]), int(it[3])): it.string for it in found(UNPROVED)}, hollow
+
+
+def fault_in(said):
+    """The first line that says that the source can't be read, or else the last line of all."""
+    lines = said.splitlines() or ["which said nothing"]
+    return next((it for it in lines if UNREAD.search(it)), lines[-1])[:240]
 
 
 def planted_in(folder, spots, texts):
@@ -340,7 +351,7 @@ class Trial:
 
     def try_together(self, group):
         """Tries edits in one check of their functions, and returns those that it doesn't show to be refused. Where it
-        judges nothing, since one of them can't be read, each half is tried by itself."""
+        judges nothing, each half of them is tried so."""
         found = self.reasons(group, plants=True)
         if not found and len(group) > 1:
             middle = len(group) // 2
@@ -356,11 +367,11 @@ class Trial:
         if line_of(edit, reasons):
             self.tell(edit, WAS_REFUSED, f"alone: refused: {line_of(edit, reasons)}")
         elif line_of(edit, hollow):
-            self.tell(edit, BY_NAMES_ALONE, f"alone: NAMES ONLY: {line_of(edit, hollow)}")
+            self.tell(edit, SHOWS_NOTHING, f"alone: SHOWS NOTHING: {line_of(edit, hollow)}")
         return bool(line_of(edit, reasons | hollow))
 
     def reasons(self, group, plants):
-        """Why a check with these edits doesn't prove functions, as reasons_in has it, or None where it judges nothing."""
+        """Why a check with these edits doesn't prove functions, as reasons_in has it; None where it judges nothing."""
         if not all(map(is_of_functions, group)):
             return None
         texts, spots = edited(self.folder, group), sorted(set().union(*(it.spots for it in group)))
@@ -370,7 +381,11 @@ class Trial:
         self.took.update({it.name: sum(laps.seconds[spot] for spot in it.spots) for it in group})
         text = lambda file: texts.get(file) or text_of(self.folder, file)
         spot_at_goal = lambda file, *place: spot_of_goal(self.folder, file, text(file), *place)
-        return reasons_in(ran.said, spot_at_goal, planted) if ran.status == 1 else None if ran.status else NO_REASONS
+        found = reasons_in(ran.said, spot_at_goal, planted) if ran.status == 1 else None if ran.status else NO_REASONS
+        if not found:
+            what = f"status {ran.status}, {fault_in(ran.said)}"
+            say(f"{self.crate}: a check of {len(group)} wrong bodies judged nothing: {what}")
+        return found
 
     def leave_to_the_kit(self, edits):
         """Tries edits by `rt must-fail`, with no others in must-fail/."""
@@ -390,8 +405,8 @@ class Trial:
         for it in edits:
             said = judged.get(it.name, f"rt must-fail ended with status {ran.status}, and said nothing of it")
             is_hollow = bool(HOLLOW_VERDICT.match(said))
-            verdict = BY_NAMES_ALONE if is_hollow else WAS_REFUSED if said.startswith("refused") else LET_THROUGH
-            self.tell(it, verdict, f"whole: {'NAMES ONLY: ' * is_hollow}{said}")
+            verdict = SHOWS_NOTHING if is_hollow else WAS_REFUSED if said.startswith("refused") else LET_THROUGH
+            self.tell(it, verdict, f"whole: {'SHOWS NOTHING: ' * is_hollow}{said}")
 
 
 def line_of(edit, lines):
