@@ -90,17 +90,20 @@ fn play<R: Wait, G: Gate, C: Ledger, H: Ledger>(
     Some(worker.held())
 }
 
-// The first tenant, whose end the gate is told of.
+// The first tenant. How many frames it holds in the end, and how many are free then, while the second is held: the gate
+// lets that go once it is told of the end.
 fn play_first<R: Wait, C: Ledger, H: Ledger>(
     rt: &R,
     book: &Mutex<DepotBook<C, H>>,
     watch: &Watch,
     worker: Tenant<C, H>,
     rows: &[Row],
-) -> Option<u32> {
+) -> Option<[u32; 2]> {
     let held = play(rt, book, watch, worker, rows);
+    watch.wait_for_second();
+    let free = book.lock(rt).free();
     watch.end();
-    held
+    Some([held?, free])
 }
 
 // Both tenants, on a thread each.
@@ -112,7 +115,7 @@ fn play_both<C: Ledger + Send + Sync, H: Ledger + Send + Sync, R: Threads + Wait
     blue: Tenant<C, H>,
     red_rows: &[Row],
     blue_rows: &[Row],
-) -> (Option<u32>, Option<u32>) {
+) -> (Option<[u32; 2]>, Option<u32>) {
     join(
         rt,
         move || play_first(rt, book, watch, red, red_rows),
@@ -141,8 +144,9 @@ fn opened<C: Ledger, H: Ledger>(
     Some((book, red, blue))
 }
 
-// How many frames each holds in the end, and how many are free.
-type Held = (Option<u32>, Option<u32>, u32);
+// What the first holds in the end, beside how many frames are free while the second is held; what the second holds, and
+// how many are free in the end.
+type Held = (Option<[u32; 2]>, Option<u32>, u32);
 
 // Two tenants beside each other. Nothing, where a growth was refused before they began.
 fn beside<C: Ledger + Send + Sync, H: Ledger + Send + Sync, R: Threads + Wait + Sync>(
@@ -178,7 +182,8 @@ fn beside_by_name<R: Threads + Wait + Sync>(
 }
 
 // The first tenant gives back 32 frames, of which 16 stay in its stock. The second takes one of the other 16, which the
-// first has filled: it is shown nothing of that, and has it in its own stock in the end.
+// first has filled: it is shown nothing of that, and has it in its own stock in the end. As long as the second is held it is
+// free: the gate is told of it before it is taken.
 #[test]
 fn a_frame_passes_from_one_tenant_to_the_other(rt: HostRuntime) -> Result<(), Fail> {
     let alloc = rt.alloc();
@@ -192,31 +197,33 @@ fn a_frame_passes_from_one_tenant_to_the_other(rt: HostRuntime) -> Result<(), Fa
         red.as_slice(),
         blue.as_slice(),
     );
-    assert_eq!(rt; held, Some((Some(0), Some(0), 31)));
+    assert_eq!(rt; held, Some((Some([0, 32]), Some(0), 31)));
     assert!(rt; watch.is_told(32, 1));
     Ok(())
 }
 
-// The second tenant finds its one frame, though the first holds all that it may hold.
+// The second tenant finds its one frame, though the first holds all that it may hold. It is free as long as the second is
+// held before it.
 #[test]
 fn a_frame_is_there_for_each_credit(rt: HostRuntime) -> Result<(), Fail> {
     let alloc = rt.alloc();
     let (red, blue) = (fills_and_stays(alloc)?, has_one_page(alloc)?);
     let watch = Watch::new();
     let held = beside_by_name(&rt, alloc, &watch, [16, 1], red.as_slice(), blue.as_slice());
-    assert_eq!(rt; held, Some((Some(16), Some(1), 0)));
+    assert_eq!(rt; held, Some((Some([16, 1]), Some(1), 0)));
     assert!(rt; watch.is_told(16, 1));
     Ok(())
 }
 
 // The second tenant is held within a write, behind the first of its 16 frames: the first one takes its frame meanwhile.
+// The other 15 are free until the second goes on.
 #[test]
 fn a_step_held_behind_a_frame_holds_nobody_else(rt: HostRuntime) -> Result<(), Fail> {
     let alloc = rt.alloc();
     let (red, blue) = (has_one_page(alloc)?, fills_and_stays(alloc)?);
     let watch = Watch::behind(1);
     let held = beside_by_name(&rt, alloc, &watch, [1, 16], red.as_slice(), blue.as_slice());
-    assert_eq!(rt; held, Some((Some(1), Some(16), 0)));
+    assert_eq!(rt; held, Some((Some([1, 15]), Some(16), 0)));
     assert!(rt; watch.is_told(1, 16));
     Ok(())
 }

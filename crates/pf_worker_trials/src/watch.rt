@@ -46,6 +46,11 @@ impl Watch {
         }
     }
 
+    // Waits until the second tenant is held.
+    pub(crate) fn wait_for_second(&self) {
+        self.wait_for(&self.held);
+    }
+
     // The first tenant has made its steps.
     pub(crate) fn end(&self) {
         self.done.store(1, Ordering::SeqCst);
