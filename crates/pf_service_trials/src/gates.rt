@@ -1,6 +1,7 @@
 //! A gate that remembers: it is told of each event once, with the event's numbers, in the order of the transcript, and
-//! while the lock is held, and of each frame under its namespace's number. That it is told before the step is made, and of a
-//! frame before it is taken, a contract says.
+//! while the lock is held, and of each frame under its namespace's number. That it is told before the step is made, a
+//! contract says. That it is told of a frame before that is taken is read in the code of a step: a service's public calls
+//! don't show which frames are free.
 
 ghost use Rattle.std.specs.Prelude.{◌≡◌, ◌≤◌};
 ghost use Rattle.pf_base.specs.declared.TheConstants.{MAX_NAMESPACES};
