@@ -45,6 +45,7 @@ VERDICT = re.compile(r"^fn (\S+): (?:no proof|not proved)(?![;:] it calls)")
 FAULT = re.compile(r"^(?:\./)?proofs/(\S+)/(?:Answers|Invariants|Proof)\.antt:\d+:\d+: error: (?!`planted`)")
 UNPROVED = re.compile(r"^note: (?:\./)?(src/\S+?):(\d+):(\d+): (?:it is not proved that|`search` found no proof)")
 UNREAD = re.compile(r"^(?:\./)?(?:src|specs)/\S+?:\d+:\d+: error|\berror\[[\w-]+\]")
+OF_A_FUNCTION = re.compile(r"^fn \S+: ")  # a check that comes to its end says it of each
 # A fault that is one of names, that follows from another, or that is no fault of what the function does; and where its
 # line may be broken
 HOLLOW = re.compile(
@@ -278,11 +279,11 @@ def spot_of_fault(fault):
 
 def reasons_in(said, spot_at_goal, planted):
     """By their functions, lines of what a check said: those that are a reason of the function's own not to be proved,
-    and those that say nothing of its contract. None where it couldn't read the source, and so judged nothing."""
+    and those that say nothing of its contract. None where it couldn't read the texts, and so judged nothing."""
     lines = BROKEN.sub(" ", said).split("\n")
-    if any(UNREAD.search(it) for it in lines):
-        return None
     found = lambda pattern: [it for it in map(pattern.match, lines) if it]
+    if any(UNREAD.search(it) for it in lines) or not found(OF_A_FUNCTION):
+        return None
     faults = [(spot_of_fault(it), it.string) for it in reversed(found(FAULT))]
     verdicts = {it[1].partition("::")[2]: it.string for it in found(VERDICT)}
     hollow = {spot: line for spot, line in [*verdicts.items(), *faults] if HOLLOW.search(line)}
@@ -292,9 +293,9 @@ def reasons_in(said, spot_at_goal, planted):
 
 
 def fault_in(said):
-    """The first line that says that the source can't be read, or else the last line of all."""
+    """The first error in what a check said, or its last line."""
     lines = said.splitlines() or ["which said nothing"]
-    return next((it for it in lines if UNREAD.search(it)), lines[-1])[:240]
+    return next((it for it in lines if re.search(r"\berror[:[]", it)), lines[-1])[:240]
 
 
 def planted_in(folder, spots, texts):
