@@ -1,11 +1,12 @@
 //! Pairs of a write and a read through a hub, whose frames are on loan from a depot, tees and splices between two of its
-//! pipes, and reads that wait; the same through the plain form, whose frames are one array; and pairs through a worker
-//! and through a service.
+//! pipes, and reads that wait; the same through the plain form, whose frames are one array; and pairs from the host's
+//! slices and into them, through a worker, and through a service.
 //! With no word, it plays a short fixed load through each and looks at each byte; with a number, it plays so many of each
 //! size, and prints how long one takes.
 #![tactic(auto)]
 
 mod served;
+mod sliced;
 mod worked;
 
 use pf_base::{Answer, ByteString, Config, Crossing, Groups, PAGE_SIZE, Reply, Step};
@@ -374,6 +375,11 @@ fn play_loads<H: Host>(alloc: Global, host: &mut H) -> Result<bool, AllocError> 
     Ok(true)
 }
 
+/// The same through a hub, and then pairs from slices and into them.
+fn play_both_ways(alloc: Global, hub: &mut Hub<Global>) -> Result<bool, AllocError> {
+    Ok(play_loads(alloc, hub)? && sliced::play_loads(alloc, hub)?)
+}
+
 // What owns a hub, its plain form, a worker or a service has one way out from then on: each drops it, which is dear to
 // prove.
 
@@ -382,7 +388,7 @@ fn play_hub(alloc: Global, shape: Shape) -> Result<bool, AllocError> {
     let Some(mut hub) = shape.hub(alloc) else {
         return Ok(false);
     };
-    play_loads(alloc, &mut hub)
+    play_both_ways(alloc, &mut hub)
 }
 
 /// The same through the plain form of it.
@@ -393,7 +399,7 @@ fn play_plain(alloc: Global, shape: Shape) -> Result<bool, AllocError> {
     play_loads(alloc, &mut plain)
 }
 
-/// The same through a hub, through its plain form and through a worker.
+/// The same through a hub, from slices too, through its plain form and through a worker.
 fn play_fixed<R: Wait>(rt: &R, alloc: Global) -> Result<bool, AllocError> {
     let shape = Shape {
         namespaces: 4,
@@ -641,6 +647,7 @@ fn time_hub<R: Wait>(
     Ok(
         starts(hub)
             && time_with_plain(rt, shape, hub, pairs)?
+            && sliced::time(rt, hub, pairs)?
             && worked::time(rt, threads, shape, hub, pairs)?,
     )
 }
@@ -666,6 +673,7 @@ fn run<R: Threads + Wait + Sync>(rt: &HostRuntime, threads: &R) -> io::Result<bo
         println!(rt;
             "played 5000 pairs, 500 tees, 500 splices and 500 waiting reads through each form and a worker"
         )?;
+        println!(rt; "played 5000 pairs from slices and into them")?;
         if !served::play_fixed(threads, rt.alloc())? {
             return Ok(false);
         }
