@@ -8,6 +8,7 @@ use pf_base::{ByteString, Reply, Step};
 use pf_service::{Gate, Receipt, Seat, Service, ServiceFault};
 use std::alloc::{AllocError, Global};
 use std::marker::Brand;
+use std::process::Abort;
 use std::sync::Wait;
 use std::sync::atomic::{AtomicU64, Ordering};
 use std::sync::ledger::{Blank, Ledger};
@@ -15,31 +16,31 @@ use std::test::Fail;
 use std::thread;
 use std::thread::{Threads, join};
 
-// The most turns that the writer waits for the readers.
+// The most turns that the writer waits until the readers wait.
 const TURNS: u64 = 1_000_000;
 
 // The turns that it gives them besides.
 const GIVEN: u64 = 1_000;
 
-// How many events a gate was told of.
+// How many events a gate was told of, or how many readers are done.
 #[derive(Drop)]
 struct Count {
-    events: AtomicU64,
+    number: AtomicU64,
 }
 
 impl Count {
     fn new() -> Count {
         Count {
-            events: AtomicU64::new(0),
+            number: AtomicU64::new(0),
         }
     }
 
     fn add(&self) {
-        self.events.fetch_add(1, Ordering::SeqCst);
+        self.number.fetch_add(1, Ordering::SeqCst);
     }
 
     fn is_at_least(&self, number: u64) -> bool {
-        self.events.load(Ordering::SeqCst) >= number
+        self.number.load(Ordering::SeqCst) >= number
     }
 }
 
@@ -64,17 +65,28 @@ impl Gate for Counter<'_> {
     }
 }
 
-// Yields until so many events were told, and some turns more.
-fn wait_for(count: &Count, number: u64) {
-    for _ in 0..TURNS {
+// Yields until so many are counted, or all these turns are used up.
+fn wait_for(count: &Count, number: u64, turns: u64) {
+    for _ in 0..turns {
         if count.is_at_least(number) {
-            break;
+            return;
         }
         thread::yield_now();
     }
+}
+
+// Yields until so many events were told, and some turns more.
+fn let_them_wait(events: &Count, number: u64) {
+    wait_for(events, number, TURNS);
     for _ in 0..GIVEN {
         thread::yield_now();
     }
+}
+
+// Ends the test where so many readers aren't done in the end, since one of them waits then whom nobody wakes.
+fn watch<R: Abort>(rt: &R, done: &Count, readers: u64) {
+    wait_for(done, readers, 20 * TURNS);
+    assert!(rt; done.is_at_least(readers));
 }
 
 // A process with a pipe, and so many that share it.
@@ -126,10 +138,12 @@ fn reader<R: Wait, C: Ledger, H: Ledger>(
     mut seat: Seat,
     pid: u32,
     n: u64,
+    done: &Count,
 ) -> Option<Seat> {
-    let reply = read_all(rt, alloc, service, &mut seat, pid, n)?;
+    let told = read_all(rt, alloc, service, &mut seat, pid, n);
+    done.add();
     let bytes = Vec::from_elem(alloc, 0x61, n as usize).ok()?;
-    if reply != Reply::Bytes(ByteString::new(alloc, bytes).ok()?) {
+    if told? != Reply::Bytes(ByteString::new(alloc, bytes).ok()?) {
         return None;
     }
     Some(seat)
@@ -151,7 +165,7 @@ fn writer<R: Wait, C: Ledger, H: Ledger>(
     number: u64,
     count: &Count,
 ) -> Option<Seat> {
-    wait_for(count, number);
+    let_them_wait(count, number);
     for step in steps {
         let told = match service.call(rt, &mut seat, step) {
             Err(ServiceFault::NoMemory) => service.call(rt, &mut seat, step),
@@ -163,7 +177,11 @@ fn writer<R: Wait, C: Ledger, H: Ledger>(
 }
 
 // A process waits for five bytes, and another writes them on a thread of its own.
-fn across_a_pipe<C: Ledger + Send + Sync, H: Ledger + Send + Sync, R: Threads + Wait + Sync>(
+fn across_a_pipe<
+    C: Ledger + Send + Sync,
+    H: Ledger + Send + Sync,
+    R: Threads + Wait + Abort + Sync,
+>(
     rt: &R,
     alloc: Global,
     service: &Service<Global, Counter<'_>, C, H>,
@@ -173,10 +191,16 @@ fn across_a_pipe<C: Ledger + Send + Sync, H: Ledger + Send + Sync, R: Threads + 
     let (ours, theirs) = (service.seat(rt, RED)?, service.seat(rt, RED)?);
     let owned = writing(alloc, 2, 5)?;
     let steps = owned.as_slice();
+    let readers = Count::new();
+    let done = &readers;
     let (ours, theirs) = join(
         rt,
-        move || reader(rt, alloc, service, ours, 1, 5),
-        move || writer(rt, service, theirs, steps, 4, count),
+        move || reader(rt, alloc, service, ours, 1, 5, done),
+        move || {
+            let theirs = writer(rt, service, theirs, steps, 4, count);
+            watch(rt, done, 1);
+            theirs
+        },
     );
     let mut seats = Vec::with_capacity(alloc, 3)?;
     seats.push(first.ok_or("refused")?)?;
@@ -188,7 +212,7 @@ fn across_a_pipe<C: Ledger + Send + Sync, H: Ledger + Send + Sync, R: Threads + 
 fn pipe_between_two_named<
     C: Ledger + Send + Sync,
     H: Ledger + Send + Sync,
-    R: Threads + Wait + Sync,
+    R: Threads + Wait + Abort + Sync,
 >(rt: &R, alloc: Global, count: &Count, credits: Blank, held: Blank) -> Closed
     requires names { (credits.name ≡ C.name) × (held.name ≡ H.name) }
     requires cut { (credits.parts ≡ C.parts) × (held.parts ≡ H.parts) }
@@ -199,7 +223,11 @@ fn pipe_between_two_named<
     closed(service, seats)
 }
 
-fn pipe_between_two<R: Threads + Wait + Sync>(rt: &R, alloc: Global, count: &Count) -> Closed {
+fn pipe_between_two<R: Threads + Wait + Abort + Sync>(
+    rt: &R,
+    alloc: Global,
+    count: &Count,
+) -> Closed {
     pipe_between_two_named::<Brand, Brand, R>(rt, alloc, count, blank(), blank())
 }
 
@@ -211,7 +239,7 @@ fn a_reader_waits_for_what_another_thread_writes(rt: HostRuntime) -> Result<(), 
 }
 
 // Two processes wait for a byte each, and a third writes both on a thread of its own.
-fn two_readers<C: Ledger + Send + Sync, H: Ledger + Send + Sync, R: Threads + Wait + Sync>(
+fn two_readers<C: Ledger + Send + Sync, H: Ledger + Send + Sync, R: Threads + Wait + Abort + Sync>(
     rt: &R,
     alloc: Global,
     service: &Service<Global, Counter<'_>, C, H>,
@@ -222,14 +250,20 @@ fn two_readers<C: Ledger + Send + Sync, H: Ledger + Send + Sync, R: Threads + Wa
     let third = service.seat(rt, RED)?;
     let owned = writing(alloc, 3, 2)?;
     let steps = owned.as_slice();
+    let readers = Count::new();
+    let done = &readers;
     let (ours, (theirs, third)) = join(
         rt,
-        move || reader(rt, alloc, service, ours, 1, 1),
+        move || reader(rt, alloc, service, ours, 1, 1, done),
         move || {
             join(
                 rt,
-                move || reader(rt, alloc, service, theirs, 2, 1),
-                move || writer(rt, service, third, steps, 6, count),
+                move || reader(rt, alloc, service, theirs, 2, 1, done),
+                move || {
+                    let third = writer(rt, service, third, steps, 6, count);
+                    watch(rt, done, 2);
+                    third
+                },
             )
         },
     );
@@ -244,7 +278,7 @@ fn two_readers<C: Ledger + Send + Sync, H: Ledger + Send + Sync, R: Threads + Wa
 fn pipe_among_three_named<
     C: Ledger + Send + Sync,
     H: Ledger + Send + Sync,
-    R: Threads + Wait + Sync,
+    R: Threads + Wait + Abort + Sync,
 >(rt: &R, alloc: Global, count: &Count, credits: Blank, held: Blank) -> Closed
     requires names { (credits.name ≡ C.name) × (held.name ≡ H.name) }
     requires cut { (credits.parts ≡ C.parts) × (held.parts ≡ H.parts) }
@@ -255,7 +289,11 @@ fn pipe_among_three_named<
     closed(service, seats)
 }
 
-fn pipe_among_three<R: Threads + Wait + Sync>(rt: &R, alloc: Global, count: &Count) -> Closed {
+fn pipe_among_three<R: Threads + Wait + Abort + Sync>(
+    rt: &R,
+    alloc: Global,
+    count: &Count,
+) -> Closed {
     pipe_among_three_named::<Brand, Brand, R>(rt, alloc, count, blank(), blank())
 }
 
