@@ -10,7 +10,6 @@ use std::marker::Model;
 mod bounds;
 mod opens;
 mod parked;
-mod pipes;
 mod queries;
 mod transfers;
 
@@ -105,7 +104,7 @@ impl<A: Allocator + Clone> Space<A> {
                 groups,
             } => self.tables.spawn(self.alloc, *uid, *gid, *umask, groups),
             Step::Exit { pid } => self.tables.drop_process(door, *pid),
-            Step::Pipe { pid, nonblock } => self.pipe(door, *pid, *nonblock),
+            Step::Pipe { pid, nonblock } => self.tables.pipe(self.alloc, *pid, *nonblock),
             Step::Close { pid, fd } => self.tables.drop_descriptor(door, *pid, *fd),
             Step::Read { pid, fd, n } => self.read(door, *pid, *fd, *n),
             Step::Write { pid, fd, payload } => {

@@ -13,7 +13,7 @@ use Rattle.pf_tables.specs.Rows.{ProcessRows, DescriptionRows, PipeRows, Key, Pi
 use Rattle.pf_tables.specs.Tables.{LetsGoOpens, Forgets}
 use Rattle.pf_tables.proofs.TransfersCross.{set_around}
 use Rattle.pf_tables.proofs.TablesTied.{by_set, by_push, once}
-use Rattle.pf_tables.proofs.PipesOpen.{Makes, reading, writing, two_ended}
+use Rattle.pf_tables.proofs.PipesOpen.{Puts, reading, writing, two_ended}
 use Rattle.pf_tables.proofs.TablesShown.{shown, find_was, set_same}
 
 -- one row has one file, and one key is of one pipe
@@ -72,7 +72,7 @@ fifos-pushed es {drawn} {more} opens place o le none few a =
 
 -- a pipe that pipe(2) made
 pub more_opens : (es : List (ℕ × Key)) (ds : DescriptionRows) (pipes : PipeRows) {ps ps' : ProcessRows} {ds' : DescriptionRows} {pipes' : PipeRows} {pid slots owner : ℕ} {free : ℕ × ℕ} {nonblocking : Bool}
-    → Makes ps ds pipes pid free nonblocking slots owner ps' ds' pipes' → AreFifos es (length ds) (opens_of pipes) → AreFifos es (length ds') (opens_of pipes')
+    → Puts ps ds pipes pid free nonblocking slots owner ps' ds' pipes' → AreFifos es (length ds) (opens_of pipes) → AreFifos es (length ds') (opens_of pipes')
 more_opens es ds pipes {ds' = ds'} {slots = slots} {owner = owner} {nonblocking = nonblocking} m a =
     let one = length_push ds (Some (m.j.slot, once (reading m.r nonblocking))) in
     let two = length_push (ds ++ Some (m.j.slot, once (reading m.r nonblocking)) ∷ []) (Some (m.k.slot, once (writing m.r nonblocking))) in

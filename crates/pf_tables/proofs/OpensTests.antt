@@ -1,6 +1,6 @@
 -- Whether a FIFO may be opened, whether an open is over, and what its description is.
 
-use Rattle.std.proofs.Common.{◌≡◌, ℕ, ◌-◌, ◌^◌, ◌<◌, ◌≤◌, Bool, true, false, length, Option, Some, None, Result, Ok, Err, nat_lt, nat_le, refl, sym, ap, subst, ◌∙◌, arith}
+use Rattle.std.proofs.Common.{◌≡◌, ℕ, ◌-◌, ◌^◌, ◌<◌, ◌≤◌, Bool, true, false, length, Option, Some, None, Result, Ok, Err, nat_lt, nat_le, nat_eq, if◌then◌else◌, refl, sym, ap, subst, ◌∙◌, arith}
 use Rattle.std.specs.Option.{option_map, option_and_then}
 use Rattle.std.proofs.lemmas.Bool.Decides.{nat_tests}
 use Rattle.std.proofs.lemmas.List.{length-map}
@@ -9,13 +9,14 @@ use Rattle.pf_machine.specs.FileMap.{Files}
 use Rattle.pf_base.specs.Limits.{Limits}
 use Rattle.pf_base.specs.Capacities.{new_capacity, told_as}
 use Rattle.pf_machine.specs.Numbered.{at, first_free}
-use Rattle.pf_machine.proofs.NumberedLaws.{first_free-map}
+use Rattle.pf_machine.proofs.NumberedLaws.{first_free-map, sum_of-map}
 use Rattle.pf_machine.specs.Opens.{Access}
 use Rattle.pf_machine.specs.Attempts.{open_told}
 use Rattle.pf_base.specs.Permissions.{is_privileged}
 use Rattle.pf_machine.specs.Pipes.{capacity_for, is_spent}
 use Rattle.pf_machine.specs.Queue.{Segment}
-use Rattle.pf_machine.specs.State.{State, ready}
+use Rattle.pf_machine.specs.Counts.{charged, total}
+use Rattle.pf_machine.specs.State.{State, ready, Pipe as Pipes}
 use Rattle.pf_base.specs.declared.TheConstants.{MAX_DESCRIPTORS}
 use Rattle.pf_base.specs.declared.errno.Errno.{Errno}
 use Rattle.pf_base.specs.declared.errno.Errno.TheVariants.{EMFILE, ENFILE, ENXIO, ENOMEM, EBADF, ESRCH}
@@ -29,11 +30,11 @@ use Rattle.pf_limits.specs.UserPages.{UserPages, charged_to}
 use Rattle.pf_parked.specs.declared.call.Call.TheVariants.{Open}
 use Rattle.pf_tables.specs.Meaning.{Namespace, meaning, pipe_meaning}
 use Rattle.pf_tables.specs.Opened.{lacks_readers, may_open, fifo_capacity, other_opens, IsOver}
-use Rattle.pf_tables.specs.Rows.{ProcessRows, DescriptionRows, PipeRows, Key, Named, Process, Description, Pipe, call_of, call_in, made_by, process_at, process_in, ready_in, process_of, description_of, pipe_of, state_of, Kept}
+use Rattle.pf_tables.specs.Rows.{ProcessRows, DescriptionRows, PipeRows, Key, Named, Process, Description, Pipe, call_of, call_in, made_by, process_at, process_in, ready_in, process_of, description_of, pipe_of, pipes_of, state_of, Kept}
+use Rattle.pf_tables.proofs.MeaningLaws.{total-meaning}
 use Rattle.pf_tables.proofs.ProcessTableReady.{shown_in, readies, living_shown, place_of}
 use Rattle.pf_tables.proofs.Ends.{end_shown}
 use Rattle.pf_tables.proofs.TablesTied.{finds}
-use Rattle.pf_tables.proofs.PipesOpen.{total_is, charged_is}
 use Rattle.pf_tables.proofs.TablesShown.{find_at}
 
 -- a refusal goes on, and want of memory
@@ -41,8 +42,24 @@ pub passed_on : {A B : Type 0} (fault : Fault) (answer : Result A Errno) (go : A
 passed_on (faults.Errno e) answer go is = ap (λ r. r >>= go) is
 passed_on faults.NoMemory answer go is = tt
 
-module _ {files : Files} {files_made : ℕ} (f : Live) {charges : UserPages} {limits : Limits} {ps : ProcessRows} {ds : DescriptionRows} {pipes : PipeRows} (kept : Kept charges ps ds pipes)
-    {n : Namespace} (view : record { limits = limits; state = state_of ps ds pipes files files_made } ≡ n) (pid : ℕ) where
+module _ {files : Files} {files_made : ℕ} (f : Live) {charges : UserPages} {limits : Limits} {ps : ProcessRows}
+    {ds : DescriptionRows} {pipes : PipeRows} (kept : Kept charges ps ds pipes) {n : Namespace}
+    (view : record { limits = limits; state = state_of ps ds pipes files files_made } ≡ n) where
+  -- what all pipes are charged with, and those of a user
+  pub total_is : charges.total ≡ total (meaning f n.state)
+  total_is =
+      subst (λ (m : Namespace). charges.total ≡ total (meaning f m.state)) view
+      (kept.charged.total ∙ sym (total-meaning f (state_of ps ds pipes files files_made)))
+
+  charged_is : (uid : ℕ) → charged_to charges uid ≡ charged (meaning f n.state) uid
+  charged_is uid =
+      subst (λ (m : Namespace). charged_to charges uid ≡ charged (meaning f m.state) uid) view
+      (kept.charged.users uid ∙ sym (sum_of-map (pipe_meaning f)
+      (λ (q : Pipes Segment). if nat_eq q.owner uid then q.queue.capacity else 0) (pipes_of pipes)))
+
+module _ {files : Files} {files_made : ℕ} (f : Live) {charges : UserPages} {limits : Limits} {ps : ProcessRows}
+    {ds : DescriptionRows} {pipes : PipeRows} (kept : Kept charges ps ds pipes) {n : Namespace}
+    (view : record { limits = limits; state = state_of ps ds pipes files files_made } ≡ n) (pid : ℕ) where
   -- The refusals
   module _ {p : Process} (is : ready_in ps pid ≡ Ok p) where
     abbrev s : State Segment ℕ

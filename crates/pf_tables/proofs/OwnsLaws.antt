@@ -11,8 +11,7 @@ use Rattle.pf_machine.specs.Queue.{empty, bytes_of}
 use Rattle.pf_machine.specs.Numbered.{at, put_at, clear_at, sum_of, weight}
 use Rattle.pf_machine.proofs.NumberedLaws.{at_within, sum_of-set, sum_of-le}
 use Rattle.pf_machine.specs.State.{State, Process, Pipe, opening, with_queue, holding}
-use Rattle.pf_tables.specs.Tables.{opened_next}
-use Rattle.pf_machine.specs.Pipes.{reading, writing, with_two, new_pipe}
+use Rattle.pf_machine.specs.Pipes.{new_pipe}
 use Rattle.pf_frame.specs.Live.{Live, IsSound}
 use Rattle.pf_limits.specs.Sums.{AreSumsOf}
 use Rattle.pf_limits.specs.UserPages.{UserPages}
@@ -68,21 +67,13 @@ module _ (f g : Live) (s : State Window ℕ) (n : ℕ) (p : Pipe Window) (r : Ri
 
 -- one more pipe, with nothing in it
 
-pub joined_opened : (f : Live) (s : State Window ℕ) (pid : ℕ) (nonblock : Bool) (slots : ℕ) (p : Process ℕ) → Joined f (rings_of s) → sum_of (λ (q : Pipe Window). q.queue.capacity) s.pipes + slots ≤ f.reserved
-    → Joined f (rings_of (opened_next s pid nonblock (record { capacity = slots; segments = [] }) p))
-joined_opened f s pid nonblock slots p joined fits =
-    subst (Joined f) (sym (map_push ring_or s.pipes (Some (new_pipe (record { capacity = slots; segments = [] }) p.cred.uid None))))
-    (joined_pushed f (rings_of s) slots joined (subst (λ k. k + slots ≤ f.reserved) (sym (slots-rings s.pipes)) fits))
-
-pub meaning-opened : (f : Live) (s : State Window ℕ) (pid : ℕ) (nonblock : Bool) (slots : ℕ) (p : Process ℕ)
-    → meaning f (opened_next s pid nonblock (record { capacity = slots; segments = [] }) p) ≡ opened_next (meaning f s) pid nonblock (empty slots) p
-meaning-opened f s pid nonblock slots p = λ i. record {
-  processes = put_at s.processes (pid - 1) (with_two (length s.descriptions) (length s.descriptions + 1) p);
-  descriptions = s.descriptions ++ Some (reading (sym (length-map s.pipes (option_map (pipe_meaning f))) i) nonblock) ∷ Some (writing (sym (length-map s.pipes (option_map (pipe_meaning f))) i) nonblock) ∷ [];
-  pipes = map_push (option_map (pipe_meaning f)) s.pipes (Some (new_pipe (record { capacity = slots; segments = [] }) p.cred.uid None)) i;
-  files = s.files;
-  files_made = s.files_made;
-}
+pub joined_opened : (f : Live) (pipes : List (Option (Pipe Window))) (slots owner : ℕ) → Joined f (map ring_or pipes)
+    → sum_of (λ (q : Pipe Window). q.queue.capacity) pipes + slots ≤ f.reserved
+    → Joined f (map ring_or (pipes ++ Some (new_pipe (empty slots) owner None) ∷ []))
+joined_opened f pipes slots owner joined fits =
+    subst (Joined f) (sym (map_push ring_or pipes (Some (new_pipe (empty slots) owner None))))
+    (joined_pushed f (map ring_or pipes) slots joined
+    (subst (λ k. k + slots ≤ f.reserved) (sym (slots-rings pipes)) fits))
 
 -- the ring of a pipe that is there stands in the frames, and each of its free slots has a credit
 

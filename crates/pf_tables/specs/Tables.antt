@@ -1,22 +1,21 @@
 -- What the calls of the tables do, in terms of the lone machine's state.
 
-use Rattle.std.specs.Prelude.{◌≡◌, ℕ, ◌+◌, ◌<◌, ◌≤◌, ⊤, ◌||◌, length, nat_lt, if◌then◌else◌, Bool, true, false, List, Option, Some, None, Result, Ok, Err, nat_le, nat_eq}
+use Rattle.std.specs.Prelude.{◌≡◌, ℕ, ◌≤◌, ⊤, length, nat_lt, if◌then◌else◌, Bool, true, false, List, Option, Some, None, Result, Ok, Err, nat_le, nat_eq}
 use Rattle.std.specs.Map.{lookup}
 use Rattle.std.specs.Option.{option_and_then}
-use Rattle.pf_machine.specs.Refusals.{◌>>=◌, refuse_if, or_refuse}
+use Rattle.pf_machine.specs.Refusals.{◌>>=◌, ◌>>◌, refuse_if, or_refuse}
 use Rattle.pf_machine.specs.FileMap.{Files}
-use Rattle.pf_machine.specs.Queue.{Segment, Slots, empty}
+use Rattle.pf_machine.specs.Queue.{Segment}
 use Rattle.pf_machine.specs.Numbered.{at, clear_at, change_at, first_free}
 use Rattle.pf_machine.specs.Calls.{Call, Opening, Moving}
-use Rattle.pf_machine.specs.State.{itself, State, Process, Pipe, Outcome, living, ready, told, change_process, with_descriptor, waiting}
+use Rattle.pf_machine.specs.State.{itself, State, Process, Pipe, Outcome, living, told, change_process, with_descriptor, waiting}
 use Rattle.pf_machine.specs.Descriptors.{without_descriptor}
 use Rattle.pf_machine.specs.Sweep.{sweep}
-use Rattle.pf_machine.specs.Pipes.{first_descriptor, second_descriptor, is_spent, capacity_for, opened}
+use Rattle.pf_machine.specs.Pipes.{second_free}
 use Rattle.pf_base.specs.Capacities.{may_grow, told_as}
-use Rattle.pf_base.specs.Limits.{Limits}
 use Rattle.pf_base.specs.declared.TheConstants.{MAX_DESCRIPTORS}
 use Rattle.pf_base.specs.declared.errno.Errno.{Errno}
-use Rattle.pf_base.specs.declared.errno.Errno.TheVariants.{EMFILE, ENFILE, EPERM, EBUSY, EINVAL}
+use Rattle.pf_base.specs.declared.errno.Errno.TheVariants.{EMFILE, EPERM, EBUSY, EINVAL}
 use Rattle.pf_base.specs.declared.fault.Fault.{Fault}
 use Rattle.pf_base.specs.declared.fault.Fault.TheVariants as faults
 use Rattle.pf_base.specs.declared.step.Reply.{Reply}
@@ -70,28 +69,11 @@ waits_in_open s pid = do
   call ← or_refuse EINVAL p.parked
   Ok (is_open call)
 
--- a process lives and waits in no call, and these are its two lowest free descriptors
-pub record HasTwo (s : State Segment ℕ) (pid : ℕ) (free : ℕ × ℕ) : Type 0 where
-  pub p : Process ℕ
-  pub lives : ready s pid ≡ Ok p
-  pub first : free.0 ≡ first_descriptor p
-  pub second : free.1 ≡ second_descriptor p
-  pub within : free.1 < MAX_DESCRIPTORS
-
--- or this is why it has not two
-abbrev pub FindsTwo : State Segment ℕ → ℕ → Result (ℕ × ℕ) Errno → Type 0
-FindsTwo s pid (Ok free) = HasTwo s pid free
-FindsTwo s pid (Err e) = (ready s pid >>= (λ p. refuse_if (nat_le MAX_DESCRIPTORS (second_descriptor p)) EMFILE)) ≡ Err e
-
--- with two more descriptions, or one more pipe, more than 2 ^ 64 - 1 would have been drawn
-abbrev pub is_spent_for_pipe : {X : Type 0} → State X ℕ → Bool
-is_spent_for_pipe s = is_spent s.descriptions 2 || is_spent s.pipes 1
-
--- how many slots a new pipe of the process of a pid gets, or why it gets none
-abbrev pub capacity_of_caller : Limits → State Segment ℕ → ℕ → Result ℕ Errno
-capacity_of_caller c s pid = do
-  p ← ready s pid
-  told_as ENFILE (capacity_for c s p.cred)
+-- the two lowest free descriptors, or why there are not two
+abbrev pub two_free : {N : Type 0} → List (Option N) → Result (ℕ × ℕ) Errno
+two_free xs = do
+  refuse_if (nat_le MAX_DESCRIPTORS (second_free xs)) EMFILE
+  Ok (first_free xs, second_free xs)
 
 -- it was made, and this is told
 pub record Tells (f : Live) (old new : Namespace) (machine : Result (Outcome Segment ℕ) Errno) (reply : Reply) : Type 0 where
@@ -141,16 +123,6 @@ abbrev pub Resizing : UserPages → UserPages → rows.Pipe → rows.Pipe → Bo
 Resizing u v p q privileged to (Ok done) = Resizes u v p q privileged to
 Resizing u v p q privileged to (Err (faults.Errno e)) = (verdict u privileged p to ≡ Err e) × Refuses u v p q
 Resizing u v p q privileged to (Err faults.NoMemory) = Refuses u v p q
-
--- one more pipe, under the next numbers
-abbrev pub opened_next : {X : Type 0} → State X ℕ → ℕ → Bool → Slots X → Process ℕ → State X ℕ
-opened_next s = opened (length s.descriptions) (length s.descriptions + 1) (length s.pipes) s
-
--- one more pipe, of so many slots, owned by a process that has its two ends
-pub record Opens (f : Live) (old new : Namespace) (pid : ℕ) (nonblocking : Bool) (slots : ℕ) : Type 0 where
-  pub p : Process ℕ
-  pub lives : ready (meaning f old.state) pid ≡ Ok p
-  pub becomes : Becomes f f old new (opened_next (meaning f old.state) pid nonblocking (empty slots) p)
 
 -- the rows that are left are tied, and show the state without a descriptor and without what nobody can reach any more
 pub record Left (ps : ProcessRows) (ds : DescriptionRows) (pipes : PipeRows) (ps' : ProcessRows) (ds' : DescriptionRows) (pipes' : PipeRows) (i fd : ℕ) : Type 0 where

@@ -17,7 +17,7 @@ ghost use Rattle.pf_tables.specs.Opened.{HasOpened, HasFree, Describes, SameKeys
 ghost use Rattle.pf_tables.specs.Tables.{waits_in_open};
 ghost use Rattle.pf_walk.specs.Told.{Told};
 
-use super::pipes::insert_named;
+use super::pipes::{insert_named, new_capacity};
 use super::{Description, Tables};
 use crate::process_table::ProcessTable;
 use bitflags::Flags;
@@ -264,10 +264,7 @@ impl<A: Allocator> Tables<A> {
         if self.pipes.drawn() == MAX_MADE {
             return Err(Errno::ENFILE);
         }
-        match self.pages.new_capacity(cred.uid, cred.is_privileged()) {
-            Ok(slots) => Ok(slots),
-            Err(fault) => Err(fault.errno(Errno::ENOMEM)),
-        }
+        new_capacity(&self.pages, cred, Errno::ENOMEM)
     }
 
     // Opens a FIFO that somebody has open. Where memory is refused, nothing has changed.

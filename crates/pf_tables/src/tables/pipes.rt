@@ -1,25 +1,62 @@
 //! Pipes: what makes one with its two ends.
 
-ghost use Rattle.std.specs.Prelude.{◌≡◌, ◌≢◌, ◌+◌, ◌-◌, ◌^◌, ◌<◌, ◌≤◌, false, Err, Some, None, IsOk, IfOk, OnOk, OnErr, slice_set, length, [], ◌∷◌, ◌++◌, not, ◌&&◌, nat_lt};
+ghost use Rattle.std.specs.Prelude.{◌≡◌, ◌≢◌, ◌+◌, ◌-◌, ◌^◌, ◌<◌, ◌≤◌, Err, Some, None, IsOk, IfOk, OnErr, slice_set, length, [], ◌∷◌, ◌++◌, not, ◌&&◌, ◌||◌, nat_lt};
+ghost use Rattle.pf_base.specs.Capacities.{new_capacity, told_as};
+ghost use Rattle.pf_base.specs.Permissions.{is_privileged};
+ghost use Rattle.pf_base.specs.declared.TheConstants.{MAX_DESCRIPTORS};
 ghost use Rattle.pf_machine.specs.Numbered.{at};
-ghost use Rattle.pf_machine.specs.Counts.{total};
-ghost use Rattle.pf_tables.specs.Meaning.{meaning};
-ghost use Rattle.pf_machine.specs.Pipes.{get_size, set_size};
+ghost use Rattle.pf_machine.specs.Pipes.{get_size, is_spent, pipe, set_size};
 ghost use Rattle.pf_machine.specs.State.{itself, of_ready, ready};
 ghost use Rattle.pf_limits.specs.UserPages.{charged_to};
 ghost use Rattle.pf_pipe.specs.Pipe.{unopened};
-ghost use Rattle.pf_tables.specs.Owns.{Owns};
-ghost use Rattle.pf_tables.specs.Tables.{HasTwo, FindsTwo, Opens, Resizing, Says, is_spent_for_pipe, capacity_of_caller};
+ghost use Rattle.pf_tables.specs.Tables.{Resizing, Says, two_free};
 
 use super::{Description, Tables, end};
 use pf_base::{
-    Config, Errno, Fault, MAX_DESCRIPTORS, MAX_MADE, MAX_SIZE, PAGE_SIZE, Reply, Side, pages_for,
+    Config, Cred, Errno, Fault, MAX_DESCRIPTORS, MAX_MADE, MAX_SIZE, PAGE_SIZE, Reply, Side,
+    pages_for,
 };
-use pf_fds::{Descriptions, Key};
-use pf_frame::Frames;
+use pf_fds::{Descriptions, FdTable, Key, Registry};
 use pf_limits::UserPages;
 use pf_pipe::Pipe;
 use std::alloc::{AllocError, Allocator, Global};
+
+// The two lowest free descriptors, or why there are not two.
+fn free_descriptors(descriptors: &FdTable) -> Result<(u32, u32), Errno>
+    ensures found { result ≡ two_free descriptors.now }
+    ensures within { IfOk result (λ free. (free.0 < MAX_DESCRIPTORS) × (free.1 < MAX_DESCRIPTORS)) }
+{
+    let first = descriptors.lowest();
+    if first >= MAX_DESCRIPTORS {
+        return Err(Errno::EMFILE);
+    }
+    let second = descriptors.next_lowest(first);
+    if second >= MAX_DESCRIPTORS {
+        return Err(Errno::EMFILE);
+    }
+    Ok((first as u32, second as u32))
+}
+
+// Whether one more pipe with its two descriptions would need a number above the last one that may be drawn.
+fn is_spent(descriptions: &Descriptions<Description>, pipes: &Registry<Pipe>) -> bool
+    ensures { result ≡ is_spent descriptions.now.items 2 || is_spent pipes.now.items 1 }
+{
+    descriptions.drawn() > MAX_MADE - 2 || pipes.drawn() > MAX_MADE - 1
+}
+
+// How many slots a new pipe gets that a process with these credentials makes, or why it gets none: what it is told
+// where its user would pass a limit depends on its call.
+pub(super) fn new_capacity(pages: &UserPages, cred: &Cred, limit: Errno) -> Result<u32, Errno>
+    ensures found { result
+        ≡ told_as limit (new_capacity pages.now.limits (is_privileged cred.now)
+        (charged_to pages.now cred.now.uid) pages.now.total) }
+    ensures room { IfOk result (λ slots. pages.now.total + slots ≤ pages.now.limits.reserve) }
+{
+    match pages.new_capacity(cred.uid, cred.is_privileged()) {
+        Ok(slots) => Ok(slots),
+        Err(fault) => Err(fault.errno(limit)),
+    }
+}
 
 // Makes a description that has one name: the key that is given out.
 pub(super) fn insert_named(descriptions: &mut Descriptions<Description>, end: Description) -> Key
@@ -90,70 +127,23 @@ fn resize(
 }
 
 impl<A: Allocator> Tables<A> {
-    /// The two lowest free descriptors of a process, or why it has not two.
-    pub fn free_descriptors<F: Frames>(&self, door: &F, pid: u32) -> Result<(u32, u32), Errno>
-        ensures { FindsTwo (meaning (F.live door.now) self.now.state) pid result }
-    {
-        let _door = door;
-        let process = self.processes.ready(pid)?;
-        let first = process.descriptors.lowest();
-        if first >= MAX_DESCRIPTORS {
-            return Err(Errno::EMFILE);
-        }
-        let second = process.descriptors.next_lowest(first);
-        if second >= MAX_DESCRIPTORS {
-            return Err(Errno::EMFILE);
-        }
-        Ok((first as u32, second as u32))
-    }
-
-    /// Whether one more pipe with its two descriptions would need a number above the last one that may be
-    /// drawn.
-    pub fn is_spent<F: Frames>(&self, door: &F) -> bool
-        ensures { result ≡ is_spent_for_pipe (meaning (F.live door.now) self.now.state) }
-    {
-        let _door = door;
-        self.descriptions.drawn() > MAX_MADE - 2 || self.pipes.drawn() > MAX_MADE - 1
-    }
-
-    /// How many slots a new pipe of a process gets, or why it gets none.
-    pub fn new_capacity<F: Frames>(&self, door: &F, pid: u32) -> Result<u32, Errno>
-        ensures found { let state = meaning (F.live door.now) self.now.state in
-            result ≡ capacity_of_caller self.now.limits state pid }
-        ensures room { IfOk result
-            (λ slots. total (meaning (F.live door.now) self.now.state) + slots ≤ self.now.limits.reserve) }
-    {
-        let _door = door;
-        let cred = &self.processes.ready(pid)?.cred;
-        match self.pages.new_capacity(cred.uid, cred.is_privileged()) {
-            Ok(slots) => Ok(slots),
-            Err(fault) => Err(fault.errno(Errno::ENFILE)),
-        }
-    }
-
-    /// Makes a pipe of so many slots, owned by a process that has its two ends at its two lowest free
-    /// descriptors. Where memory is refused, nothing has changed.
-    pub fn open_pipe<F: Frames>(
-        &mut self,
-        door: &F,
-        alloc: Global,
-        pid: u32,
-        free: (u32, u32),
-        nonblocking: bool,
-        slots: u32,
-    ) -> Result<(), AllocError>
-        requires owns { Owns (F.live door.now) self.old }
-        requires free { HasTwo (meaning (F.live door.now) self.old.state) pid free }
-        requires unspent { is_spent_for_pipe (meaning (F.live door.now) self.old.state) ≡ false }
-        requires room { total (meaning (F.live door.now) self.old.state) + slots ≤ self.old.limits.reserve }
-        ensures made { OnOk result (Opens (F.live door.now) self.old self.new pid nonblocking slots) }
+    /// Makes a pipe that has its two ends at the two lowest free descriptors of a process, which is charged with it
+    /// (pipe(2)).
+    pub fn pipe(&mut self, alloc: Global, pid: u32, nonblocking: bool) -> Result<Reply, Fault>
+        ensures says { let s = self.old.state in Says self.old self.new result
+            (of_ready s pid (λ p. pipe (length s.descriptions) (length s.descriptions + 1) (length s.pipes)
+            self.old.limits s pid p nonblocking)) }
+        // Memory is wanted for a process that lives and waits in no call.
+        ensures ready { result ≡ Err Fault.NoMemory → IsOk (ready self.old.state pid) }
         ensures refused { OnErr result (self.new ≡ self.old) }
     {
-        let _door = door;
-        let Ok(process) = self.processes.ready(pid) else {
-            unreachable!()
-        };
+        let process = self.processes.ready(pid)?;
+        let free = free_descriptors(&process.descriptors)?;
+        if is_spent(&self.descriptions, &self.pipes) {
+            return Err(Errno::ENFILE.into());
+        }
         let owner = process.cred.uid;
+        let slots = new_capacity(&self.pages, &process.cred, Errno::ENFILE)?;
         // What may be refused comes first.
         let pipe = two_ended(alloc, slots as usize, owner)?;
         self.descriptions.reserve(2)?;
@@ -176,7 +166,7 @@ impl<A: Allocator> Tables<A> {
         let (first, second) = (free.0 as usize, free.1 as usize);
         self.processes
             .give_keys(pid, first, reading, second, writing);
-        Ok(())
+        Ok(Reply::Fds(free.0, free.1))
     }
 
     /// The capacity in bytes of the pipe that a process's descriptor names (fcntl(2), F_GETPIPE_SZ).

@@ -2,10 +2,10 @@
 -- kind is known. What the tables do at their own state is told by one lemma, with the line that says what the machine's
 -- call of that kind is there.
 
-use Rattle.std.proofs.Common.{subst, sym, ap, ◌∙◌}
+use Rattle.std.proofs.Common.{◌+◌, length, refl, subst, sym, ap, ◌∙◌}
 use Rattle.pf_machine.specs.Machine.{call}
 use Rattle.pf_machine.specs.State.{itself}
-use Rattle.pf_machine.proofs.NaturalCalls.{spawn-call, fork-call, dup-call, set_nonblock-call, mkdir-call, mkfifo-call}
+use Rattle.pf_machine.proofs.NaturalCalls.{spawn-call, pipe-call, fork-call, dup-call, set_nonblock-call, mkdir-call, mkfifo-call}
 use Rattle.pf_machine.proofs.NaturalCalls.{unlink-call, rmdir-call, chmod-call, stat-call, list-call, set_size-call, get_size-call}
 use Rattle.pf_base.specs.declared.progress.Crossing.TheVariants as crossings
 use Rattle.pf_base.specs.declared.step.Step.{Step}
@@ -35,6 +35,13 @@ returns-in-Spawn-clause-told g c =
     booked c.self.view_is c.requires.owns c.in-Spawn.is _ c.spawn.ensures.says c.spawn.ensures.refused
     (λ shows. spawn-call shows itself c.self.inside.tables.limits c.self.inside.tables.state c.in-Spawn.uid
     c.in-Spawn.gid c.in-Spawn.umask c.in-Spawn.groups)
+
+pub returns-in-Pipe-clause-told : goal.returns-in-Pipe-clause-told
+returns-in-Pipe-clause-told g c =
+    let s = c.self-in-Pipe.inside.tables.state in
+    booked c.self-in-Pipe.view_is c.requires.owns c.in-Pipe.is _ c.pipe.ensures.says c.pipe.ensures.refused
+    (λ shows. pipe-call shows itself c.self-in-Pipe.inside.tables.limits s c.in-Pipe.pid (length s.descriptions)
+    (length s.descriptions + 1) (length s.pipes) refl refl refl c.in-Pipe.nonblock)
 
 pub returns-in-Fork-clause-told : goal.returns-in-Fork-clause-told
 returns-in-Fork-clause-told g c =

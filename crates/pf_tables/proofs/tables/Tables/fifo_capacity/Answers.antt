@@ -1,27 +1,22 @@
-use Rattle.std.proofs.Common.{◌+◌, ◌≤◌, arith, sym, refl, ap, ◌∙◌, rules}
-use Rattle.pf_limits.specs.UserPages.{charged_to}
+use Rattle.std.proofs.Common.{arith, sym, refl, ap, rules}
 use Rattle.pf_tables.specs.Meaning.{Namespace}
 use Rattle.pf_tables.proofs.OpensTests as lemmas
-use Rattle.pf_tables.proofs.PipesOpen.{total_is, has_room}
 use Rattle.pf_tables.proofs.tables.Tables.fifo_capacity.Goals as goal
 
 pub returns-then-drawn-clause-found : goal.returns-then-drawn-clause-found
 returns-then-drawn-clause-found g c =
-    sym (lemmas.capacity_spent (g.F.Frames.live c.args.door.now) c.self.invariant.kept c.self.view_is c.args.pid c.in_ok-cred.ensures refl (omega (arith, c.drawn.ensures, c.if-drawn.true)))
+    sym (lemmas.capacity_spent (g.F.Frames.live c.args.door.now) c.self.invariant.kept c.self.view_is c.args.pid
+    c.in_ok-cred.ensures refl (omega (arith, c.drawn.ensures, c.if-drawn.true)))
 
-pub returns-in-Ok-clause-found : goal.returns-in-Ok-clause-found
-returns-in-Ok-clause-found g c =
-    let told = lemmas.capacity_is (g.F.Frames.live c.args.door.now) c.self.invariant.kept c.self.view_is c.args.pid c.in_ok-cred.ensures refl (omega (arith, c.drawn.ensures, c.if-drawn.false, c.drawn.type_inv)) in
+pub returns-clause-found : goal.returns-clause-found
+returns-clause-found g c =
+    let told =
+    lemmas.capacity_is (g.F.Frames.live c.args.door.now) c.self.invariant.kept c.self.view_is c.args.pid
+    c.in_ok-cred.ensures refl (omega (arith, c.drawn.ensures, c.if-drawn.false, c.drawn.type_inv)) in
     search rules
 
-pub returns-in-Ok-clause-room : goal.returns-in-Ok-clause-room
-returns-in-Ok-clause-room g c =
-    let all = total_is (g.F.Frames.live c.args.door.now) c.self.invariant.kept c.self.view_is in
-    let within : c.self.inside.pages.total + c.in-Ok.slots ≤ c.self.inside.pages.limits.reserve = has_room c.self.inside.pages.limits c.is_privileged.result (charged_to c.self.inside.pages c.in_ok-cred.field-0.now.cred.uid) c.self.inside.pages.total c.in-Ok.slots (sym c.new_capacity.ensures ∙ c.in-Ok.is) in
+pub returns-clause-room : goal.returns-clause-room
+returns-clause-room g c =
+    let all = lemmas.total_is (g.F.Frames.live c.args.door.now) c.self.invariant.kept c.self.view_is in
     let same = ap (λ (n : Namespace). n.limits.reserve) c.self.view_is in
-    omega (arith, all, within, same)
-
-pub returns-in-Err-clause-found : goal.returns-in-Err-clause-found
-returns-in-Err-clause-found g c =
-    let told = lemmas.capacity_is (g.F.Frames.live c.args.door.now) c.self.invariant.kept c.self.view_is c.args.pid c.in_ok-cred.ensures refl (omega (arith, c.drawn.ensures, c.if-drawn.false, c.drawn.type_inv)) in
     search rules

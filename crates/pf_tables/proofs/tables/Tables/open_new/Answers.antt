@@ -5,7 +5,7 @@ use Rattle.pf_tables.specs.Opened.{counted}
 use Rattle.pf_tables.specs.Rows.{Description, Pipe}
 use Rattle.pf_tables.proofs.OpensNew as lemmas
 use Rattle.pf_tables.proofs.OpensFound as joining
-use Rattle.pf_tables.proofs.PipesOpen.{total_is}
+use Rattle.pf_tables.proofs.OpensTests.{total_is}
 use Rattle.pf_tables.proofs.tables.Tables.open_new.Goals as goal
 
 pub make_fifo-requires-clause-room : goal.make_fifo-requires-clause-room
