@@ -47,15 +47,21 @@ call_fault first ns (Err NoSuchNamespace) there fault = absurd fault
 call_fault first ns (Err TooManySeats) there fault = absurd fault
 call_fault first ns (Err Gone) there fault = there
 
--- it is there, and is retired
-gone_is : {A C H : Type 0} (first ns : ℕ) (t : Tenant (OneLiving A C H)) (e : ServiceFault) → ns < MAX_NUMBERS → IsGoneFault t e → IsQueryFault first ns e
-gone_is first ns (Living l) e there gone = absurd gone
-gone_is first ns (Retired t) e there gone = subst (IsQueryFault first ns) (sym gone) there
+-- it is retired
+gone_is : {A C H : Type 0} (t : Tenant (OneLiving A C H)) (e : ServiceFault) → IsGoneFault t e → e ≡ Gone
+gone_is (Living l) e gone = absurd gone
+gone_is (Retired t) e gone = gone
 
-pub gone_fault : {A C H T : Type 0} (Lay : Tenant (OneLiving A C H) → Bool → Type 0) (first ns : ℕ) (r : Result T ServiceFault)
-    → ns < MAX_NUMBERS → IfErr r (IsGoneThere Lay) → IfErr r (IsQueryFault first ns)
-gone_fault Lay first ns (Ok x) there gone = tt
-gone_fault Lay first ns (Err e) there gone = gone_is first ns gone.0 e there gone.3
+pub gone_alone : {A C H T : Type 0} (Lay : Tenant (OneLiving A C H) → Bool → Type 0) (r : Result T ServiceFault)
+    → IfErr r (IsGoneThere Lay) → IfErr r (λ e. e ≡ Gone)
+gone_alone Lay (Ok x) gone = tt
+gone_alone Lay (Err e) gone = gone_is gone.0 e gone.3
+
+-- and is there
+pub gone_fault : {T : Type 0} (first ns : ℕ) (r : Result T ServiceFault)
+    → ns < MAX_NUMBERS → IfErr r (λ e. e ≡ Gone) → IfErr r (IsQueryFault first ns)
+gone_fault first ns (Ok x) there gone = tt
+gone_fault first ns (Err e) there gone = subst (IsQueryFault first ns) (sym gone) there
 
 -- a receipt's namespace, beside what its caller is told
 pub told_at : (ns place : ℕ) (step : Step) (r : Result Receipt ServiceFault) → IfOk r (λ x. (x.ns ≡ ns) × (x.place ≡ place))

@@ -99,7 +99,8 @@ impl<A: Allocator + Clone, C: Ledger, H: Ledger> Living<A, C, H> {
     }
 
     /// One event, of which the gate was told: the namespace, and the place where it will stand. The transcript isn't full,
-    /// and the reply's vector is known to be no longer than `bound`. The gate is told of each frame before it is taken.
+    /// and the reply's vector is known to be no longer than `bound`. The gate is told of each frame before it is taken: that
+    /// is the way of a `GatedDepot`, and no clause of this step's.
     pub(crate) fn log<R: Wait, G: Gate>(
         &mut self,
         rt: &R,

@@ -11,7 +11,8 @@ use std::sync::ledger::Ledger;
 ///
 /// What lies there is a fact which nobody but `lock` gives: a contract over any way can't see what the fact is. So whoever
 /// asks for the fact, of a number and a namespace, asks that this very one was put there. As it is moved there, with its part
-/// of the depot, it lies behind no other lock.
+/// of the depot, and only a `Place` gets at its lock, it lies behind no other one. That the place which is kept is this one,
+/// and no later one of its number, is no part of the fact.
 pub(crate) trait Locks {
     /// Behind the lock of the namespace with this number lies one that is so.
     ghost locked: { Self → ℕ → (Z : Type 0) → Log Z → Type 0 };

@@ -18,6 +18,7 @@ use crate::seat::Seat;
 use crate::seated::{Seated, Tenant};
 use crate::transcript::Transcript;
 use crate::waiters::{NextEvent, Waiters};
+use crate::waiting::wait_at;
 use pf_base::{Reply, RetireFault, Step};
 use pf_depot::DepotBook;
 use pf_worker::{Gate, Returns};
@@ -26,14 +27,17 @@ use std::marker::Model;
 use std::sync::ledger::Ledger;
 use std::sync::{Mutex, Wait};
 
+mod queries;
+
 /// A namespace of a service: its number, what lies behind its lock, and who waits there for its next event.
 ///
-/// A contract sees the number: what lies behind the lock is known while it is held.
+/// A contract sees the number: what lies behind the lock is known while it is held. No other module gets at the lock: so
+/// an event reaches what lies there by `call` and `call_waiting` alone, which want a seat of this number.
 #[derive(Drop)]
 pub(crate) struct Place<A: Allocator, C: Ledger, H: Ledger> {
     ns: u32,
-    pub(crate) seated: Mutex<Seated<A, C, H>>,
-    pub(crate) next: NextEvent,
+    seated: Mutex<Seated<A, C, H>>,
+    next: NextEvent,
     // Keeps two places apart, so that no cache line has what the callers of two namespaces write.
     apart: [u64; 16],
 }
@@ -215,7 +219,10 @@ fn call_at<A: Allocator + Clone, R: Wait, G: Gate, C: Ledger, H: Ledger, W: Wait
 }
 
 impl<A: Allocator + Clone, C: Ledger, H: Ledger> Place<A, C, H> {
+    ghost use Rattle.std.specs.Prelude.{◌++◌, List};
     ghost use Rattle.pf_service.specs.declared.TheConstants.{MAX_SEATS};
+    ghost use Rattle.pf_service.specs.declared.event.Event.{Event as OneEvent};
+    ghost use Rattle.pf_service.specs.Waited.{AreParked, IsAnswered, IsWaited};
 
     /// The namespace of a number. Nobody waits there yet.
     pub(crate) fn new(ns: u32, seated: Seated<A, C, H>) -> Self
@@ -262,6 +269,39 @@ impl<A: Allocator + Clone, C: Ledger, H: Ledger> Place<A, C, H> {
         ensures refused { OnErr result (Gains seat.old seat.new []) }
     {
         call_at(rt, gate, book, &self.seated, &self.next, seat, step)
+    }
+
+    /// An event of a seat of the namespace, and, as long as its process waits, after each further event of the namespace a
+    /// Resume of that process. The receipt of each is appended.
+    ///
+    /// A Resume is the machine's: a call that the process waits in since is resumed too.
+    pub(crate) fn call_waiting<R: Wait, G: Gate>(
+        &self,
+        rt: &R,
+        gate: &G,
+        book: &Mutex<DepotBook<C, H>>,
+        seat: &mut Seat,
+        step: &Step,
+        receipts: &mut Vec<Receipt>,
+    ) -> Result<(), ServiceFault>
+        requires own { seat.old.ns ≡ self.now }
+        ensures waited { (es : List OneEvent)
+            × IsWaited (λ s p r. Told s p r × G.passed gate.now seat.old.ns p) step.now seat.old seat.new
+            receipts.old.items receipts.new.items es
+            × OnOk result (IsAnswered es)
+            × OnErr result (AreParked es) }
+        ensures fault { IfErr result IsEventFault }
+    {
+        wait_at(
+            rt,
+            gate,
+            book,
+            &self.seated,
+            &self.next,
+            seat,
+            step,
+            receipts,
+        )
     }
 
     /// The namespace is retired, where it lives and has no process.

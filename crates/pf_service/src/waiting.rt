@@ -3,7 +3,7 @@ ghost use Rattle.pf_base.specs.declared.step.Reply.{Reply as OneReply};
 ghost use Rattle.pf_base.specs.declared.step.Reply.TheVariants.{Parked};
 ghost use Rattle.pf_machine.specs.Machine.{pid_of};
 ghost use Rattle.pf_service.specs.declared.event.Event.{Event as OneEvent};
-ghost use Rattle.pf_service.specs.Faults.{IsApplyFault, IsEventFault};
+ghost use Rattle.pf_service.specs.Faults.{IsApplyFault};
 ghost use Rattle.pf_service.specs.Tenants.{IsEvent, IsSameTenant, IsTenantFault, IsToldOfMore, is_idle_at};
 ghost use Rattle.pf_service.specs.Seats.{Gains};
 ghost use Rattle.pf_service.specs.Said.{IsRefusedThere, IsSaid};
@@ -12,7 +12,7 @@ ghost use Rattle.pf_service.specs.Waited.{maker, resume_of, IsTried, IsWaited, I
 
 use crate::fault::ServiceFault;
 use crate::living::Living;
-use crate::place::{Place, event_of};
+use crate::place::event_of;
 use crate::receipt::Receipt;
 use crate::seat::Seat;
 use crate::seated::{Seated, Tenant};
@@ -109,11 +109,11 @@ fn try_once<A: Allocator + Clone, R: Wait, G: Gate, C: Ledger, H: Ledger, W: Wai
     Ok(waits)
 }
 
-// An event of a seat of the namespace that lies behind a lock, and, as long as its process waits, after each further event of
-// the namespace a Resume of that process. Each happens to what lay there, those who wait there are woken, and where the
-// namespace then holds more frames, the gate was told. It is given up only where an event is refused because of what lay
-// there.
-fn wait_at<A: Allocator + Clone, R: Wait, G: Gate, C: Ledger, H: Ledger, W: Waiters>(
+/// An event of a seat of the namespace that lies behind a lock, and, as long as its process waits, after each further event of
+/// the namespace a Resume of that process. Each happens to what lay there, those who wait there are woken, and where the
+/// namespace then holds more frames, the gate was told. It is given up only where an event is refused because of what lay
+/// there.
+pub(crate) fn wait_at<A: Allocator + Clone, R: Wait, G: Gate, C: Ledger, H: Ledger, W: Waiters>(
     rt: &R,
     gate: &G,
     book: &Mutex<DepotBook<C, H>>,
@@ -153,39 +153,4 @@ fn wait_at<A: Allocator + Clone, R: Wait, G: Gate, C: Ledger, H: Ledger, W: Wait
         )?;
     }
     unreachable!()
-}
-
-impl<A: Allocator + Clone, C: Ledger, H: Ledger> Place<A, C, H> {
-    /// An event of a seat of the namespace, and, as long as its process waits, after each further event of the namespace a
-    /// Resume of that process. The receipt of each is appended.
-    ///
-    /// A Resume is the machine's: a call that the process waits in since is resumed too.
-    pub(crate) fn call_waiting<R: Wait, G: Gate>(
-        &self,
-        rt: &R,
-        gate: &G,
-        book: &Mutex<DepotBook<C, H>>,
-        seat: &mut Seat,
-        step: &Step,
-        receipts: &mut Vec<Receipt>,
-    ) -> Result<(), ServiceFault>
-        requires own { seat.old.ns ≡ self.now }
-        ensures waited { (es : List OneEvent)
-            × IsWaited (λ s p r. Told s p r × G.passed gate.now seat.old.ns p) step.now seat.old seat.new
-            receipts.old.items receipts.new.items es
-            × OnOk result (IsAnswered es)
-            × OnErr result (AreParked es) }
-        ensures fault { IfErr result IsEventFault }
-    {
-        wait_at(
-            rt,
-            gate,
-            book,
-            &self.seated,
-            &self.next,
-            seat,
-            step,
-            receipts,
-        )
-    }
 }

@@ -8,7 +8,6 @@ ghost use Rattle.pf_service.specs.Faults.{IsQueryFault};
 ghost use Rattle.pf_service.specs.Told.{IsAfterSome};
 
 use super::Service;
-use crate::asked::{can_go_on_at, next_to_go_on_at, readiness_at};
 use crate::fault::ServiceFault;
 use pf_base::{Errno, Readiness};
 use pf_worker::Gate;
@@ -26,8 +25,7 @@ impl<A: Allocator + Clone, G: Gate, C: Ledger, H: Ledger> Service<A, G, C, H> {
         ensures missing { MAX_NUMBERS ≤ ns → result ≡ Err ServiceFault.NoSuchNamespace }
         ensures fault { IfErr result (IsQueryFault (length self.now) ns) }
     {
-        let place = self.place(ns)?;
-        can_go_on_at(rt, &place.seated, &place.next, pid)
+        self.place(ns)?.can_go_on(rt, pid)
     }
 
     /// The least pid above `after` whose process can go on in a namespace, if there is one. So a loop from 0 finds them all.
@@ -42,8 +40,7 @@ impl<A: Allocator + Clone, G: Gate, C: Ledger, H: Ledger> Service<A, G, C, H> {
         ensures missing { MAX_NUMBERS ≤ ns → result ≡ Err ServiceFault.NoSuchNamespace }
         ensures fault { IfErr result (IsQueryFault (length self.now) ns) }
     {
-        let place = self.place(ns)?;
-        next_to_go_on_at(rt, &place.seated, &place.next, after)
+        self.place(ns)?.next_to_go_on(rt, after)
     }
 
     /// What the pipe is ready for that a descriptor of a namespace's process names (poll(2)), as `Space::readiness` says.
@@ -59,7 +56,6 @@ impl<A: Allocator + Clone, G: Gate, C: Ledger, H: Ledger> Service<A, G, C, H> {
         ensures missing { MAX_NUMBERS ≤ ns → result ≡ Err ServiceFault.NoSuchNamespace }
         ensures fault { IfErr result (IsQueryFault (length self.now) ns) }
     {
-        let place = self.place(ns)?;
-        readiness_at(rt, &place.seated, &place.next, pid, fd)
+        self.place(ns)?.readiness(rt, pid, fd)
     }
 }

@@ -7,4 +7,4 @@ pub returns-clause-missing : goal.returns-clause-missing
 returns-clause-missing g c = λ past. absurd (omega (arith, c.in_ok-place.ensures.found.1, past))
 
 pub returns-clause-fault : goal.returns-clause-fault
-returns-clause-fault g c = gone_fault _ _ _ _ c.in_ok-place.ensures.found.1 c.readiness_at.ensures.fault
+returns-clause-fault g c = gone_fault _ _ _ c.in_ok-place.ensures.found.1 c.readiness.ensures.fault

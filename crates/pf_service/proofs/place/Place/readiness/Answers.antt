@@ -1,0 +1,5 @@
+use Rattle.pf_service.proofs.FaultLaws.{gone_alone}
+use Rattle.pf_service.proofs.place.Place.readiness.Goals as goal
+
+pub returns-clause-fault : goal.returns-clause-fault
+returns-clause-fault g c = gone_alone _ _ c.readiness_at.ensures.fault
