@@ -8,6 +8,7 @@ use Rattle.pf_machine.specs.Refusals.{◌>>=◌}
 use Rattle.pf_machine.specs.FileMap.{Files}
 use Rattle.pf_base.specs.Limits.{Limits}
 use Rattle.pf_machine.specs.Numbered.{at, clear_at}
+use Rattle.pf_machine.specs.Calls.{Call}
 use Rattle.pf_machine.specs.Machine.{call_of}
 use Rattle.pf_machine.specs.State as machine
 use Rattle.pf_machine.specs.State.{itself, State, Outcome, Pipe, living, of_ready, with_process, done}
@@ -105,17 +106,29 @@ module _ {files : Files} {files_made : ℕ} (f : Live) (limits : Limits) (charge
 
 -- A process that has no descriptors
 
-module _ {files : Files} {files_made : ℕ} (f : Live) (limits : Limits) (charges : UserPages) (ps : ProcessRows) (ds : DescriptionRows) (pipes : PipeRows) (k : Kept charges ps ds pipes)
-    (n : Namespace) (view : record { limits = limits; state = state_of ps ds pipes files files_made } ≡ n)
-    (i : ℕ) (i_in : i < MAX_PROCESSES) (bare : (fd : ℕ) → descriptor n.state i fd ≡ None) (awake : call_of n.state (i + 1) ≡ None) (ps' : ProcessRows) (is : ps' ≡ clear_at ps i) where
+module _ {charges : UserPages} {limits : Limits} {ps : ProcessRows} {ds : DescriptionRows} {pipes : PipeRows}
+    {files : Files} {files_made : ℕ} (k : Kept charges ps ds pipes) {n : Namespace}
+    (view : record { limits = limits; state = state_of ps ds pipes files files_made } ≡ n) {i : ℕ}
+    (i_in : i < MAX_PROCESSES) (bare : (fd : ℕ) → descriptor n.state i fd ≡ None)
+    (awake : call_of n.state (i + 1) ≡ None) {ps' : ProcessRows} (is : ps' ≡ clear_at ps i) where
   bare_key : (fd : ℕ) → key_at fd (at ps i) ≡ None
-  bare_key fd = none_was (λ (k : Key). k.serial) (key_at fd (at ps i)) (sym (descriptor_shown ps ds pipes files files_made i fd) ∙ ap (λ (m : Namespace). descriptor m.state i fd) view ∙ bare fd)
+  bare_key fd =
+      none_was (λ (k : Key). k.serial) (key_at fd (at ps i))
+      (sym (descriptor_shown ps ds pipes files files_made i fd)
+      ∙ ap (λ (m : Namespace). descriptor m.state i fd) view ∙ bare fd)
 
   vacated : Tied ps' ds pipes
   vacated = subst (λ x. Tied x ds pipes) (sym is) (by_place (at ps i) refl)
     where
+      call_at : Option (machine.Process ℕ) → Option (Call ℕ)
+      call_at o = option_and_then (λ q. q.parked) o
+
       bare_all : (p : Process) → at ps i ≡ Some p → (m : ℕ) → at (keys_of p) m ≡ None
-      bare_all p e zero = let same : suc i ≡ i + 1 = omega arith in no_key p.parked (none_was rows.call_of p.parked (sym (ap (λ (o : Option (machine.Process ℕ)). option_and_then (λ (q : machine.Process ℕ). q.parked) o) (shown process_of ps i p e)) ∙ ap (λ (m : Namespace). option_and_then (λ (q : machine.Process ℕ). q.parked) (at m.state.processes i)) view ∙ ap (call_of n.state) same ∙ awake))
+      bare_all p e zero =
+          let same : suc i ≡ i + 1 = omega arith in
+          no_key p.parked
+          (none_was rows.call_of p.parked (sym (ap call_at (shown process_of ps i p e))
+          ∙ ap (λ (m : Namespace). call_at (at m.state.processes i)) view ∙ ap (call_of n.state) same ∙ awake))
         where
           no_key : (o : Option (rows.Call Key)) → o ≡ None → rows.made_by o ≡ None
           no_key None h = refl
@@ -129,17 +142,13 @@ module _ {files : Files} {files_made : ℕ} (f : Live) (limits : Limits) (charge
   pub vacated-kept : Kept charges ps' ds pipes
   vacated-kept = record { tied = vacated; charged = k.charged }
 
-  pub vacated-becomes : Owns f n → Becomes f f n (record { limits = limits; state = state_of ps' ds pipes files files_made }) (without_place (meaning f n.state) i)
-  vacated-becomes owns =
-      subst (λ (m : Namespace). Owns f m → Becomes f f m (record { limits = limits; state = state_of ps' ds pipes files files_made }) (without_place (meaning f m.state) i)) view
-      (λ o. record {
-        owns = record { joined = o.joined; reserve = o.reserve };
-        limits = refl;
-        state = ap (meaning f)
-            (changed-swept ps' ds pipes files files_made vacated (state_of ps ds pipes files files_made) (within_same (descriptions_of ds)) (within_same (pipes_of pipes))
-            ∙ ap (λ qs. sweep itself (with_processes (state_of ps ds pipes files files_made) qs)) (ap processes_of is ∙ map-set (option_map process_of) ps i None))
-            ∙ sym (sweep-meaning f (without_place (state_of ps ds pipes files files_made) i));
-      }) owns
+  pub vacated-shown : state_of ps' ds pipes files files_made ≡ sweep itself (without_place n.state i)
+  vacated-shown =
+      subst (λ (m : Namespace). state_of ps' ds pipes files files_made ≡ sweep itself (without_place m.state i)) view
+      (changed-swept ps' ds pipes files files_made vacated (state_of ps ds pipes files files_made)
+      (within_same (descriptions_of ds)) (within_same (pipes_of pipes))
+      ∙ ap (λ qs. sweep itself (with_processes (state_of ps ds pipes files files_made) qs))
+      (ap processes_of is ∙ map-set (option_map process_of) ps i None))
 
 -- What the machine's call does, from what the tables find
 

@@ -6,6 +6,7 @@ use Rattle.std.proofs.lemmas.List.{length-map}
 use Rattle.std.proofs.Common.{subst}
 use Rattle.std.specs.Option.{option_map}
 use Rattle.pf_ring.specs.declared.ring.Window.{Window}
+use Rattle.pf_base.specs.Limits.{Limits}
 use Rattle.pf_machine.specs.Queue.{Segment, bytes_of}
 use Rattle.pf_machine.specs.Numbered.{at, change_at, sum_of}
 use Rattle.pf_machine.proofs.NumberedLaws.{at-map, sum_of-map}
@@ -15,7 +16,11 @@ use Rattle.pf_machine.specs.State.{itself, State, Pipe, with_queue, holding}
 use Rattle.pf_machine.specs.Sweep.{sweep, live_descriptions}
 use Rattle.pf_frame.specs.Live.{Live}
 use Rattle.pf_ring.specs.Ring.{Ring, queue_of, no_ring, segment_of}
-use Rattle.pf_tables.specs.Meaning.{meaning, pipe_meaning, ring_or, occupied, AreEmpty}
+use Rattle.pf_ring.specs.Table.{Joined}
+use Rattle.pf_tables.specs.Meaning.{Namespace, meaning, pipe_meaning, ring_or, occupied, AreEmpty}
+use Rattle.pf_tables.specs.Owns.{Owns}
+use Rattle.pf_tables.specs.Tables.{awoken}
+use Rattle.pf_tables.specs.Told.{Becomes}
 
 module _ (f : Live) where
   -- the segments of all queues are the slots in use of all rings
@@ -49,6 +54,24 @@ module _ (f : Live) where
 
   pub settled-meaning : (s : State Window ℕ) → s ≡ sweep itself s → meaning f s ≡ sweep itself (meaning f s)
   settled-meaning s e = ap (meaning f) e ∙ sym (sweep-meaning s)
+
+  -- a change that leaves the pipes
+  pub pipes-left : (old new : Namespace) (s : State Window ℕ) → new.limits ≡ old.limits
+      → new.state.pipes ≡ old.state.pipes → new.state ≡ sweep itself s → Owns f old → Becomes f f old new (meaning f s)
+  pipes-left old new s limits pipes is owns = record {
+    owns = record {
+      joined = subst (λ (ps : List (Option (Pipe Window))). Joined f (map ring_or ps)) (sym pipes) owns.joined;
+      reserve = ap (λ (l : Limits). l.reserve) limits ∙ owns.reserve;
+    };
+    limits = limits;
+    state = ap (meaning f) is ∙ sym (sweep-meaning s);
+  }
+
+  pub woken-left : (old new : Namespace) (pid : ℕ) → new ≡ record old { state = awoken old.state pid }
+      → new.state ≡ sweep itself new.state → Owns f old → Becomes f f old new (awoken (meaning f old.state) pid)
+  woken-left old new pid is still owns =
+      pipes-left old new (awoken old.state pid) (ap (λ (n : Namespace). n.limits) is)
+      (ap (λ (n : Namespace). n.state.pipes) is) (still ∙ ap (λ (n : Namespace). sweep itself n.state) is) owns
 
 -- rings by number
 

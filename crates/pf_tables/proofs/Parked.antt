@@ -12,36 +12,36 @@ use Rattle.pf_machine.specs.Machine.{call_of as machine_call_of}
 use Rattle.pf_machine.specs.State.{State, living, ready, waiting}
 use Rattle.pf_ring.specs.declared.ring.Window.{Window}
 use Rattle.pf_base.specs.declared.errno.Errno.{Errno}
-use Rattle.pf_frame.specs.Live.{Live}
 use Rattle.pf_limits.specs.UserPages.{UserPages}
 use Rattle.pf_parked.specs.declared.call.Call.TheVariants.{Open, Read, Write, Cross}
-use Rattle.pf_tables.specs.Meaning.{Namespace, meaning}
-use Rattle.pf_tables.specs.Owns.{Owns}
+use Rattle.pf_tables.specs.Meaning.{Namespace}
 use Rattle.pf_tables.specs.Rows as rows
-use Rattle.pf_tables.specs.Rows.{ProcessRows, DescriptionRows, PipeRows, Key, Process, Call, call_of, made_by, keys_of, keys_to, names_it, IsSpare, Finds, process_in, ready_in, process_of, processes_of, descriptions_of, pipes_of, state_of, TiedWith, Tied, Kept}
+use Rattle.pf_tables.specs.Rows.{ProcessRows, DescriptionRows, PipeRows, Key, Process, Call, call_of, made_by, keys_of, keys_to, names_it, IsSpare, Finds, process_in, ready_in, process_of, processes_of, state_of, TiedWith, Tied, Kept}
 use Rattle.pf_tables.specs.Tables.{over, woken, awoken, HasLowest}
-use Rattle.pf_tables.specs.Told.{Becomes, waits_in}
+use Rattle.pf_tables.specs.Told.{waits_in}
 use Rattle.pf_tables.proofs.ProcessTableReady.{shown_in, found_in, living_shown, ready_shown, place_of, place_is, is_awake}
 use Rattle.pf_tables.proofs.TablesTied.{moved, put}
 use Rattle.pf_tables.proofs.TablesShown.{shown}
-use Rattle.pf_tables.proofs.TablesSettled.{becomes, settled}
 
 -- Who lives for the machine lives in the tables
-pub who : (f : Live) (limits : Limits) (ps : ProcessRows) (ds : DescriptionRows) (pipes : PipeRows) (files : Files) (files_made : ℕ) (n : Namespace) → record { limits = limits; state = state_of ps ds pipes files files_made } ≡ n → (pid : ℕ)
-    → IsOk (living (meaning f n.state) pid) → (p : Process) × (process_in ps pid ≡ Ok p)
-who f limits ps ds pipes files files_made n view pid lives =
-    found_in (process_in ps pid)
-    (subst (λ r. IsOk r) (living_shown ps pid)
-    (subst (λ (m : Namespace). IsOk (living (meaning f m.state) pid)) (sym view) lives))
 
--- its lowest free descriptor
-pub lowest_shown : (f : Live) (limits : Limits) (ps : ProcessRows) (ds : DescriptionRows) (pipes : PipeRows) (files : Files) (files_made : ℕ) (n : Namespace) → record { limits = limits; state = state_of ps ds pipes files files_made } ≡ n → (pid : ℕ)
-    → (p : Process) → process_in ps pid ≡ Ok p → HasLowest (meaning f n.state) pid (first_free p.descriptors)
-lowest_shown f limits ps ds pipes files files_made n view pid p lives q h =
-    let one : ◌≡◌ {A = Result (machine.Process ℕ) Errno} (Ok (process_of p)) (Ok q) =
-    sym (subst (λ (m : Namespace). living (meaning f m.state) pid ≡ Ok (process_of p)) view (living_shown ps pid ∙ ap shown_in lives)) ∙ h in
-    let same : process_of p ≡ q = cc in
-    sym (first_free-map (λ (k : Key). k.serial) p.descriptors) ∙ ap (λ (x : machine.Process ℕ). first_free x.descriptors) same
+module _ {limits : Limits} {ps : ProcessRows} {ds : DescriptionRows} {pipes : PipeRows} {files : Files} {files_made : ℕ}
+    {n : Namespace} (view : record { limits = limits; state = state_of ps ds pipes files files_made } ≡ n) (pid : ℕ) where
+  pub who : IsOk (living n.state pid) → (p : Process) × (process_in ps pid ≡ Ok p)
+  who lives =
+      found_in (process_in ps pid)
+      (subst (λ r. IsOk r) (living_shown ps pid)
+      (subst (λ (m : Namespace). IsOk (living m.state pid)) (sym view) lives))
+
+  -- its lowest free descriptor
+  pub lowest_shown : {p : Process} → process_in ps pid ≡ Ok p → HasLowest n.state pid (first_free p.descriptors)
+  lowest_shown {p} lives q h =
+      let one : ◌≡◌ {A = Result (machine.Process ℕ) Errno} (Ok (process_of p)) (Ok q) =
+      sym (subst (λ (m : Namespace). living m.state pid ≡ Ok (process_of p)) view
+      (living_shown ps pid ∙ ap shown_in lives)) ∙ h in
+      let same : process_of p ≡ q = cc in
+      sym (first_free-map (λ (k : Key). k.serial) p.descriptors)
+      ∙ ap (λ (x : machine.Process ℕ). first_free x.descriptors) same
 
 -- what the machine sees of a process whose call is over
 woken_shown : (p : Process) → process_of (rows.woken p) ≡ woken (process_of p)
@@ -76,11 +76,13 @@ module _ (ps : ProcessRows) (ds : DescriptionRows) (pipes : PipeRows) (t : Tied 
           subst (λ x. Tied x ds pipes) (set-set ps i (Some asleep) (Some (rows.over (Some (Open key kept)) p)))
           (put [] [] (put_at ps i asleep) ds pipes i (first_free p.descriptors) asleep (at-put_same ps i (Some asleep) (at_within ps i p stands)) (spare key kept e) key (at-first_free p.descriptors) u)
 
-module _ {files : Files} {files_made : ℕ} (f : Live) (limits : Limits) (charges : UserPages) (ps : ProcessRows) (ds : DescriptionRows) (pipes : PipeRows) (k : Kept charges ps ds pipes)
-    (n : Namespace) (view : record { limits = limits; state = state_of ps ds pipes files files_made } ≡ n) (pid : ℕ) (lives : IsOk (living (meaning f n.state) pid))
-    (spare : (p : Process) → process_in ps pid ≡ Ok p → IsSpare p) (qs : ProcessRows) (are : qs ≡ change_at rows.woken ps (pid - 1)) where
+module _ {charges : UserPages} {limits : Limits} {ps : ProcessRows} {ds : DescriptionRows} {pipes : PipeRows}
+    {files : Files} {files_made : ℕ} (k : Kept charges ps ds pipes) {n : Namespace}
+    (view : record { limits = limits; state = state_of ps ds pipes files files_made } ≡ n) (pid : ℕ)
+    (lives : IsOk (living n.state pid)) (spare : (p : Process) → process_in ps pid ≡ Ok p → IsSpare p)
+    {qs : ProcessRows} (are : qs ≡ change_at rows.woken ps (pid - 1)) where
   w : (p : Process) × (process_in ps pid ≡ Ok p)
-  w = who f limits ps ds pipes files files_made n view pid lives
+  w = who view pid lives
 
   stands : at ps (pid - 1) ≡ Some w.0
   stands = place_of ps pid w.0 w.1
@@ -89,49 +91,58 @@ module _ {files : Files} {files_made : ℕ} (f : Live) (limits : Limits) (charge
   put_is = are ∙ ap (λ o. set ps (pid - 1) (option_map rows.woken o)) stands
 
   pub awoken-kept : Kept charges qs ds pipes
-  awoken-kept = record { tied = subst (λ x. Tied x ds pipes) (sym put_is) (woken-tied ps ds pipes k.tied (pid - 1) w.0 stands (spare w.0 w.1)); charged = k.charged }
+  awoken-kept = record {
+    tied =
+        subst (λ x. Tied x ds pipes) (sym put_is)
+        (woken-tied ps ds pipes k.tied (pid - 1) w.0 stands (spare w.0 w.1));
+    charged = k.charged;
+  }
 
   now_shown : state_of qs ds pipes files files_made ≡ awoken (state_of ps ds pipes files files_made) pid
   now_shown =
       ap (λ x. state_of x ds pipes files files_made) put_is
-      ∙ ap (λ xs. record { processes = xs; descriptions = descriptions_of ds; pipes = pipes_of pipes; files = files; files_made = files_made })
+      ∙ ap (λ xs. record (state_of ps ds pipes files files_made) { processes = xs })
       (map-set (option_map process_of) ps (pid - 1) (Some (rows.woken w.0))
       ∙ ap (λ x. put_at (processes_of ps) (pid - 1) x) (woken_shown w.0)
-      ∙ ap (λ o. set (processes_of ps) (pid - 1) (option_map woken o)) (sym (shown process_of ps (pid - 1) w.0 stands)))
+      ∙ ap (λ o. set (processes_of ps) (pid - 1) (option_map woken o))
+      (sym (shown process_of ps (pid - 1) w.0 stands)))
 
-  pub awoken-namespace : record { limits = limits; state = state_of qs ds pipes files files_made } ≡ record n { state = awoken n.state pid }
-  awoken-namespace = ap (λ (s : State Window ℕ). record { limits = limits; state = s }) now_shown ∙ ap (λ (m : Namespace). record m { state = awoken m.state pid }) view
+  pub awoken-namespace : record { limits = limits; state = state_of qs ds pipes files files_made }
+      ≡ record n { state = awoken n.state pid }
+  awoken-namespace =
+      ap (λ (s : State Window ℕ). record { limits = limits; state = s }) now_shown
+      ∙ ap (λ (m : Namespace). record m { state = awoken m.state pid }) view
 
   -- what the machine sees of the call
-  pub call-shown : (o : Option (Call Key)) → o ≡ rows.call_in ps pid → option_map call_of o ≡ machine_call_of (meaning f n.state) pid
-  call-shown o is = ap (option_map call_of) is ∙ by_pid pid ∙ ap (λ (m : Namespace). machine_call_of (meaning f m.state) pid) view
+  pub call-shown : {o : Option (Call Key)} → o ≡ rows.call_in ps pid → option_map call_of o ≡ machine_call_of n.state pid
+  call-shown is =
+      ap (option_map call_of) is ∙ by_pid pid ∙ ap (λ (m : Namespace). machine_call_of m.state pid) view
     where
-      by_row : (x : Option Process) → option_map call_of (option_and_then (λ (p : Process). p.parked) x) ≡ option_and_then (λ (p : machine.Process ℕ). p.parked) (option_map process_of x)
+      by_row : (x : Option Process) → option_map call_of (option_and_then (λ (p : Process). p.parked) x)
+          ≡ option_and_then (λ (p : machine.Process ℕ). p.parked) (option_map process_of x)
       by_row None = refl
       by_row (Some p) = refl
 
-      by_pid : (m : ℕ) → option_map call_of (rows.call_in ps m) ≡ machine_call_of (meaning f (state_of ps ds pipes files files_made)) m
+      by_pid : (m : ℕ) → option_map call_of (rows.call_in ps m) ≡ machine_call_of (state_of ps ds pipes files files_made) m
       by_pid zero = refl
-      by_pid (suc i) = by_row (at ps i) ∙ ap (option_and_then (λ (p : machine.Process ℕ). p.parked)) (sym (at-map process_of ps i))
-
-  pub awoken-becomes : Owns f n → Becomes f f n (record { limits = limits; state = state_of qs ds pipes files files_made }) (awoken (meaning f n.state) pid)
-  awoken-becomes owns =
-      subst (λ (m : Namespace). Owns f m → Becomes f f m (record { limits = limits; state = state_of qs ds pipes files files_made }) (awoken (meaning f m.state) pid)) view
-      (λ o. becomes f f (record { limits = limits; state = state_of ps ds pipes files files_made }) (record { limits = limits; state = state_of qs ds pipes files files_made }) _ (record { joined = o.joined; reserve = o.reserve }) refl
-      (ap (meaning f) now_shown) (settled qs ds pipes files files_made awoken-kept.tied)) owns
+      by_pid (suc i) =
+          by_row (at ps i) ∙ ap (option_and_then (λ (p : machine.Process ℕ). p.parked)) (sym (at-map process_of ps i))
 
 -- A call that is no open's begins
 
-module _ {files : Files} {files_made : ℕ} (f : Live) (limits : Limits) (charges : UserPages) (ps : ProcessRows) (ds : DescriptionRows) (pipes : PipeRows) (k : Kept charges ps ds pipes)
-    (n : Namespace) (view : record { limits = limits; state = state_of ps ds pipes files files_made } ≡ n) (pid : ℕ) (is_ready : IsOk (ready (meaning f n.state) pid)) where
+module _ {charges : UserPages} {limits : Limits} {ps : ProcessRows} {ds : DescriptionRows} {pipes : PipeRows}
+    {files : Files} {files_made : ℕ} (k : Kept charges ps ds pipes) {n : Namespace}
+    (view : record { limits = limits; state = state_of ps ds pipes files files_made } ≡ n) (pid : ℕ)
+    (is_ready : IsOk (ready n.state pid)) where
   -- who is ready for the machine is ready in the tables
-  pub ready_row : (p : Process) × (ready_in ps pid ≡ Ok p)
+  ready_row : (p : Process) × (ready_in ps pid ≡ Ok p)
   ready_row =
       found_in (ready_in ps pid)
       (subst (λ r. IsOk r) (ready_shown ps pid)
-      (subst (λ (m : Namespace). IsOk (ready (meaning f m.state) pid)) (sym view) is_ready))
+      (subst (λ (m : Namespace). IsOk (ready m.state pid)) (sym view) is_ready))
 
-  module _ (call : Call Key) (moving : made_by (Some call) ≡ None) (qs : ProcessRows) (are : qs ≡ change_at (rows.with_call (Some call)) ps (pid - 1)) where
+  module _ {call : Call Key} (moving : made_by (Some call) ≡ None) {qs : ProcessRows}
+      (are : qs ≡ change_at (rows.with_call (Some call)) ps (pid - 1)) where
     abbrev q : Process
     q = rows.with_call (Some call) ready_row.0
 
@@ -148,15 +159,22 @@ module _ {files : Files} {files_made : ℕ} (f : Live) (limits : Limits) (charge
     now_tied : Tied qs ds pipes
     now_tied =
         subst (λ x. Tied x ds pipes) (sym row_is)
-        (subst (λ o. TiedWith (rows.holding o []) [] (put_at ps (pid - 1) q) ds pipes) (ap made_by (is_awake ps pid ready_row.0 ready_row.1))
+        (subst (λ o. TiedWith (rows.holding o []) [] (put_at ps (pid - 1) q) ds pipes)
+        (ap made_by (is_awake ps pid ready_row.0 ready_row.1))
         (moved [] [] ps ds pipes (pid - 1) 0 ready_row.0 q there (omega arith) None keys_same k.tied))
 
     pub parked-kept : Kept charges qs ds pipes
     parked-kept = record { tied = now_tied; charged = k.charged }
 
-    pub parked-namespace : record { limits = limits; state = state_of qs ds pipes files files_made } ≡ waits_in (Some (call_of call)) n pid
+    pub parked-namespace : record { limits = limits; state = state_of qs ds pipes files files_made }
+        ≡ waits_in (Some (call_of call)) n pid
     parked-namespace =
         ap (λ x. record { limits = limits; state = state_of x ds pipes files files_made }) row_is
-        ∙ ap (λ xs. record { limits = limits; state = record { processes = xs; descriptions = descriptions_of ds; pipes = pipes_of pipes; files = files; files_made = files_made } })
-        (map-set (option_map process_of) ps (pid - 1) (Some q) ∙ ap (λ o. set (processes_of ps) (pid - 1) (option_map (waiting (Some (call_of call))) o)) (sym (shown process_of ps (pid - 1) ready_row.0 there)))
+        ∙ ap (λ xs. record {
+          limits = limits;
+          state = record (state_of ps ds pipes files files_made) { processes = xs };
+        })
+        (map-set (option_map process_of) ps (pid - 1) (Some q)
+        ∙ ap (λ o. set (processes_of ps) (pid - 1) (option_map (waiting (Some (call_of call))) o))
+        (sym (shown process_of ps (pid - 1) ready_row.0 there)))
         ∙ ap (λ (m : Namespace). waits_in (Some (call_of call)) m pid) view

@@ -57,7 +57,7 @@ end_of a k = record { pipe = k; reads = a.reads; writes = a.writes; nonblocking 
 -- What the machine says of it
 
 -- the number of the FIFO at a path
-abbrev pub fifo_named : State Segment ℕ → ℕ → List ℕ → Access → Result ℕ Errno
+abbrev pub fifo_named : {X : Type 0} → State X ℕ → ℕ → List ℕ → Access → Result ℕ Errno
 fifo_named s pid path a = do
   p ← ready s pid
   f ← openable s.files p.cred path a

@@ -55,7 +55,7 @@ abbrev pub awoken : {X : Type 0} → State X ℕ → ℕ → State X ℕ
 awoken s pid = change_process woken s pid
 
 -- the lowest free descriptor of a process
-abbrev pub HasLowest : State Segment ℕ → ℕ → ℕ → Type 0
+abbrev pub HasLowest : {X : Type 0} → State X ℕ → ℕ → ℕ → Type 0
 HasLowest s pid fd = (p : Process ℕ) → living s pid ≡ Ok p → fd ≡ first_free p.descriptors
 
 -- whether the call in which a process waits is an open; or why it waits in none
@@ -63,7 +63,7 @@ abbrev pub is_open : Call ℕ → Bool
 is_open (Opening n kept) = true
 is_open (Moving call) = false
 
-abbrev pub waits_in_open : State Segment ℕ → ℕ → Result Bool Errno
+abbrev pub waits_in_open : {X : Type 0} → State X ℕ → ℕ → Result Bool Errno
 waits_in_open s pid = do
   p ← living s pid
   call ← or_refuse EINVAL p.parked

@@ -34,7 +34,7 @@ impl<A: Allocator + Clone> Space<A> {
             → IsOk (ready (meaning (F.live door.old) self.old.state) pid) }
     {
         let access = Access::new(flags);
-        let file = self.tables.openable(door, self.alloc, pid, path, access)?;
+        let file = self.tables.openable(self.alloc, pid, path, access)?;
         let Some(fd) = self.tables.open(door, self.alloc, pid, file, access)? else {
             return Ok(Reply::Parked);
         };

@@ -93,14 +93,14 @@ impl<A: Allocator + Clone> Space<A> {
             (Step.Resume pid) (meaning (F.live door.new) self.new.state)) result buffer.old buffer.new }
     {
         self.tables.settled();
-        self.tables.wake(door, pid);
+        self.tables.wake(pid);
         match self.tables.read_truncated(door, pid, fd, n, buffer)? {
             Progress::Moved(number) => return Ok(Some(number as usize)),
             Progress::EndOfFile | Progress::NoReader => return Ok(Some(0)),
             Progress::WouldBlock => {}
         }
         let call = Call::Read { fd, n };
-        self.tables.park(door, pid, call);
+        self.tables.park(pid, call);
         Ok(None)
     }
 
@@ -139,14 +139,14 @@ impl<A: Allocator + Clone> Space<A> {
         ensures reads { result ≡ Err Fault.NoMemory
             → hands_out (call_of (meaning (F.live door.old) self.old.state) pid) ≡ true }
     {
-        if self.tables.waits_in_open(door, pid)? {
+        if self.tables.waits_in_open(pid)? {
             return self.resume_open(door, pid);
         }
         self.tables.settled();
-        match self.tables.wake(door, pid) {
+        match self.tables.wake(pid) {
             Some(Call::Read { fd, n }) => match self.read_on(door, pid, fd, n, true) {
                 Err(Fault::NoMemory) => {
-                    self.tables.park(door, pid, Call::Read { fd, n });
+                    self.tables.park(pid, Call::Read { fd, n });
                     Err(Fault::NoMemory)
                 }
                 Err(Fault::Errno(errno)) => Ok(Reply::Err(errno)),
@@ -169,7 +169,7 @@ impl<A: Allocator + Clone> Space<A> {
     fn resume_open<F: Frames>(&mut self, door: &mut F, pid: u32) -> Result<Reply, Fault>
         requires fact { F.fact door.old }
         requires owns { Owns (F.live door.old) self.old }
-        requires waits { waits_in_open (meaning (F.live door.old) self.old.state) pid ≡ Ok true }
+        requires waits { waits_in_open self.old.state pid ≡ Ok true }
         ensures fact { F.fact door.new }
         ensures rest { F.rest door.new ≡ F.rest door.old }
         ensures told { Told (F.live door.old) (F.live door.new) self.old self.new result
@@ -180,8 +180,8 @@ impl<A: Allocator + Clone> Space<A> {
             self.tables.settled();
             return Ok(Reply::Parked);
         }
-        let fd = self.tables.lowest_descriptor(door, pid);
-        self.tables.wake(door, pid);
+        let fd = self.tables.lowest_descriptor(pid);
+        self.tables.wake(pid);
         Ok(Reply::Num(fd as u64))
     }
 }

@@ -142,7 +142,7 @@ impl<A: Allocator + Clone> Space<A> {
         if self.tables.is_nonblocking(door, pid, fd) {
             return Err(Errno::EAGAIN);
         }
-        self.tables.park(door, pid, Call::Read { fd, n });
+        self.tables.park(pid, Call::Read { fd, n });
         Ok(None)
     }
 
@@ -240,7 +240,7 @@ impl<A: Allocator + Clone> Space<A> {
             }
             Progress::WouldBlock | Progress::EndOfFile => {}
         }
-        self.tables.park(door, pid, Call::Write { fd, write });
+        self.tables.park(pid, Call::Write { fd, write });
         Ok(Reply::Parked)
     }
 
@@ -296,7 +296,7 @@ impl<A: Allocator + Clone> Space<A> {
         if !again && self.tables.is_nonblocking(door, pid, fd) {
             return Err(Errno::EAGAIN.into());
         }
-        self.tables.park(door, pid, Call::Read { fd, n });
+        self.tables.park(pid, Call::Read { fd, n });
         Ok(Reply::Parked)
     }
 
@@ -361,7 +361,7 @@ impl<A: Allocator + Clone> Space<A> {
             sink,
             n,
         };
-        self.tables.park(door, pid, call);
+        self.tables.park(pid, call);
         Ok(Reply::Parked)
     }
 }

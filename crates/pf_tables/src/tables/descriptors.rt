@@ -201,15 +201,14 @@ impl<A: Allocator> Tables<A> {
     }
 
     // Takes a process away that has no descriptors, and waits in no call.
-    pub(super) fn take_process<F: Frames>(&mut self, door: &F, i: usize)
+    pub(super) fn take_process(&mut self, i: usize)
         requires i_in { i < MAX_PROCESSES }
-        requires owns { Owns (F.live door.now) self.old }
         requires bare { (fd : ℕ) → descriptor self.old.state i fd ≡ None }
         requires awake { call_of self.old.state (i + 1) ≡ None }
-        ensures gone { Becomes (F.live door.now) (F.live door.now) self.old self.new
-            (without_place (meaning (F.live door.now) self.old.state) i) }
+        ensures limits { self.new.limits ≡ self.old.limits }
+        ensures pipes { self.new.state.pipes ≡ self.old.state.pipes }
+        ensures gone { self.new.state ≡ sweep itself (without_place self.old.state i) }
     {
-        let _door = door;
         self.processes.take(i);
     }
 }

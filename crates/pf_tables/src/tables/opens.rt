@@ -176,21 +176,18 @@ fn make_fifo(
 
 impl<A: Allocator> Tables<A> {
     /// The number of the FIFO at a path that a process may open so.
-    pub fn openable<F: Frames>(
+    pub fn openable(
         &self,
-        door: &F,
         alloc: Global,
         pid: u32,
         path: &[u8],
         access: Access,
     ) -> Result<u64, Fault>
         ensures told { Told (λ file. file) result
-            (fifo_named (meaning (F.live door.now) self.now.state) pid path.now (access_seen access)) }
+            (fifo_named self.now.state pid path.now (access_seen access)) }
         ensures sided { IfOk result (λ _. 0 < one_if access.reads + one_if access.writes) }
-        ensures ready { result ≡ Err Fault.NoMemory
-            → IsOk (ready (meaning (F.live door.now) self.now.state) pid) }
+        ensures ready { result ≡ Err Fault.NoMemory → IsOk (ready self.now.state pid) }
     {
-        let _door = door;
         let cred = &self.processes.ready(pid)?.cred;
         match pf_walk::openable(
             alloc,
@@ -376,7 +373,7 @@ impl<A: Allocator> Tables<A> {
     /// Whether the open in which a process waits is over: the other side was opened since, also where it was closed
     /// again (fifo(7)).
     pub fn open_is_over<F: Frames>(&self, door: &F, pid: u32) -> bool
-        requires { waits_in_open (meaning (F.live door.now) self.now.state) pid ≡ Ok true }
+        requires { waits_in_open self.now.state pid ≡ Ok true }
         ensures { IsOver (meaning (F.live door.now) self.now.state) pid result }
     {
         let _door = door;

@@ -3,18 +3,16 @@
 ghost use Rattle.std.specs.Prelude.{◌≡◌, Ok, Err, None, Some, IsOk, MatchResult};
 ghost use Rattle.std.specs.Option.{option_map};
 ghost use Rattle.pf_machine.specs.Machine as machine;
-ghost use Rattle.pf_machine.specs.State.{ready, living};
+ghost use Rattle.pf_machine.specs.State.{itself, ready, living};
+ghost use Rattle.pf_machine.specs.Sweep.{sweep};
 ghost use Rattle.pf_tables.specs.Buffers.{read_in};
-ghost use Rattle.pf_tables.specs.Meaning.{meaning};
-ghost use Rattle.pf_tables.specs.Owns.{Owns};
 ghost use Rattle.pf_tables.specs.Rows.{call_of, made_by};
 ghost use Rattle.pf_tables.specs.Tables.{awoken, waits_in_open, HasLowest};
-ghost use Rattle.pf_tables.specs.Told.{Becomes, waits_in};
+ghost use Rattle.pf_tables.specs.Told.{waits_in};
 
 use super::Tables;
 use pf_base::Errno;
 use pf_fds::Key;
-use pf_frame::Frames;
 use pf_parked::Call;
 use std::alloc::Allocator;
 
@@ -29,10 +27,9 @@ pub struct ParkedRead {
 
 impl<A: Allocator> Tables<A> {
     /// Whether the call in which a process waits is an open. ESRCH where it doesn't live, EINVAL where it doesn't wait.
-    pub fn waits_in_open<F: Frames>(&self, door: &F, pid: u32) -> Result<bool, Errno>
-        ensures { result ≡ waits_in_open (meaning (F.live door.now) self.now.state) pid }
+    pub fn waits_in_open(&self, pid: u32) -> Result<bool, Errno>
+        ensures { result ≡ waits_in_open self.now.state pid }
     {
-        let _door = door;
         match &self.processes.living(pid)?.parked {
             Some(Call::Open { .. }) => Ok(true),
             Some(_) => Ok(false),
@@ -52,11 +49,10 @@ impl<A: Allocator> Tables<A> {
     }
 
     /// The lowest free descriptor of a process, also where it waits.
-    pub fn lowest_descriptor<F: Frames>(&self, door: &F, pid: u32) -> u32
-        requires { IsOk (living (meaning (F.live door.now) self.now.state) pid) }
-        ensures { HasLowest (meaning (F.live door.now) self.now.state) pid result }
+    pub fn lowest_descriptor(&self, pid: u32) -> u32
+        requires { IsOk (living self.now.state pid) }
+        ensures { HasLowest self.now.state pid result }
     {
-        let _door = door;
         let Ok(process) = self.processes.living(pid) else {
             unreachable!()
         };
@@ -64,27 +60,22 @@ impl<A: Allocator> Tables<A> {
     }
 
     /// A process that waits in no call waits in this one, which is no open. It takes no memory.
-    pub fn park<F: Frames>(&mut self, door: &F, pid: u32, call: Call<Key>)
-        requires ready { IsOk (ready (meaning (F.live door.now) self.old.state) pid) }
+    pub fn park(&mut self, pid: u32, call: Call<Key>)
+        requires ready { IsOk (ready self.old.state pid) }
         requires moving { made_by (Some call) ≡ None }
         ensures { self.new ≡ waits_in (Some (call_of call)) self.old pid }
     {
-        let _door = door;
         self.processes.park(pid, call);
     }
 
     /// The call in which a process waits is over, and is given out. A description that an open made gets the lowest free
     /// descriptor.
-    pub fn wake<F: Frames>(&mut self, door: &F, pid: u32) -> Option<Call<Key>>
-        requires owns { Owns (F.live door.now) self.old }
-        requires lives { IsOk (living (meaning (F.live door.now) self.old.state) pid) }
-        ensures call { option_map call_of result
-            ≡ machine.call_of (meaning (F.live door.now) self.old.state) pid }
+    pub fn wake(&mut self, pid: u32) -> Option<Call<Key>>
+        requires lives { IsOk (living self.old.state pid) }
+        ensures call { option_map call_of result ≡ machine.call_of self.old.state pid }
         ensures namespace { self.new ≡ record self.old { state = awoken self.old.state pid } }
-        ensures woken { Becomes (F.live door.now) (F.live door.now) self.old self.new
-            (awoken (meaning (F.live door.now) self.old.state) pid) }
+        ensures swept { self.new.state ≡ sweep itself self.new.state }
     {
-        let _door = door;
         self.processes.wake(pid)
     }
 }

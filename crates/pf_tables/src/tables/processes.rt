@@ -122,7 +122,7 @@ impl<A: Allocator> Tables<A> {
         ensures succeeds { result ≢ Err Fault.NoMemory }
     {
         self.processes.living(pid)?;
-        self.wake(door, pid);
+        self.wake(pid);
         let i = pid as usize - 1;
         // It costs what is open: only from a number without a descriptor the next one is looked for.
         let mut fd = self.next_descriptor(i, 0);
@@ -133,7 +133,7 @@ impl<A: Allocator> Tables<A> {
                 fd = self.next_descriptor(i, fd + 1);
             }
         }
-        self.take_process(door, i);
+        self.take_process(i);
         Ok(Reply::Num(0))
     }
 }

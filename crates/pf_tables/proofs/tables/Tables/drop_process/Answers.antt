@@ -1,6 +1,7 @@
 use Rattle.std.proofs.Common.{refl, ◌∙◌, arith, rules}
 use Rattle.pf_tables.proofs.ProcessesDrop as lemmas
 use Rattle.pf_tables.proofs.DescriptorsDrop.{exited_is, exited_not}
+use Rattle.pf_tables.proofs.MeaningLaws.{pipes-left, woken-left}
 use Rattle.pf_tables.proofs.TablesSettled.{leaves, leaves_not}
 use Rattle.pf_tables.proofs.tables.Tables.drop_process.Goals as goal
 
@@ -12,7 +13,9 @@ loop-fd-init g c = record {
       lemmas.skipped (g.F.Frames.live c.args.door.now) _ _ _ _ _ c.self.invariant.kept _ c.self.view_is c.args.pid
       c.in_ok-living.ensures _ _ 0
       (lemmas.none_first (g.F.Frames.live c.args.door.now) _ _ _ _ _ c.self.invariant.kept _ c.self.view_is c.args.pid
-      c.in_ok-living.ensures _ _ c.wake.ensures.woken)
+      c.in_ok-living.ensures _ _
+      (woken-left (g.F.Frames.live c.args.door.now) _ _ c.args.pid c.wake.ensures.namespace c.wake.ensures.swept
+      c.requires.owns))
       _ (omega arith) c.next_descriptor-fd.ensures.between;
 }
 
@@ -60,5 +63,7 @@ returns-clause-told g c =
     let f = g.F.Frames.live c.args.door.now in
     leaves
     (lemmas.all_gone f _ _ _ _ _ c.self.invariant.kept _ c.self.view_is c.args.pid c.in_ok-living.ensures _ _ _
-    c.loop-fd.invariant.first _ _ c.take_process.ensures.gone)
+    c.loop-fd.invariant.first _ _
+    (pipes-left _ _ _ _ c.take_process.ensures.limits c.take_process.ensures.pipes c.take_process.ensures.gone
+    c.loop-fd.invariant.first.owns))
     (exited_is f c.self.invariant.kept.tied c.self.view_is c.args.pid c.in_ok-living.ensures)
