@@ -28,8 +28,7 @@ use Rattle.pf_base.specs.declared.step.Step.TheVariants as steps
 use Rattle.pf_frame.specs.Live.{Live}
 use Rattle.pf_tables.specs.Meaning.{Namespace, meaning}
 use Rattle.pf_tables.specs.Owns.{Owns}
-use Rattle.pf_tables.specs.Tables.{over, woken, awoken, HasLowest}
-use Rattle.pf_tables.specs.Opened.{IsOver}
+use Rattle.pf_tables.specs.Tables.{over, woken, awoken}
 use Rattle.pf_tables.specs.Told.{Becomes, Told, Says, tried_call, waits_in, settled, ended}
 use Rattle.pf_machine.proofs.ExitLaws.{change-change}
 use Rattle.pf_tables.proofs.TablesShown.{set_same}
@@ -210,62 +209,3 @@ module _ (c : Limits) (f g : Live) (old mid new : Namespace) (pid : ℕ) (t : Tr
       ap (λ (n : Namespace). waits_in call n pid) mid_is
       ∙ ap (λ (xs : List (Option (Process ℕ))). record old { state = record old.state { processes = xs } })
       (ap (set (change_at woken ps (pid - 1)) (pid - 1)) here ∙ set-set ps (pid - 1) (option_map woken (at ps (pid - 1))) (Some w.p) ∙ set_same ps (pid - 1) (Some w.p) (sym w.stands))
-
--- An open that waits
-
-module _ (c : Limits) (f : Live) (old : Namespace) (pid : ℕ) (over_now : Bool) (w : IsOver (meaning f old.state) pid over_now) where
-  s : State Segment ℕ
-  s = meaning f old.state
-
-  opener : process (meaning f old.state) pid ≡ Some w.p
-  opener = found (process (meaning f old.state) pid) w.lives
-    where
-      found : (o : Option (Process ℕ)) → or_refuse ESRCH o ≡ Ok w.p → o ≡ Some w.p
-      found None h = absurd (cc)
-      found (Some q) h = cc
-
-  place : at (meaning f old.state).processes (pid - 1) ≡ Some w.p
-  place = by_pid pid opener
-    where
-      by_pid : (m : ℕ) → process (meaning f old.state) m ≡ Some w.p → at (meaning f old.state).processes (m - 1) ≡ Some w.p
-      by_pid zero g = absurd (cc)
-      by_pid (suc i) g = let same : suc i - 1 ≡ i = omega arith in ap (at (meaning f old.state).processes) same ∙ g
-
-  open_is : call c (meaning f old.state) (steps.Resume pid) ≡ Ok (again (meaning f old.state) pid (attempt (meaning f old.state) pid w.p (Opening w.n w.before)))
-  open_is =
-      ap (λ r. r >>= (λ p. resume (meaning f old.state) pid p)) w.lives ∙ ap (λ o. or_refuse EINVAL o >>= (λ x. Ok (again (meaning f old.state) pid (attempt (meaning f old.state) pid w.p x)))) w.waits
-
-  -- it goes on waiting
-  pub still_waits : over_now ≡ false → Owns f old → meaning f old.state ≡ sweep itself (meaning f old.state) → Told f f old old (Ok replies.Parked) (call c (meaning f old.state) (steps.Resume pid))
-  still_waits isnt owns still =
-      let call : Option (Call ℕ) = Some (Opening w.n w.before) in
-      let same : change_process (waiting call) (meaning f old.state) pid ≡ meaning f old.state =
-      ap (λ ps. record (meaning f old.state) { processes = ps })
-      (set_same (meaning f old.state).processes (pid - 1) (option_map (waiting call) (at (meaning f old.state).processes (pid - 1)))
-      (ap (option_map (waiting call)) place ∙ ap (λ o. Some (record w.p { parked = o })) (sym w.waits) ∙ sym place)) in
-      record {
-        owns = owns;
-        limits = refl;
-        says =
-            ap settled open_is ∙ ap (λ a. settled (Ok (again (meaning f old.state) pid a))) (w.is ∙ ap (λ b. Ok (if b then given (meaning f old.state) pid w.p w.n else Waits (meaning f old.state) (Opening w.n w.before))) isnt)
-            ∙ ap (λ (z : State Segment ℕ). Ok (record { state = sweep itself z; reply = replies.Parked })) same
-            ∙ ap (λ (z : State Segment ℕ). Ok (record { state = z; reply = replies.Parked })) (sym still);
-      }
-
-  -- or has its description at a descriptor
-  pub comes : (new : Namespace) (fd : ℕ) → over_now ≡ true → HasLowest (meaning f old.state) pid fd → Becomes f f old new (awoken (meaning f old.state) pid) → Told f f old new (Ok (replies.Num fd)) (call c (meaning f old.state) (steps.Resume pid))
-  comes new fd came_back lowest becomes =
-      let ps = (meaning f old.state).processes in
-      let named = with_descriptor (first_free w.p.descriptors) w.n w.p in
-      let same : change_process (waiting None) (with_process (meaning f old.state) pid named) pid ≡ awoken (meaning f old.state) pid =
-      ap (λ xs. record (meaning f old.state) { processes = xs })
-      (ap (set (set ps (pid - 1) (Some named)) (pid - 1)) (ap (option_map (waiting None)) (at-put_same ps (pid - 1) (Some named) (at_within ps (pid - 1) w.p place)))
-      ∙ set-set ps (pid - 1) (Some named) (Some (waiting None named))
-      ∙ ap (set ps (pid - 1)) (ap (λ o. Some (over o w.p)) (sym w.waits) ∙ ap (option_map woken) (sym place))) in
-      record {
-        owns = becomes.owns;
-        limits = becomes.limits;
-        says =
-            ap settled open_is ∙ ap (λ a. settled (Ok (again (meaning f old.state) pid a))) (w.is ∙ ap (λ b. Ok (if b then given (meaning f old.state) pid w.p w.n else Waits (meaning f old.state) (Opening w.n w.before))) came_back)
-            ∙ (λ i. Ok (record { state = (ap (sweep itself) same ∙ sym becomes.state) i; reply = replies.Num (sym (lowest w.p w.lives) i) }));
-      }

@@ -8,7 +8,6 @@ use std::alloc::{AllocError, Allocator, Global};
 use std::marker::Model;
 
 mod bounds;
-mod opens;
 mod parked;
 mod queries;
 mod transfers;
@@ -163,7 +162,9 @@ impl<A: Allocator + Clone> Space<A> {
             }
             Step::Stat { pid, path } => self.tables.stat(self.alloc, *pid, path.as_slice()),
             Step::List { pid, path } => self.tables.list(self.alloc, *pid, path.as_slice()),
-            Step::Open { pid, path, flags } => self.open(door, *pid, path.as_slice(), *flags),
+            Step::Open { pid, path, flags } => {
+                self.tables.open(self.alloc, *pid, path.as_slice(), *flags)
+            }
             Step::Resume { pid } => self.resume(door, *pid),
         }
     }

@@ -14,6 +14,7 @@ mod ProcessesDrop
 mod Fifos
 mod Files
 mod OpensFind
+mod OpensReopen
 mod DescriptorsFlag
 mod OpensNew
 mod ProcessesFork
@@ -24,7 +25,7 @@ mod OpensFound
 mod DescriptorsNamed
 mod PipesOpen
 mod PipesSetSize
-pub mod OpensResolve
+mod OpensResolve
 mod ProcessTable
 pub mod Sendable
 pub mod TablesShown

@@ -9,6 +9,7 @@ use Rattle.pf_machine.specs.Numbered.{at, put_at, first_free, one_if}
 use Rattle.pf_machine.proofs.NumberedLaws.{at_within, at-first_free}
 use Rattle.pf_machine.specs.State as machine
 use Rattle.pf_base.specs.declared.TheConstants.{MAX_DESCRIPTORS}
+use Rattle.pf_base.specs.declared.step.Reply.{Reply}
 use Rattle.pf_limits.specs.UserPages.{UserPages}
 use Rattle.pf_limits.proofs.SumLaws.{kept}
 use Rattle.pf_tables.specs.declared.tables.opens.Access.{Access as Stored}
@@ -51,7 +52,7 @@ module _ (a : Stored) (sided : IsSided a) (k : Key) where
         (omega (arith, none, s.0)) (omega (arith, nobody, s.1)) (omega (arith, none, nobody, sided)) t
 
 -- The description is made, with one name: a descriptor, or the open that waits
-module _ {ps ps' : ProcessRows} {ds ds' : DescriptionRows} (pipes : PipeRows) {pid : ℕ} {d : Description} {before fd : Option ℕ} (z : Describes ps ps' ds ds' pid d before fd)
+module _ {ps ps' : ProcessRows} {ds ds' : DescriptionRows} (pipes : PipeRows) {pid : ℕ} {d : Description} {before : Option ℕ} {reply : Reply} (z : Describes ps ps' ds ds' pid d before reply)
     (awake : z.p.parked ≡ None) (within : first_free z.p.descriptors < MAX_DESCRIPTORS) (t : TiedWith [] (d ∷ []) ps ds pipes) where
   abbrev after : DescriptionRows
   after = ds ++ Some (z.k.slot, once d) ∷ []

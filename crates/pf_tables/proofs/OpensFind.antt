@@ -10,12 +10,12 @@ use Rattle.pf_base.specs.Limits.{Limits}
 use Rattle.pf_machine.specs.Numbered.{at}
 use Rattle.pf_machine.specs.Opens.{first_where, is_of_file, fifo_pipe, fifo_readers}
 use Rattle.pf_fds.specs.Registry.{find}
-use Rattle.pf_frame.specs.Live.{Live}
 use Rattle.pf_limits.specs.UserPages.{UserPages}
-use Rattle.pf_tables.specs.Meaning.{Namespace, meaning, pipe_meaning}
-use Rattle.pf_tables.specs.Rows.{ProcessRows, DescriptionRows, PipeRows, Key, Pipe, Opens, opens_at, opens_of, pipe_of, pipes_of, state_of, AreFifos, Whole}
-use Rattle.pf_tables.proofs.Ends.{counted}
+use Rattle.pf_tables.specs.Meaning.{Namespace}
+use Rattle.pf_tables.specs.Rows.{ProcessRows, DescriptionRows, PipeRows, Key, Pipe, Opens, opens_at, opens_of, pipe_of, state_of, AreFifos, Whole}
+use Rattle.pf_tables.proofs.Ends.{as_kept, counted}
 use Rattle.pf_tables.proofs.TablesShown.{find_at}
+use Rattle.pf_machine.proofs.MapLaws.{first_where-map}
 use Rattle.pf_machine.proofs.NumberedLaws.{at-map}
 
 -- The least number that passes a test
@@ -39,11 +39,6 @@ module _ {X : Type 0} (test : X → Bool) where
   first_none [] all = refl
   first_none (None ∷ xs) all = ap (option_map (λ m. suc m)) (first_none xs (λ k. all (suc k)))
   first_none (Some y ∷ xs) all = ap (λ b. next b xs) (all 0 y refl) ∙ ap (option_map (λ m. suc m)) (first_none xs (λ k. all (suc k)))
-
-pub first-map : {X Y : Type 0} (g : X → Y) (test : Y → Bool) (xs : List (Option X)) → first_where test (map (option_map g) xs) ≡ first_where (λ x. test (g x)) xs
-first-map g test [] = refl
-first-map g test (None ∷ xs) = ap (option_map (λ m. suc m)) (first-map g test xs)
-first-map g test (Some x ∷ xs) = ap (λ o. if test (g x) then Some 0 else option_map (λ m. suc m) o) (first-map g test xs)
 
 -- Whose file it is
 
@@ -90,37 +85,50 @@ module _ (es : List (ℕ × Key)) {drawn : ℕ} (pipes : PipeRows) (a : AreFifos
   key_stands k h = let w = key_finds k h in ap is_some (find_at pipes k.slot k.serial w.0 w.1)
 
   -- the machine finds it too
-  pub fifo_is : (f : Live) (ps : ProcessRows) (ds : DescriptionRows) (files : Files) (files_made : ℕ) (found : Option Key) → lookup (nat_eq file) es ≡ found
-      → fifo_pipe (meaning f (state_of ps ds pipes files files_made)) file ≡ option_map (λ k. k.serial) found
-  fifo_is f ps ds files files_made found h =
-      first-map (pipe_meaning f) (λ p. is_of_file file p.file) (pipes_of pipes) ∙ first-map pipe_of (λ p. is_of_file file p.file) pipes
-      ∙ sym (first-map opens_at test pipes) ∙ by_key found h
+  pub fifo_is : (ps : ProcessRows) (ds : DescriptionRows) (files : Files) (files_made : ℕ) (found : Option Key)
+      → lookup (nat_eq file) es ≡ found
+      → fifo_pipe (state_of ps ds pipes files files_made) file ≡ option_map (λ k. k.serial) found
+  fifo_is ps ds files files_made found h =
+      first_where-map pipe_of (λ p. is_of_file file p.file) pipes ∙ sym (first_where-map opens_at test pipes)
+      ∙ by_key found h
 
 -- How many read it
 
-module _ (f : Live) {limits : Limits} {charges : UserPages} {es : List (ℕ × Key)} {ps : ProcessRows} {ds : DescriptionRows} {pipes : PipeRows} {files : Files} {files_made : ℕ} (w : Whole charges es ps ds pipes)
-    {n : Namespace} (view : record { limits = limits; state = state_of ps ds pipes files files_made } ≡ n) (file : ℕ) where
-  pub fifo_shown : (found : Option Key) → lookup (nat_eq file) es ≡ found → fifo_pipe (meaning f n.state) file ≡ option_map (λ k. k.serial) found
-  fifo_shown found h = subst (λ (m : Namespace). fifo_pipe (meaning f m.state) file ≡ option_map (λ k. k.serial) found) view (fifo_is es pipes w.filed file f ps ds files files_made found h)
+module _ {limits : Limits} {charges : UserPages} {es : List (ℕ × Key)} {ps : ProcessRows} {ds : DescriptionRows}
+    {pipes : PipeRows} {files : Files} {files_made : ℕ} (w : Whole charges es ps ds pipes) {n : Namespace}
+    (view : record { limits = limits; state = state_of ps ds pipes files files_made } ≡ n) (file : ℕ) where
+  pub fifo_shown : (found : Option Key) → lookup (nat_eq file) es ≡ found
+      → fifo_pipe n.state file ≡ option_map (λ k. k.serial) found
+  fifo_shown found h =
+      subst (λ (m : Namespace). fifo_pipe m.state file ≡ option_map (λ k. k.serial) found) view
+      (fifo_is es pipes w.filed file ps ds files files_made found h)
 
-  pub has_pipe : is_some (lookup (nat_eq file) es) ≡ is_some (fifo_pipe (meaning f n.state) file)
+  pub has_pipe : is_some (lookup (nat_eq file) es) ≡ is_some (fifo_pipe n.state file)
   has_pipe = by_key (lookup (nat_eq file) es) refl
     where
-      by_key : (o : Option Key) → lookup (nat_eq file) es ≡ o → is_some o ≡ is_some (fifo_pipe (meaning f n.state) file)
+      by_key : (o : Option Key) → lookup (nat_eq file) es ≡ o → is_some o ≡ is_some (fifo_pipe n.state file)
       by_key None h = sym (ap is_some (fifo_shown None h))
       by_key (Some k) h = sym (ap is_some (fifo_shown (Some k) h))
 
-  pub no_readers : lookup (nat_eq file) es ≡ None → fifo_readers itself (meaning f n.state) (fifo_pipe (meaning f n.state) file) ≡ 0
-  no_readers h = ap (fifo_readers itself (meaning f n.state)) (fifo_shown None h)
+  abbrev reading : Namespace → ℕ
+  reading m = fifo_readers itself m.state (fifo_pipe m.state file)
 
-  pub readers_are : (k : Key) (p : Pipe) → lookup (nat_eq file) es ≡ Some k → find pipes k.slot k.serial ≡ Some p → fifo_readers itself (meaning f n.state) (fifo_pipe (meaning f n.state) file) ≡ p.readers
+  pub no_readers : lookup (nat_eq file) es ≡ None → reading n ≡ 0
+  no_readers h = ap (fifo_readers itself n.state) (fifo_shown None h)
+
+  pub readers_are : (k : Key) (p : Pipe) → lookup (nat_eq file) es ≡ Some k → find pipes k.slot k.serial ≡ Some p
+      → reading n ≡ p.readers
   readers_are k p h g =
       let x = key_finds es pipes w.filed file k h in
       let same : ◌≡◌ {A = Option Pipe} (Some x.0) (Some p) = sym (find_at pipes k.slot k.serial x.0 x.1) ∙ g in
       let it : x.0 ≡ p = cc in
-      ap (fifo_readers itself (meaning f n.state)) (fifo_shown (Some k) h)
-      ∙ subst (λ (m : Namespace). fifo_readers itself (meaning f m.state) (Some k.serial) ≡ x.0.readers) view (counted (pipe_meaning f) None ps ds pipes files files_made w.kept.tied 0 0 k.serial k.slot x.0 x.1).0
+      ap (fifo_readers itself n.state) (fifo_shown (Some k) h)
+      ∙ subst (λ (m : Namespace). fifo_readers itself m.state (Some k.serial) ≡ x.0.readers) view
+      (counted as_kept None ps ds pipes files files_made w.kept.tied 0 0 k.serial k.slot x.0 x.1).0
       ∙ ap (λ (q : Pipe). q.readers) it
 
   pub not_lost : (k : Key) → lookup (nat_eq file) es ≡ Some k → find pipes k.slot k.serial ≢ None
-  not_lost k h e = let there = key_stands es pipes w.filed file k h in let none = ap is_some e in absurd (cc)
+  not_lost k h e =
+      let there = key_stands es pipes w.filed file k h in
+      let none = ap is_some e in
+      absurd (cc)

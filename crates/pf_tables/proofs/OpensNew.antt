@@ -10,14 +10,14 @@ use Rattle.pf_base.specs.Capacities.{told_as}
 use Rattle.pf_ring.specs.declared.ring.Window.{Window}
 use Rattle.pf_machine.specs.FileMap.{Files}
 use Rattle.pf_base.specs.Limits.{Limits}
-use Rattle.pf_machine.specs.Numbered.{at, put_at, first_free}
+use Rattle.pf_machine.specs.Numbered.{at, put_at, first_free, sum_of}
 use Rattle.pf_machine.proofs.NumberedLaws.{at_past, at_within, at-push_old, at-push_new, first_free-map}
 use Rattle.pf_machine.specs.Attempts.{first}
 use Rattle.pf_machine.specs.Counts.{readers, writers, total}
 use Rattle.pf_machine.specs.Opens as opens
 use Rattle.pf_machine.specs.Opens.{fifo_pipe, is_waiting}
 use Rattle.pf_machine.specs.Pipes.{capacity_for, is_spent, new_pipe}
-use Rattle.pf_machine.specs.Queue.{Segment, empty}
+use Rattle.pf_machine.specs.Queue.{empty}
 use Rattle.pf_machine.specs.Refusals.{◌>>=◌, ◌>>◌, refuse_if}
 use Rattle.pf_machine.specs.State as machine
 use Rattle.pf_machine.specs.State.{itself, State, Outcome, ready, told}
@@ -25,28 +25,24 @@ use Rattle.pf_base.specs.declared.TheConstants.{MAX_DESCRIPTORS}
 use Rattle.pf_base.specs.declared.errno.Errno.{Errno}
 use Rattle.pf_base.specs.declared.errno.Errno.TheVariants.{ENFILE, ENOMEM}
 use Rattle.pf_base.specs.declared.step.Reply.{Reply}
-use Rattle.pf_base.specs.declared.step.Reply.TheVariants.{Num, Parked}
-use Rattle.pf_frame.specs.Live.{Live}
 use Rattle.pf_limits.specs.UserPages.{UserPages, Charges}
 use Rattle.pf_limits.proofs.SumLaws.{made}
 use Rattle.pf_pipe.specs.Pipe.{unopened}
 use Rattle.pf_ring.specs.Table.{Joined}
-use Rattle.pf_ring.proofs.TableLaws.{joined_pushed}
 use Rattle.pf_tables.specs.declared.tables.opens.Access.{Access as Stored}
-use Rattle.pf_tables.specs.Meaning.{Namespace, meaning, pipe_meaning, ring_or, rings_of, AreCharged}
-use Rattle.pf_tables.proofs.MeaningLaws.{total-meaning}
-use Rattle.pf_tables.specs.Opened.{access_seen, before, counted, end_of, fifo_capacity, may_open, opening, told_at, waits, HasOpened, Describes, MakesFifo, SameKeys}
+use Rattle.pf_tables.specs.Meaning.{Namespace, ring_or, AreCharged}
+use Rattle.pf_tables.specs.Opened.{access_seen, before, counted, end_of, fifo_capacity, may_open, opening, waits, Describes, MakesFifo, SameKeys}
 use Rattle.pf_tables.specs.Owns.{Owns}
-use Rattle.pf_tables.proofs.OwnsLaws.{slots-rings}
+use Rattle.pf_tables.proofs.OwnsLaws.{joined_opened}
 use Rattle.pf_tables.specs.Rows.{ProcessRows, DescriptionRows, PipeRows, Key, Process, Pipe, Opens, ready_in, process_of, pipe_of, pipes_of, opens_at, opens_of, state_of, UsedRow, NoMore, AreFifos, Whole, Tied, read_by, written_by}
-use Rattle.pf_tables.specs.Told.{Becomes}
+use Rattle.pf_tables.specs.Tables.{Makes}
 use Rattle.pf_tables.proofs.ProcessTableReady.{readies, is_living, is_awake, place_of}
 use Rattle.pf_tables.proofs.OpensOutcome as entered
 use Rattle.pf_tables.proofs.OpensDescribe.{IsSided, founded, admitted, entered-fifos, seated_is}
 use Rattle.pf_tables.proofs.OpensFind.{fifo_shown}
 use Rattle.pf_tables.proofs.TablesTied.{by_push}
-use Rattle.pf_tables.proofs.OpensFound.{ready_is, may_here, caller, has_free}
-use Rattle.pf_tables.proofs.TablesSettled.{becomes, settled, readers_shown, writers_shown}
+use Rattle.pf_tables.proofs.OpensFound.{Opener, ready_is, may_here, caller, has_free}
+use Rattle.pf_tables.proofs.TablesSettled.{settled, readers_shown, writers_shown}
 
 -- The keys
 
@@ -103,9 +99,13 @@ fifos-founded es fs {drawn} opens k file k_is none keys a = record {
 
 -- The machine makes its pipe
 
-module _ (c : Limits) (s : State Segment ℕ) (pid : ℕ) (slots : ℕ) (q : machine.Process ℕ) (lives : ready s pid ≡ Ok q) (given : fifo_capacity c s pid ≡ Ok slots) where
-  given_here : (refuse_if (is_spent s.pipes 1) ENFILE >> told_as ENOMEM (capacity_for c s q.cred)) ≡ Ok slots
-  given_here = sym (ap (λ r. r >>= (λ (p : machine.Process ℕ). refuse_if (is_spent s.pipes 1) ENFILE >> told_as ENOMEM (capacity_for c s p.cred))) lives) ∙ given
+module _ (c : Limits) (s : State Window ℕ) (pid : ℕ) {slots : ℕ} {q : machine.Process ℕ} (lives : ready s pid ≡ Ok q)
+    (given : fifo_capacity c s pid ≡ Ok slots) where
+  abbrev gives : machine.Process ℕ → Result ℕ Errno
+  gives p = refuse_if (is_spent s.pipes 1) ENFILE >> told_as ENOMEM (capacity_for c s p.cred)
+
+  given_here : gives q ≡ Ok slots
+  given_here = sym (ap (λ r. r >>= gives) lives) ∙ given
 
   pub unspent_in : is_spent s.pipes 1 ≡ false
   unspent_in = by_test (is_spent s.pipes 1) (told_as ENOMEM (capacity_for c s q.cred)) given_here
@@ -114,13 +114,18 @@ module _ (c : Limits) (s : State Segment ℕ) (pid : ℕ) (slots : ℕ) (q : mac
       by_test true r h = absurd (cc)
       by_test false r h = refl
 
-  abbrev pub with_pipe : ℕ → State Segment ℕ
-  with_pipe file = record s { pipes = s.pipes ++ Some (new_pipe (empty slots) q.cred.uid (Some file)) ∷ [] }
+  abbrev with_slots : ℕ → ℕ → opens.Found Window ℕ
+  with_slots file n = record {
+    state = record s { pipes = s.pipes ++ Some (new_pipe (empty n) q.cred.uid (Some file)) ∷ [] };
+    pipe = length s.pipes;
+  }
 
-  pub made_for : (file : ℕ) → opens.pipe_of c s q file None ≡ Ok (record { state = with_pipe file; pipe = length s.pipes })
-  made_for file = by_test (is_spent s.pipes 1) (told_as ENOMEM (capacity_for c s q.cred)) (λ n. record { state = record s { pipes = s.pipes ++ Some (new_pipe (empty n) q.cred.uid (Some file)) ∷ [] }; pipe = length s.pipes }) given_here
+  pub made_for : (file : ℕ) → opens.pipe_of c s q file None ≡ Ok (with_slots file slots)
+  made_for file =
+      by_test (is_spent s.pipes 1) (told_as ENOMEM (capacity_for c s q.cred)) (with_slots file) given_here
     where
-      by_test : (b : Bool) (r : Result ℕ Errno) (f : ℕ → opens.Found Segment ℕ) → (refuse_if b ENFILE >> r) ≡ Ok slots → (refuse_if b ENFILE >> (r >>= (λ n. Ok (f n)))) ≡ Ok (f slots)
+      by_test : (b : Bool) (r : Result ℕ Errno) (f : ℕ → opens.Found Window ℕ) → (refuse_if b ENFILE >> r) ≡ Ok slots
+          → (refuse_if b ENFILE >> (r >>= (λ n. Ok (f n)))) ≡ Ok (f slots)
       by_test true r f h = absurd (cc)
       by_test false (Err e) f h = absurd (cc)
       by_test false (Ok n) f h = let same : n ≡ slots = cc in ap (λ m. Ok (f m)) same
@@ -130,45 +135,53 @@ none_is None h = refl
 none_is (Some x) h = absurd (cc)
 
 -- or refuses it
-pub unpiped : (c : Limits) (s : State Segment ℕ) (pid : ℕ) (a : opens.Access) (file : ℕ) (e : Errno) → may_open s pid a file ≡ Ok tt → fifo_pipe s file ≡ None → fifo_capacity c s pid ≡ Err e → opening c s pid a file ≡ Err e
+pub unpiped : (c : Limits) (s : State Window ℕ) (pid : ℕ) (a : opens.Access) (file : ℕ) (e : Errno)
+    → may_open s pid a file ≡ Ok tt → fifo_pipe s file ≡ None → fifo_capacity c s pid ≡ Err e
+    → opening c s pid a file ≡ Err e
 unpiped c s pid a file e may none refused =
-    entered.goes c s pid q a file lives may
-    ∙ ap (λ o. opens.pipe_of c s q file o >>= (λ x. first pid false (opens.open_pipe itself (length s.descriptions) x.pipe x.state pid q a x.pipe))) none
-    ∙ by_test (is_spent s.pipes 1) (told_as ENOMEM (capacity_for c s q.cred)) (λ n. record { state = record s { pipes = s.pipes ++ Some (new_pipe (empty n) q.cred.uid (Some file)) ∷ [] }; pipe = length s.pipes }) (λ x. first pid false (opens.open_pipe itself (length s.descriptions) x.pipe x.state pid q a x.pipe))
-    (sym (ap (λ r. r >>= (λ (p : machine.Process ℕ). refuse_if (is_spent s.pipes 1) ENFILE >> told_as ENOMEM (capacity_for c s p.cred))) lives) ∙ refused)
+    entered.goes c s pid opener.0 a file opener.1 may
+    ∙ ap (λ o. opens.pipe_of c s opener.0 file o >>= on) none
+    ∙ by_test (is_spent s.pipes 1) (told_as ENOMEM (capacity_for c s opener.0.cred)) (λ n. record {
+      state = record s { pipes = s.pipes ++ Some (new_pipe (empty n) opener.0.cred.uid (Some file)) ∷ [] };
+      pipe = length s.pipes;
+    }) on (sym (ap (λ r. r >>= (λ (p : machine.Process ℕ). refuse_if (is_spent s.pipes 1) ENFILE
+    >> told_as ENOMEM (capacity_for c s p.cred))) opener.1) ∙ refused)
   where
-    opener : (p : machine.Process ℕ) × (ready s pid ≡ Ok p) × (nat_le MAX_DESCRIPTORS (first_free p.descriptors) ≡ false) × (is_spent s.descriptions 1 ≡ false)
+    opener : Opener s pid a file may
     opener = ready_is s pid a file may
 
-    q : machine.Process ℕ
-    q = opener.0
+    on : opens.Found Window ℕ → Result (Outcome Window ℕ) Errno
+    on x = first pid false (opens.open_pipe itself (length s.descriptions) x.pipe x.state pid opener.0 a x.pipe)
 
-    lives : ready s pid ≡ Ok q
-    lives = opener.1
-
-    by_test : (b : Bool) (r : Result ℕ Errno) (f : ℕ → opens.Found Segment ℕ) (g : opens.Found Segment ℕ → Result (Outcome Segment ℕ) Errno) → (refuse_if b ENFILE >> r) ≡ Err e → ((refuse_if b ENFILE >> (r >>= (λ n. Ok (f n)))) >>= g) ≡ Err e
-    by_test true r f g h = let same : ◌≡◌ {A = Result ℕ Errno} (Err ENFILE) (Err e) = h in let it : ENFILE ≡ e = cc in ap Err it
+    by_test : (b : Bool) (r : Result ℕ Errno) (f : ℕ → opens.Found Window ℕ)
+        (g : opens.Found Window ℕ → Result (Outcome Window ℕ) Errno) → (refuse_if b ENFILE >> r) ≡ Err e
+        → ((refuse_if b ENFILE >> (r >>= (λ n. Ok (f n)))) >>= g) ≡ Err e
+    by_test true r f g h =
+        let same : ◌≡◌ {A = Result ℕ Errno} (Err ENFILE) (Err e) = h in
+        let it : ENFILE ≡ e = cc in
+        ap Err it
     by_test false (Err x) f g h = let it : x ≡ e = cc in ap Err it
     by_test false (Ok n) f g h = absurd (cc)
 
-module _ {files : Files} {files_made : ℕ} (f : Live) (limits : Limits) (charges : UserPages) (es : List (ℕ × Key)) (ps : ProcessRows) (ds : DescriptionRows) (pipes : PipeRows) (w : Whole charges es ps ds pipes)
-    (n : Namespace) (view : record { limits = limits; state = state_of ps ds pipes files files_made } ≡ n) (pid : ℕ) (a : Stored) (file : ℕ) (may : may_open (meaning f n.state) pid (access_seen a) file ≡ Ok tt)
-    (slots : ℕ) (given : fifo_capacity n.limits (meaning f n.state) pid ≡ Ok slots) where
-  abbrev old : Namespace
-  old = record { limits = limits; state = state_of ps ds pipes files files_made }
+module _ {files : Files} {files_made : ℕ} {limits : Limits} {charges : UserPages} {es : List (ℕ × Key)}
+    {ps : ProcessRows} {ds : DescriptionRows} {pipes : PipeRows} (w : Whole charges es ps ds pipes) {n : Namespace}
+    (view : record { limits = limits; state = state_of ps ds pipes files files_made } ≡ n) (pid : ℕ) (a : Stored)
+    (file : ℕ) (may : may_open n.state pid (access_seen a) file ≡ Ok tt) {slots : ℕ}
+    (given : fifo_capacity n.limits n.state pid ≡ Ok slots) where
+  abbrev s : State Window ℕ
+  s = state_of ps ds pipes files files_made
 
-  given_now : fifo_capacity limits (meaning f old.state) pid ≡ Ok slots
-  given_now = subst (λ (m : Namespace). fifo_capacity m.limits (meaning f m.state) pid ≡ Ok slots) (sym view) given
+  given_now : fifo_capacity limits s pid ≡ Ok slots
+  given_now = subst (λ (m : Namespace). fifo_capacity m.limits m.state pid ≡ Ok slots) (sym view) given
 
   opener : (q : Process) × (ready_in ps pid ≡ Ok q) × (first_free q.descriptors < 256)
-  opener = caller f limits charges es ps ds pipes w n view pid a file may
+  opener = caller w view pid a file may
 
   pub unspent-pipes : length pipes < 2 ^ 64 - 1
   unspent-pipes =
-      let under = ltb-false _ _ (unspent_in limits (meaning f old.state) pid slots (process_of opener.0) (readies ps pid opener.0 opener.1) given_now) in
-      let same = length-map (pipes_of pipes) (option_map (pipe_meaning f)) in
+      let under = ltb-false _ _ (unspent_in limits s pid (readies ps pid opener.0 opener.1) given_now) in
       let also = length-map pipes (option_map pipe_of) in
-      omega (arith, under, same, also)
+      omega (arith, under, also)
 
   module _ (q : Process) (is : ready_in ps pid ≡ Ok q) where
     -- the pipe as it is made
@@ -194,7 +207,8 @@ module _ {files : Files} {files_made : ℕ} (f : Live) (limits : Limits) (charge
           let row = subst (UsedRow (read_by ds k.serial + 0) (written_by ds k.serial + 0)) (at_past pipes k.serial (omega (arith, k_is))) (w.kept.tied.uses k.serial) in
           (omega (arith, row.0), omega (arith, row.1))
 
-      module _ (sided : IsSided a) (ps' : ProcessRows) (ds' : DescriptionRows) (fd : Option ℕ) (z : Describes ps ps' ds ds' pid (end_of a k) (before a fresh) fd) where
+      module _ (sided : IsSided a) {ps' : ProcessRows} {ds' : DescriptionRows} {reply : Reply}
+          (z : Describes ps ps' ds ds' pid (end_of a k) (before a fresh) reply) where
         same_opener : q ≡ z.p
         same_opener = let both : ◌≡◌ {A = Result Process Errno} (Ok q) (Ok z.p) = sym (is_living ps pid q is) ∙ z.is in cc
 
@@ -202,18 +216,20 @@ module _ {files : Files} {files_made : ℕ} (f : Live) (limits : Limits) (charge
         awake = sym (ap (λ (x : Process). x.parked) same_opener) ∙ is_awake ps pid q is
 
         free : first_free z.p.descriptors < 256
-        free = has_free f limits charges es ps ds pipes w n view pid a file may z.p z.is
+        free = has_free w view pid a file may z.p z.is
 
         now_tied : Tied ps' ds' with_counted
         now_tied = admitted with_counted z awake free (founded a sided k ps ds pipes w.kept.tied fresh k_is refl refl)
 
-        module _ (charges' : UserPages) (es' : List (ℕ × Key)) (pipes' : PipeRows) (m : MakesFifo pipes pipes' es es' (counted a fresh) file k) (closed : fifo_pipe (meaning f n.state) file ≡ None) (more : Charges charges charges' q.cred.uid slots) where
+        module _ {charges' : UserPages} {es' : List (ℕ × Key)} {pipes' : PipeRows}
+            (m : MakesFifo pipes pipes' es es' (counted a fresh) file k) (closed : fifo_pipe n.state file ≡ None)
+            (more : Charges charges charges' q.cred.uid slots) where
           no_key : lookup (nat_eq file) es ≡ None
           no_key = by_key (lookup (nat_eq file) es) refl
             where
               by_key : (o : Option Key) → lookup (nat_eq file) es ≡ o → o ≡ None
               by_key None h = refl
-              by_key (Some j) h = let there = sym (fifo_shown f w view file (Some j) h) ∙ closed in absurd (cc)
+              by_key (Some j) h = let there = sym (fifo_shown w view file (Some j) h) ∙ closed in absurd (cc)
 
           now_charged : AreCharged charges' (pipes_of with_counted)
           now_charged =
@@ -229,87 +245,94 @@ module _ {files : Files} {files_made : ℕ} (f : Live) (limits : Limits) (charge
           pub founded-whole : Whole charges' es' ps' ds' pipes'
           founded-whole = subst (Whole charges' es' ps' ds') (sym m.stored) (record { kept = record { tied = now_tied; charged = now_charged }; filed = now_filed })
 
-        module _ (owns : Owns f n) (room : total (meaning f n.state) + slots ≤ n.limits.reserve) (closed : fifo_pipe (meaning f n.state) file ≡ None) where
-          abbrev now : Namespace
-          now = record { limits = limits; state = state_of ps' ds' with_counted files files_made }
-
+        module _ (closed : fifo_pipe n.state file ≡ None) where
           seat : at ps (pid - 1) ≡ Some z.p
           seat = place_of ps pid z.p z.is
 
-          abbrev outcome : Option ℕ → State Segment ℕ
-          outcome o = entered.outcome files files_made f a k fresh ps ds with_fresh stands pid z.p seat z.k z.k_is o
+          abbrev outcome : Option ℕ → State Window ℕ
+          outcome o = entered.outcome files files_made a k fresh ps ds with_fresh stands pid z.p seat z.k z.k_is o
 
-          abbrev reply : Option ℕ → Reply
-          reply o = entered.reply files files_made f a k fresh ps ds with_fresh stands pid z.p seat z.k z.k_is o
+          abbrev answer : Option ℕ → Reply
+          answer o = entered.reply files files_made a k fresh ps ds with_fresh stands pid z.p seat z.k z.k_is o
 
-          owned : Owns f old
-          owned = subst (Owns f) (sym view) owns
-
-          room_here : total (meaning f old.state) + slots ≤ limits.reserve
-          room_here = subst (λ (x : Namespace). total (meaning f x.state) + slots ≤ x.limits.reserve) (sym view) room
-
-          joined : Joined f (rings_of now.state)
-          joined =
-              subst (Joined f) (sym (ap (map ring_or) (map_push (option_map pipe_of) pipes (Some (k.slot, counted a fresh))) ∙ map_push ring_or (pipes_of pipes) (Some (pipe_of (k.slot, counted a fresh)))))
-              (joined_pushed f (rings_of old.state) slots owned.joined (omega (arith, slots-rings (pipes_of pipes), total-meaning f old.state, room_here, owned.reserve)))
-
-          comes : Becomes f f n now (outcome (before a fresh))
-          comes =
-              becomes f f n now (outcome (before a fresh)) (record { joined = joined; reserve = owned.reserve }) (ap (λ (x : Namespace). x.limits) view)
-              (ap (meaning f) (λ i. state_of (seated_is with_counted z awake free (founded a sided k ps ds pipes w.kept.tied fresh k_is refl refl) i) (z.described i) (sym counted_is i) files files_made)
-              ∙ entered.entered-shown files files_made f a k fresh ps ds with_fresh stands pid z.p seat z.k z.k_is (before a fresh))
-              (settled ps' ds' with_counted files files_made now_tied)
+          shows : state_of ps' ds' with_counted files files_made ≡ outcome (before a fresh)
+          shows =
+              (λ i. state_of (seated_is with_counted z awake free
+              (founded a sided k ps ds pipes w.kept.tied fresh k_is refl refl) i) (z.described i) (sym counted_is i) files
+              files_made)
+              ∙ entered.entered-shown files files_made a k fresh ps ds with_fresh stands pid z.p seat z.k z.k_is
+              (before a fresh)
 
           -- the machine's pipe is this one, under the same number
-          abbrev s : State Segment ℕ
-          s = meaning f old.state
-
-          abbrev found : opens.Found Segment ℕ
-          found = record { state = meaning f (state_of ps ds with_fresh files files_made); pipe = k.serial }
+          abbrev found : opens.Found Window ℕ
+          found = record { state = state_of ps ds with_fresh files files_made; pipe = k.serial }
 
           lives : ready s pid ≡ Ok (process_of z.p)
           lives = readies ps pid z.p (is ∙ ap Ok same_opener)
 
-          found_is : record { state = with_pipe limits s pid slots (process_of z.p) lives given_now file; pipe = length s.pipes } ≡ found
+          found_is : with_slots limits s pid lives given_now file slots ≡ found
           found_is =
-              let pushed = map_push (option_map (pipe_meaning f)) (pipes_of pipes) (Some (pipe_of (k.slot, fresh))) in
-              let rows = map_push (option_map pipe_of) pipes (Some (k.slot, fresh)) in
+              let pushed = map_push (option_map pipe_of) pipes (Some (k.slot, fresh)) in
               let uid = ap (λ (x : Process). x.cred.uid) (sym same_opener) in
-              let number : length s.pipes ≡ k.serial = length-map (pipes_of pipes) (option_map (pipe_meaning f)) ∙ length-map pipes (option_map pipe_of) ∙ sym k_is in
+              let number : length s.pipes ≡ k.serial = length-map pipes (option_map pipe_of) ∙ sym k_is in
               λ i. record {
-                state = record s { pipes = (ap (λ u. s.pipes ++ Some (new_pipe (empty slots) u (Some file)) ∷ []) uid ∙ sym pushed ∙ ap (map (option_map (pipe_meaning f))) (sym rows)) i };
+                state = record s {
+                  pipes =
+                      (ap (λ u. s.pipes ++ Some (new_pipe (empty slots) u (Some file)) ∷ []) uid ∙ sym pushed) i;
+                };
                 pipe = number i;
               }
 
-          machine_is : opening limits s pid (access_seen a) file ≡ Ok (told (outcome (before a fresh)) (reply (before a fresh)))
+          abbrev on : opens.Found Window ℕ → Result (Outcome Window ℕ) Errno
+          on x =
+              first pid false
+              (opens.open_pipe itself (length s.descriptions) x.pipe x.state pid (process_of z.p) (access_seen a) x.pipe)
+
+          machine_is : opening limits s pid (access_seen a) file ≡ Ok (told (outcome (before a fresh)) (answer (before a fresh)))
           machine_is =
-              let no_pipe : fifo_pipe s file ≡ None = subst (λ (x : Namespace). fifo_pipe (meaning f x.state) file ≡ None) (sym view) closed in
-              let reads : readers itself found.state k.serial ≡ 0 = readers_shown ps ds with_fresh files files_made k.serial ∙ nobody.0 in
-              let writes : writers itself found.state k.serial ≡ 0 = writers_shown ps ds with_fresh files files_made k.serial ∙ nobody.1 in
-              let others = ap (opens.kept_by (access_seen a)) (entered.there files files_made f a k fresh ps ds with_fresh stands pid z.p seat z.k z.k_is) in
-              entered.goes limits s pid (process_of z.p) (access_seen a) file lives (may_here f limits charges es ps ds pipes w n view pid a file may)
-              ∙ ap (λ o. opens.pipe_of limits s (process_of z.p) file o >>= (λ x. first pid false (opens.open_pipe itself (length s.descriptions) x.pipe x.state pid (process_of z.p) (access_seen a) x.pipe))) no_pipe
-              ∙ ap (λ r. r >>= (λ x. first pid false (opens.open_pipe itself (length s.descriptions) x.pipe x.state pid (process_of z.p) (access_seen a) x.pipe))) (made_for limits s pid slots (process_of z.p) lives given_now file ∙ ap Ok found_is)
-              ∙ entered.waits_or_not files files_made f a k fresh ps ds with_fresh stands pid z.p seat z.k z.k_is (waits a 0 0) (λ i. is_waiting (access_seen a) (reads i) (writes i))
-              ∙ ap (λ m. Ok (told (outcome (if waits a 0 0 then Some m else None)) (reply (if waits a 0 0 then Some m else None)))) others
+              let no_pipe : fifo_pipe s file ≡ None =
+              subst (λ (x : Namespace). fifo_pipe x.state file ≡ None) (sym view) closed in
+              let reads : readers itself found.state k.serial ≡ 0 =
+              readers_shown ps ds with_fresh files files_made k.serial ∙ nobody.0 in
+              let writes : writers itself found.state k.serial ≡ 0 =
+              writers_shown ps ds with_fresh files files_made k.serial ∙ nobody.1 in
+              let others =
+              ap (opens.kept_by (access_seen a))
+              (entered.there files files_made a k fresh ps ds with_fresh stands pid z.p seat z.k z.k_is) in
+              entered.goes limits s pid (process_of z.p) (access_seen a) file lives (may_here w view pid a file may)
+              ∙ ap (λ o. opens.pipe_of limits s (process_of z.p) file o >>= on) no_pipe
+              ∙ ap (λ r. r >>= on) (made_for limits s pid lives given_now file ∙ ap Ok found_is)
+              ∙ entered.waits_or_not files files_made a k fresh ps ds with_fresh stands pid z.p seat z.k z.k_is
+              (waits a 0 0) (λ i. is_waiting (access_seen a) (reads i) (writes i))
+              ∙ ap (λ m. Ok (told (outcome (if waits a 0 0 then Some m else None))
+              (answer (if waits a 0 0 then Some m else None)))) others
 
-          by_waiting : (o : Option ℕ) → Becomes f f n now (outcome o) → opening limits s pid (access_seen a) file ≡ Ok (told (outcome o) (reply o)) → HasOpened f n now (Ok (told_at o z.p)) (opening n.limits (meaning f n.state) pid (access_seen a) file)
-          by_waiting None b e = record {
-            state = outcome None;
-            is = subst (λ (m : Namespace). opening m.limits (meaning f m.state) pid (access_seen a) file ≡ Ok (told (outcome None) (Num (first_free z.p.descriptors)))) view
-                (e ∙ ap (λ m. Ok (told (outcome None) (Num m))) (first_free-map (λ (x : Key). x.serial) z.p.descriptors));
-            becomes = b;
-          }
-          by_waiting (Some m) b e = record {
-            state = outcome (Some m);
-            is = subst (λ (x : Namespace). opening x.limits (meaning f x.state) pid (access_seen a) file ≡ Ok (told (outcome (Some m)) Parked)) view e;
-            becomes = b;
-          }
-
-          opened_here : HasOpened f n now (Ok fd) (opening n.limits (meaning f n.state) pid (access_seen a) file)
-          opened_here = subst (λ o. HasOpened f n now (Ok o) (opening n.limits (meaning f n.state) pid (access_seen a) file)) (sym z.told) (by_waiting (before a fresh) comes machine_is)
-
-          pub founded-opened : (limits' : Limits) (pipes' : PipeRows) → limits' ≡ limits → pipes' ≡ with_counted
-              → HasOpened f n (record { limits = limits'; state = state_of ps' ds' pipes' files files_made }) (Ok fd) (opening n.limits (meaning f n.state) pid (access_seen a) file)
-          founded-opened limits' pipes' same stored =
-              subst (λ (x : Namespace). HasOpened f n x (Ok fd) (opening n.limits (meaning f n.state) pid (access_seen a) file)) (λ i. record { limits = sym same i; state = state_of ps' ds' (sym stored i) files files_made }) opened_here
+          pub founded-makes : {limits' : Limits} {pipes' : PipeRows} → limits' ≡ limits → pipes' ≡ with_counted
+              → total n.state + slots ≤ n.limits.reserve
+              → Makes n (record { limits = limits'; state = state_of ps' ds' pipes' files files_made })
+              (opening n.limits n.state pid (access_seen a) file) reply
+          founded-makes {limits'} {pipes'} same stored room =
+              subst (λ (x : Namespace). Makes n x (opening n.limits n.state pid (access_seen a) file) reply)
+              (λ i. record { limits = sym same i; state = state_of ps' ds' (sym stored i) files files_made })
+              (record {
+                is =
+                    subst (λ (m : Namespace). opening m.limits m.state pid (access_seen a) file
+                    ≡ Ok (told (state_of ps' ds' with_counted files files_made) reply)) view
+                    (machine_is ∙ (λ i. Ok (told (sym shows i)
+                    ((entered.reply_is files files_made a k fresh ps ds with_fresh stands pid z.p seat z.k z.k_is
+                    (before a fresh) ∙ sym z.told) i))));
+                limits = ap (λ (m : Namespace). m.limits) view;
+                owned = λ f owns.
+                    let o : Owns f (record { limits = limits; state = s }) = subst (Owns f) (sym view) owns in
+                    let fits : sum_of (λ (q : machine.Pipe Window). q.queue.capacity) s.pipes + slots ≤ limits.reserve =
+                    subst (λ (m : Namespace). total m.state + slots ≤ m.limits.reserve) (sym view) room in
+                    record {
+                      joined =
+                          subst (λ xs. Joined f (map ring_or xs))
+                          (sym (map_push (option_map pipe_of) pipes (Some (k.slot, counted a fresh))))
+                          (joined_opened f s.pipes (pipe_of (k.slot, counted a fresh)) refl o.joined
+                          (omega (arith, fits, o.reserve)));
+                      reserve = o.reserve;
+                    };
+                swept = settled ps' ds' with_counted files files_made now_tied;
+              })

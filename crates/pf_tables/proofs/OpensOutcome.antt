@@ -6,10 +6,10 @@ use Rattle.std.proofs.lemmas.List.{map-set, map_push, length-map}
 use Rattle.pf_machine.specs.Refusals.{◌>>=◌, ◌>>◌, refuse_if}
 use Rattle.pf_machine.specs.FileMap.{Files}
 use Rattle.pf_base.specs.Limits.{Limits}
-use Rattle.pf_machine.specs.Queue.{Segment}
+use Rattle.pf_ring.specs.declared.ring.Window.{Window}
 use Rattle.pf_machine.specs.Calls.{Opening}
 use Rattle.pf_machine.specs.Numbered.{at, put_at, first_free, one_if}
-use Rattle.pf_machine.proofs.NumberedLaws.{at-map, first_free-map}
+use Rattle.pf_machine.proofs.NumberedLaws.{first_free-map}
 use Rattle.pf_machine.specs.State as machine
 use Rattle.pf_machine.specs.State.{itself, State, Outcome, ready, with_process, change_process, change_pipe, with_descriptor, waiting, told}
 use Rattle.pf_machine.specs.Counts.{readers, writers}
@@ -22,38 +22,36 @@ use Rattle.pf_base.specs.declared.errno.Errno.{Errno}
 use Rattle.pf_base.specs.declared.errno.Errno.TheVariants.{EMFILE, ENXIO, ENFILE}
 use Rattle.pf_base.specs.declared.step.Reply.{Reply}
 use Rattle.pf_base.specs.declared.step.Reply.TheVariants.{Num, Parked}
-use Rattle.pf_frame.specs.Live.{Live}
 use Rattle.pf_tables.specs.declared.tables.opens.Access.{Access as Stored}
-use Rattle.pf_tables.specs.Meaning.{meaning, pipe_meaning}
-use Rattle.pf_tables.specs.Opened.{access_seen, counted, end_of, taking, lacks_readers, may_open, opening}
+use Rattle.pf_tables.specs.Opened.{access_seen, counted, end_of, taking, told_at, lacks_readers, may_open, opening}
 use Rattle.pf_tables.specs.Rows.{ProcessRows, DescriptionRows, PipeRows, Key, Process, Pipe, call_of, process_of, description_of, pipe_of, processes_of, pipes_of, state_of}
 use Rattle.pf_tables.proofs.TablesTied.{once}
 use Rattle.pf_tables.proofs.TablesShown.{shown}
 
 -- The machine's open, where nothing refuses it
-pub goes : (c : Limits) (s : State Segment ℕ) (pid : ℕ) (p : machine.Process ℕ) (a : Access) (file : ℕ) → ready s pid ≡ Ok p → may_open s pid a file ≡ Ok tt
+pub goes : (c : Limits) (s : State Window ℕ) (pid : ℕ) (p : machine.Process ℕ) (a : Access) (file : ℕ) → ready s pid ≡ Ok p → may_open s pid a file ≡ Ok tt
     → opening c s pid a file ≡ (pipe_for c s p file (fifo_pipe s file) >>= (λ found. first pid false (open_pipe itself (length s.descriptions) found.pipe found.state pid p a found.pipe)))
 goes c s pid p a file lives may =
     ap (λ r. r >>= (λ q. opens.open_fifo itself (length s.descriptions) itself c s pid q a file)) lives
     ∙ by_tests (nat_le MAX_DESCRIPTORS (first_free p.descriptors)) (lacks_readers s a file) (is_spent s.descriptions 1) _
     (sym (ap (λ r. r >>= (λ q. refuse_if (nat_le MAX_DESCRIPTORS (first_free q.descriptors)) EMFILE >> (refuse_if (lacks_readers s a file) ENXIO >> refuse_if (is_spent s.descriptions 1) ENFILE))) lives) ∙ may)
   where
-    by_tests : (x y z : Bool) (rest : Result (Outcome Segment ℕ) Errno) → (refuse_if x EMFILE >> (refuse_if y ENXIO >> refuse_if z ENFILE)) ≡ Ok tt → (refuse_if x EMFILE >> (refuse_if y ENXIO >> (refuse_if z ENFILE >> rest))) ≡ rest
+    by_tests : (x y z : Bool) (rest : Result (Outcome Window ℕ) Errno) → (refuse_if x EMFILE >> (refuse_if y ENXIO >> refuse_if z ENFILE)) ≡ Ok tt → (refuse_if x EMFILE >> (refuse_if y ENXIO >> (refuse_if z ENFILE >> rest))) ≡ rest
     by_tests true y z rest h = absurd (cc)
     by_tests false true z rest h = absurd (cc)
     by_tests false false true rest h = absurd (cc)
     by_tests false false false rest h = refl
 
-module _ (files : Files) (files_made : ℕ) (f : Live) (a : Stored) (k : Key) (p : Pipe) (ps : ProcessRows) (ds : DescriptionRows) (pipes : PipeRows) (stands : at pipes k.serial ≡ Some (k.slot, p))
+module _ (files : Files) (files_made : ℕ) (a : Stored) (k : Key) (p : Pipe) (ps : ProcessRows) (ds : DescriptionRows) (pipes : PipeRows) (stands : at pipes k.serial ≡ Some (k.slot, p))
     (pid : ℕ) (q : Process) (opener : at ps (pid - 1) ≡ Some q) (j : Key) (j_is : j.serial ≡ length ds) where
-  abbrev s : State Segment ℕ
-  s = meaning f (state_of ps ds pipes files files_made)
+  abbrev s : State Window ℕ
+  s = state_of ps ds pipes files files_made
 
   -- its pipe is counted, and its description made
-  abbrev pub made : State Segment ℕ
+  abbrev pub made : State Window ℕ
   made = change_pipe (opens.counted (access_seen a)) (record s { descriptions = s.descriptions ++ Some (record { pipe = k.serial; reads = a.reads; writes = a.writes; nonblocking = a.nonblock }) ∷ [] }) k.serial
 
-  abbrev pub outcome : Option ℕ → State Segment ℕ
+  abbrev pub outcome : Option ℕ → State Window ℕ
   outcome None = with_process made pid (with_descriptor (first_free (process_of q).descriptors) (length s.descriptions) (process_of q))
   outcome (Some n) = change_process (waiting (Some (Opening (length s.descriptions) n))) made pid
 
@@ -64,16 +62,18 @@ module _ (files : Files) (files_made : ℕ) (f : Live) (a : Stored) (k : Key) (p
   once_more true n = refl
   once_more false n = omega arith
 
-  counted_shown : pipe_meaning f (pipe_of (k.slot, counted a p)) ≡ opens.counted (access_seen a) (pipe_meaning f (pipe_of (k.slot, p)))
-  counted_shown = λ i. record { queue = (pipe_meaning f (pipe_of (k.slot, p))).queue; owner = p.owner; file = p.opens.file; read_opens = once_more a.reads p.opens.read i; write_opens = once_more a.writes p.opens.write i }
+  counted_shown : pipe_of (k.slot, counted a p) ≡ opens.counted (access_seen a) (pipe_of (k.slot, p))
+  counted_shown i = record (pipe_of (k.slot, p)) {
+    read_opens = once_more a.reads p.opens.read i;
+    write_opens = once_more a.writes p.opens.write i;
+  }
 
-  pub there : at s.pipes k.serial ≡ Some (pipe_meaning f (pipe_of (k.slot, p)))
-  there = at-map (pipe_meaning f) (pipes_of pipes) k.serial ∙ ap (option_map (pipe_meaning f)) (shown pipe_of pipes k.serial (k.slot, p) stands)
+  pub there : at s.pipes k.serial ≡ Some (pipe_of (k.slot, p))
+  there = shown pipe_of pipes k.serial (k.slot, p) stands
 
-  pipes_shown : map (option_map (pipe_meaning f)) (pipes_of (put_at pipes k.serial (k.slot, counted a p))) ≡ made.pipes
+  pipes_shown : pipes_of (put_at pipes k.serial (k.slot, counted a p)) ≡ made.pipes
   pipes_shown =
-      ap (map (option_map (pipe_meaning f))) (map-set (option_map pipe_of) pipes k.serial (Some (k.slot, counted a p)))
-      ∙ map-set (option_map (pipe_meaning f)) (pipes_of pipes) k.serial (Some (pipe_of (k.slot, counted a p)))
+      map-set (option_map pipe_of) pipes k.serial (Some (k.slot, counted a p))
       ∙ ap (λ x. set s.pipes k.serial (Some x)) counted_shown
       ∙ ap (λ o. set s.pipes k.serial (option_map (opens.counted (access_seen a)) o)) (sym there)
 
@@ -90,7 +90,8 @@ module _ (files : Files) (files_made : ℕ) (f : Live) (a : Stored) (k : Key) (p
       ∙ ap (λ o. set (processes_of ps) (pid - 1) (option_map (waiting (Some (Opening (length s.descriptions) n))) o)) (sym (shown process_of ps (pid - 1) q opener))
 
   pub entered-shown : (before : Option ℕ)
-      → meaning f (state_of (put_at ps (pid - 1) (taking before j q)) (ds ++ Some (j.slot, once (end_of a k)) ∷ []) (put_at pipes k.serial (k.slot, counted a p)) files files_made) ≡ outcome before
+      → state_of (put_at ps (pid - 1) (taking before j q)) (ds ++ Some (j.slot, once (end_of a k)) ∷ [])
+      (put_at pipes k.serial (k.slot, counted a p)) files files_made ≡ outcome before
   entered-shown None = λ i. record { processes = processes_shown None i; descriptions = map_push (option_map description_of) ds (Some (j.slot, once (end_of a k))) i; pipes = pipes_shown i; files = files; files_made = files_made }
   entered-shown (Some n) = λ i. record { processes = processes_shown (Some n) i; descriptions = map_push (option_map description_of) ds (Some (j.slot, once (end_of a k))) i; pipes = pipes_shown i; files = files; files_made = files_made }
 
@@ -98,6 +99,10 @@ module _ (files : Files) (files_made : ℕ) (f : Live) (a : Stored) (k : Key) (p
   abbrev pub reply : Option ℕ → Reply
   reply None = Num (first_free (process_of q).descriptors)
   reply (Some n) = Parked
+
+  pub reply_is : (before : Option ℕ) → reply before ≡ told_at before q
+  reply_is None = ap Num (first_free-map (λ (x : Key). x.serial) q.descriptors)
+  reply_is (Some n) = refl
 
   abbrev pub before_if : Bool → Option ℕ
   before_if b = if b then Some (opens.kept_by (access_seen a) (at s.pipes k.serial)) else None

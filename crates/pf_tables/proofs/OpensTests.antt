@@ -1,6 +1,6 @@
 -- Whether a FIFO may be opened, whether an open is over, and what its description is.
 
-use Rattle.std.proofs.Common.{◌≡◌, ℕ, ◌-◌, ◌^◌, ◌<◌, ◌≤◌, Bool, true, false, length, Option, Some, None, Result, Ok, Err, nat_lt, nat_le, nat_eq, if◌then◌else◌, refl, sym, ap, subst, ◌∙◌, arith}
+use Rattle.std.proofs.Common.{◌≡◌, ℕ, ◌-◌, ◌^◌, ◌<◌, ◌≤◌, Bool, true, false, length, Option, Some, None, Result, Ok, Err, nat_lt, nat_le, refl, sym, ap, subst, ◌∙◌, arith}
 use Rattle.std.specs.Option.{option_map, option_and_then}
 use Rattle.std.proofs.lemmas.Bool.Decides.{nat_tests}
 use Rattle.std.proofs.lemmas.List.{length-map}
@@ -9,14 +9,14 @@ use Rattle.pf_machine.specs.FileMap.{Files}
 use Rattle.pf_base.specs.Limits.{Limits}
 use Rattle.pf_base.specs.Capacities.{new_capacity, told_as}
 use Rattle.pf_machine.specs.Numbered.{at, first_free}
-use Rattle.pf_machine.proofs.NumberedLaws.{first_free-map, sum_of-map}
+use Rattle.pf_machine.proofs.NumberedLaws.{first_free-map}
 use Rattle.pf_machine.specs.Opens.{Access}
 use Rattle.pf_machine.specs.Attempts.{open_told}
 use Rattle.pf_base.specs.Permissions.{is_privileged}
 use Rattle.pf_machine.specs.Pipes.{capacity_for, is_spent}
-use Rattle.pf_machine.specs.Queue.{Segment}
-use Rattle.pf_machine.specs.Counts.{charged, total}
-use Rattle.pf_machine.specs.State.{State, ready, Pipe as Pipes}
+use Rattle.pf_ring.specs.declared.ring.Window.{Window}
+use Rattle.pf_machine.specs.Counts.{total}
+use Rattle.pf_machine.specs.State.{itself, State, ready, end_at}
 use Rattle.pf_base.specs.declared.TheConstants.{MAX_DESCRIPTORS}
 use Rattle.pf_base.specs.declared.errno.Errno.{Errno}
 use Rattle.pf_base.specs.declared.errno.Errno.TheVariants.{EMFILE, ENFILE, ENXIO, ENOMEM, EBADF, ESRCH}
@@ -25,15 +25,13 @@ use Rattle.pf_base.specs.declared.fault.Fault.TheVariants as faults
 use Rattle.pf_walk.specs.Told.{Told as Answered}
 use Rattle.pf_fds.specs.Descriptions.{value_of}
 use Rattle.pf_fds.specs.Registry.{find}
-use Rattle.pf_frame.specs.Live.{Live}
 use Rattle.pf_limits.specs.UserPages.{UserPages, charged_to}
 use Rattle.pf_parked.specs.declared.call.Call.TheVariants.{Open}
-use Rattle.pf_tables.specs.Meaning.{Namespace, meaning, pipe_meaning}
+use Rattle.pf_tables.specs.Meaning.{Namespace}
 use Rattle.pf_tables.specs.Opened.{lacks_readers, may_open, fifo_capacity, other_opens, IsOver}
-use Rattle.pf_tables.specs.Rows.{ProcessRows, DescriptionRows, PipeRows, Key, Named, Process, Description, Pipe, call_of, call_in, made_by, process_at, process_in, ready_in, process_of, description_of, pipe_of, pipes_of, state_of, Kept}
-use Rattle.pf_tables.proofs.MeaningLaws.{total-meaning}
+use Rattle.pf_tables.specs.Rows.{ProcessRows, DescriptionRows, PipeRows, Key, Named, Process, Description, Pipe, call_of, call_in, made_by, process_at, process_in, ready_in, process_of, description_of, pipe_of, state_of, Kept}
 use Rattle.pf_tables.proofs.ProcessTableReady.{shown_in, readies, living_shown, place_of}
-use Rattle.pf_tables.proofs.Ends.{end_shown}
+use Rattle.pf_tables.proofs.Ends.{as_kept, end_of_rows, end_shown, seen_as_kept}
 use Rattle.pf_tables.proofs.TablesTied.{finds}
 use Rattle.pf_tables.proofs.TablesShown.{find_at}
 
@@ -42,37 +40,29 @@ pub passed_on : {A B : Type 0} (fault : Fault) (answer : Result A Errno) (go : A
 passed_on (faults.Errno e) answer go is = ap (λ r. r >>= go) is
 passed_on faults.NoMemory answer go is = tt
 
-module _ {files : Files} {files_made : ℕ} (f : Live) {charges : UserPages} {limits : Limits} {ps : ProcessRows}
-    {ds : DescriptionRows} {pipes : PipeRows} (kept : Kept charges ps ds pipes) {n : Namespace}
-    (view : record { limits = limits; state = state_of ps ds pipes files files_made } ≡ n) where
-  -- what all pipes are charged with, and those of a user
-  pub total_is : charges.total ≡ total (meaning f n.state)
-  total_is =
-      subst (λ (m : Namespace). charges.total ≡ total (meaning f m.state)) view
-      (kept.charged.total ∙ sym (total-meaning f (state_of ps ds pipes files files_made)))
+-- what all pipes are charged with
+pub total_is : {files : Files} {files_made : ℕ} {charges : UserPages} {limits : Limits} {ps : ProcessRows}
+    {ds : DescriptionRows} {pipes : PipeRows} → Kept charges ps ds pipes → {n : Namespace}
+    → record { limits = limits; state = state_of ps ds pipes files files_made } ≡ n → charges.total ≡ total n.state
+total_is {charges = charges} kept view =
+    subst (λ (m : Namespace). charges.total ≡ total m.state) view kept.charged.total
 
-  charged_is : (uid : ℕ) → charged_to charges uid ≡ charged (meaning f n.state) uid
-  charged_is uid =
-      subst (λ (m : Namespace). charged_to charges uid ≡ charged (meaning f m.state) uid) view
-      (kept.charged.users uid ∙ sym (sum_of-map (pipe_meaning f)
-      (λ (q : Pipes Segment). if nat_eq q.owner uid then q.queue.capacity else 0) (pipes_of pipes)))
-
-module _ {files : Files} {files_made : ℕ} (f : Live) {charges : UserPages} {limits : Limits} {ps : ProcessRows}
+module _ {files : Files} {files_made : ℕ} {charges : UserPages} {limits : Limits} {ps : ProcessRows}
     {ds : DescriptionRows} {pipes : PipeRows} (kept : Kept charges ps ds pipes) {n : Namespace}
     (view : record { limits = limits; state = state_of ps ds pipes files files_made } ≡ n) (pid : ℕ) where
   -- The refusals
   module _ {p : Process} (is : ready_in ps pid ≡ Ok p) where
-    abbrev s : State Segment ℕ
-    s = meaning f n.state
+    abbrev s : State Window ℕ
+    s = n.state
 
     opener : ready s pid ≡ Ok (process_of p)
-    opener = subst (λ (m : Namespace). ready (meaning f m.state) pid ≡ Ok (process_of p)) view (readies ps pid p is)
+    opener = subst (λ (m : Namespace). ready m.state pid ≡ Ok (process_of p)) view (readies ps pid p is)
 
     drawn_is : length s.descriptions ≡ length ds
     drawn_is = sym (ap (λ (m : Namespace). length m.state.descriptions) view) ∙ length-map ds (option_map description_of)
 
     pipes_drawn : length s.pipes ≡ length pipes
-    pipes_drawn = length-map n.state.pipes _ ∙ sym (ap (λ (m : Namespace). length m.state.pipes) view) ∙ length-map pipes (option_map pipe_of)
+    pipes_drawn = sym (ap (λ (m : Namespace). length m.state.pipes) view) ∙ length-map pipes (option_map pipe_of)
 
     module _ (a : Access) (file : ℕ) (low : ℕ) (lowest : low ≡ first_free p.descriptors) where
       free_is : first_free (process_of p).descriptors ≡ low
@@ -102,13 +92,21 @@ module _ {files : Files} {files_made : ℕ} (f : Live) {charges : UserPages} {li
 
     -- How many slots its pipe gets
     module _ (same : limits ≡ charges.limits) where
-      capacity : (spent : Bool) → is_spent s.pipes 1 ≡ spent
-          → fifo_capacity n.limits s pid ≡ (refuse_if spent ENFILE >> told_as ENOMEM (new_capacity charges.limits (is_privileged p.cred) (charged_to charges p.cred.uid) charges.total))
-      capacity spent x =
-          ap (λ r. r >>= (λ q. refuse_if (is_spent s.pipes 1) ENFILE >> told_as ENOMEM (capacity_for n.limits s q.cred))) opener
-          ∙ (λ j. refuse_if (x j) ENFILE >> told_as ENOMEM (new_capacity ((sym (ap (λ (m : Namespace). m.limits) view) ∙ same) j) (is_privileged p.cred) (sym (charged_is f kept view p.cred.uid) j) (sym (total_is f kept view) j)))
+      abbrev slots : Result ℕ Errno
+      slots =
+          told_as ENOMEM
+          (new_capacity charges.limits (is_privileged p.cred) (charged_to charges p.cred.uid) charges.total)
 
-      pub capacity_is : length pipes < 2 ^ 64 - 1 → fifo_capacity n.limits s pid ≡ told_as ENOMEM (new_capacity charges.limits (is_privileged p.cred) (charged_to charges p.cred.uid) charges.total)
+      capacity : (spent : Bool) → is_spent s.pipes 1 ≡ spent
+          → fifo_capacity n.limits s pid ≡ (refuse_if spent ENFILE >> slots)
+      capacity spent x =
+          ap (λ r. r >>= (λ q. refuse_if (is_spent s.pipes 1) ENFILE >> told_as ENOMEM (capacity_for n.limits s q.cred)))
+          opener
+          ∙ (λ j. refuse_if (x j) ENFILE >> told_as ENOMEM (capacity_for (sym view j).limits (sym view j).state p.cred))
+          ∙ (λ j. refuse_if spent ENFILE >> told_as ENOMEM (new_capacity (same j) (is_privileged p.cred)
+          (sym (kept.charged.users p.cred.uid) j) (sym kept.charged.total j)))
+
+      pub capacity_is : length pipes < 2 ^ 64 - 1 → fifo_capacity n.limits s pid ≡ slots
       capacity_is some = capacity false (let number = pipes_drawn in grind (arith, nat_tests))
 
       pub capacity_spent : length pipes ≡ 2 ^ 64 - 1 → fifo_capacity n.limits s pid ≡ Err ENFILE
@@ -129,19 +127,25 @@ module _ {files : Files} {files_made : ℕ} (f : Live) {charges : UserPages} {li
     pub pipe_row : (r : Pipe) × (at pipes row.0.value.pipe.serial ≡ Some (row.0.value.pipe.slot, r))
     pipe_row = finds pipes row.0.value.pipe (kept.tied.is_end d.serial (d.slot, row.0) row.1).0
 
-    over_in_state : IsOver (meaning f (state_of ps ds pipes files files_made)) pid (nat_lt before (other_opens row.0.value.reads pipe_row.0))
-    over_in_state = record {
-      p = process_of sleeper.0;
-      n = d.serial;
-      before = before;
-      lives = living_shown ps pid ∙ ap shown_in sleeper.1;
-      waits = ap (option_map call_of) sleeper.2;
-      is = ap (λ o. or_refuse EBADF o >>= (λ e. Ok (open_told (meaning f (state_of ps ds pipes files files_made)) pid (process_of sleeper.0) d.serial before e)))
-          (end_shown (pipe_meaning f) None ps ds pipes files files_made kept.tied pid 0 d row.0 pipe_row.0 row.1 pipe_row.1);
-    }
+    over_in_state : IsOver (state_of ps ds pipes files files_made) pid (nat_lt before (other_opens row.0.value.reads pipe_row.0))
+    over_in_state =
+        let s = state_of ps ds pipes files files_made in
+        record {
+          p = process_of sleeper.0;
+          n = d.serial;
+          before = before;
+          lives = living_shown ps pid ∙ ap shown_in sleeper.1;
+          waits = ap (option_map call_of) sleeper.2;
+          is =
+              ap (λ o. or_refuse EBADF o >>= (λ e. Ok (open_told s pid (process_of sleeper.0) d.serial before e)))
+              (subst (λ (t : State Window ℕ). end_at itself t d.serial ≡ Some (end_of_rows as_kept row.0.value pipe_row.0))
+              (seen_as_kept ps ds pipes files files_made)
+              (end_shown as_kept None ps ds pipes files files_made kept.tied pid 0 d row.0 pipe_row.0 row.1
+              pipe_row.1));
+        }
 
-    pub over_is : IsOver (meaning f n.state) pid (nat_lt before (other_opens row.0.value.reads pipe_row.0))
-    over_is = subst (λ (m : Namespace). IsOver (meaning f m.state) pid (nat_lt before (other_opens row.0.value.reads pipe_row.0))) view over_in_state
+    pub over_is : IsOver n.state pid (nat_lt before (other_opens row.0.value.reads pipe_row.0))
+    over_is = subst (λ (m : Namespace). IsOver m.state pid (nat_lt before (other_opens row.0.value.reads pipe_row.0))) view over_in_state
 
     -- the code finds its description, and the pipe
     row_found : option_map value_of (find ds d.slot d.serial) ≡ Some row.0.value
@@ -160,8 +164,8 @@ module _ {files : Files} {files_made : ℕ} (f : Live) {charges : UserPages} {li
       pub pipe_not_gone : None ≡ find pipes end.pipe.slot end.pipe.serial → ⊥
       pipe_not_gone e = let there = pipe_found in absurd (cc)
 
-      pub over_told : (p : Pipe) → Some p ≡ find pipes end.pipe.slot end.pipe.serial → (x : ℕ) → x ≡ other_opens end.reads p → IsOver (meaning f n.state) pid (nat_lt before x)
+      pub over_told : (p : Pipe) → Some p ≡ find pipes end.pipe.slot end.pipe.serial → (x : ℕ) → x ≡ other_opens end.reads p → IsOver n.state pid (nat_lt before x)
       over_told p there x x_is =
           let both : ◌≡◌ {A = Option Pipe} (Some pipe_row.0) (Some p) = sym pipe_found ∙ sym there in
           let same : pipe_row.0 ≡ p = cc in
-          subst (λ (m : ℕ). IsOver (meaning f n.state) pid (nat_lt before m)) ((λ i. other_opens (same_end i).reads (same i)) ∙ sym x_is) over_is
+          subst (λ (m : ℕ). IsOver n.state pid (nat_lt before m)) ((λ i. other_opens (same_end i).reads (same i)) ∙ sym x_is) over_is

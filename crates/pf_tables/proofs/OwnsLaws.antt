@@ -11,7 +11,6 @@ use Rattle.pf_machine.specs.Queue.{empty, bytes_of}
 use Rattle.pf_machine.specs.Numbered.{at, put_at, clear_at, sum_of, weight}
 use Rattle.pf_machine.proofs.NumberedLaws.{at_within, sum_of-set, sum_of-le}
 use Rattle.pf_machine.specs.State.{State, Process, Pipe, opening, with_queue, holding}
-use Rattle.pf_machine.specs.Pipes.{new_pipe}
 use Rattle.pf_frame.specs.Live.{Live, IsSound}
 use Rattle.pf_limits.specs.Sums.{AreSumsOf}
 use Rattle.pf_limits.specs.UserPages.{UserPages}
@@ -67,11 +66,11 @@ module _ (f g : Live) (s : State Window ℕ) (n : ℕ) (p : Pipe Window) (r : Ri
 
 -- one more pipe, with nothing in it
 
-pub joined_opened : (f : Live) (pipes : List (Option (Pipe Window))) (slots owner : ℕ) → Joined f (map ring_or pipes)
-    → sum_of (λ (q : Pipe Window). q.queue.capacity) pipes + slots ≤ f.reserved
-    → Joined f (map ring_or (pipes ++ Some (new_pipe (empty slots) owner None) ∷ []))
-joined_opened f pipes slots owner joined fits =
-    subst (Joined f) (sym (map_push ring_or pipes (Some (new_pipe (empty slots) owner None))))
+pub joined_opened : (f : Live) (pipes : List (Option (Pipe Window))) (p : Pipe Window) {slots : ℕ} → p.queue ≡ empty slots
+    → Joined f (map ring_or pipes) → sum_of (λ (q : Pipe Window). q.queue.capacity) pipes + slots ≤ f.reserved
+    → Joined f (map ring_or (pipes ++ Some p ∷ []))
+joined_opened f pipes p {slots} bare joined fits =
+    subst (Joined f) (ap (λ r. map ring_or pipes ++ r ∷ []) (sym bare) ∙ sym (map_push ring_or pipes (Some p)))
     (joined_pushed f (map ring_or pipes) slots joined
     (subst (λ k. k + slots ≤ f.reserved) (sym (slots-rings pipes)) fits))
 

@@ -18,7 +18,7 @@ use Rattle.pf_base.specs.Permissions.{is_privileged}
 use Rattle.pf_machine.specs.Queue.{empty}
 use Rattle.pf_machine.specs.State as machine
 use Rattle.pf_machine.specs.State.{State, Outcome, ready, of_ready, told}
-use Rattle.pf_machine.specs.Pipes.{second_free, is_spent, capacity_for, reading as machine_reading, writing as machine_writing, with_two, opened, pipe}
+use Rattle.pf_machine.specs.Pipes.{second_free, is_spent, capacity_for, reading as machine_reading, writing as machine_writing, new_pipe, with_two, opened, pipe}
 use Rattle.pf_base.specs.declared.TheConstants.{MAX_DESCRIPTORS, MAX_MADE}
 use Rattle.pf_base.specs.declared.errno.Errno.{Errno}
 use Rattle.pf_base.specs.declared.errno.Errno.TheVariants.{EMFILE, ENFILE}
@@ -340,7 +340,7 @@ module _ {files : Files} {files_made : ℕ} {charges : UserPages} {ps : ProcessR
           record {
             joined =
                 subst (λ (x : State Window ℕ). Joined f (rings_of x)) (sym shown)
-                (joined_opened f s.pipes slots p.cred.uid before.joined
+                (joined_opened f s.pipes (new_pipe (empty slots) p.cred.uid None) refl before.joined
                 (omega (arith, fits, before.reserve, kept.charged.total)));
             reserve = ap (λ (l : Limits). l.reserve) more.limits ∙ before.reserve;
           };

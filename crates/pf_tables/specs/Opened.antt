@@ -4,27 +4,25 @@ use Rattle.std.specs.Prelude.{◌≡◌, ℕ, ◌+◌, ◌-◌, ◌<◌, ⊤, Bo
 use Rattle.std.specs.Map.{lookup}
 use Rattle.pf_machine.specs.Refusals.{◌>>=◌, ◌>>◌, refuse_if}
 use Rattle.pf_base.specs.Limits.{Limits}
-use Rattle.pf_machine.specs.Queue.{Segment}
 use Rattle.pf_machine.specs.Calls.{Opening}
 use Rattle.pf_base.specs.Capacities.{told_as}
 use Rattle.pf_machine.specs.Numbered.{put_at, change_at, first_free, one_if}
 use Rattle.pf_machine.specs.State as machine
-use Rattle.pf_machine.specs.State.{itself, State, Outcome, ready, living}
+use Rattle.pf_machine.specs.State.{itself, State, Outcome, ready, living, of_living}
 use Rattle.pf_machine.specs.Pipes.{is_spent, capacity_for}
-use Rattle.pf_machine.specs.Attempts.{Waits, attempt, given}
+use Rattle.pf_machine.specs.Attempts.{Waits, again, given, reopened}
+use Rattle.pf_machine.specs.Machine.{call_of}
 use Rattle.pf_machine.specs.Opens.{Access, openable, is_waiting, fifo_pipe, fifo_readers, open_fifo}
 use Rattle.pf_base.specs.declared.TheConstants.{MAX_DESCRIPTORS}
 use Rattle.pf_base.specs.declared.errno.Errno.{Errno}
 use Rattle.pf_base.specs.declared.errno.Errno.TheVariants.{EMFILE, ENXIO, ENFILE, ENOMEM}
-use Rattle.pf_base.specs.declared.fault.Fault.{Fault}
-use Rattle.pf_base.specs.declared.fault.Fault.TheVariants as faults
+use Rattle.pf_base.specs.declared.step.Reply.{Reply}
 use Rattle.pf_base.specs.declared.step.Reply.TheVariants.{Num, Parked}
-use Rattle.pf_frame.specs.Live.{Live}
 use Rattle.pf_parked.specs.declared.call.Call.TheVariants.{Open}
 use Rattle.pf_tables.specs.declared.tables.opens.Access.{Access as Stored}
 use Rattle.pf_tables.specs.Meaning.{Namespace}
 use Rattle.pf_tables.specs.Rows.{ProcessRows, DescriptionRows, PipeRows, Key, Process, Description, Pipe, process_in}
-use Rattle.pf_tables.specs.Tables.{Tells}
+use Rattle.pf_tables.specs.Tables.{Makes}
 
 -- How a FIFO is opened
 
@@ -63,35 +61,28 @@ fifo_named s pid path a = do
   f ← openable s.files p.cred path a
   Ok f.number
 
--- nobody reads it, and it is opened for writing alone, with O_NONBLOCK
-abbrev pub lacks_readers : State Segment ℕ → Access → ℕ → Bool
-lacks_readers s a file = a.writes && not a.reads && a.nonblock && nat_eq (fifo_readers itself s (fifo_pipe s file)) 0
+module _ {X : Type 0} where
+  -- nobody reads it, and it is opened for writing alone, with O_NONBLOCK
+  abbrev pub lacks_readers : State X ℕ → Access → ℕ → Bool
+  lacks_readers s a file = a.writes && not a.reads && a.nonblock && nat_eq (fifo_readers itself s (fifo_pipe s file)) 0
 
--- why a process may not open it, whoever has it open
-abbrev pub may_open : State Segment ℕ → ℕ → Access → ℕ → Result (Unit {0}) Errno
-may_open s pid a file = do
-  p ← ready s pid
-  refuse_if (nat_le MAX_DESCRIPTORS (first_free p.descriptors)) EMFILE
-  refuse_if (lacks_readers s a file) ENXIO
-  refuse_if (is_spent s.descriptions 1) ENFILE
+  -- why a process may not open it, whoever has it open
+  abbrev pub may_open : State X ℕ → ℕ → Access → ℕ → Result (Unit {0}) Errno
+  may_open s pid a file = do
+    p ← ready s pid
+    refuse_if (nat_le MAX_DESCRIPTORS (first_free p.descriptors)) EMFILE
+    refuse_if (lacks_readers s a file) ENXIO
+    refuse_if (is_spent s.descriptions 1) ENFILE
 
--- how many slots its pipe gets, where it has none
-abbrev pub fifo_capacity : Limits → State Segment ℕ → ℕ → Result ℕ Errno
-fifo_capacity c s pid = do
-  p ← ready s pid
-  refuse_if (is_spent s.pipes 1) ENFILE
-  told_as ENOMEM (capacity_for c s p.cred)
+  -- how many slots its pipe gets, where it has none
+  abbrev pub fifo_capacity : Limits → State X ℕ → ℕ → Result ℕ Errno
+  fifo_capacity c s pid = do
+    p ← ready s pid
+    refuse_if (is_spent s.pipes 1) ENFILE
+    told_as ENOMEM (capacity_for c s p.cred)
 
-abbrev pub opening : Limits → State Segment ℕ → ℕ → Access → ℕ → Result (Outcome Segment ℕ) Errno
-opening c s pid a file = ready s pid >>= (λ p. open_fifo itself (length s.descriptions) itself c s pid p a file)
-
--- it was opened at a descriptor, or its process waits; or its refusal is the machine's; or memory was wanted
-abbrev pub HasOpened :
-    Live → Namespace → Namespace → Result (Option ℕ) Fault → Result (Outcome Segment ℕ) Errno → Type 0
-HasOpened f old new (Ok (Some fd)) machine = Tells f old new machine (Num fd)
-HasOpened f old new (Ok None) machine = Tells f old new machine Parked
-HasOpened f old new (Err (faults.Errno e)) machine = machine ≡ Err e
-HasOpened f old new (Err faults.NoMemory) machine = ⊤
+  abbrev pub opening : Limits → State X ℕ → ℕ → Access → ℕ → Result (Outcome X ℕ) Errno
+  opening c s pid a file = ready s pid >>= (λ p. open_fifo itself (length s.descriptions) itself c s pid p a file)
 
 -- The rows
 
@@ -100,24 +91,24 @@ abbrev pub taking : Option ℕ → Key → Process → Process
 taking None k p = record p { descriptors = put_at p.descriptors (first_free p.descriptors) k }
 taking (Some kept) k p = record p { parked = Some (Open k kept) }
 
--- which descriptor it is told
-abbrev pub told_at : Option ℕ → Process → Option ℕ
-told_at None p = Some (first_free p.descriptors)
-told_at (Some kept) p = None
+-- what it is told
+abbrev pub told_at : Option ℕ → Process → Reply
+told_at None p = Num (first_free p.descriptors)
+told_at (Some kept) p = Parked
 
 -- its lowest free descriptor is one
 abbrev pub HasFree : ProcessRows → ℕ → Type 0
 HasFree ps pid = (p : Process) → process_in ps pid ≡ Ok p → first_free p.descriptors < MAX_DESCRIPTORS
 
 -- one description more, which has one name
-pub record Describes (ps ps' : ProcessRows) (ds ds' : DescriptionRows) (pid : ℕ) (end : Description) (kept fd : Option ℕ) : Type 0 where
+pub record Describes (ps ps' : ProcessRows) (ds ds' : DescriptionRows) (pid : ℕ) (end : Description) (kept : Option ℕ) (reply : Reply) : Type 0 where
   pub k : Key
   pub k_is : k.serial ≡ length ds
   pub described : ds' ≡ ds ++ Some (k.slot, record { value = end; names = 1 }) ∷ []
   pub seated : ps' ≡ change_at (taking kept k) ps (pid - 1)
   pub p : Process
   pub is : process_in ps pid ≡ Ok p
-  pub told : fd ≡ told_at kept p
+  pub told : reply ≡ told_at kept p
 
 -- the same FIFOs have keys
 abbrev pub SameKeys : List (ℕ × Key) → List (ℕ × Key) → Type 0
@@ -131,10 +122,18 @@ pub record MakesFifo (pipes pipes' : PipeRows) (es fs : List (ℕ × Key)) (pipe
 
 -- Whether the open in which a process waits is over: the other side was opened after it parked
 
-pub record IsOver (s : State Segment ℕ) (pid : ℕ) (over : Bool) : Type 0 where
+pub record IsOver {X : Type 0} (s : State X ℕ) (pid : ℕ) (over : Bool) : Type 0 where
   pub p : machine.Process ℕ
   pub n : ℕ
   pub before : ℕ
   pub lives : living s pid ≡ Ok p
   pub waits : p.parked ≡ Some (Opening n before)
-  pub is : attempt s pid p (Opening n before) ≡ Ok (if over then given s pid p n else Waits s (Opening n before))
+  pub is : reopened itself s pid p n before ≡ Ok (if over then given s pid p n else Waits s (Opening n before))
+
+-- what is left of the open in which a process waits, and told, is what the machine leaves and tells of it
+pub record Reopens (old new : Namespace) (pid : ℕ) (reply : Reply) : Type 0 where
+  pub n : ℕ
+  pub before : ℕ
+  pub waits : call_of old.state pid ≡ Some (Opening n before)
+  pub makes : Makes old new
+      (of_living old.state pid (λ p. Ok (again old.state pid (reopened itself old.state pid p n before)))) reply

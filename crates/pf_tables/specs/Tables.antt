@@ -75,12 +75,6 @@ two_free xs = do
   refuse_if (nat_le MAX_DESCRIPTORS (second_free xs)) EMFILE
   Ok (first_free xs, second_free xs)
 
--- it was made, and this is told
-pub record Tells (f : Live) (old new : Namespace) (machine : Result (Outcome Segment ℕ) Errno) (reply : Reply) : Type 0 where
-  pub state : State Segment ℕ
-  pub is : machine ≡ Ok (told state reply)
-  pub becomes : Becomes f f old new state
-
 -- A call that moves no bytes and lets nothing go was made: what it leaves and is told is what the machine's call leaves
 -- and is told at the tables' own state. Whatever frames were the namespace's own still are, and nothing stands that
 -- nobody can reach

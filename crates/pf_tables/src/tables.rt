@@ -20,7 +20,6 @@ mod transfers;
 
 use crate::file_tree::FileTree;
 use crate::process_table::{Process, ProcessTable};
-pub use opens::Access;
 use pf_base::{Config, Errno, Side};
 use pf_fds::{Descriptions, Key, Registry};
 use pf_limits::UserPages;

@@ -7,7 +7,6 @@ ghost use Rattle.pf_tables.specs.Buffers.{Replied, number_told};
 ghost use Rattle.pf_tables.specs.Meaning.{meaning, occupied, AreEmpty};
 ghost use Rattle.pf_tables.specs.Owns.{Owns};
 ghost use Rattle.pf_tables.specs.Told.{Told, ended};
-ghost use Rattle.pf_tables.specs.Tables.{waits_in_open};
 
 use super::Space;
 use pf_base::{Answer, Errno, Fault, Progress, Reply, Step};
@@ -140,7 +139,7 @@ impl<A: Allocator + Clone> Space<A> {
             → hands_out (call_of (meaning (F.live door.old) self.old.state) pid) ≡ true }
     {
         if self.tables.waits_in_open(pid)? {
-            return self.resume_open(door, pid);
+            return Ok(self.tables.resume_open(pid));
         }
         self.tables.settled();
         match self.tables.wake(pid) {
@@ -163,25 +162,5 @@ impl<A: Allocator + Clone> Space<A> {
             ) => over(self.cross(door, crossing, pid, source, sink, n, false, true)),
             Some(Call::Open { .. }) | None => unreachable!(),
         }
-    }
-
-    // Tries an open again.
-    fn resume_open<F: Frames>(&mut self, door: &mut F, pid: u32) -> Result<Reply, Fault>
-        requires fact { F.fact door.old }
-        requires owns { Owns (F.live door.old) self.old }
-        requires waits { waits_in_open self.old.state pid ≡ Ok true }
-        ensures fact { F.fact door.new }
-        ensures rest { F.rest door.new ≡ F.rest door.old }
-        ensures told { Told (F.live door.old) (F.live door.new) self.old self.new result
-            (call self.old.limits (meaning (F.live door.old) self.old.state) (Step.Resume pid)) }
-        ensures succeeds { result ≢ Err Fault.NoMemory }
-    {
-        if !self.tables.open_is_over(door, pid) {
-            self.tables.settled();
-            return Ok(Reply::Parked);
-        }
-        let fd = self.tables.lowest_descriptor(pid);
-        self.tables.wake(pid);
-        Ok(Reply::Num(fd as u64))
     }
 }

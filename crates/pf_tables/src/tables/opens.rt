@@ -2,37 +2,34 @@
 //! with.
 
 ghost use Rattle.std.specs.Prelude.{◌≡◌, ◌+◌, ◌-◌, ◌^◌, ◌<◌, ◌≤◌, [], false, true, None, Some, Ok, Err, IsSome, is_some, IsOk, IfOk, OnOk, OnErr, length, nat_lt};
-ghost use Rattle.pf_machine.specs.Opens.{has_flag, access_of, fifo_pipe, fifo_readers};
+ghost use Rattle.pf_machine.specs.Opens.{has_flag, access_of, fifo_pipe, fifo_readers, open_path};
 ghost use Rattle.pf_machine.specs.Numbered.{one_if};
-ghost use Rattle.pf_machine.specs.State.{itself, ready};
+ghost use Rattle.pf_machine.specs.State.{itself, of_ready, ready};
 ghost use Rattle.pf_machine.specs.Counts.{total};
 ghost use Rattle.pf_limits.specs.UserPages.{charged_to, Charges};
 ghost use Rattle.pf_pipe.specs.Pipe.{unopened};
-ghost use Rattle.pf_tables.specs.Meaning.{meaning};
-ghost use Rattle.pf_tables.specs.Owns.{Owns};
 ghost use Rattle.pf_tables.specs.Rows.{ready_in};
 ghost use Rattle.pf_tables.specs.Opened.{access_seen, counted, waits, before, other_opens, lacks_readers, end_of};
 ghost use Rattle.pf_tables.specs.Opened.{fifo_named, may_open, fifo_capacity, opening};
-ghost use Rattle.pf_tables.specs.Opened.{HasOpened, HasFree, Describes, SameKeys, MakesFifo, IsOver};
-ghost use Rattle.pf_tables.specs.Tables.{waits_in_open};
+ghost use Rattle.pf_tables.specs.Opened.{HasFree, Describes, SameKeys, MakesFifo, IsOver, Reopens};
+ghost use Rattle.pf_tables.specs.Tables.{Says, waits_in_open};
 ghost use Rattle.pf_walk.specs.Told.{Told};
 
 use super::pipes::{insert_named, new_capacity};
 use super::{Description, Tables};
 use crate::process_table::ProcessTable;
 use bitflags::Flags;
-use pf_base::{Errno, Fault, MAX_DESCRIPTORS, MAX_MADE, OpenFlags, Side};
+use pf_base::{Errno, Fault, MAX_DESCRIPTORS, MAX_MADE, OpenFlags, Reply, Side};
 use pf_fds::{Descriptions, Key, Registry};
-use pf_frame::Frames;
 use pf_limits::UserPages;
 use pf_parked::Call;
 use pf_pipe::Pipe;
 use std::alloc::{AllocError, Allocator, Global};
 use std::collections::HashMap;
 
-/// How a FIFO is opened: for which sides, and whether with O_NONBLOCK.
+// How a FIFO is opened: for which sides, and whether with O_NONBLOCK.
 #[derive(Clone, Copy)]
-pub struct Access {
+struct Access {
     reads: bool,
     writes: bool,
     nonblock: bool,
@@ -47,8 +44,8 @@ fn is_set(flags: OpenFlags, bit: u32) -> bool
 }
 
 impl Access {
-    /// What the flags of an open ask for.
-    pub fn new(flags: OpenFlags) -> Self
+    // What the flags of an open ask for.
+    fn new(flags: OpenFlags) -> Self
         ensures { access_seen result ≡ access_of flags.0 }
     {
         Access {
@@ -125,7 +122,7 @@ fn describe(
     pid: u32,
     end: Description,
     kept: Option<u64>,
-) -> Option<u32>
+) -> Reply
     requires ready { IsOk (ready_in processes.old pid) }
     requires spare { HasFree processes.old pid }
     requires room { 0 < descriptions.old.room }
@@ -136,14 +133,14 @@ fn describe(
     let description = insert_named(descriptions, end);
     if let Some(kept) = kept {
         processes.park(pid, Call::Open { description, kept });
-        return None;
+        return Reply::Parked;
     }
     let Ok(process) = processes.ready(pid) else {
         unreachable!()
     };
     let fd = process.descriptors.lowest();
     processes.give_key(pid, fd, description);
-    Some(fd as u32)
+    Reply::Num(fd as u64)
 }
 
 // A FIFO's first pipe, opened once. Where memory is refused, nothing has changed.
@@ -175,16 +172,9 @@ fn make_fifo(
 }
 
 impl<A: Allocator> Tables<A> {
-    /// The number of the FIFO at a path that a process may open so.
-    pub fn openable(
-        &self,
-        alloc: Global,
-        pid: u32,
-        path: &[u8],
-        access: Access,
-    ) -> Result<u64, Fault>
-        ensures told { Told (λ file. file) result
-            (fifo_named self.now.state pid path.now (access_seen access)) }
+    // The number of the FIFO at a path that a process may open so.
+    fn openable(&self, alloc: Global, pid: u32, path: &[u8], access: Access) -> Result<u64, Fault>
+        ensures told { Told (λ file. file) result (fifo_named self.now.state pid path.now (access_seen access)) }
         ensures sided { IfOk result (λ _. 0 < one_if access.reads + one_if access.writes) }
         ensures ready { result ≡ Err Fault.NoMemory → IsOk (ready self.now.state pid) }
     {
@@ -203,20 +193,13 @@ impl<A: Allocator> Tables<A> {
     }
 
     // Why a process may not open a FIFO, whoever has it open.
-    fn may_open<F: Frames>(
-        &self,
-        door: &F,
-        pid: u32,
-        file: u64,
-        access: Access,
-    ) -> Result<(), Errno>
-        ensures { result ≡ may_open (meaning (F.live door.now) self.now.state) pid (access_seen access) file }
+    fn may_open(&self, pid: u32, file: u64, access: Access) -> Result<(), Errno>
+        ensures { result ≡ may_open self.now.state pid (access_seen access) file }
     {
-        let _door = door;
         if self.processes.ready(pid)?.descriptors.lowest() >= MAX_DESCRIPTORS {
             return Err(Errno::EMFILE);
         }
-        if self.lacks_readers(door, file, access) {
+        if self.lacks_readers(file, access) {
             return Err(Errno::ENXIO);
         }
         if self.descriptions.drawn() == MAX_MADE {
@@ -226,20 +209,16 @@ impl<A: Allocator> Tables<A> {
     }
 
     // Whether nobody reads a FIFO that is opened for writing alone, with O_NONBLOCK.
-    fn lacks_readers<F: Frames>(&self, door: &F, file: u64, access: Access) -> bool
-        ensures { result
-            ≡ lacks_readers (meaning (F.live door.now) self.now.state) (access_seen access) file }
+    fn lacks_readers(&self, file: u64, access: Access) -> bool
+        ensures { result ≡ lacks_readers self.now.state (access_seen access) file }
     {
-        let _door = door;
-        access.writes && !access.reads && access.nonblock && self.fifo_readers(door, file) == 0
+        access.writes && !access.reads && access.nonblock && self.fifo_readers(file) == 0
     }
 
     // How many ends read a FIFO's pipe, 0 where it has none.
-    fn fifo_readers<F: Frames>(&self, door: &F, file: u64) -> u64
-        ensures { let s = meaning (F.live door.now) self.now.state in
-            result ≡ fifo_readers itself s (fifo_pipe s file) }
+    fn fifo_readers(&self, file: u64) -> u64
+        ensures { result ≡ fifo_readers itself self.now.state (fifo_pipe self.now.state file) }
     {
-        let _door = door;
         let Some(key) = self.fifos.get(&file) else {
             return 0;
         };
@@ -250,13 +229,10 @@ impl<A: Allocator> Tables<A> {
     }
 
     // How many slots a FIFO's pipe gets that a process makes, or why it gets none.
-    fn fifo_capacity<F: Frames>(&self, door: &F, pid: u32) -> Result<u32, Errno>
-        ensures found { result
-            ≡ fifo_capacity self.now.limits (meaning (F.live door.now) self.now.state) pid }
-        ensures room { IfOk result
-            (λ slots. total (meaning (F.live door.now) self.now.state) + slots ≤ self.now.limits.reserve) }
+    fn fifo_capacity(&self, pid: u32) -> Result<u32, Errno>
+        ensures found { result ≡ fifo_capacity self.now.limits self.now.state pid }
+        ensures room { IfOk result (λ slots. total self.now.state + slots ≤ self.now.limits.reserve) }
     {
-        let _door = door;
         let cred = &self.processes.ready(pid)?.cred;
         if self.pipes.drawn() == MAX_MADE {
             return Err(Errno::ENFILE);
@@ -265,24 +241,14 @@ impl<A: Allocator> Tables<A> {
     }
 
     // Opens a FIFO that somebody has open. Where memory is refused, nothing has changed.
-    fn open_found<F: Frames>(
-        &mut self,
-        door: &F,
-        pid: u32,
-        file: u64,
-        access: Access,
-    ) -> Result<Option<u32>, Fault>
-        requires owns { Owns (F.live door.now) self.old }
-        requires may { may_open (meaning (F.live door.now) self.old.state) pid (access_seen access) file
-            ≡ Ok tt }
-        requires found { IsSome (fifo_pipe (meaning (F.live door.now) self.old.state) file) }
+    fn open_found(&mut self, pid: u32, file: u64, access: Access) -> Result<Reply, Fault>
+        requires may { may_open self.old.state pid (access_seen access) file ≡ Ok tt }
+        requires found { IsSome (fifo_pipe self.old.state file) }
         requires sided { 0 < one_if access.reads + one_if access.writes }
-        ensures opened { HasOpened (F.live door.now) self.old self.new result
-            (opening self.old.limits (meaning (F.live door.now) self.old.state) pid (access_seen access)
-            file) }
+        ensures says { Says self.old self.new result
+            (opening self.old.limits self.old.state pid (access_seen access) file) }
         ensures refused { OnErr result (self.new ≡ self.old) }
     {
-        let _door = door;
         self.descriptions.reserve(1)?;
         let Some(key) = self.fifos.get(&file).copied() else {
             unreachable!()
@@ -296,29 +262,23 @@ impl<A: Allocator> Tables<A> {
 
     // Opens a FIFO that nobody has open: its first opener is charged with its pipe. Where memory is refused, nothing has
     // changed.
-    fn open_new<F: Frames>(
+    fn open_new(
         &mut self,
-        door: &F,
         alloc: Global,
         pid: u32,
         file: u64,
         access: Access,
         slots: u32,
-    ) -> Result<Option<u32>, Fault>
-        requires owns { Owns (F.live door.now) self.old }
-        requires may { may_open (meaning (F.live door.now) self.old.state) pid (access_seen access) file
-            ≡ Ok tt }
-        requires closed { fifo_pipe (meaning (F.live door.now) self.old.state) file ≡ None }
-        requires slots { fifo_capacity self.old.limits (meaning (F.live door.now) self.old.state) pid
-            ≡ Ok slots }
-        requires room { total (meaning (F.live door.now) self.old.state) + slots ≤ self.old.limits.reserve }
+    ) -> Result<Reply, Fault>
+        requires may { may_open self.old.state pid (access_seen access) file ≡ Ok tt }
+        requires closed { fifo_pipe self.old.state file ≡ None }
+        requires slots { fifo_capacity self.old.limits self.old.state pid ≡ Ok slots }
+        requires room { total self.old.state + slots ≤ self.old.limits.reserve }
         requires sided { 0 < one_if access.reads + one_if access.writes }
-        ensures opened { HasOpened (F.live door.now) self.old self.new result
-            (opening self.old.limits (meaning (F.live door.now) self.old.state) pid (access_seen access)
-            file) }
+        ensures says { Says self.old self.new result
+            (opening self.old.limits self.old.state pid (access_seen access) file) }
         ensures refused { OnErr result (self.new ≡ self.old) }
     {
-        let _door = door;
         let Ok(process) = self.processes.ready(pid) else {
             unreachable!()
         };
@@ -337,46 +297,54 @@ impl<A: Allocator> Tables<A> {
         Ok(describe(processes, descriptions, pid, access.end(key), kept))
     }
 
-    /// Opens a FIFO for a process: its lowest free descriptor names the description, or the process waits for the other
-    /// side. Where memory is refused, nothing has changed.
-    pub fn open<F: Frames>(
-        &mut self,
-        door: &F,
-        alloc: Global,
-        pid: u32,
-        file: u64,
-        access: Access,
-    ) -> Result<Option<u32>, Fault>
-        requires owns { Owns (F.live door.now) self.old }
-        requires sided { 0 < one_if access.reads + one_if access.writes }
-        ensures opened { HasOpened (F.live door.now) self.old self.new result
-            (opening self.old.limits (meaning (F.live door.now) self.old.state) pid (access_seen access)
-            file) }
+    /// Opens the FIFO at a path for a process (open(2), fifo(7)): its lowest free descriptor names the description, or the
+    /// process waits for the other side.
+    pub fn open(&mut self, alloc: Global, pid: u32, path: &[u8], flags: OpenFlags) -> Result<Reply, Fault>
+        ensures says { let s = self.old.state in Says self.old self.new result
+            (of_ready s pid (λ p. open_path itself (length s.descriptions) itself self.old.limits s pid p path.now
+            (access_of flags.0))) }
+        // Memory is wanted for a process that lives and waits in no call.
+        ensures ready { result ≡ Err Fault.NoMemory → IsOk (ready self.old.state pid) }
         ensures refused { OnErr result (self.new ≡ self.old) }
     {
-        self.may_open(door, pid, file, access)?;
-        if self.has_pipe(door, file) {
-            return self.open_found(door, pid, file, access);
+        let access = Access::new(flags);
+        let file = self.openable(alloc, pid, path, access)?;
+        self.may_open(pid, file, access)?;
+        if self.has_pipe(file) {
+            return self.open_found(pid, file, access);
         }
-        let slots = self.fifo_capacity(door, pid)?;
-        self.open_new(door, alloc, pid, file, access, slots)
+        let slots = self.fifo_capacity(pid)?;
+        self.open_new(alloc, pid, file, access, slots)
     }
 
     // Whether somebody has a FIFO open.
-    fn has_pipe<F: Frames>(&self, door: &F, file: u64) -> bool
-        ensures { result ≡ is_some (fifo_pipe (meaning (F.live door.now) self.now.state) file) }
+    fn has_pipe(&self, file: u64) -> bool
+        ensures { result ≡ is_some (fifo_pipe self.now.state file) }
     {
-        let _door = door;
         self.fifos.contains_key(&file)
     }
 
-    /// Whether the open in which a process waits is over: the other side was opened since, also where it was closed
-    /// again (fifo(7)).
-    pub fn open_is_over<F: Frames>(&self, door: &F, pid: u32) -> bool
-        requires { waits_in_open self.now.state pid ≡ Ok true }
-        ensures { IsOver (meaning (F.live door.now) self.now.state) pid result }
+    /// Tries the open again in which a process waits: its lowest free descriptor names the description, where the other
+    /// side was opened since. It takes no memory.
+    pub fn resume_open(&mut self, pid: u32) -> Reply
+        requires { waits_in_open self.old.state pid ≡ Ok true }
+        ensures { Reopens self.old self.new pid result }
     {
-        let _door = door;
+        if !self.open_is_over(pid) {
+            self.settled();
+            return Reply::Parked;
+        }
+        let fd = self.lowest_descriptor(pid);
+        self.wake(pid);
+        Reply::Num(fd as u64)
+    }
+
+    // Whether the open in which a process waits is over: the other side was opened since, also where it was closed again
+    // (fifo(7)).
+    fn open_is_over(&self, pid: u32) -> bool
+        requires { waits_in_open self.now.state pid ≡ Ok true }
+        ensures { IsOver self.now.state pid result }
+    {
         let Some(Call::Open { description, kept }) = self.processes.call(pid) else {
             return false;
         };

@@ -48,8 +48,8 @@ impl<A: Allocator> Tables<A> {
         }
     }
 
-    /// The lowest free descriptor of a process, also where it waits.
-    pub fn lowest_descriptor(&self, pid: u32) -> u32
+    // The lowest free descriptor of a process, also where it waits.
+    pub(super) fn lowest_descriptor(&self, pid: u32) -> u32
         requires { IsOk (living self.now.state pid) }
         ensures { HasLowest self.now.state pid result }
     {

@@ -6,7 +6,7 @@ use Rattle.std.proofs.Common.{◌+◌, length, refl, subst, sym, ap, ◌∙◌}
 use Rattle.pf_machine.specs.Machine.{call}
 use Rattle.pf_machine.specs.State.{itself}
 use Rattle.pf_machine.proofs.NaturalCalls.{spawn-call, pipe-call, fork-call, dup-call, set_nonblock-call, mkdir-call, mkfifo-call}
-use Rattle.pf_machine.proofs.NaturalCalls.{unlink-call, rmdir-call, chmod-call, stat-call, list-call, set_size-call, get_size-call}
+use Rattle.pf_machine.proofs.NaturalCalls.{unlink-call, rmdir-call, chmod-call, stat-call, list-call, open-call, set_size-call, get_size-call}
 use Rattle.pf_base.specs.declared.progress.Crossing.TheVariants as crossings
 use Rattle.pf_base.specs.declared.step.Step.{Step}
 use Rattle.pf_base.specs.declared.step.Step.TheVariants as steps
@@ -124,3 +124,11 @@ returns-in-List-clause-told g c =
     c.as_slice-in-List.ensures)) _ c.list.ensures.says
     (λ shows. list-call shows itself c.self-in-List.inside.tables.limits c.self-in-List.inside.tables.state
     c.in-List.pid c.as_slice-in-List.result.now)
+
+pub returns-in-Open-clause-told : goal.returns-in-Open-clause-told
+returns-in-Open-clause-told g c =
+    let s = c.self-in-Open.inside.tables.state in
+    booked c.self-in-Open.view_is c.requires.owns (c.in-Open.is ∙ ap (λ x. steps.Open c.in-Open.pid x c.in-Open.flags)
+    (sym c.as_slice-in-Open.ensures)) _ c.open.ensures.says c.open.ensures.refused
+    (λ shows. open-call shows itself c.self-in-Open.inside.tables.limits s c.in-Open.pid c.as_slice-in-Open.result.now
+    (length s.descriptions) itself refl (λ n. refl) c.in-Open.flags)

@@ -14,11 +14,11 @@ use Rattle.pf_tables.proofs.MeaningLaws.{settled-meaning}
 use Rattle.pf_space.proofs.ParkedInto as lemmas
 use Rattle.pf_space.proofs.space.Space.fill_again.Goals as goal
 
-pub wake-requires-clause-lives : goal.wake-requires-clause-lives
-wake-requires-clause-lives g c =
+pub wake-requires : goal.wake-requires
+wake-requires g c =
     let f = g.F.Frames.live c.args.door.now in
     let waits = subst (λ (o : Namespace). call_of (meaning f o.state) c.args.pid ≡ Some (Moving (Reading c.args.fd c.args.n))) (sym c.self.view_is) c.requires.waits in
-    lemmas.lives_there (meaning f c.self.inside.tables.state) c.args.pid c.args.fd c.args.n waits
+    record { lives = lemmas.lives_there (meaning f c.self.inside.tables.state) c.args.pid c.args.fd c.args.n waits }
 
 pub returns-in_err-number-clause-answers : goal.returns-in_err-number-clause-answers
 returns-in_err-number-clause-answers g c =

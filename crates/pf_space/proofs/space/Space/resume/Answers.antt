@@ -4,6 +4,8 @@
 use Rattle.std.proofs.Common.{Some, Ok, Err, refl, sym, ap, subst, ◌∙◌}
 use Rattle.pf_machine.specs.Calls.{Reading, Writing, Bringing, Moving}
 use Rattle.pf_machine.specs.Machine.{call}
+use Rattle.pf_machine.specs.State.{itself}
+use Rattle.pf_machine.proofs.NaturalCalls.{resume-call}
 use Rattle.pf_base.specs.declared.step.Step.TheVariants.{Resume}
 use Rattle.pf_tables.specs.Rows.{call_of}
 use Rattle.pf_tables.specs.Meaning.{Namespace, meaning}
@@ -11,8 +13,16 @@ use Rattle.pf_tables.proofs.MeaningLaws.{settled-meaning}
 use Rattle.pf_base.specs.declared.step.Reply.TheVariants.{Err as Refused}
 use Rattle.pf_tables.specs.Owns.{Owns}
 use Rattle.pf_tables.specs.Told.{Told, waits_in, ended}
+use Rattle.pf_space.proofs.Books.{booked}
 use Rattle.pf_space.proofs.ParkedResume as lemmas
 use Rattle.pf_space.proofs.space.Space.resume.Goals as goal
+
+pub returns-then-waits_in_open-clause-told : goal.returns-then-waits_in_open-clause-told
+returns-then-waits_in_open-clause-told g c =
+    let again = c.resume_open.ensures in
+    booked c.self.view_is c.requires.owns refl _ again.makes tt
+    (λ shows. resume-call shows itself c.self.inside.tables.limits c.self.inside.tables.state c.args.pid again.n
+    again.before again.waits)
 
 pub returns-in-Some-Write-clause-told : goal.returns-in-Some-Write-clause-told
 returns-in-Some-Write-clause-told g c =

@@ -1,7 +1,7 @@
-use Rattle.std.proofs.Common.{refl, ◌∙◌, arith, rules}
+use Rattle.std.proofs.Common.{◌-◌, refl, ◌∙◌, arith, rules}
 use Rattle.pf_tables.proofs.ProcessesDrop as lemmas
 use Rattle.pf_tables.proofs.DescriptorsDrop.{exited_is, exited_not}
-use Rattle.pf_tables.proofs.MeaningLaws.{pipes-left, woken-left}
+use Rattle.pf_tables.proofs.MeaningLaws.{vacated-left, woken-left}
 use Rattle.pf_tables.proofs.TablesSettled.{leaves, leaves_not}
 use Rattle.pf_tables.proofs.tables.Tables.drop_process.Goals as goal
 
@@ -64,6 +64,6 @@ returns-clause-told g c =
     leaves
     (lemmas.all_gone f _ _ _ _ _ c.self.invariant.kept _ c.self.view_is c.args.pid c.in_ok-living.ensures _ _ _
     c.loop-fd.invariant.first _ _
-    (pipes-left _ _ _ _ c.take_process.ensures.limits c.take_process.ensures.pipes c.take_process.ensures.gone
-    c.loop-fd.invariant.first.owns))
+    (vacated-left _ _ _ (c.args.pid - 1) c.take_process.ensures.limits c.take_process.ensures.pipes
+    c.take_process.ensures.gone c.loop-fd.invariant.first.owns))
     (exited_is f c.self.invariant.kept.tied c.self.view_is c.args.pid c.in_ok-living.ensures)

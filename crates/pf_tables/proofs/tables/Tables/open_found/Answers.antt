@@ -1,44 +1,69 @@
 use Rattle.std.proofs.Common.{Ok, ◌∙◌, ap, subst, sym}
 use Rattle.pf_fds.specs.Descriptions.{Descriptions}
-use Rattle.pf_tables.specs.Rows.{Description, Pipe, state_of}
-use Rattle.pf_tables.specs.Meaning.{meaning}
-use Rattle.pf_tables.specs.Opened.{access_seen, opening, HasOpened}
 use Rattle.pf_machine.specs.Numbered.{put_at}
+use Rattle.pf_tables.specs.Opened.{access_seen, opening}
+use Rattle.pf_tables.specs.Rows.{Description, Pipe, state_of}
+use Rattle.pf_tables.specs.Tables.{Makes}
 use Rattle.pf_tables.proofs.OpensFind.{key_stands}
 use Rattle.pf_tables.proofs.OpensFound as lemmas
 use Rattle.pf_tables.proofs.tables.Tables.open_found.Goals as goal
 
 pub unreachable-requires : goal.unreachable-requires
-unreachable-requires g c = lemmas.not_closed (g.F.Frames.live c.args.door.now) _ _ _ _ _ _ c.self.invariant _ c.self.view_is c.args.pid c.args.access c.args.file c.requires.may c.requires.found (sym c.get.ensures.value ∙ sym c.copied.ensures ∙ c.in_default.is)
+unreachable-requires g c =
+    lemmas.not_closed c.self.invariant c.self.view_is c.args.pid c.args.access c.args.file c.requires.may
+    c.requires.found (sym c.get.ensures.value ∙ sym c.copied.ensures ∙ c.in_default.is)
 
 pub value_mut-pipe-requires : goal.value_mut-pipe-requires
-value_mut-pipe-requires g c = record { stands = key_stands _ _ c.self.invariant.filed c.args.file c.in-Some.key (sym c.get.ensures.value ∙ sym c.copied.ensures ∙ c.in-Some.is) }
+value_mut-pipe-requires g c = record {
+  stands =
+      key_stands _ _ c.self.invariant.filed c.args.file c.in-Some.key
+      (sym c.get.ensures.value ∙ sym c.copied.ensures ∙ c.in-Some.is);
+}
 
 pub count-requires-clause-readers : goal.count-requires-clause-readers
-count-requires-clause-readers g c = lemmas.few_readers (g.F.Frames.live c.args.door.now) _ _ _ _ _ _ c.self.invariant _ c.self.view_is c.args.pid c.args.access c.args.file c.requires.may _ _ c.value_mut-pipe.ensures.value
+count-requires-clause-readers g c =
+    lemmas.few_readers c.self.invariant c.self.view_is c.args.pid c.args.access c.args.file c.requires.may _ _
+    c.value_mut-pipe.ensures.value
 
 pub count-requires-clause-writers : goal.count-requires-clause-writers
-count-requires-clause-writers g c = lemmas.few_writers (g.F.Frames.live c.args.door.now) _ _ _ _ _ _ c.self.invariant _ c.self.view_is c.args.pid c.args.access c.args.file c.requires.may _ _ c.value_mut-pipe.ensures.value
+count-requires-clause-writers g c =
+    lemmas.few_writers c.self.invariant c.self.view_is c.args.pid c.args.access c.args.file c.requires.may _ _
+    c.value_mut-pipe.ensures.value
 
 pub count-requires-clause-read_opens : goal.count-requires-clause-read_opens
-count-requires-clause-read_opens g c = lemmas.few_read_opens (g.F.Frames.live c.args.door.now) _ _ _ _ _ _ c.self.invariant _ c.self.view_is c.args.pid c.args.access c.args.file c.requires.may _ _ c.value_mut-pipe.ensures.value
+count-requires-clause-read_opens g c =
+    lemmas.few_read_opens c.self.invariant c.self.view_is c.args.pid c.args.access c.args.file c.requires.may _ _
+    c.value_mut-pipe.ensures.value
 
 pub count-requires-clause-write_opens : goal.count-requires-clause-write_opens
-count-requires-clause-write_opens g c = lemmas.few_write_opens (g.F.Frames.live c.args.door.now) _ _ _ _ _ _ c.self.invariant _ c.self.view_is c.args.pid c.args.access c.args.file c.requires.may _ _ c.value_mut-pipe.ensures.value
+count-requires-clause-write_opens g c =
+    lemmas.few_write_opens c.self.invariant c.self.view_is c.args.pid c.args.access c.args.file c.requires.may _ _
+    c.value_mut-pipe.ensures.value
 
 pub describe-requires-clause-spare : goal.describe-requires-clause-spare
-describe-requires-clause-spare g c = lemmas.has_free (g.F.Frames.live c.args.door.now) _ _ _ _ _ _ c.self.invariant _ c.self.view_is c.args.pid c.args.access c.args.file c.requires.may
+describe-requires-clause-spare g c =
+    lemmas.has_free c.self.invariant c.self.view_is c.args.pid c.args.access c.args.file c.requires.may
 
 pub invariant_of-self-2 : goal.invariant_of-self-2
 invariant_of-self-2 g c =
-    let z = rw (ap (λ (x : Descriptions Description). x.items) c.in_ok-reserve.ensures.rest, c.end.ensures, c.before-kept.ensures) at c.describe.ensures in
+    let drawn = ap (λ (x : Descriptions Description). x.items) c.in_ok-reserve.ensures.rest in
+    let z = rw (drawn, c.end.ensures, c.before-kept.ensures) at c.describe.ensures in
     rw c.count.ensures
-    (lemmas.joined-whole (g.F.Frames.live c.args.door.now) _ _ _ _ _ _ c.self.invariant _ c.self.view_is c.args.pid c.args.access c.args.file c.requires.may c.in-Some.key _ c.value_mut-pipe.ensures.value c.requires.sided _ _ _ z)
+    (lemmas.joined-whole c.self.invariant c.self.view_is c.args.pid c.args.access c.args.file c.requires.may
+    c.in-Some.key _ c.value_mut-pipe.ensures.value c.requires.sided z)
 
-pub returns-clause-opened : goal.returns-clause-opened
-returns-clause-opened g c =
-    let z = rw (ap (λ (x : Descriptions Description). x.items) c.in_ok-reserve.ensures.rest, c.end.ensures, c.before-kept.ensures) at c.describe.ensures in
-    subst (λ (r : Pipe). HasOpened (g.F.Frames.live c.args.door.now) c.args.self.now (record { limits = c.self.inside.pages.limits; state = state_of c.describe.new.processes c.describe.new.descriptions.items (put_at c.self.inside.pipes.items c.in-Some.key.serial (c.in-Some.key.slot, r)) c.self.inside.files c.self.inside.files_made }) (Ok c.describe.result)
-    (opening c.args.self.now.limits (meaning (g.F.Frames.live c.args.door.now) c.args.self.now.state) c.args.pid (access_seen c.args.access) c.args.file)) (sym c.count.ensures)
-    (lemmas.joined-opened (g.F.Frames.live c.args.door.now) _ _ _ _ _ _ c.self.invariant _ c.self.view_is c.args.pid c.args.access c.args.file c.requires.may c.in-Some.key _ c.value_mut-pipe.ensures.value c.requires.sided _ _ _ z
-    (sym c.get.ensures.value ∙ sym c.copied.ensures ∙ c.in-Some.is) c.requires.owns)
+pub returns-clause-says : goal.returns-clause-says
+returns-clause-says g c =
+    let drawn = ap (λ (x : Descriptions Description). x.items) c.in_ok-reserve.ensures.rest in
+    let z = rw (drawn, c.end.ensures, c.before-kept.ensures) at c.describe.ensures in
+    subst (λ (r : Pipe). Makes c.args.self.now (record {
+      limits = c.self.inside.pages.limits;
+      state =
+          state_of c.describe.new.processes c.describe.new.descriptions.items
+          (put_at c.self.inside.pipes.items c.in-Some.key.serial (c.in-Some.key.slot, r)) c.self.inside.files
+          c.self.inside.files_made;
+    }) (opening c.args.self.now.limits c.args.self.now.state c.args.pid (access_seen c.args.access) c.args.file)
+    c.describe.result) (sym c.count.ensures)
+    (lemmas.joined-makes c.self.invariant c.self.view_is c.args.pid c.args.access c.args.file c.requires.may
+    c.in-Some.key _ c.value_mut-pipe.ensures.value c.requires.sided z
+    (sym c.get.ensures.value ∙ sym c.copied.ensures ∙ c.in-Some.is))

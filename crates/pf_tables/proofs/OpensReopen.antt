@@ -1,0 +1,101 @@
+-- The open in which a process waits, tried again.
+
+use Rattle.std.proofs.Common.{◌≡◌, ℕ, zero, suc, ◌-◌, Bool, true, false, Option, Some, None, set, if◌then◌else◌}
+use Rattle.std.proofs.Common.{Result, Ok, Err, refl, sym, ap, subst, ◌∙◌, arith}
+use Rattle.std.specs.Option.{option_map, option_and_then}
+use Rattle.std.proofs.lemmas.List.{set-set}
+use Rattle.pf_machine.specs.Attempts.{Attempt, Waits, again, given, reopened}
+use Rattle.pf_machine.specs.Calls.{Call, Opening}
+use Rattle.pf_machine.specs.Machine.{call_of}
+use Rattle.pf_machine.specs.Numbered.{at, first_free}
+use Rattle.pf_machine.proofs.NumberedLaws.{at_within, at-put_same}
+use Rattle.pf_machine.specs.Refusals.{◌>>=◌, or_refuse}
+use Rattle.pf_machine.specs.State.{itself, State, Process, Outcome, process, of_living, with_process, change_process}
+use Rattle.pf_machine.specs.State.{with_descriptor, waiting, told}
+use Rattle.pf_machine.specs.Sweep.{sweep}
+use Rattle.pf_base.specs.declared.errno.Errno.{Errno}
+use Rattle.pf_base.specs.declared.errno.Errno.TheVariants.{ESRCH}
+use Rattle.pf_base.specs.declared.step.Reply.TheVariants.{Num, Parked}
+use Rattle.pf_ring.specs.declared.ring.Window.{Window}
+use Rattle.pf_tables.specs.Meaning.{Namespace}
+use Rattle.pf_tables.specs.Opened.{IsOver, Reopens}
+use Rattle.pf_tables.specs.Owns.{Owns}
+use Rattle.pf_tables.specs.Tables.{over, woken, awoken, HasLowest}
+use Rattle.pf_tables.proofs.TablesShown.{set_same}
+
+module _ {old : Namespace} {pid : ℕ} {over_now : Bool} (w : IsOver old.state pid over_now) where
+  abbrev s : State Window ℕ
+  s = old.state
+
+  opener : process s pid ≡ Some w.p
+  opener = found (process s pid) w.lives
+    where
+      found : (o : Option (Process ℕ)) → or_refuse ESRCH o ≡ Ok w.p → o ≡ Some w.p
+      found None h = absurd (cc)
+      found (Some q) h = cc
+
+  place : at s.processes (pid - 1) ≡ Some w.p
+  place = by_pid pid opener
+    where
+      by_pid : (m : ℕ) → process s m ≡ Some w.p → at s.processes (m - 1) ≡ Some w.p
+      by_pid zero g = absurd (cc)
+      by_pid (suc i) g = let same : suc i - 1 ≡ i = omega arith in ap (at s.processes) same ∙ g
+
+  waits : call_of s pid ≡ Some (Opening w.n w.before)
+  waits = ap (option_and_then (λ (p : Process ℕ). p.parked)) opener ∙ w.waits
+
+  abbrev outcome : Bool → Attempt Window ℕ
+  outcome b = if b then given s pid w.p w.n else Waits s (Opening w.n w.before)
+
+  tried_again : (b : Bool) → over_now ≡ b
+      → of_living s pid (λ p. Ok (again s pid (reopened itself s pid p w.n w.before))) ≡ Ok (again s pid (Ok (outcome b)))
+  tried_again b is =
+      ap (λ r. r >>= (λ p. Ok (again s pid (reopened itself s pid p w.n w.before)))) w.lives
+      ∙ ap (λ r. Ok (again s pid r)) (w.is ∙ ap (λ x. Ok (outcome x)) is)
+
+  -- it goes on waiting
+  pub still_waits : over_now ≡ false → s ≡ sweep itself s → Reopens old old pid Parked
+  still_waits isnt still =
+      let call : Option (Call ℕ) = Some (Opening w.n w.before) in
+      let same : change_process (waiting call) s pid ≡ s =
+      ap (λ ps. record s { processes = ps })
+      (set_same s.processes (pid - 1) (option_map (waiting call) (at s.processes (pid - 1)))
+      (ap (option_map (waiting call)) place ∙ ap (λ o. Some (record w.p { parked = o })) (sym w.waits) ∙ sym place)) in
+      record {
+        n = w.n;
+        before = w.before;
+        waits = waits;
+        makes = record {
+          is = tried_again false isnt ∙ ap (λ (z : State Window ℕ). Ok (told z Parked)) same;
+          limits = refl;
+          owned = λ f owns. owns;
+          swept = still;
+        };
+      }
+
+  -- or has its description at a descriptor
+  pub comes : over_now ≡ true → {fd : ℕ} → HasLowest s pid fd → {new : Namespace}
+      → new ≡ record old { state = awoken s pid } → new.state ≡ sweep itself new.state → Reopens old new pid (Num fd)
+  comes came {fd} lowest {new} becomes still =
+      let named = with_descriptor (first_free w.p.descriptors) w.n w.p in
+      let same : change_process (waiting None) (with_process s pid named) pid ≡ awoken s pid =
+      ap (λ xs. record s { processes = xs })
+      (ap (set (set s.processes (pid - 1) (Some named)) (pid - 1))
+      (ap (option_map (waiting None)) (at-put_same s.processes (pid - 1) (Some named)
+      (at_within s.processes (pid - 1) w.p place)))
+      ∙ set-set s.processes (pid - 1) (Some named) (Some (waiting None named))
+      ∙ ap (set s.processes (pid - 1)) (ap (λ o. Some (over o w.p)) (sym w.waits) ∙ ap (option_map woken) (sym place))) in
+      record {
+        n = w.n;
+        before = w.before;
+        waits = waits;
+        makes = record {
+          is =
+              tried_again true came
+              ∙ (λ i. Ok (told ((same ∙ sym (ap (λ (n : Namespace). n.state) becomes)) i)
+              (Num (sym (lowest w.p w.lives) i))));
+          limits = ap (λ (n : Namespace). n.limits) becomes;
+          owned = λ f owns. subst (Owns f) (sym becomes) (record { joined = owns.joined; reserve = owns.reserve });
+          swept = still;
+        };
+      }
