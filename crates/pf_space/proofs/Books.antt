@@ -1,7 +1,8 @@
 -- What the tables say of a call at their own state, the lone machine says of what that state means: one lemma for all
 -- kinds of step that move no bytes and let nothing go.
 
-use Rattle.std.proofs.Common.{◌≡◌, ℕ, List, [], ◌∷◌, Option, Some, None, Result, Ok, Err, OnErr, refl, sym, ap, subst, ◌∙◌}
+use Rattle.std.proofs.Common.{◌≡◌, ℕ, List, [], ◌∷◌, Option, Some, None, Result, Ok, Err, OnErr, refl, sym, ap, subst}
+use Rattle.std.proofs.Common.{◌∙◌}
 use Rattle.std.specs.Option.{option_map}
 use Rattle.pf_base.specs.declared.errno.Errno.{Errno}
 use Rattle.pf_base.specs.declared.fault.Fault.{Fault}
@@ -46,8 +47,8 @@ meaning-as f s =
       descriptions = each-same (description_as itself) (λ d. refl) s.descriptions i;
     }
 
--- A call that was made, or refused. step: the kind that it is of; natural: what the machine's call of that kind is where
--- a window shows a segment
+-- A call that was made, or refused. step: the kind that it is of; natural: what the machine's call of that kind is
+-- where a window shows a segment
 pub booked : {f : Live} {tables old new : Namespace} → tables ≡ old → Owns f old → {result : Result Reply Fault}
     {step asked : Step} → asked ≡ step → (own : Result (Outcome Window ℕ) Errno) → Says tables new result own
     → OnErr result (new ≡ tables)

@@ -1,6 +1,8 @@
--- A call that is tried again into a buffer: what is told of it stands for the machine's reply, whose first bytes lie there.
+-- A call that is tried again into a buffer: what is told of it stands for the machine's reply, whose first bytes lie
+-- there.
 
-use Rattle.std.proofs.Common.{◌≡◌, ◌⊎◌, inl, inr, ℕ, ◌≤◌, true, false, List, [], ◌∷◌, length, Option, Some, None, is_ok, IsOk, Result, Ok, Err, refl, sym, ap, subst, ◌∙◌, arith}
+use Rattle.std.proofs.Common.{◌≡◌, ◌⊎◌, inl, inr, ℕ, ◌≤◌, true, false, List, [], ◌∷◌, length, Option, Some, None, is_ok}
+use Rattle.std.proofs.Common.{IsOk, Result, Ok, Err, refl, sym, ap, subst, ◌∙◌, arith}
 use Rattle.pf_machine.specs.Calls.{Reading, Writing, Bringing, Call, Opening, Moving}
 use Rattle.pf_machine.specs.Attempts.{Finished, transfer_told}
 use Rattle.pf_machine.specs.Machine.{Answers, call, call_of, hands_out, step_of}
@@ -54,7 +56,8 @@ no_read (Some (Moving (Writing fd bytes written))) e = refl
 no_read (Some (Moving (Bringing crossing source sink n))) e = refl
 
 -- who waits in one lives
-pub lives_there : (s : State Segment ℕ) (pid fd n : ℕ) → call_of s pid ≡ Some (Moving (Reading fd n)) → IsOk (living s pid)
+pub lives_there : (s : State Segment ℕ) (pid fd n : ℕ) → call_of s pid ≡ Some (Moving (Reading fd n))
+    → IsOk (living s pid)
 lives_there s pid fd n waits =
     let w = waiter s pid (Reading fd n) waits in
     ap (λ (o : Option (Process ℕ)). is_ok (or_refuse ESRCH o)) w.lives
@@ -65,19 +68,27 @@ none : (xs : List ℕ) → length xs ≡ 0 → xs ≡ []
 none [] e = refl
 none (x ∷ xs) e = absurd (omega (arith, e))
 
-module _ (f g : Live) (old mid new : Namespace) (pid fd n : ℕ) (waits : call_of (meaning f old.state) pid ≡ Some (Moving (Reading fd n))) (mid_is : mid ≡ record old { state = awoken old.state pid })
-    (still : meaning f old.state ≡ sweep itself (meaning f old.state)) (told : Result (Option ℕ) Errno) (before after : List ℕ) where
+module _ (f g : Live) (old mid new : Namespace) (pid fd n : ℕ)
+    (waits : call_of (meaning f old.state) pid ≡ Some (Moving (Reading fd n)))
+    (mid_is : mid ≡ record old { state = awoken old.state pid })
+    (still : meaning f old.state ≡ sweep itself (meaning f old.state)) (told : Result (Option ℕ) Errno)
+    (before after : List ℕ) where
   abbrev Resumed : Type 0
-  Resumed = Replied (λ (reply : Reply). Answers old.limits (Done reply) (meaning f old.state) (steps.Resume pid) (meaning g new.state)) told before after
+  Resumed =
+      Replied (λ (reply : Reply). Answers old.limits (Done reply) (meaning f old.state) (steps.Resume pid)
+      (meaning g new.state)) told before after
 
   abbrev Tries : Result Reply Fault → Type 0
   Tries result = Told f g mid new result (tried_call (meaning f mid.state) pid false (Reading fd n))
 
   -- what it is told as a first call, it is told
-  answered : (reply : Reply) (result : Result Reply Fault) → ended result ≡ Ok reply → (result ≡ Err faults.NoMemory → ⊥) → Tries result → told ≡ number_told reply → after ≡ laid (bytes_told reply) before → Resumed
+  answered : (reply : Reply) (result : Result Reply Fault) → ended result ≡ Ok reply
+      → (result ≡ Err faults.NoMemory → ⊥) → Tries result → told ≡ number_told reply
+      → after ≡ laid (bytes_told reply) before → Resumed
   answered reply result is ample tried told_is lie =
       let here : Told f g old new (Ok reply) (call old.limits (meaning f old.state) (steps.Resume pid)) =
-      subst (λ (r : Result Reply Fault). Told f g old new r (call old.limits (meaning f old.state) (steps.Resume pid))) is
+      subst (λ (r : Result Reply Fault). Told f g old new r (call old.limits (meaning f old.state) (steps.Resume pid)))
+      is
       (resumed old.limits f g old mid new pid (Reading fd n) waits mid_is still result tried ample) in
       record {
         reply = reply;
@@ -86,27 +97,35 @@ module _ (f g : Live) (old mid new : Namespace) (pid fd n : ℕ) (waits : call_o
         bytes_lie = lie;
       }
 
-  module _ (between : Namespace) (progress : Progress) (came : Truncates g between (attempted (meaning f mid.state) pid (Reading fd n)) progress before after) (owns : Owns g between) (limits : between.limits ≡ mid.limits) where
+  module _ (between : Namespace) (progress : Progress)
+      (came : Truncates g between (attempted (meaning f mid.state) pid (Reading fd n)) progress before after)
+      (owns : Owns g between) (limits : between.limits ≡ mid.limits) where
     -- where no byte came, none lies there
     nothing : moved progress ≡ 0 → after ≡ laid [] before
     nothing zero = came.bytes_lie ∙ ap (λ (xs : List ℕ). laid xs before) (none came.tried.bytes (came.as_many ∙ zero))
 
-    pub waits_on : progress ≡ WouldBlock → new ≡ waits_in (Some (Moving (Reading fd n))) between pid → told ≡ Ok None → Resumed
+    pub waits_on : progress ≡ WouldBlock → new ≡ waits_in (Some (Moving (Reading fd n))) between pid → told ≡ Ok None
+        → Resumed
     waits_on is waiting says =
         answered replies.Parked (Ok replies.Parked) refl (λ e. absurd (cc))
-        (parks f g mid between new pid (Reading fd n) came.tried came.is owns limits came.state (Moving (Reading fd n)) refl (ap (transfer_told (Reading fd n) came.tried) (came.progress_is ∙ is)) waiting)
+        (parks f g mid between new pid (Reading fd n) came.tried came.is owns limits came.state (Moving (Reading fd n))
+        refl (ap (transfer_told (Reading fd n) came.tried) (came.progress_is ∙ is)) waiting)
         says (nothing (ap moved is))
 
-  module _ (progress : Progress) (came : Truncates g new (attempted (meaning f mid.state) pid (Reading fd n)) progress before after) (owns : Owns g new) (limits : new.limits ≡ mid.limits) where
+  module _ (progress : Progress) (came : Truncates g new (attempted (meaning f mid.state) pid (Reading fd n)) progress
+      before after) (owns : Owns g new) (limits : new.limits ≡ mid.limits) where
     pub comes : (m : ℕ) → progress ≡ Moved m → told ≡ Ok (Some m) → Resumed
     comes m is says =
         answered (replies.Bytes came.tried.bytes) (Ok (replies.Bytes came.tried.bytes)) refl (λ e. absurd (cc))
-        (finishes f g mid new pid (Reading fd n) came.tried came.is owns limits came.state (replies.Bytes came.tried.bytes) (ap (transfer_told (Reading fd n) came.tried) (came.progress_is ∙ is)))
+        (finishes f g mid new pid (Reading fd n) came.tried came.is owns limits came.state
+        (replies.Bytes came.tried.bytes) (ap (transfer_told (Reading fd n) came.tried) (came.progress_is ∙ is)))
         (says ∙ ap (λ (k : ℕ). Ok (Some k)) (sym (came.as_many ∙ ap moved is))) came.bytes_lie
 
-    finished : transfer_told (Reading fd n) came.tried came.tried.progress ≡ Ok (Finished came.tried.state (replies.Bytes [])) → moved progress ≡ 0 → told ≡ Ok (Some 0) → Resumed
+    finished : transfer_told (Reading fd n) came.tried came.tried.progress
+        ≡ Ok (Finished came.tried.state (replies.Bytes [])) → moved progress ≡ 0 → told ≡ Ok (Some 0) → Resumed
     finished is zero says =
-        answered (replies.Bytes []) (Ok (replies.Bytes [])) refl (λ e. absurd (cc)) (finishes f g mid new pid (Reading fd n) came.tried came.is owns limits came.state (replies.Bytes []) is) says
+        answered (replies.Bytes []) (Ok (replies.Bytes [])) refl (λ e. absurd (cc))
+        (finishes f g mid new pid (Reading fd n) came.tried came.is owns limits came.state (replies.Bytes []) is) says
         (nothing new progress came owns limits zero)
 
     pub ends : (progress ≡ EndOfFile) ⊎ (progress ≡ NoReader) → told ≡ Ok (Some 0) → Resumed
@@ -115,9 +134,11 @@ module _ (f g : Live) (old mid new : Namespace) (pid fd n : ℕ) (waits : call_o
       | inr e ↦ finished (ap (transfer_told (Reading fd n) came.tried) (came.progress_is ∙ e)) (ap moved e) says
     ]
 
-  pub is_refused : (e : Errno) → attempted (meaning f mid.state) pid (Reading fd n) ≡ Err e → Owns g new → new.limits ≡ mid.limits → meaning g new.state ≡ meaning f mid.state → told ≡ Err e → after ≡ before → Resumed
+  pub is_refused : (e : Errno) → attempted (meaning f mid.state) pid (Reading fd n) ≡ Err e → Owns g new
+      → new.limits ≡ mid.limits → meaning g new.state ≡ meaning f mid.state → told ≡ Err e → after ≡ before → Resumed
   is_refused e is owns limits same says lie =
-      answered (replies.Err e) (Err (faults.Errno e)) refl (λ x. absurd (cc)) (refuses f g mid new pid (Reading fd n) e is owns limits same) says (lie ∙ no_byte_lies before)
+      answered (replies.Err e) (Err (faults.Errno e)) refl (λ x. absurd (cc))
+      (refuses f g mid new pid (Reading fd n) e is owns limits same) says (lie ∙ no_byte_lies before)
 
 -- Another call
 
@@ -134,17 +155,31 @@ no_bytes (replies.Err e) short = refl
 
 module _ (f g : Live) (old new : Namespace) (pid : ℕ) (told : Result (Option ℕ) Errno) (buffer : List ℕ) where
   abbrev Told_so : Type 0
-  Told_so = Replied (λ (reply : Reply). Answers old.limits (Done reply) (meaning f old.state) (steps.Resume pid) (meaning g new.state)) told buffer buffer
+  Told_so =
+      Replied (λ (reply : Reply). Answers old.limits (Done reply) (meaning f old.state) (steps.Resume pid)
+      (meaning g new.state)) told buffer buffer
 
-  pub others_told : hands_out (call_of (meaning f old.state) pid) ≡ false → (reply : Reply) → Told f g old new (Ok reply) (call old.limits (meaning f old.state) (steps.Resume pid)) → told ≡ number_told reply → Told_so
+  pub others_told : hands_out (call_of (meaning f old.state) pid) ≡ false → (reply : Reply)
+      → Told f g old new (Ok reply) (call old.limits (meaning f old.state) (steps.Resume pid))
+      → told ≡ number_told reply → Told_so
   others_told quiet reply here says =
       let s = meaning f old.state in
-      let is : record { state = meaning g new.state; reply = reply } ≡ step_of old.limits s (steps.Resume pid) = made_step old.limits s (meaning g new.state) (steps.Resume pid) reply here.says in
+      let is : record { state =
+      meaning g new.state; reply = reply } ≡ step_of old.limits s (steps.Resume pid) = made_step old.limits s
+      (meaning g new.state) (steps.Resume pid) reply here.says in
       let short : reply_length (step_of old.limits s (steps.Resume pid)).reply ≤ 0 =
-      few s 0 (call old.limits s (steps.Resume pid)) (resume-few s 0 old.limits pid (λ p fd n e waits found. let gap : true ≡ false = sym (ap hands_out waits) ∙ quiet in absurd (cc))) in
-      let silent : bytes_told reply ≡ [] = no_bytes reply (subst (λ (r : Reply). reply_length r ≤ 0) (sym (ap (λ (o : Outcome Segment ℕ). o.reply) is)) short) in
-      record { reply = reply; is = is; told_is = says; bytes_lie = no_byte_lies buffer ∙ ap (λ (xs : List ℕ). laid xs buffer) (sym silent) }
+      few s 0 (call old.limits s (steps.Resume pid))
+          (resume-few s 0 old.limits pid (λ p fd n e waits found. let gap : true ≡ false =
+          sym (ap hands_out waits) ∙ quiet in absurd (cc))) in
+      let silent : bytes_told reply ≡ [] =
+      no_bytes reply (subst (λ (r : Reply). reply_length r ≤ 0) (sym (ap (λ (o : Outcome Segment ℕ). o.reply) is))
+      short) in
+      record { reply = reply; is = is; told_is = says; bytes_lie = no_byte_lies buffer
+          ∙ ap (λ (xs : List ℕ). laid xs buffer) (sym silent) }
 
-  pub others_refused : (e : Errno) → Told f g old new (Err (faults.Errno e)) (call old.limits (meaning f old.state) (steps.Resume pid)) → meaning f old.state ≡ sweep itself (meaning f old.state) → told ≡ Err e → Told_so
+  pub others_refused : (e : Errno) → Told f g old new (Err (faults.Errno e))
+      (call old.limits (meaning f old.state) (steps.Resume pid))
+      → meaning f old.state ≡ sweep itself (meaning f old.state) → told ≡ Err e → Told_so
   others_refused e here still says =
-      record { reply = replies.Err e; is = refused_step old.limits (meaning f old.state) (meaning g new.state) (steps.Resume pid) e here.says.0 here.says.1 still; told_is = says; bytes_lie = no_byte_lies buffer }
+      record { reply = replies.Err e; is = refused_step old.limits (meaning f old.state) (meaning g new.state)
+          (steps.Resume pid) e here.says.0 here.says.1 still; told_is = says; bytes_lie = no_byte_lies buffer }

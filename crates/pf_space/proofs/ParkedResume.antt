@@ -1,20 +1,22 @@
 -- A transfer that waits is tried again: its process is woken, and the transfer tried as a call of its own, which waits
 -- where it has to.
 
-use Rattle.std.proofs.Common.{◌≡◌, ℕ, zero, suc, ◌+◌, ◌-◌, Bool, true, false, List, length, set, Option, Some, None, is_some, Result, Ok, Err, refl, sym, ap, ◌∙◌, arith, nat_eq, nat_lt, if◌then◌else◌}
+use Rattle.std.proofs.Common.{◌≡◌, ℕ, zero, suc, ◌+◌, ◌-◌, Bool, true, false, List, length, set, Option, Some, None}
+use Rattle.std.proofs.Common.{is_some, Result, Ok, Err, refl, sym, ap, ◌∙◌, arith, nat_eq, nat_lt, if◌then◌else◌}
 use Rattle.std.specs.Option.{option_map, option_and_then}
 use Rattle.std.proofs.lemmas.List.{set-set}
-use Rattle.pf_machine.specs.Calls.{Transfer, Reading, Writing, Bringing, Call, Opening, Moving, made_by}
+use Rattle.pf_machine.specs.Calls.{Transfer, Reading, Writing, Bringing, Call, Moving, made_by}
 use Rattle.pf_base.specs.Limits.{Limits}
 use Rattle.pf_machine.specs.Machine.{call, call_of}
-use Rattle.pf_machine.specs.Numbered.{at, change_at, first_free}
+use Rattle.pf_machine.specs.Numbered.{at, change_at}
 use Rattle.pf_machine.proofs.NumberedLaws.{at_within, at-put_same}
 use Rattle.pf_machine.specs.Queue.{Segment}
 use Rattle.pf_machine.specs.Refusals.{◌>>=◌, ◌>>◌, refuse_if, or_refuse}
-use Rattle.pf_machine.specs.State.{itself, State, Process, End, Outcome, process, ready, reading_end, writing_end, change_process, with_process, with_descriptor, waiting, told}
+use Rattle.pf_machine.specs.State.{itself, State, Process, End, Outcome, process, ready, reading_end, writing_end}
+use Rattle.pf_machine.specs.State.{change_process, waiting, told}
 use Rattle.pf_machine.specs.Sweep.{sweep}
 use Rattle.pf_machine.specs.Transfers.{Tried, Ends, tried, two_ends, try_read, try_write, try_cross}
-use Rattle.pf_machine.specs.Attempts.{Attempt, Finished, Waits, given, transfer_told, attempt, first, again, resume}
+use Rattle.pf_machine.specs.Attempts.{Attempt, Finished, Waits, transfer_told, attempt, first, again, resume}
 use Rattle.pf_base.specs.declared.TheConstants.{MAX_WRITE}
 use Rattle.pf_base.specs.declared.errno.Errno.{Errno}
 use Rattle.pf_base.specs.declared.errno.Errno.TheVariants.{ESRCH, EBUSY, EINVAL, EPIPE}
@@ -27,9 +29,8 @@ use Rattle.pf_base.specs.declared.step.Reply.TheVariants as replies
 use Rattle.pf_base.specs.declared.step.Step.TheVariants as steps
 use Rattle.pf_frame.specs.Live.{Live}
 use Rattle.pf_tables.specs.Meaning.{Namespace, meaning}
-use Rattle.pf_tables.specs.Owns.{Owns}
 use Rattle.pf_tables.specs.Tables.{over, woken, awoken}
-use Rattle.pf_tables.specs.Told.{Becomes, Told, Says, tried_call, waits_in, settled, ended}
+use Rattle.pf_tables.specs.Told.{Told, Says, tried_call, waits_in, settled, ended}
 use Rattle.pf_machine.proofs.ExitLaws.{change-change}
 use Rattle.pf_tables.proofs.TablesShown.{set_same}
 use Rattle.pf_space.proofs.ParkedTransfers.{sweep-waiting}
@@ -49,26 +50,31 @@ module _ (pid : ℕ) where
   lifted_told (Ok (Waits s c)) = Ok (Waits (awake s) c)
   lifted_told (Err e) = Err e
 
-  tried-lifted : (s : State Segment ℕ) (p : Process ℕ) (t : Transfer) → tried (awake s) (waiting None p) t ≡ lifted (tried s p t)
+  tried-lifted : (s : State Segment ℕ) (p : Process ℕ) (t : Transfer)
+      → tried (awake s) (waiting None p) t ≡ lifted (tried s p t)
   tried-lifted s p (Reading fd n) = by_end (reading_end itself s p fd)
     where
-      by_end : (e : Result (End Segment ℕ) Errno) → (e >>= (λ e. Ok (try_read (awake s) e n))) ≡ lifted (e >>= (λ e. Ok (try_read s e n)))
+      by_end : (e : Result (End Segment ℕ) Errno) → (e >>= (λ e. Ok (try_read (awake s) e n)))
+          ≡ lifted (e >>= (λ e. Ok (try_read s e n)))
       by_end (Ok e) = refl
       by_end (Err e) = refl
   tried-lifted s p (Writing fd x written) = by_end (writing_end itself s p fd) (nat_lt MAX_WRITE (length x))
     where
       by_end : (e : Result (End Segment ℕ) Errno) (b : Bool)
-          → (e >>= (λ e. refuse_if b EINVAL >> Ok (try_write (awake s) e x written))) ≡ lifted (e >>= (λ e. refuse_if b EINVAL >> Ok (try_write s e x written)))
+          → (e >>= (λ e. refuse_if b EINVAL >> Ok (try_write (awake s) e x written)))
+          ≡ lifted (e >>= (λ e. refuse_if b EINVAL >> Ok (try_write s e x written)))
       by_end (Ok e) true = refl
       by_end (Ok e) false = refl
       by_end (Err e) b = refl
   tried-lifted s p (Bringing c source sink n) = by_end (two_ends s p source sink)
     where
-      by_end : (e : Result Ends Errno) → (e >>= (λ e. Ok (try_cross c (awake s) e n))) ≡ lifted (e >>= (λ e. Ok (try_cross c s e n)))
+      by_end : (e : Result Ends Errno) → (e >>= (λ e. Ok (try_cross c (awake s) e n)))
+          ≡ lifted (e >>= (λ e. Ok (try_cross c s e n)))
       by_end (Ok e) = refl
       by_end (Err e) = refl
 
-  told-lifted : (t : Transfer) (r : Tried) (q : Progress) → transfer_told t (record r { state = awake r.state }) q ≡ lifted_told (transfer_told t r q)
+  told-lifted : (t : Transfer) (r : Tried) (q : Progress)
+      → transfer_told t (record r { state = awake r.state }) q ≡ lifted_told (transfer_told t r q)
   told-lifted (Reading fd n) r (Moved m) = refl
   told-lifted (Reading fd n) r EndOfFile = refl
   told-lifted (Reading fd n) r NoReader = refl
@@ -76,13 +82,16 @@ module _ (pid : ℕ) where
   told-lifted (Writing fd x written) r (Moved m) = by_rest (nat_eq (written + m) (length x))
     where
       by_rest : (b : Bool)
-          → (if b then Ok (Finished (awake r.state) (replies.Num (length x))) else Ok (Waits (awake r.state) (Moving (Writing fd x (written + m)))))
-          ≡ lifted_told (if b then Ok (Finished r.state (replies.Num (length x))) else Ok (Waits r.state (Moving (Writing fd x (written + m)))))
+          → (if b then Ok (Finished (awake r.state) (replies.Num (length x))) else Ok
+          (Waits (awake r.state) (Moving (Writing fd x (written + m)))))
+          ≡ lifted_told (if b then Ok (Finished r.state (replies.Num (length x))) else Ok
+          (Waits r.state (Moving (Writing fd x (written + m)))))
       by_rest true = refl
       by_rest false = refl
   told-lifted (Writing fd x written) r NoReader = by_none (nat_eq written 0)
     where
-      by_none : (b : Bool) → (if b then Err EPIPE else Ok (Finished (awake r.state) (replies.Num written))) ≡ lifted_told (if b then Err EPIPE else Ok (Finished r.state (replies.Num written)))
+      by_none : (b : Bool) → (if b then Err EPIPE else Ok (Finished (awake r.state) (replies.Num written)))
+          ≡ lifted_told (if b then Err EPIPE else Ok (Finished r.state (replies.Num written)))
       by_none true = refl
       by_none false = refl
   told-lifted (Writing fd x written) r WouldBlock = refl
@@ -93,15 +102,19 @@ module _ (pid : ℕ) where
   told-lifted (Bringing c source sink n) r WouldBlock = refl
 
   attempt-lifted : (s : State Segment ℕ) (p : Process ℕ) (t : Transfer)
-      → (tried (awake s) (waiting None p) t >>= (λ r. transfer_told t r r.progress)) ≡ lifted_told (tried s p t >>= (λ r. transfer_told t r r.progress))
-  attempt-lifted s p t = ap (λ q. q >>= (λ r. transfer_told t r r.progress)) (tried-lifted s p t) ∙ by_tried (tried s p t)
+      → (tried (awake s) (waiting None p) t >>= (λ r. transfer_told t r r.progress))
+      ≡ lifted_told (tried s p t >>= (λ r. transfer_told t r r.progress))
+  attempt-lifted s p t =
+      ap (λ q. q >>= (λ r. transfer_told t r r.progress)) (tried-lifted s p t) ∙ by_tried (tried s p t)
     where
-      by_tried : (q : Result Tried Errno) → (lifted q >>= (λ r. transfer_told t r r.progress)) ≡ lifted_told (q >>= (λ r. transfer_told t r r.progress))
+      by_tried : (q : Result Tried Errno) → (lifted q >>= (λ r. transfer_told t r r.progress))
+          ≡ lifted_told (q >>= (λ r. transfer_told t r r.progress))
       by_tried (Ok r) = told-lifted t r r.progress
       by_tried (Err e) = refl
 
   -- to wait again is to go on waiting
-  parked-again : (s : State Segment ℕ) (c : Call ℕ) → change_process (waiting (Some c)) (awake s) pid ≡ change_process (waiting (Some c)) s pid
+  parked-again : (s : State Segment ℕ) (c : Call ℕ)
+      → change_process (waiting (Some c)) (awake s) pid ≡ change_process (waiting (Some c)) s pid
   parked-again s c =
       ap (λ ps. record s { processes = ps })
       (change-change (waiting (Some c)) (waiting None) (waiting (Some c)) s.processes (pid - 1) (λ p. refl))
@@ -120,7 +133,8 @@ waiter s pid t h = by_row (process s pid) refl h
     place zero q g = absurd (cc)
     place (suc i) q g = let same : suc i - 1 ≡ i = omega arith in ap (at s.processes) same ∙ g
 
-    by_row : (o : Option (Process ℕ)) → process s pid ≡ o → option_and_then (λ (p : Process ℕ). p.parked) o ≡ Some (Moving t) → WaitsIn s pid t
+    by_row : (o : Option (Process ℕ)) → process s pid ≡ o
+        → option_and_then (λ (p : Process ℕ). p.parked) o ≡ Some (Moving t) → WaitsIn s pid t
     by_row None g h = absurd (cc)
     by_row (Some p) g h = record { p = p; lives = g; waits = h; stands = place pid p g }
 
@@ -129,7 +143,8 @@ module _ (s : State Segment ℕ) (pid : ℕ) (t : Transfer) (w : WaitsIn s pid t
   awake_is : awoken s pid ≡ awake pid s
   awake_is =
       ap (λ (o : Option (Process ℕ)). record s { processes = set s.processes (pid - 1) o })
-      (ap (option_map woken) w.stands ∙ ap (λ o. Some (over o w.p)) w.waits ∙ ap (option_map (waiting None)) (sym w.stands))
+      (ap (option_map woken) w.stands ∙ ap (λ o. Some (over o w.p)) w.waits
+      ∙ ap (option_map (waiting None)) (sym w.stands))
 
   ready_is : ready (awake pid s) pid ≡ Ok (waiting None w.p)
   ready_is = by_pid pid w.lives
@@ -139,40 +154,55 @@ module _ (s : State Segment ℕ) (pid : ℕ) (t : Transfer) (w : WaitsIn s pid t
       by_pid (suc i) g =
           let same : suc i - 1 ≡ i = omega arith in
           let here : at (change_at (waiting None) s.processes (suc i - 1)) i ≡ Some (waiting None w.p) =
-          ap (λ m. at (change_at (waiting None) s.processes m) i) same ∙ at-put_same s.processes i (option_map (waiting None) (at s.processes i)) (at_within s.processes i w.p g) ∙ ap (option_map (waiting None)) g in
+          ap (λ m. at (change_at (waiting None) s.processes m) i) same
+          ∙ at-put_same s.processes i (option_map (waiting None) (at s.processes i)) (at_within s.processes i w.p g)
+          ∙ ap (option_map (waiting None)) g in
           ap (λ o. or_refuse ESRCH o >>= (λ p. refuse_if (is_some p.parked) EBUSY >> Ok p)) here
 
   abbrev came : Result (Attempt Segment ℕ) Errno
   came = tried s w.p t >>= (λ r. transfer_told t r r.progress)
 
   machine_is : (c : Limits) → call c s (steps.Resume pid) ≡ Ok (again s pid came)
-  machine_is c = ap (λ o. or_refuse ESRCH o >>= (λ p. resume s pid p)) w.lives ∙ ap (λ o. or_refuse EINVAL o >>= (λ x. Ok (again s pid (attempt s pid w.p x)))) w.waits
+  machine_is c =
+      ap (λ o. or_refuse ESRCH o >>= (λ p. resume s pid p)) w.lives
+      ∙ ap (λ o. or_refuse EINVAL o >>= (λ x. Ok (again s pid (attempt s pid w.p x)))) w.waits
 
   tried_is : tried_call (awake pid s) pid false t ≡ (lifted_told pid came >>= first pid false)
-  tried_is = ap (λ q. q >>= (λ p. (tried (awake pid s) p t >>= (λ r. transfer_told t r r.progress)) >>= first pid false)) ready_is ∙ ap (λ q. q >>= first pid false) (attempt-lifted pid s w.p t)
+  tried_is =
+      ap (λ q. q >>= (λ p. (tried (awake pid s) p t >>= (λ r. transfer_told t r r.progress)) >>= first pid false))
+      ready_is ∙ ap (λ q. q >>= first pid false) (attempt-lifted pid s w.p t)
 
   still_awake : s ≡ sweep itself s → sweep itself (awake pid s) ≡ awake pid s
   still_awake still = sweep-waiting s pid w.p w.stands (ap made_by w.waits) None refl ∙ ap (awake pid) (sym still)
 
   -- a reply
-  replied : (o : Outcome Segment ℕ) → settled (lifted_told pid came >>= first pid false) ≡ Ok o → settled (Ok (again s pid came)) ≡ Ok o
+  replied : (o : Outcome Segment ℕ) → settled (lifted_told pid came >>= first pid false) ≡ Ok o
+      → settled (Ok (again s pid came)) ≡ Ok o
   replied o h = by_attempt came h
     where
-      by_attempt : (a : Result (Attempt Segment ℕ) Errno) → settled (lifted_told pid a >>= first pid false) ≡ Ok o → settled (Ok (again s pid a)) ≡ Ok o
+      by_attempt : (a : Result (Attempt Segment ℕ) Errno) → settled (lifted_told pid a >>= first pid false) ≡ Ok o
+          → settled (Ok (again s pid a)) ≡ Ok o
       by_attempt (Ok (Finished z reply)) h = h
-      by_attempt (Ok (Waits z c)) h = ap (λ (y : State Segment ℕ). Ok (record { state = sweep itself y; reply = replies.Parked })) (sym (parked-again pid z c)) ∙ h
+      by_attempt (Ok (Waits z c)) h =
+          ap (λ (y : State Segment ℕ). Ok (record { state = sweep itself y; reply = replies.Parked }))
+          (sym (parked-again pid z c)) ∙ h
       by_attempt (Err e) h = absurd (cc)
 
   -- a refusal is one
-  refused : (e : Errno) → s ≡ sweep itself s → (lifted_told pid came >>= first pid false) ≡ Err e → settled (Ok (again s pid came)) ≡ Ok (record { state = awake pid s; reply = replies.Err e })
+  refused : (e : Errno) → s ≡ sweep itself s → (lifted_told pid came >>= first pid false) ≡ Err e
+      → settled (Ok (again s pid came)) ≡ Ok (record { state = awake pid s; reply = replies.Err e })
   refused e still h = by_attempt came h
     where
-      by_attempt : (a : Result (Attempt Segment ℕ) Errno) → (lifted_told pid a >>= first pid false) ≡ Err e → settled (Ok (again s pid a)) ≡ Ok (record { state = awake pid s; reply = replies.Err e })
+      by_attempt : (a : Result (Attempt Segment ℕ) Errno) → (lifted_told pid a >>= first pid false) ≡ Err e
+          → settled (Ok (again s pid a)) ≡ Ok (record { state = awake pid s; reply = replies.Err e })
       by_attempt (Ok (Finished z reply)) h = absurd (cc)
       by_attempt (Ok (Waits z c)) h = absurd (cc)
-      by_attempt (Err x) h = let same : x ≡ e = cc in λ i. Ok (record { state = still_awake still i; reply = replies.Err (same i) })
+      by_attempt (Err x) h =
+          let same : x ≡ e = cc in λ i. Ok (record { state = still_awake still i; reply = replies.Err (same i) })
 
-module _ (c : Limits) (f g : Live) (old mid new : Namespace) (pid : ℕ) (t : Transfer) (waits : call_of (meaning f old.state) pid ≡ Some (Moving t)) (mid_is : mid ≡ record old { state = awoken old.state pid })
+module _ (c : Limits) (f g : Live) (old mid new : Namespace) (pid : ℕ) (t : Transfer)
+    (waits : call_of (meaning f old.state) pid ≡ Some (Moving t))
+    (mid_is : mid ≡ record old { state = awoken old.state pid })
     (still : meaning f old.state ≡ sweep itself (meaning f old.state)) where
   w : WaitsIn (meaning f old.state) pid t
   w = waiter (meaning f old.state) pid t waits
@@ -181,20 +211,27 @@ module _ (c : Limits) (f g : Live) (old mid new : Namespace) (pid : ℕ) (t : Tr
   mid_state = ap (λ (n : Namespace). meaning f n.state) mid_is ∙ awake_is (meaning f old.state) pid t w
 
   -- whatever the transfer is told, the resumed one is
-  pub resumed : (result : Result Reply Fault) → Told f g mid new result (tried_call (meaning f mid.state) pid false t) → (result ≡ Err faults.NoMemory → ⊥) → Told f g old new (ended result) (call c (meaning f old.state) (steps.Resume pid))
+  pub resumed : (result : Result Reply Fault) → Told f g mid new result (tried_call (meaning f mid.state) pid false t)
+      → (result ≡ Err faults.NoMemory → ⊥) → Told f g old new (ended result)
+      (call c (meaning f old.state) (steps.Resume pid))
   resumed result told ample = record {
     owns = told.owns;
     limits = told.limits ∙ ap (λ (n : Namespace). n.limits) mid_is;
     says = by_result result told.says ample;
   }
     where
-      machine : tried_call (meaning f mid.state) pid false t ≡ (lifted_told pid (came (meaning f old.state) pid t w) >>= first pid false)
+      machine : tried_call (meaning f mid.state) pid false t
+          ≡ (lifted_told pid (came (meaning f old.state) pid t w) >>= first pid false)
       machine = ap (λ z. tried_call z pid false t) mid_state ∙ tried_is (meaning f old.state) pid t w
 
-      by_result : (r : Result Reply Fault) → Says f g mid new r (tried_call (meaning f mid.state) pid false t) → (r ≡ Err faults.NoMemory → ⊥) → Says f g old new (ended r) (call c (meaning f old.state) (steps.Resume pid))
-      by_result (Ok reply) says ample = ap settled (machine_is (meaning f old.state) pid t w c) ∙ replied (meaning f old.state) pid t w _ (ap settled (sym machine) ∙ says)
+      by_result : (r : Result Reply Fault) → Says f g mid new r (tried_call (meaning f mid.state) pid false t)
+          → (r ≡ Err faults.NoMemory → ⊥) → Says f g old new (ended r) (call c (meaning f old.state) (steps.Resume pid))
+      by_result (Ok reply) says ample =
+          ap settled (machine_is (meaning f old.state) pid t w c)
+          ∙ replied (meaning f old.state) pid t w _ (ap settled (sym machine) ∙ says)
       by_result (Err (faults.Errno e)) says ample =
-          ap settled (machine_is (meaning f old.state) pid t w c) ∙ refused (meaning f old.state) pid t w e still (sym machine ∙ says.0)
+          ap settled (machine_is (meaning f old.state) pid t w c)
+          ∙ refused (meaning f old.state) pid t w e still (sym machine ∙ says.0)
           ∙ ap (λ (z : State Segment ℕ). Ok (record { state = z; reply = replies.Err e })) (sym mid_state ∙ sym says.1)
       by_result (Err faults.NoMemory) says ample = absurd (ample refl)
 
@@ -203,9 +240,13 @@ module _ (c : Limits) (f g : Live) (old mid new : Namespace) (pid : ℕ) (t : Tr
   restored =
       let ps = old.state.processes in
       let call : Option (Call ℕ) = Some (Moving t) in
-      let here : ◌≡◌ {A = Option (Process ℕ)} (option_map (waiting call) (at (change_at woken ps (pid - 1)) (pid - 1))) (Some w.p) =
-      ap (option_map (waiting call)) (at-put_same ps (pid - 1) (option_map woken (at ps (pid - 1))) (at_within ps (pid - 1) w.p w.stands) ∙ ap (option_map woken) w.stands ∙ ap (λ o. Some (over o w.p)) w.waits)
+      let here : ◌≡◌ {A =
+      Option (Process ℕ)} (option_map (waiting call) (at (change_at woken ps (pid - 1)) (pid - 1))) (Some w.p) =
+      ap (option_map (waiting call)) (at-put_same ps (pid - 1) (option_map woken (at ps (pid - 1)))
+      (at_within ps (pid - 1) w.p w.stands) ∙ ap (option_map woken) w.stands ∙ ap (λ o. Some (over o w.p)) w.waits)
       ∙ ap (λ o. Some (record w.p { parked = o })) (sym w.waits) in
       ap (λ (n : Namespace). waits_in call n pid) mid_is
       ∙ ap (λ (xs : List (Option (Process ℕ))). record old { state = record old.state { processes = xs } })
-      (ap (set (change_at woken ps (pid - 1)) (pid - 1)) here ∙ set-set ps (pid - 1) (option_map woken (at ps (pid - 1))) (Some w.p) ∙ set_same ps (pid - 1) (Some w.p) (sym w.stands))
+      (ap (set (change_at woken ps (pid - 1)) (pid - 1)) here
+      ∙ set-set ps (pid - 1) (option_map woken (at ps (pid - 1))) (Some w.p)
+      ∙ set_same ps (pid - 1) (Some w.p) (sym w.stands))

@@ -1,6 +1,8 @@
 -- A call that waits, and one that is tried again: what the machine says of it, from what the tables did.
 
-use Rattle.std.proofs.Common.{◌≡◌, ◌≢◌, ◌⊎◌, inl, inr, ℕ, zero, suc, ◌+◌, ◌-◌, Bool, true, false, ◌&&◌, ◌||◌, List, length, Option, Some, None, is_some, Result, Ok, Err, refl, sym, ap, subst, ◌∙◌, arith, nat_eq, nat_lt, if◌then◌else◌}
+use Rattle.std.proofs.Common.{◌≡◌, ◌≢◌, ◌⊎◌, inl, inr, ℕ, zero, suc, ◌+◌, ◌-◌, Bool, true, false, ◌&&◌, ◌||◌, List}
+use Rattle.std.proofs.Common.{length, Option, Some, None, is_some, Result, Ok, Err, refl, sym, ap, subst, ◌∙◌, arith}
+use Rattle.std.proofs.Common.{nat_eq, nat_lt, if◌then◌else◌}
 use Rattle.std.specs.Option.{option_map}
 use Rattle.std.proofs.lemmas.Bool.{ne_eqb}
 use Rattle.pf_machine.specs.Calls.{Transfer, Reading, Writing, Bringing, Call, Moving, made_by}
@@ -10,7 +12,8 @@ use Rattle.pf_machine.proofs.NumberedLaws.{at_within, sum_of-set}
 use Rattle.pf_machine.specs.Progress.{moved}
 use Rattle.pf_machine.specs.Queue.{Segment}
 use Rattle.pf_machine.specs.Refusals.{◌>>=◌, ◌>>◌, refuse_if, or_refuse}
-use Rattle.pf_machine.specs.State.{itself, State, Process, End, process, ready, reading_end, writing_end, change_process, waiting}
+use Rattle.pf_machine.specs.State.{itself, State, Process, End, process, ready, reading_end, writing_end}
+use Rattle.pf_machine.specs.State.{change_process, waiting}
 use Rattle.pf_machine.specs.Sweep.{sweep, live_descriptions, live_pipes}
 use Rattle.pf_machine.specs.Transfers.{Tried, Ends, tried, two_ends, try_read, try_write, try_cross}
 use Rattle.pf_machine.specs.Attempts.{Finished, Waits, transfer_told, attempt, first, is_nonblocking, transfer}
@@ -28,37 +31,50 @@ use Rattle.pf_frame.specs.Live.{Live}
 use Rattle.pf_parked.specs.UnfinishedWrite.{UnfinishedWrite}
 use Rattle.pf_tables.specs.Meaning.{Namespace, meaning}
 use Rattle.pf_tables.specs.Owns.{Owns}
-use Rattle.pf_tables.specs.Told.{Told, attempted, tried_call, flag_of, is_nonblocking_at, transferred, waits_in, settled}
+use Rattle.pf_tables.specs.Told.{Told, attempted, tried_call, flag_of, is_nonblocking_at, transferred, waits_in}
+use Rattle.pf_tables.specs.Told.{settled}
 
 -- Another call of a process, which is no open: nothing that was swept comes back
 
-module _ {X : Type 0} (s : State X ℕ) (pid : ℕ) (p : Process ℕ) (stands : at s.processes (pid - 1) ≡ Some p) (bare : made_by p.parked ≡ None) (c : Option (Call ℕ)) (moving : made_by c ≡ None) where
+module _ {X : Type 0} (s : State X ℕ) (pid : ℕ) (p : Process ℕ) (stands : at s.processes (pid - 1) ≡ Some p)
+    (bare : made_by p.parked ≡ None) (c : Option (Call ℕ)) (moving : made_by c ≡ None) where
   same_names : (n : ℕ) → names itself (change_process (waiting c) s pid).processes n ≡ names itself s.processes n
   same_names n =
       let h : Process ℕ → ℕ = λ p. named_in itself n (names_of p) in
       let y : Option (Process ℕ) = option_map (waiting c) (at s.processes (pid - 1)) in
-      let new : weight h y ≡ weight h (Some p) = ap (λ o. weight h (option_map (waiting c) o)) stands ∙ ap (λ o. weight (λ m. one_if (nat_eq m n)) o + sum_of (λ m. one_if (nat_eq m n)) p.descriptors) (moving ∙ sym bare) in
-      omega (arith, sum_of-set h s.processes (pid - 1) y (at_within s.processes (pid - 1) p stands), new, ap (weight h) stands)
+      let new : weight h y ≡ weight h (Some p) =
+      ap (λ o. weight h (option_map (waiting c) o)) stands
+      ∙ ap (λ o. weight (λ m. one_if (nat_eq m n)) o + sum_of (λ m. one_if (nat_eq m n)) p.descriptors)
+      (moving ∙ sym bare) in
+      omega (arith, sum_of-set h s.processes (pid - 1) y (at_within s.processes (pid - 1) p stands), new, ap (weight h)
+      stands)
 
   pub sweep-waiting : sweep itself (change_process (waiting c) s pid) ≡ change_process (waiting c) (sweep itself s) pid
   sweep-waiting =
-      let live : live_descriptions itself (change_process (waiting c) s pid).processes s.descriptions ≡ live_descriptions itself s.processes s.descriptions =
+      let live : live_descriptions itself (change_process (waiting c) s pid).processes s.descriptions
+      ≡ live_descriptions itself s.processes s.descriptions =
       λ i. keep (λ n. nat_lt 0 (same_names n i)) s.descriptions in
-      λ i. record s { processes = change_at (waiting c) s.processes (pid - 1); descriptions = live i; pipes = live_pipes itself (live i) s.pipes }
+      λ i. record s { processes =
+          change_at (waiting c) s.processes (pid - 1); descriptions = live i; pipes = live_pipes itself (live i) s.pipes
+          }
 
 -- What was tried
 
 -- a transfer changes no process
-tried-processes : (s : State Segment ℕ) (p : Process ℕ) (t : Transfer) (r : Tried) → tried s p t ≡ Ok r → r.state.processes ≡ s.processes
+tried-processes : (s : State Segment ℕ) (p : Process ℕ) (t : Transfer) (r : Tried) → tried s p t ≡ Ok r
+    → r.state.processes ≡ s.processes
 tried-processes s p (Reading fd n) r h = by_end (reading_end itself s p fd) h
   where
-    by_end : (e : Result (End Segment ℕ) Errno) → (e >>= (λ e. Ok (try_read s e n))) ≡ Ok r → r.state.processes ≡ s.processes
+    by_end : (e : Result (End Segment ℕ) Errno) → (e >>= (λ e. Ok (try_read s e n))) ≡ Ok r
+        → r.state.processes ≡ s.processes
     by_end (Ok e) h = let same : try_read s e n ≡ r = cc in ap (λ (x : Tried). x.state.processes) (sym same)
     by_end (Err e) h = absurd (cc)
 tried-processes s p (Writing fd x written) r h = by_end (writing_end itself s p fd) (nat_lt MAX_WRITE (length x)) h
   where
-    by_end : (e : Result (End Segment ℕ) Errno) (b : Bool) → (e >>= (λ e. refuse_if b EINVAL >> Ok (try_write s e x written))) ≡ Ok r → r.state.processes ≡ s.processes
-    by_end (Ok e) false h = let same : try_write s e x written ≡ r = cc in ap (λ (x : Tried). x.state.processes) (sym same)
+    by_end : (e : Result (End Segment ℕ) Errno) (b : Bool)
+        → (e >>= (λ e. refuse_if b EINVAL >> Ok (try_write s e x written))) ≡ Ok r → r.state.processes ≡ s.processes
+    by_end (Ok e) false h =
+        let same : try_write s e x written ≡ r = cc in ap (λ (x : Tried). x.state.processes) (sym same)
     by_end (Ok e) true h = absurd (cc)
     by_end (Err e) b h = absurd (cc)
 tried-processes s p (Bringing c source sink n) r h = by_end (two_ends s p source sink) h
@@ -79,13 +95,15 @@ is_ready s pid p h = by_row (process s pid) refl h
     place zero q g = absurd (cc)
     place (suc i) q g = let same : suc i - 1 ≡ i = omega arith in ap (at s.processes) same ∙ g
 
-    by_call : (q : Process ℕ) (o : Option (Call ℕ)) → process s pid ≡ Some q → q.parked ≡ o → (refuse_if (is_some o) EBUSY >> Ok q) ≡ Ok p → IsReady s pid p
+    by_call : (q : Process ℕ) (o : Option (Call ℕ)) → process s pid ≡ Some q → q.parked ≡ o
+        → (refuse_if (is_some o) EBUSY >> Ok q) ≡ Ok p → IsReady s pid p
     by_call q None g e h =
         let same : q ≡ p = cc in
         record { stands = place pid q g ∙ ap Some same; awake = ap (λ (x : Process ℕ). x.parked) (sym same) ∙ e }
     by_call q (Some c) g e h = absurd (cc)
 
-    by_row : (o : Option (Process ℕ)) → process s pid ≡ o → (or_refuse ESRCH o >>= (λ q. refuse_if (is_some q.parked) EBUSY >> Ok q)) ≡ Ok p → IsReady s pid p
+    by_row : (o : Option (Process ℕ)) → process s pid ≡ o
+        → (or_refuse ESRCH o >>= (λ q. refuse_if (is_some q.parked) EBUSY >> Ok q)) ≡ Ok p → IsReady s pid p
     by_row None g h = absurd (cc)
     by_row (Some q) g h = by_call q q.parked g refl h
 
@@ -103,26 +121,34 @@ tries s pid t r h = by_caller (ready s pid) refl h
     by_caller (Err e) c h = absurd (cc)
 
 -- so its call goes on from there
-pub called : (s : State Segment ℕ) (pid : ℕ) (nonblock : Bool) (t : Transfer) (r : Tried) → attempted s pid t ≡ Ok r → tried_call s pid nonblock t ≡ (transfer_told t r r.progress >>= first pid nonblock)
+pub called : (s : State Segment ℕ) (pid : ℕ) (nonblock : Bool) (t : Transfer) (r : Tried) → attempted s pid t ≡ Ok r
+    → tried_call s pid nonblock t ≡ (transfer_told t r r.progress >>= first pid nonblock)
 called s pid nonblock t r h =
     let w = tries s pid t r h in
-    ap (λ q. q >>= (λ p. attempt s pid p (Moving t) >>= first pid nonblock)) w.caller ∙ ap (λ q. (q >>= (λ x. transfer_told t x x.progress)) >>= first pid nonblock) w.is
+    ap (λ q. q >>= (λ p. attempt s pid p (Moving t) >>= first pid nonblock)) w.caller
+    ∙ ap (λ q. (q >>= (λ x. transfer_told t x x.progress)) >>= first pid nonblock) w.is
 
-pub not_called : (s : State Segment ℕ) (pid : ℕ) (nonblock : Bool) (t : Transfer) (e : Errno) → attempted s pid t ≡ Err e → tried_call s pid nonblock t ≡ Err e
+pub not_called : (s : State Segment ℕ) (pid : ℕ) (nonblock : Bool) (t : Transfer) (e : Errno)
+    → attempted s pid t ≡ Err e → tried_call s pid nonblock t ≡ Err e
 not_called s pid nonblock t e h = by_caller (ready s pid) h
   where
-    by_tried : (p : Process ℕ) (q : Result Tried Errno) → q ≡ Err e → ((q >>= (λ x. transfer_told t x x.progress)) >>= first pid nonblock) ≡ Err e
+    by_tried : (p : Process ℕ) (q : Result Tried Errno) → q ≡ Err e
+        → ((q >>= (λ x. transfer_told t x x.progress)) >>= first pid nonblock) ≡ Err e
     by_tried p (Ok x) g = absurd (cc)
     by_tried p (Err x) g = let same : x ≡ e = cc in ap Err same
 
-    by_caller : (q : Result (Process ℕ) Errno) → (q >>= (λ p. tried s p t)) ≡ Err e → (q >>= (λ p. attempt s pid p (Moving t) >>= first pid nonblock)) ≡ Err e
+    by_caller : (q : Result (Process ℕ) Errno) → (q >>= (λ p. tried s p t)) ≡ Err e
+        → (q >>= (λ p. attempt s pid p (Moving t) >>= first pid nonblock)) ≡ Err e
     by_caller (Ok p) g = by_tried p (tried s p t) g
     by_caller (Err x) g = let same : x ≡ e = cc in ap Err same
 
 -- It parks
 
-module _ (f g : Live) (old mid new : Namespace) (pid : ℕ) (t : Transfer) (r : Tried) (is : attempted (meaning f old.state) pid t ≡ Ok r) (owns : Owns g mid) (limits : mid.limits ≡ old.limits) (state : meaning g mid.state ≡ sweep itself r.state)
-    (c : Call ℕ) (moving : made_by (Some c) ≡ None) (waits : transfer_told t r r.progress ≡ Ok (Waits r.state c)) (waits_now : new ≡ waits_in (Some c) mid pid) where
+module _ (f g : Live) (old mid new : Namespace) (pid : ℕ) (t : Transfer) (r : Tried)
+    (is : attempted (meaning f old.state) pid t ≡ Ok r) (owns : Owns g mid) (limits : mid.limits ≡ old.limits)
+    (state : meaning g mid.state ≡ sweep itself r.state)
+    (c : Call ℕ) (moving : made_by (Some c) ≡ None) (waits : transfer_told t r r.progress ≡ Ok (Waits r.state c))
+    (waits_now : new ≡ waits_in (Some c) mid pid) where
   s : State Segment ℕ
   s = meaning f old.state
 
@@ -132,9 +158,11 @@ module _ (f g : Live) (old mid new : Namespace) (pid : ℕ) (t : Transfer) (r : 
   here : IsReady (meaning f old.state) pid w.p
   here = is_ready (meaning f old.state) pid w.p w.caller
 
-  now_waits : sweep itself (change_process (waiting (Some c)) r.state pid) ≡ change_process (waiting (Some c)) (sweep itself r.state) pid
+  now_waits : sweep itself (change_process (waiting (Some c)) r.state pid)
+      ≡ change_process (waiting (Some c)) (sweep itself r.state) pid
   now_waits =
-      sweep-waiting r.state pid w.p (ap (λ ps. at ps (pid - 1)) (tried-processes (meaning f old.state) w.p t r w.is) ∙ here.stands) (ap made_by here.awake) (Some c) moving
+      sweep-waiting r.state pid w.p (ap (λ ps. at ps (pid - 1)) (tried-processes (meaning f old.state) w.p t r w.is)
+      ∙ here.stands) (ap made_by here.awake) (Some c) moving
 
   pub parks : Told f g old new (Ok replies.Parked) (tried_call (meaning f old.state) pid false t)
   parks = record {
@@ -142,14 +170,18 @@ module _ (f g : Live) (old mid new : Namespace) (pid : ℕ) (t : Transfer) (r : 
     limits = ap (λ (n : Namespace). n.limits) waits_now ∙ limits;
     says =
         ap settled (called (meaning f old.state) pid false t r is ∙ ap (λ a. a >>= first pid false) waits)
-        ∙ ap (λ (z : State Segment ℕ). Ok (record { state = z; reply = replies.Parked })) (now_waits ∙ ap (λ (z : State Segment ℕ). change_process (waiting (Some c)) z pid) (sym state))
+        ∙ ap (λ (z : State Segment ℕ). Ok (record { state = z; reply = replies.Parked }))
+        (now_waits ∙ ap (λ (z : State Segment ℕ). change_process (waiting (Some c)) z pid) (sym state))
         ∙ ap (λ (n : Namespace). Ok (record { state = meaning g n.state; reply = replies.Parked })) (sym waits_now);
   }
 
 -- It is finished
 
-pub finishes : (f g : Live) (old new : Namespace) (pid : ℕ) (t : Transfer) (r : Tried) → attempted (meaning f old.state) pid t ≡ Ok r → Owns g new → new.limits ≡ old.limits → meaning g new.state ≡ sweep itself r.state
-    → (reply : Reply) → transfer_told t r r.progress ≡ Ok (Finished r.state reply) → Told f g old new (Ok reply) (tried_call (meaning f old.state) pid false t)
+pub finishes : (f g : Live) (old new : Namespace) (pid : ℕ) (t : Transfer) (r : Tried)
+    → attempted (meaning f old.state) pid t ≡ Ok r → Owns g new → new.limits ≡ old.limits
+    → meaning g new.state ≡ sweep itself r.state
+    → (reply : Reply) → transfer_told t r r.progress ≡ Ok (Finished r.state reply)
+    → Told f g old new (Ok reply) (tried_call (meaning f old.state) pid false t)
 finishes f g old new pid t r is owns limits state reply finished = record {
   owns = owns;
   limits = limits;
@@ -159,46 +191,63 @@ finishes f g old new pid t r is owns limits state reply finished = record {
 }
 
 -- or refused
-pub refuses : (f g : Live) (old new : Namespace) (pid : ℕ) (t : Transfer) (e : Errno) → attempted (meaning f old.state) pid t ≡ Err e → Owns g new → new.limits ≡ old.limits → meaning g new.state ≡ meaning f old.state
+pub refuses : (f g : Live) (old new : Namespace) (pid : ℕ) (t : Transfer) (e : Errno)
+    → attempted (meaning f old.state) pid t ≡ Err e → Owns g new → new.limits ≡ old.limits
+    → meaning g new.state ≡ meaning f old.state
     → Told f g old new (Err (faults.Errno e)) (tried_call (meaning f old.state) pid false t)
-refuses f g old new pid t e is owns limits same = record { owns = owns; limits = limits; says = (not_called (meaning f old.state) pid false t e is, same) }
+refuses f g old new pid t e is owns limits same =
+    record { owns = owns; limits = limits; says = (not_called (meaning f old.state) pid false t e is, same) }
 
 -- It doesn't wait
 
 -- the descriptions say so
-pub flagged : (s : State Segment ℕ) (pid fd : ℕ) (p : Process ℕ) → ready s pid ≡ Ok p → is_nonblocking_at s pid fd ≡ is_nonblocking s p fd
+pub flagged : (s : State Segment ℕ) (pid fd : ℕ) (p : Process ℕ) → ready s pid ≡ Ok p
+    → is_nonblocking_at s pid fd ≡ is_nonblocking s p fd
 flagged s pid fd p h = ap (flag_of s fd) h
 
-pub read_flag : (s : State Segment ℕ) (pid fd n : ℕ) → tried_call s pid (is_nonblocking_at s pid fd) (Reading fd n) ≡ transferred s pid false (Reading fd n)
+pub read_flag : (s : State Segment ℕ) (pid fd n : ℕ)
+    → tried_call s pid (is_nonblocking_at s pid fd) (Reading fd n) ≡ transferred s pid false (Reading fd n)
 read_flag s pid fd n = by_caller (ready s pid) refl
   where
     by_caller : (q : Result (Process ℕ) Errno) → ready s pid ≡ q
-        → (q >>= (λ p. attempt s pid p (Moving (Reading fd n)) >>= first pid (is_nonblocking_at s pid fd))) ≡ (q >>= (λ p. transfer s pid p false (Reading fd n)))
+        → (q >>= (λ p. attempt s pid p (Moving (Reading fd n)) >>= first pid (is_nonblocking_at s pid fd)))
+        ≡ (q >>= (λ p. transfer s pid p false (Reading fd n)))
     by_caller (Ok p) h = ap (λ b. attempt s pid p (Moving (Reading fd n)) >>= first pid b) (flagged s pid fd p h)
     by_caller (Err e) h = refl
 
-pub write_flag : (s : State Segment ℕ) (pid fd : ℕ) (x : List ℕ) → tried_call s pid (is_nonblocking_at s pid fd) (Writing fd x 0) ≡ transferred s pid false (Writing fd x 0)
+pub write_flag : (s : State Segment ℕ) (pid fd : ℕ) (x : List ℕ)
+    → tried_call s pid (is_nonblocking_at s pid fd) (Writing fd x 0) ≡ transferred s pid false (Writing fd x 0)
 write_flag s pid fd x = by_caller (ready s pid) refl
   where
     by_caller : (q : Result (Process ℕ) Errno) → ready s pid ≡ q
-        → (q >>= (λ p. attempt s pid p (Moving (Writing fd x 0)) >>= first pid (is_nonblocking_at s pid fd))) ≡ (q >>= (λ p. transfer s pid p false (Writing fd x 0)))
+        → (q >>= (λ p. attempt s pid p (Moving (Writing fd x 0)) >>= first pid (is_nonblocking_at s pid fd)))
+        ≡ (q >>= (λ p. transfer s pid p false (Writing fd x 0)))
     by_caller (Ok p) h = ap (λ b. attempt s pid p (Moving (Writing fd x 0)) >>= first pid b) (flagged s pid fd p h)
     by_caller (Err e) h = refl
 
 pub cross_flag : (s : State Segment ℕ) (pid : ℕ) (flag : Bool) (c : Crossing) (source sink n : ℕ)
-    → tried_call s pid (flag || (is_nonblocking_at s pid source || is_nonblocking_at s pid sink)) (Bringing c source sink n) ≡ transferred s pid flag (Bringing c source sink n)
+    → tried_call s pid (flag || (is_nonblocking_at s pid source || is_nonblocking_at s pid sink))
+    (Bringing c source sink n) ≡ transferred s pid flag (Bringing c source sink n)
 cross_flag s pid flag c source sink n = by_caller (ready s pid) refl
   where
     by_caller : (q : Result (Process ℕ) Errno) → ready s pid ≡ q
-        → (q >>= (λ p. attempt s pid p (Moving (Bringing c source sink n)) >>= first pid (flag || (is_nonblocking_at s pid source || is_nonblocking_at s pid sink)))) ≡ (q >>= (λ p. transfer s pid p flag (Bringing c source sink n)))
-    by_caller (Ok p) h = λ i. attempt s pid p (Moving (Bringing c source sink n)) >>= first pid (flag || (flagged s pid source p h i || flagged s pid sink p h i))
+        → (q >>= (λ p. attempt s pid p (Moving (Bringing c source sink n))
+        >>= first pid (flag || (is_nonblocking_at s pid source || is_nonblocking_at s pid sink))))
+        ≡ (q >>= (λ p. transfer s pid p flag (Bringing c source sink n)))
+    by_caller (Ok p) h =
+        λ i. attempt s pid p (Moving (Bringing c source sink n))
+        >>= first pid (flag || (flagged s pid source p h i || flagged s pid sink p h i))
     by_caller (Err e) h = refl
 
 -- so a first tee, or a first splice, is told what the machine's is
-pub crossed_first : (f g : Live) (old new : Namespace) (result : Result Reply Fault) (pid : ℕ) (flag : Bool) (c : Crossing) (source sink n : ℕ)
-    → Told f g old new result (tried_call (meaning f old.state) pid (flag || (is_nonblocking_at (meaning f old.state) pid source || is_nonblocking_at (meaning f old.state) pid sink)) (Bringing c source sink n))
+pub crossed_first : (f g : Live) (old new : Namespace) (result : Result Reply Fault) (pid : ℕ) (flag : Bool)
+    (c : Crossing) (source sink n : ℕ)
+    → Told f g old new result (tried_call (meaning f old.state) pid
+    (flag || (is_nonblocking_at (meaning f old.state) pid source || is_nonblocking_at (meaning f old.state) pid sink))
+    (Bringing c source sink n))
     → Told f g old new result (transferred (meaning f old.state) pid flag (Bringing c source sink n))
-crossed_first f g old new result pid flag c source sink n = subst (Told f g old new result) (cross_flag (meaning f old.state) pid flag c source sink n)
+crossed_first f g old new result pid flag c source sink n =
+    subst (Told f g old new result) (cross_flag (meaning f old.state) pid flag c source sink n)
 
 -- nobody asked for it
 pub not_asked : (b : Bool) {x : Bool} → x ≡ false → (b && x) ≡ false
@@ -209,19 +258,26 @@ pub nothing_asked : {b : Bool} (x : Bool) → b ≡ false → (b && x) ≡ false
 nothing_asked x h = ap (λ b. b && x) h
 
 -- A write goes on where bytes are left, and where none went in now
-pub goes_on : (r : Tried) (fd : ℕ) (x : List ℕ) (written n : ℕ) (rest : UnfinishedWrite) → written + n ≢ length x → rest ≡ record { bytes = x; written = written + n } → r.progress ≡ Moved n
-    → transfer_told (Writing fd x written) r r.progress ≡ Ok (Waits r.state (Moving (Writing fd rest.bytes rest.written)))
+pub goes_on : (r : Tried) (fd : ℕ) (x : List ℕ) (written n : ℕ) (rest : UnfinishedWrite) → written + n ≢ length x
+    → rest ≡ record { bytes = x; written = written + n } → r.progress ≡ Moved n
+    → transfer_told (Writing fd x written) r r.progress
+    ≡ Ok (Waits r.state (Moving (Writing fd rest.bytes rest.written)))
 goes_on r fd x written n rest left is moved =
     ap (transfer_told (Writing fd x written) r) moved
-    ∙ ap (λ b. if b then Ok (Finished r.state (replies.Num (length x))) else Ok (Waits r.state (Moving (Writing fd x (written + n))))) (ne_eqb (written + n) (length x) left)
+    ∙ ap (λ b. if b then Ok (Finished r.state (replies.Num (length x))) else Ok
+    (Waits r.state (Moving (Writing fd x (written + n))))) (ne_eqb (written + n) (length x) left)
     ∙ ap (λ (w : UnfinishedWrite). Ok (Waits r.state (Moving (Writing fd w.bytes w.written)))) (sym is)
 
-pub stays_waiting : (r : Tried) (fd : ℕ) (write rest : UnfinishedWrite) → rest ≡ write → (r.progress ≡ WouldBlock) ⊎ (r.progress ≡ EndOfFile)
-    → transfer_told (Writing fd write.bytes write.written) r r.progress ≡ Ok (Waits r.state (Moving (Writing fd rest.bytes rest.written)))
+pub stays_waiting : (r : Tried) (fd : ℕ) (write rest : UnfinishedWrite) → rest ≡ write
+    → (r.progress ≡ WouldBlock) ⊎ (r.progress ≡ EndOfFile)
+    → transfer_told (Writing fd write.bytes write.written) r r.progress
+    ≡ Ok (Waits r.state (Moving (Writing fd rest.bytes rest.written)))
 stays_waiting r fd write rest is blocked =
     elim blocked [
-      | inl none ↦ ap (transfer_told (Writing fd write.bytes write.written) r) none ∙ ap (λ (w : UnfinishedWrite). Ok (Waits r.state (Moving (Writing fd w.bytes w.written)))) (sym is)
-      | inr none ↦ ap (transfer_told (Writing fd write.bytes write.written) r) none ∙ ap (λ (w : UnfinishedWrite). Ok (Waits r.state (Moving (Writing fd w.bytes w.written)))) (sym is)
+      | inl none ↦ ap (transfer_told (Writing fd write.bytes write.written) r) none
+      ∙ ap (λ (w : UnfinishedWrite). Ok (Waits r.state (Moving (Writing fd w.bytes w.written)))) (sym is)
+      | inr none ↦ ap (transfer_told (Writing fd write.bytes write.written) r) none
+      ∙ ap (λ (w : UnfinishedWrite). Ok (Waits r.state (Moving (Writing fd w.bytes w.written)))) (sym is)
     ]
 
 -- in other words
@@ -229,7 +285,8 @@ pub blocked_as : {p q : Progress} → p ≡ q → (q ≡ WouldBlock) ⊎ (q ≡ 
 blocked_as e h = subst (λ p. (p ≡ WouldBlock) ⊎ (p ≡ EndOfFile)) (sym e) h
 
 -- a first write, where it is known whether it waits
-pub write_as : (s : State Segment ℕ) (pid fd : ℕ) (x : List ℕ) (b : Bool) → is_nonblocking_at s pid fd ≡ b → tried_call s pid b (Writing fd x 0) ≡ transferred s pid false (Writing fd x 0)
+pub write_as : (s : State Segment ℕ) (pid fd : ℕ) (x : List ℕ) (b : Bool) → is_nonblocking_at s pid fd ≡ b
+    → tried_call s pid b (Writing fd x 0) ≡ transferred s pid false (Writing fd x 0)
 write_as s pid fd x b is = ap (λ c. tried_call s pid c (Writing fd x 0)) (sym is) ∙ write_flag s pid fd x
 
 pub none_of : {X : Type 0} (o : Option X) → ((x : X) → o ≡ Some x → ⊥) → o ≡ None

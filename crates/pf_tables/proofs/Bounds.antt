@@ -1,6 +1,7 @@
 -- How much a reply hands out, as the tables know it.
 
-use Rattle.std.proofs.Common.{◌≡◌, ℕ, zero, suc, ◌≤◌, not, List, length, Option, Some, None, Result, Ok, Err, refl, sym, ap, subst, ◌∙◌, arith}
+use Rattle.std.proofs.Common.{◌≡◌, ℕ, zero, suc, ◌≤◌, not, List, length, Option, Some, None, Result, Ok, Err, refl, sym}
+use Rattle.std.proofs.Common.{ap, subst, ◌∙◌, arith}
 use Rattle.std.specs.Prelude.{min}
 use Rattle.std.specs.Option.{option_map, option_and_then}
 use Rattle.pf_ring.specs.declared.ring.Window.{Window}
@@ -38,7 +39,8 @@ use Rattle.pf_machine.specs.Replies.{reply_length}
 use Rattle.pf_tables.specs.Meaning.{Namespace, meaning, pipe_meaning, pages}
 use Rattle.pf_tables.specs.Owns.{Owns}
 use Rattle.pf_tables.proofs.OwnsLaws.{ring_at-pipe, stands_at, pages_within}
-use Rattle.pf_tables.specs.Rows.{ProcessRows, DescriptionRows, PipeRows, Key, Call, Process, Description, Pipe, call_of, call_in, process_of, state_of, end_in, Kept}
+use Rattle.pf_tables.specs.Rows.{ProcessRows, DescriptionRows, PipeRows, Key, Call, Process, Description, Pipe, call_of}
+use Rattle.pf_tables.specs.Rows.{call_in, process_of, state_of, end_in, Kept}
 use Rattle.pf_machine.proofs.ReplyLaws.{read_bytes, read-few, resume-few, list-few, quiet, few}
 use Rattle.pf_tables.proofs.Ends.{end_of_rows, refused, found}
 use Rattle.pf_tables.proofs.TablesShown.{find_at, was}
@@ -51,36 +53,48 @@ AtMost f step bound n = reply_length (step_of n.limits (meaning f n.state) step)
 -- No pipe has more bytes than all frames
 
 module _ (f : Live) (n : Namespace) (sound : IsSound f) (owns : Owns f n) (most : n.limits.reserve ≤ MAX_RESERVE) where
-  pub all_bytes : (j : ℕ) (p : machine.Pipe Segment) → at (meaning f n.state).pipes j ≡ Some p → length (bytes_of p.queue) ≤ 268435456
+  pub all_bytes : (j : ℕ) (p : machine.Pipe Segment) → at (meaning f n.state).pipes j ≡ Some p
+      → length (bytes_of p.queue) ≤ 268435456
   all_bytes j p there =
       let w = was (pipe_meaning f) n.state.pipes j p there in
-      let fits : slots_used w.0.queue ≤ slots_of w.0.queue = subst (λ (r : Ring). slots_used r ≤ slots_of r) (ring_at-pipe n.state.pipes j w.0 w.1) (owns.joined.fits j) in
-      let queue : IsQueue (queue_of f w.0.queue) = ring_queue f w.0.queue sound (stands_at f n.state j w.0 owns.joined w.1) fits in
+      let fits : slots_used w.0.queue ≤ slots_of w.0.queue =
+      subst (λ (r : Ring). slots_used r ≤ slots_of r) (ring_at-pipe n.state.pipes j w.0 w.1) (owns.joined.fits j) in
+      let queue : IsQueue (queue_of f w.0.queue) =
+      ring_queue f w.0.queue sound (stands_at f n.state j w.0 owns.joined w.1) fits in
       let bytes = length-joined-le (queue_of f w.0.queue).segments queue.each in
       let slots = queue.slots in
       let h : machine.Pipe Window → ℕ = λ (q : machine.Pipe Window). q.queue.capacity in
       let weighs = ap (weight h) w.1 in
       let among = weight-le-sum_of h n.state.pipes j in
       let within : pages n.state ≤ n.limits.reserve = pages_within f n owns in
-      let here : length (bytes_of (queue_of f w.0.queue)) ≤ 268435456 = omega (arith, bytes, slots, weighs, among, within, most) in
+      let here : length (bytes_of (queue_of f w.0.queue)) ≤ 268435456 =
+      omega (arith, bytes, slots, weighs, among, within, most) in
       subst (λ (q : machine.Pipe Segment). length (bytes_of q.queue) ≤ 268435456) w.2 here
 
 -- A read
 
-module _ {files : Files} {files_made : ℕ} (limits : Limits) (charges : UserPages) (ps : ProcessRows) (ds : DescriptionRows) (pipes : PipeRows) (k : Kept charges ps ds pipes)
-    (n : Namespace) (view : record { limits = limits; state = state_of ps ds pipes files files_made } ≡ n) (pid fd count : ℕ) where
+module _ {files : Files} {files_made : ℕ} (limits : Limits) (charges : UserPages) (ps : ProcessRows)
+    (ds : DescriptionRows) (pipes : PipeRows) (k : Kept charges ps ds pipes)
+    (n : Namespace) (view : record { limits = limits; state = state_of ps ds pipes files files_made } ≡ n)
+    (pid fd count : ℕ) where
   abbrev shows : Live → State Segment ℕ
   shows f = meaning f (state_of ps ds pipes files files_made)
 
   -- nothing where there is no end that reads
-  pub no_read : ((d : Description) → end_in (Some sides.Read) ps ds pid fd ≡ Ok d → ⊥) → Covers n (steps.Read pid fd count) 0
-  no_read none f sound owns = subst (AtMost f (steps.Read pid fd count) 0) view (by_end (end_in (Some sides.Read) ps ds pid fd) refl)
+  pub no_read : ((d : Description) → end_in (Some sides.Read) ps ds pid fd ≡ Ok d → ⊥)
+      → Covers n (steps.Read pid fd count) 0
+  no_read none f sound owns =
+      subst (AtMost f (steps.Read pid fd count) 0) view (by_end (end_in (Some sides.Read) ps ds pid fd) refl)
     where
-      by_end : (r : Result Description Errno) → end_in (Some sides.Read) ps ds pid fd ≡ r → AtMost f (steps.Read pid fd count) 0 (record { limits = limits; state = state_of ps ds pipes files files_made })
+      by_end : (r : Result Description Errno) → end_in (Some sides.Read) ps ds pid fd ≡ r
+          → AtMost f (steps.Read pid fd count) 0 (record
+          { limits = limits; state = state_of ps ds pipes files files_made })
       by_end (Ok d) h = absurd (none d h)
       by_end (Err e) h =
           few (shows f) 0 (call limits (shows f) (steps.Read pid fd count)) (read-few (shows f) 0 limits pid fd count
-          (λ x is. let both : ◌≡◌ {A = Result (End Segment ℕ) Errno} (Err e) (Ok x) = sym (refused (pipe_meaning f) (Some sides.Read) ps ds pipes files files_made k.tied pid fd e h) ∙ is in absurd (cc)))
+          (λ x is. let both : ◌≡◌ {A = Result (End Segment ℕ) Errno} (Err e) (Ok x) = sym
+          (refused (pipe_meaning f) (Some sides.Read) ps ds pipes files files_made k.tied pid fd e h)
+          ∙ is in absurd (cc)))
 
   module _ (d : Description) (h : end_in (Some sides.Read) ps ds pid fd ≡ Ok d) where
     -- it has a pipe
@@ -92,32 +106,41 @@ module _ {files : Files} {files_made : ℕ} (limits : Limits) (charges : UserPag
         absurd (cc)
 
     -- what the pipe holds, up to what is asked for
-    pub reads : (r : Pipe) → find pipes d.pipe.slot d.pipe.serial ≡ Some r → (held : ℕ) → ((f : Live) → IsSound f → Stands f r.ring.segments → held ≡ length (bytes_of (queue_of f r.ring)))
+    pub reads : (r : Pipe) → find pipes d.pipe.slot d.pipe.serial ≡ Some r → (held : ℕ)
+        → ((f : Live) → IsSound f → Stands f r.ring.segments → held ≡ length (bytes_of (queue_of f r.ring)))
         → Covers n (steps.Read pid fd count) (min held count)
     reads r handed held holds f sound owns =
         let e = found (pipe_meaning f) (Some sides.Read) ps ds pipes files files_made k.tied pid fd d h in
-        let rows : ◌≡◌ {A = Option Pipe} (Some e.pipe) (Some r) = sym (find_at pipes d.pipe.slot d.pipe.serial e.pipe e.stands) ∙ handed in
+        let rows : ◌≡◌ {A =
+        Option Pipe} (Some e.pipe) (Some r) = sym (find_at pipes d.pipe.slot d.pipe.serial e.pipe e.stands) ∙ handed in
         let same : e.pipe ≡ r = cc in
-        let stands : Stands f r.ring.segments = transfers.stands_in f limits charges ps ds pipes k n view owns d r handed in
+        let stands : Stands f r.ring.segments =
+        transfers.stands_in f limits charges ps ds pipes k n view owns d r handed in
         let number : held ≡ length (bytes_of (queue_of f r.ring)) = holds f sound stands in
         subst (AtMost f (steps.Read pid fd count) (min held count)) view
-        (few (shows f) (min held count) (call limits (shows f) (steps.Read pid fd count)) (read-few (shows f) (min held count) limits pid fd count
+        (few (shows f) (min held count) (call limits (shows f) (steps.Read pid fd count))
+        (read-few (shows f) (min held count) limits pid fd count
         (λ x is.
-        let ends : ◌≡◌ {A = Result (End Segment ℕ) Errno} (Ok (end_of_rows (pipe_meaning f) d e.pipe)) (Ok x) = sym e.is ∙ is in
+        let ends : ◌≡◌ {A =
+        Result (End Segment ℕ) Errno} (Ok (end_of_rows (pipe_meaning f) d e.pipe)) (Ok x) = sym e.is ∙ is in
         let end : end_of_rows (pipe_meaning f) d e.pipe ≡ x = cc in
-        let bytes : length (bytes_of (queue_of f r.ring)) ≡ length (bytes_of x.pipe.queue) = ap (λ (q : Pipe). length (bytes_of (queue_of f q.ring))) (sym same) ∙ ap (λ (y : End Segment ℕ). length (bytes_of y.pipe.queue)) end in
+        let bytes : length (bytes_of (queue_of f r.ring)) ≡ length (bytes_of x.pipe.queue) =
+        ap (λ (q : Pipe). length (bytes_of (queue_of f q.ring))) (sym same)
+        ∙ ap (λ (y : End Segment ℕ). length (bytes_of y.pipe.queue)) end in
         omega (arith, read_bytes (shows f) x count, bytes, number))))
 
 -- A list
 
 module _ {files : Files} {files_made : ℕ} (limits : Limits) (ps : ProcessRows) (ds : DescriptionRows) (pipes : PipeRows)
     (n : Namespace) (view : record { limits = limits; state = state_of ps ds pipes files files_made } ≡ n) where
-  pub lists : (most : ℕ) → ((path : Path) → length (listed (names_below path files)) ≤ most) → (pid : ℕ) (path : List ℕ) → Covers n (steps.List pid path) most
+  pub lists : (most : ℕ) → ((path : Path) → length (listed (names_below path files)) ≤ most) → (pid : ℕ) (path : List ℕ)
+      → Covers n (steps.List pid path) most
   lists most h pid path f sound owns =
       subst (AtMost f (steps.List pid path) most) view
       (few s most (call limits s (steps.List pid path)) (list-few s most limits pid path
       (λ p ready. carries Short (target files p.cred path) _
-      (λ t. passes Short (refuse_if (not (is_directory t.file)) ENOTDIR) _ (passes Short (refuse_if (not (allows p.cred t.file.meta Access.Read)) EACCES) _ (h t.path))))))
+      (λ t. passes Short (refuse_if (not (is_directory t.file)) ENOTDIR) _
+      (passes Short (refuse_if (not (allows p.cred t.file.meta Access.Read)) EACCES) _ (h t.path))))))
     where
       s : State Segment ℕ
       s = meaning f (state_of ps ds pipes files files_made)
@@ -134,35 +157,49 @@ Standing s e = at s.pipes e.description.pipe ≡ Some e.pipe
 end_at-stands : (s : State Segment ℕ) (m : ℕ) → Holds (Standing s) (or_refuse EBADF (end_at itself s m))
 end_at-stands s m = by_description (at s.descriptions m)
   where
-    by_pipe : (d : machine.Description ℕ) (o : Option (machine.Pipe Segment)) → at s.pipes d.pipe ≡ o → Holds (Standing s) (or_refuse EBADF (option_map (λ (pipe : machine.Pipe Segment). record { description = d; pipe = pipe }) o))
+    by_pipe : (d : machine.Description ℕ) (o : Option (machine.Pipe Segment)) → at s.pipes d.pipe ≡ o
+        → Holds (Standing s) (or_refuse EBADF (option_map
+        (λ (pipe : machine.Pipe Segment). record { description = d; pipe = pipe }) o))
     by_pipe d None e = tt
     by_pipe d (Some p) e = e
 
-    by_description : (o : Option (machine.Description ℕ)) → Holds (Standing s) (or_refuse EBADF (option_and_then (λ d. option_map (λ (pipe : machine.Pipe Segment). record { description = d; pipe = pipe }) (at s.pipes d.pipe)) o))
+    by_description : (o : Option (machine.Description ℕ))
+        → Holds (Standing s) (or_refuse EBADF (option_and_then
+        (λ d. option_map (λ (pipe : machine.Pipe Segment). record { description = d; pipe = pipe }) (at s.pipes d.pipe))
+        o))
     by_description None = tt
     by_description (Some d) = by_pipe d (at s.pipes d.pipe) refl
 
-reading_end-stands : (s : State Segment ℕ) (p : machine.Process ℕ) (fd : ℕ) → Holds (Standing s) (reading_end itself s p fd)
-reading_end-stands s p fd = goes (Standing s) (Standing s) (end_of itself s p fd) _ (by_number (at p.descriptors fd)) (λ e h. passes (Standing s) (refuse_if (not e.description.reads) EBADF) (Ok e) h)
+reading_end-stands : (s : State Segment ℕ) (p : machine.Process ℕ) (fd : ℕ)
+    → Holds (Standing s) (reading_end itself s p fd)
+reading_end-stands s p fd =
+    goes (Standing s) (Standing s) (end_of itself s p fd) _ (by_number (at p.descriptors fd))
+    (λ e h. passes (Standing s) (refuse_if (not e.description.reads) EBADF) (Ok e) h)
   where
     by_number : (o : Option ℕ) → Holds (Standing s) (or_refuse EBADF (option_and_then (end_at itself s) o))
     by_number None = tt
     by_number (Some m) = end_at-stands s m
 
-reading_there : (s : State Segment ℕ) (p : machine.Process ℕ) (fd : ℕ) (e : End Segment ℕ) → reading_end itself s p fd ≡ Ok e → Standing s e
+reading_there : (s : State Segment ℕ) (p : machine.Process ℕ) (fd : ℕ) (e : End Segment ℕ)
+    → reading_end itself s p fd ≡ Ok e → Standing s e
 reading_there s p fd e is = subst (Holds (Standing s)) is (reading_end-stands s p fd)
 
 -- the machine's call is the one that the tables keep
-call_shown : (f : Live) (ps : ProcessRows) (ds : DescriptionRows) (pipes : PipeRows) (files : Files) (files_made pid : ℕ) → machine_call_of (meaning f (state_of ps ds pipes files files_made)) pid ≡ option_map call_of (call_in ps pid)
+call_shown : (f : Live) (ps : ProcessRows) (ds : DescriptionRows) (pipes : PipeRows) (files : Files)
+    (files_made pid : ℕ) → machine_call_of (meaning f (state_of ps ds pipes files files_made)) pid
+    ≡ option_map call_of (call_in ps pid)
 call_shown f ps ds pipes files files_made pid = by_pid pid
   where
-    by_row : (x : Option Process) → option_and_then (λ (p : machine.Process ℕ). p.parked) (option_map process_of x) ≡ option_map call_of (option_and_then (λ (p : Process). p.parked) x)
+    by_row : (x : Option Process) → option_and_then (λ (p : machine.Process ℕ). p.parked) (option_map process_of x)
+        ≡ option_map call_of (option_and_then (λ (p : Process). p.parked) x)
     by_row None = refl
     by_row (Some p) = refl
 
-    by_pid : (m : ℕ) → machine_call_of (meaning f (state_of ps ds pipes files files_made)) m ≡ option_map call_of (call_in ps m)
+    by_pid : (m : ℕ) → machine_call_of (meaning f (state_of ps ds pipes files files_made)) m
+        ≡ option_map call_of (call_in ps m)
     by_pid zero = refl
-    by_pid (suc i) = ap (option_and_then (λ (p : machine.Process ℕ). p.parked)) (at-map process_of ps i) ∙ by_row (at ps i)
+    by_pid (suc i) =
+        ap (option_and_then (λ (p : machine.Process ℕ). p.parked)) (at-map process_of ps i) ∙ by_row (at ps i)
 
 -- what a call asks for, as far as it hands anything out
 abbrev pub asked : Option (Call Key) → ℕ
@@ -170,14 +207,19 @@ asked (Some (Read fd count)) = count
 asked _ = 0
 
 module _ {files : Files} {files_made : ℕ} (limits : Limits) (ps : ProcessRows) (ds : DescriptionRows) (pipes : PipeRows)
-    (n : Namespace) (view : record { limits = limits; state = state_of ps ds pipes files files_made } ≡ n) (most : limits.reserve ≤ MAX_RESERVE) (pid : ℕ) where
+    (n : Namespace) (view : record { limits = limits; state = state_of ps ds pipes files files_made } ≡ n)
+    (most : limits.reserve ≤ MAX_RESERVE) (pid : ℕ) where
   pub resumes : (o : Option (Call Key)) → o ≡ call_in ps pid → Covers n (steps.Resume pid) (min 268435456 (asked o))
   resumes o is f sound owns =
       subst (AtMost f (steps.Resume pid) (min 268435456 (asked o))) view
-      (few s (min 268435456 (asked o)) (call limits s (steps.Resume pid)) (resume-few s (min 268435456 (asked o)) limits pid
+      (few s (min 268435456 (asked o)) (call limits s (steps.Resume pid))
+      (resume-few s (min 268435456 (asked o)) limits pid
       (λ p fd count e waits reads.
-      let all = all_bytes f m sound (subst (Owns f) (sym view) owns) most e.description.pipe e.pipe (reading_there s p fd e reads) in
-      let asks : asked o ≡ count = by_call o fd count (ap (option_map call_of) is ∙ sym (call_shown f ps ds pipes files files_made pid) ∙ waits) in
+      let all =
+      all_bytes f m sound (subst (Owns f) (sym view) owns) most e.description.pipe e.pipe
+      (reading_there s p fd e reads) in
+      let asks : asked o ≡ count =
+      by_call o fd count (ap (option_map call_of) is ∙ sym (call_shown f ps ds pipes files files_made pid) ∙ waits) in
       omega (arith, read_bytes s e count, all, asks))))
     where
       m : Namespace
@@ -186,7 +228,8 @@ module _ {files : Files} {files_made : ℕ} (limits : Limits) (ps : ProcessRows)
       s : State Segment ℕ
       s = meaning f (state_of ps ds pipes files files_made)
 
-      by_call : (x : Option (Call Key)) (fd count : ℕ) → option_map call_of x ≡ Some (calls.Moving (calls.Reading fd count)) → asked x ≡ count
+      by_call : (x : Option (Call Key)) (fd count : ℕ)
+          → option_map call_of x ≡ Some (calls.Moving (calls.Reading fd count)) → asked x ≡ count
       by_call None fd count e = absurd (cc)
       by_call (Some (Open key kept)) fd count e = absurd (cc)
       by_call (Some (Read fd' count')) fd count e = cc
@@ -195,5 +238,8 @@ module _ {files : Files} {files_made : ℕ} (limits : Limits) (ps : ProcessRows)
 
 -- Any other step
 
-pub others : (n : Namespace) (step : Step) → ((pid fd count : ℕ) → step ≡ steps.Read pid fd count → ⊥) → ((pid : ℕ) (path : List ℕ) → step ≡ steps.List pid path → ⊥) → ((pid : ℕ) → step ≡ steps.Resume pid → ⊥) → Covers n step 0
-others n step r l a f sound owns = few (meaning f n.state) 0 (call n.limits (meaning f n.state) step) (quiet (meaning f n.state) 0 n.limits step r l a)
+pub others : (n : Namespace) (step : Step) → ((pid fd count : ℕ) → step ≡ steps.Read pid fd count → ⊥)
+    → ((pid : ℕ) (path : List ℕ) → step ≡ steps.List pid path → ⊥) → ((pid : ℕ) → step ≡ steps.Resume pid → ⊥)
+    → Covers n step 0
+others n step r l a f sound owns =
+    few (meaning f n.state) 0 (call n.limits (meaning f n.state) step) (quiet (meaning f n.state) 0 n.limits step r l a)

@@ -1,6 +1,7 @@
 -- What a read lays into a buffer.
 
-use Rattle.std.proofs.Common.{◌≡◌, ℕ, ◌≤◌, Bool, true, false, List, length, take, drop, ◌++◌, nat_eq, nat_lt, if◌then◌else◌, ap, subst, ◌∙◌, arith, length-append, length-drop, length-take}
+use Rattle.std.proofs.Common.{◌≡◌, ℕ, ◌≤◌, Bool, true, false, List, length, take, drop, ◌++◌, nat_eq, nat_lt}
+use Rattle.std.proofs.Common.{if◌then◌else◌, ap, subst, ◌∙◌, arith, length-append, length-drop, length-take}
 use Rattle.std.specs.Prelude.{min}
 use Rattle.std.proofs.lemmas.List.{take_at, drop_at}
 use Rattle.pf_machine.specs.Queue.{Queue, bytes_of, taken, after_take}
@@ -27,11 +28,15 @@ read_now-le : (q : Queue) (writers n : ℕ) → moved (read_now q writers n).pro
 read_now-le q writers n = read_by-le q n (nat_eq n 0) (nat_lt 0 (length (bytes_of q))) (nat_eq writers 0)
 
 -- and it takes just as many
-pub as_many_read : (q : Queue) (writers n : ℕ) → length (taken q (moved (read_now q writers n).progress)) ≡ moved (read_now q writers n).progress
-as_many_read q writers n = omega (arith, length-take (moved (read_now q writers n).progress) (bytes_of q), read_now-le q writers n)
+pub as_many_read : (q : Queue) (writers n : ℕ) → length (taken q (moved (read_now q writers n).progress))
+    ≡ moved (read_now q writers n).progress
+as_many_read q writers n =
+    omega (arith, length-take (moved (read_now q writers n).progress) (bytes_of q), read_now-le q writers n)
 
 -- a read that moved so many bytes, into a buffer of n
-module _ (q : Queue) (writers number : ℕ) (before after : List ℕ) (is : moved (read_now q writers (length before)).progress ≡ number) (lie : after ≡ taken q number ++ drop number before) where
+module _ (q : Queue) (writers number : ℕ) (before after : List ℕ)
+    (is : moved (read_now q writers (length before)).progress ≡ number)
+    (lie : after ≡ taken q number ++ drop number before) where
   few : number ≤ min (length before) (length (bytes_of q))
   few = subst (λ k. k ≤ min (length before) (length (bytes_of q))) is (read_now-le q writers (length before))
 
@@ -45,6 +50,8 @@ module _ (q : Queue) (writers number : ℕ) (before after : List ℕ) (is : move
   pub lies : Lies number before after
   lies = record {
     fits = omega (arith, few);
-    as_long = omega (arith, ap length lie, length-append (taken q number) (drop number before), length-drop number before, as_many, few);
+    as_long =
+        omega (arith, ap length lie, length-append (taken q number) (drop number before), length-drop number before,
+        as_many, few);
     behind = ap (drop number) lie ∙ drop_at (taken q number) (drop number before) number as_many;
   }

@@ -1,7 +1,8 @@
 -- What goes, in the meaning of the state that it leaves: a descriptor with whatever nobody can reach any more, and a
 -- process.
 
-use Rattle.std.proofs.Common.{◌≡◌, ℕ, zero, suc, ◌+◌, ◌-◌, ◌<◌, ◌≤◌, List, [], map, set, Option, Some, None, Result, Ok, Err, refl, ap, sym, ◌∙◌, subst, arith}
+use Rattle.std.proofs.Common.{◌≡◌, ℕ, zero, suc, ◌+◌, ◌-◌, ◌<◌, ◌≤◌, List, [], map, set, Option, Some, None, Result, Ok}
+use Rattle.std.proofs.Common.{Err, refl, ap, sym, ◌∙◌, subst, arith}
 use Rattle.std.specs.Option.{option_map, option_and_then}
 use Rattle.std.proofs.lemmas.List.{map-set}
 use Rattle.pf_machine.specs.Refusals.{◌>>=◌}
@@ -11,7 +12,7 @@ use Rattle.pf_machine.specs.Numbered.{at, clear_at}
 use Rattle.pf_machine.specs.Calls.{Call}
 use Rattle.pf_machine.specs.Machine.{call_of}
 use Rattle.pf_machine.specs.State as machine
-use Rattle.pf_machine.specs.State.{itself, State, Outcome, Pipe, living, of_ready, with_process, done}
+use Rattle.pf_machine.specs.State.{itself, State, Outcome, living, of_ready, with_process, done}
 use Rattle.pf_machine.specs.Descriptors.{close, without_descriptor}
 use Rattle.pf_machine.specs.Processes.{exit}
 use Rattle.pf_machine.specs.Queue.{Segment}
@@ -32,7 +33,9 @@ use Rattle.pf_tables.proofs.MeaningLaws.{sweep-meaning, pipes-without}
 use Rattle.pf_tables.specs.Owns.{Owns}
 use Rattle.pf_tables.proofs.OwnsLaws.{stands_at, joined_gone, others_written}
 use Rattle.pf_tables.specs.Rows as rows
-use Rattle.pf_tables.specs.Rows.{key_in, pipe_of, ProcessRows, DescriptionRows, PipeRows, Key, Process, process_in, ready_in, key_at, keys_of, process_of, processes_of, descriptions_of, pipes_of, state_of, Tied, Kept}
+use Rattle.pf_tables.specs.Rows.{key_in, pipe_of, ProcessRows, DescriptionRows, PipeRows, Key, Process, process_in}
+use Rattle.pf_tables.specs.Rows.{key_at, keys_of, process_of, processes_of, descriptions_of, pipes_of}
+use Rattle.pf_tables.specs.Rows.{state_of, Tied, Kept}
 use Rattle.pf_tables.specs.Tables.{descriptor, emptied, without_place, Left}
 use Rattle.pf_tables.specs.Told.{Becomes}
 use Rattle.pf_tables.proofs.ProcessTableReady.{lives, lives_not, place_is}
@@ -46,9 +49,12 @@ none_was : {X Y : Type 0} (f : X → Y) (o : Option X) → option_map f o ≡ No
 none_was f None h = refl
 none_was f (Some x) h = absurd (cc)
 
-module _ {files : Files} {files_made : ℕ} (f : Live) (limits : Limits) (charges : UserPages) (ps : ProcessRows) (ds : DescriptionRows) (pipes : PipeRows) (k : Kept charges ps ds pipes)
-    (n : Namespace) (view : record { limits = limits; state = state_of ps ds pipes files files_made } ≡ n) (owns : Owns f n)
-    (i fd : ℕ) (ps' : ProcessRows) (ds' : DescriptionRows) (pipes' : PipeRows) (l : Left ps ds pipes ps' ds' pipes' i fd) where
+module _ {files : Files} {files_made : ℕ} (f : Live) (limits : Limits) (charges : UserPages) (ps : ProcessRows)
+    (ds : DescriptionRows) (pipes : PipeRows) (k : Kept charges ps ds pipes)
+    (n : Namespace) (view : record { limits = limits; state = state_of ps ds pipes files files_made } ≡ n)
+    (owns : Owns f n)
+    (i fd : ℕ) (ps' : ProcessRows) (ds' : DescriptionRows) (pipes' : PipeRows)
+    (l : Left ps ds pipes ps' ds' pipes' i fd) where
   abbrev new : Namespace
   new = record { limits = limits; state = state_of ps' ds' pipes' files files_made }
 
@@ -56,53 +62,76 @@ module _ {files : Files} {files_made : ℕ} (f : Live) (limits : Limits) (charge
   owned = subst (Owns f) (sym view) owns
 
   -- the state by the meaning of the one before, where the pipes that are left mean the same
-  away : (g : Live) → Owns g new → map (option_map (pipe_meaning g)) (pipes_of pipes') ≡ map (option_map (pipe_meaning f)) (pipes_of pipes') → Becomes f g n new (emptied (meaning f n.state) i fd)
+  away : (g : Live) → Owns g new → map (option_map (pipe_meaning g)) (pipes_of pipes')
+      ≡ map (option_map (pipe_meaning f)) (pipes_of pipes') → Becomes f g n new (emptied (meaning f n.state) i fd)
   away g own same =
       subst (λ (m : Namespace). Becomes f g m new (emptied (meaning f m.state) i fd)) view
       (record {
         owns = own;
         limits = refl;
-        state = ap (λ xs. record { processes = processes_of ps'; descriptions = descriptions_of ds'; pipes = xs; files = files; files_made = files_made }) same ∙ ap (meaning f) (l.state files files_made) ∙ sym (sweep-meaning f (emptied (state_of ps ds pipes files files_made) i fd));
+        state =
+            ap (λ xs. record { processes = processes_of ps'; descriptions = descriptions_of ds'; pipes = xs; files =
+            files; files_made = files_made }) same ∙ ap (meaning f) (l.state files files_made)
+            ∙ sym (sweep-meaning f (emptied (state_of ps ds pipes files files_made) i fd));
       })
 
   -- No pipe went
   module _ (same : pipes_of pipes' ≡ pipes_of pipes) where
     pub pipes_stay : Becomes f f n new (emptied (meaning f n.state) i fd)
-    pipes_stay = away f (record { joined = subst (λ xs. Joined f (map ring_or xs)) (sym same) owned.joined; reserve = owned.reserve }) refl
+    pipes_stay =
+        away f (record { joined = subst (λ xs. Joined f (map ring_or xs)) (sym same) owned.joined; reserve =
+        owned.reserve }) refl
 
   -- A pipe went, and its ring was cleared
-  module _ (m : ℕ) (p : rows.Pipe) (there : at (pipes_of pipes) m ≡ Some (pipe_of (0, p))) (left : pipes_of pipes' ≡ clear_at (pipes_of pipes) m) where
+  module _ (m : ℕ) (p : rows.Pipe) (there : at (pipes_of pipes) m ≡ Some (pipe_of (0, p)))
+      (left : pipes_of pipes' ≡ clear_at (pipes_of pipes) m) where
     pub gone_stands : Stands f p.ring.segments
     gone_stands = stands_at f (state_of ps ds pipes files files_made) m _ owned.joined there
 
     -- its pages are among its owner's
     pub gone_covered : (owner pages : ℕ) → owner ≡ p.owner → pages ≡ p.ring.capacity → pages ≤ charged_to charges owner
     gone_covered owner pages o e =
-        omega (arith, covers (λ (q : machine.Pipe Window). q.owner) (λ (q : machine.Pipe Window). q.queue.capacity) charges (pipes_of pipes) m _ k.charged there, e, ap (charged_to charges) o)
+        omega (arith, covers (λ (q : machine.Pipe Window). q.owner) (λ (q : machine.Pipe Window). q.queue.capacity)
+        charges (pipes_of pipes) m _ k.charged there, e, ap (charged_to charges) o)
 
-    pub gone_kept : (charges' : UserPages) (owner pages : ℕ) → owner ≡ p.owner → pages ≡ p.ring.capacity → Charges charges' charges owner pages → Kept charges' ps' ds' pipes'
+    pub gone_kept : (charges' : UserPages) (owner pages : ℕ) → owner ≡ p.owner → pages ≡ p.ring.capacity
+        → Charges charges' charges owner pages → Kept charges' ps' ds' pipes'
     gone_kept charges' owner pages o e refunds =
-        let back : Charges charges' charges p.owner p.ring.capacity = subst (λ (n : ℕ). Charges charges' charges p.owner n) e (subst (λ (u : ℕ). Charges charges' charges u pages) o refunds) in
+        let back : Charges charges' charges p.owner p.ring.capacity =
+        subst (λ (n : ℕ). Charges charges' charges p.owner n) e
+        (subst (λ (u : ℕ). Charges charges' charges u pages) o refunds) in
         record {
           tied = l.tied;
-          charged = subst (λ (xs : List (Option (machine.Pipe Window))). AreSumsOf (λ (q : machine.Pipe Window). q.owner) (λ (q : machine.Pipe Window). q.queue.capacity) charges' xs) (sym left)
-              (refunded (λ (q : machine.Pipe Window). q.owner) (λ (q : machine.Pipe Window). q.queue.capacity) charges charges' (pipes_of pipes) k.charged m _ there back);
+          charged =
+              subst (λ (xs : List (Option (machine.Pipe Window))). AreSumsOf (λ (q : machine.Pipe Window). q.owner)
+              (λ (q : machine.Pipe Window). q.queue.capacity) charges' xs) (sym left)
+              (refunded (λ (q : machine.Pipe Window). q.owner) (λ (q : machine.Pipe Window). q.queue.capacity) charges
+              charges' (pipes_of pipes) k.charged m _ there back);
         }
 
     module _ (g : Live) (keeps : Keeps [] p.ring.segments [] f g) where
-      same_meaning : map (option_map (pipe_meaning g)) (clear_at (pipes_of pipes) m) ≡ map (option_map (pipe_meaning f)) (clear_at (pipes_of pipes) m)
+      same_meaning : map (option_map (pipe_meaning g)) (clear_at (pipes_of pipes) m)
+          ≡ map (option_map (pipe_meaning f)) (clear_at (pipes_of pipes) m)
       same_meaning =
-          pipes-without f g (pipes_of pipes) m (others_written f g (state_of ps ds pipes files files_made) m _ (record { capacity = p.ring.capacity; segments = [] }) [] (no_source (rings_of (state_of ps ds pipes files files_made))) owned.joined there keeps)
+          pipes-without f g (pipes_of pipes) m (others_written f g (state_of ps ds pipes files files_made) m _
+              (record { capacity =
+              p.ring.capacity; segments = [] }) [] (no_source (rings_of (state_of ps ds pipes files files_made)))
+              owned.joined there keeps)
           ∙ sym (map-set (option_map (pipe_meaning f)) (pipes_of pipes) m None)
 
       pub gone_becomes : Becomes f g n new (emptied (meaning f n.state) i fd)
       gone_becomes =
           away g
           (record {
-            joined = subst (λ xs. Joined g (map ring_or xs)) (sym left) (joined_gone f g (state_of ps ds pipes files files_made) m _ (record { capacity = p.ring.capacity; segments = [] }) [] (no_source (rings_of (state_of ps ds pipes files files_made))) owned.joined there keeps refl);
+            joined =
+                subst (λ xs. Joined g (map ring_or xs)) (sym left)
+                (joined_gone f g (state_of ps ds pipes files files_made) m _
+                (record { capacity = p.ring.capacity; segments = [] }) []
+                (no_source (rings_of (state_of ps ds pipes files files_made))) owned.joined there keeps refl);
             reserve = owned.reserve ∙ sym keeps.reservation;
           })
-          (subst (λ xs. map (option_map (pipe_meaning g)) xs ≡ map (option_map (pipe_meaning f)) xs) (sym left) same_meaning)
+          (subst (λ xs. map (option_map (pipe_meaning g)) xs ≡ map (option_map (pipe_meaning f)) xs) (sym left)
+          same_meaning)
 
 -- A process that has no descriptors
 

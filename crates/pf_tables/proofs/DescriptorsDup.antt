@@ -1,7 +1,8 @@
 -- One more name of a description: how many it may have, and that nothing is shown of it. And a descriptor's key at the
 -- lowest free descriptor too, in the meaning of the state that it leaves.
 
-use Rattle.std.proofs.Common.{◌≡◌, ℕ, suc, ◌+◌, ◌-◌, ◌*◌, ◌^◌, ◌<◌, ◌≤◌, Bool, true, false, nat_le, nat_eq, List, [], ◌∷◌, length, set, Option, Some, None, Result, Ok, Err, refl, sym, ap, subst, ◌∙◌, arith}
+use Rattle.std.proofs.Common.{◌≡◌, ℕ, suc, ◌+◌, ◌-◌, ◌*◌, ◌^◌, ◌<◌, ◌≤◌, Bool, true, false, nat_le, nat_eq, List, []}
+use Rattle.std.proofs.Common.{◌∷◌, length, set, Option, Some, None, Result, Ok, Err, refl, sym, ap, subst, ◌∙◌, arith}
 use Rattle.std.specs.Option.{option_map}
 use Rattle.std.proofs.lemmas.Bool.Decides.{nat_tests}
 use Rattle.std.proofs.lemmas.List.{map-set}
@@ -21,7 +22,9 @@ use Rattle.pf_fds.specs.Registry.{find}
 use Rattle.pf_limits.specs.UserPages.{UserPages}
 use Rattle.pf_ring.specs.declared.ring.Window.{Window}
 use Rattle.pf_tables.specs.Meaning.{Namespace}
-use Rattle.pf_tables.specs.Rows.{ProcessRows, DescriptionRows, PipeRows, Key, Named, Process, Description, call_of, ready_in, key_in, with_key, process_of, description_of, descriptions_of, pipes_of, state_of, keys_of, names_it, named, held, NamedRow, TiedWith, Tied, Kept}
+use Rattle.pf_tables.specs.Rows.{ProcessRows, DescriptionRows, PipeRows, Key, Named, Process, Description, call_of}
+use Rattle.pf_tables.specs.Rows.{ready_in, key_in, with_key, process_of, description_of, descriptions_of, pipes_of}
+use Rattle.pf_tables.specs.Rows.{state_of, keys_of, names_it, named, held, NamedRow, TiedWith, Tied, Kept}
 use Rattle.pf_tables.specs.Tables.{Makes}
 use Rattle.pf_tables.proofs.TablesSettled.{makes}
 use Rattle.pf_tables.proofs.ProcessTableReady.{place_is}
@@ -40,16 +43,19 @@ few_of_list n [] = omega arith
 few_of_list n (None ∷ ks) = omega (arith, few_of_list n ks)
 few_of_list n (Some k ∷ ks) = omega (arith, one_at_most (nat_eq k.serial n), few_of_list n ks)
 
-few_of_all : (n : ℕ) (ps : ProcessRows) → ((i : ℕ) (p : Process) → at ps i ≡ Some p → length p.descriptors ≡ 256) → named ps n ≤ 257 * length ps
+few_of_all : (n : ℕ) (ps : ProcessRows) → ((i : ℕ) (p : Process) → at ps i ≡ Some p → length p.descriptors ≡ 256)
+    → named ps n ≤ 257 * length ps
 few_of_all n [] wide = omega arith
 few_of_all n (None ∷ ps) wide = omega (arith, few_of_all n ps (λ i. wide (suc i)))
-few_of_all n (Some p ∷ ps) wide = omega (arith, few_of_list n (keys_of p), wide 0 p refl, few_of_all n ps (λ i. wide (suc i)))
+few_of_all n (Some p ∷ ps) wide =
+    omega (arith, few_of_list n (keys_of p), wide 0 p refl, few_of_all n ps (λ i. wide (suc i)))
 
 few_held : (n : ℕ) (ks : List Key) → held (names_it n) ks ≤ length ks
 few_held n [] = omega arith
 few_held n (k ∷ ks) = omega (arith, one_at_most (nat_eq k.serial n), few_held n ks)
 
-module _ (K : List Key) (ps : ProcessRows) (ds : DescriptionRows) (pipes : PipeRows) (t : TiedWith K [] ps ds pipes) where
+module _ (K : List Key) (ps : ProcessRows) (ds : DescriptionRows) (pipes : PipeRows)
+    (t : TiedWith K [] ps ds pipes) where
   pub few_names : (n : ℕ) (e : ℕ × Named Description) → at ds n ≡ Some e → e.1.names ≤ 65792 + length K
   few_names n e stands =
       let row = subst (NamedRow (named ps n + held (names_it n) K)) stands (t.names n) in
@@ -61,10 +67,12 @@ module _ (ds : DescriptionRows) (k : Key) (e : Named Description) (stands : at d
   pub named_row : change_at one_more ds k.serial ≡ put_at ds k.serial (k.slot, record e { names = e.names + 1 })
   named_row = ap (λ (o : Option (ℕ × Named Description)). set ds k.serial (option_map one_more o)) stands
 
-  pub recounted_shown : (m : ℕ) → descriptions_of (put_at ds k.serial (k.slot, record e { names = m })) ≡ descriptions_of ds
+  pub recounted_shown : (m : ℕ) → descriptions_of (put_at ds k.serial (k.slot, record e { names = m }))
+      ≡ descriptions_of ds
   recounted_shown m =
       map-set (option_map description_of) ds k.serial (Some (k.slot, record e { names = m }))
-      ∙ set_same (descriptions_of ds) k.serial (Some (description_of (k.slot, e))) (sym (shown description_of ds k.serial (k.slot, e) stands))
+      ∙ set_same (descriptions_of ds) k.serial (Some (description_of (k.slot, e)))
+      (sym (shown description_of ds k.serial (k.slot, e) stands))
 
   pub names_are : names_of (find ds k.slot k.serial) ≡ e.names
   names_are = ap names_of (find_at ds k.slot k.serial e stands)
@@ -72,11 +80,15 @@ module _ (ds : DescriptionRows) (k : Key) (e : Named Description) (stands : at d
 module _ (K : List Key) (E : List Description) (ps : ProcessRows) (ds : DescriptionRows) (pipes : PipeRows) where
   module _ (k : Key) (d : Named Description) (stands : at ds k.serial ≡ Some (k.slot, d)) where
     -- one name more, of a key in the hand
-    pub named_again : TiedWith K E ps ds pipes → TiedWith (k ∷ K) E ps (put_at ds k.serial (k.slot, record d { names = d.names + 1 })) pipes
+    pub named_again : TiedWith K E ps ds pipes → TiedWith (k ∷ K) E ps
+        (put_at ds k.serial (k.slot, record d { names = d.names + 1 })) pipes
     named_again t =
-        redescribed K E ps ds pipes t k.serial (k.slot, d) stands (Some (k.slot, record d { names = d.names + 1 })) (k ∷ K) E
-        (place_and_end K E ps ds pipes k d stands t (d.names + 1)) (found ds k d stands, t.in_hand) (λ n ne. omega (arith, names_none n k (λ e. ne (sym e))))
-        (let r = names_row K E ps ds pipes k d stands t in let one = names_one k in (omega (arith, r.0, one), omega (arith, r.1))) t.ends_in_hand (λ n. refl) (λ n. refl)
+        redescribed K E ps ds pipes t k.serial (k.slot, d) stands (Some (k.slot, record d { names =
+            d.names + 1 })) (k ∷ K) E
+        (place_and_end K E ps ds pipes k d stands t (d.names + 1)) (found ds k d stands, t.in_hand)
+        (λ n ne. omega (arith, names_none n k (λ e. ne (sym e))))
+        (let r = names_row K E ps ds pipes k d stands t in let one = names_one k in
+        (omega (arith, r.0, one), omega (arith, r.1))) t.ends_in_hand (λ n. refl) (λ n. refl)
 
 -- The call
 

@@ -15,7 +15,8 @@ use Rattle.pf_fds.specs.Registry.{find}
 use Rattle.pf_limits.specs.UserPages.{UserPages}
 use Rattle.pf_ring.specs.declared.ring.Window.{Window}
 use Rattle.pf_tables.specs.Meaning.{Namespace}
-use Rattle.pf_tables.specs.Rows.{ProcessRows, DescriptionRows, PipeRows, Key, Named, Description, description_of, descriptions_of, state_of, IsEnd, TiedWith, Kept}
+use Rattle.pf_tables.specs.Rows.{ProcessRows, DescriptionRows, PipeRows, Key, Named, Description, description_of}
+use Rattle.pf_tables.specs.Rows.{descriptions_of, state_of, IsEnd, TiedWith, Kept}
 use Rattle.pf_tables.specs.Tables.{Makes}
 use Rattle.pf_tables.proofs.TablesTied.{redescribed, names_row}
 use Rattle.pf_tables.proofs.DescriptorsNamed.{Has, key_row, named_is}

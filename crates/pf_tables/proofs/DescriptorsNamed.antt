@@ -1,6 +1,7 @@
 -- The description that a descriptor names, as the tables find it and as the machine does.
 
-use Rattle.std.proofs.Common.{◌≡◌, ℕ, suc, ◌-◌, Option, Some, None, IsSome, is_some, Result, Ok, Err, refl, sym, ap, ◌∙◌}
+use Rattle.std.proofs.Common.{◌≡◌, ℕ, suc, ◌-◌, Option, Some, None, IsSome, is_some, Result, Ok, Err, refl, sym, ap}
+use Rattle.std.proofs.Common.{◌∙◌}
 use Rattle.std.specs.Option.{option_map}
 use Rattle.pf_machine.specs.Refusals.{◌>>=◌, or_refuse}
 use Rattle.pf_machine.specs.Numbered.{at}
@@ -10,7 +11,8 @@ use Rattle.pf_machine.specs.Descriptors.{named}
 use Rattle.pf_base.specs.declared.errno.Errno.{Errno}
 use Rattle.pf_base.specs.declared.errno.Errno.TheVariants.{EBADF}
 use Rattle.pf_fds.specs.Registry.{find}
-use Rattle.pf_tables.specs.Rows.{ProcessRows, DescriptionRows, PipeRows, Key, Named, Process, Description, process_of, processes_of, ready_in, key_in, Tied}
+use Rattle.pf_tables.specs.Rows.{ProcessRows, DescriptionRows, PipeRows, Key, Named, Process, Description, process_of}
+use Rattle.pf_tables.specs.Rows.{processes_of, ready_in, key_in, Tied}
 use Rattle.pf_tables.proofs.ProcessTableReady.{shown_in, ready_shown, readies, place_is}
 use Rattle.pf_tables.proofs.TablesTied.{finds}
 use Rattle.pf_tables.proofs.TablesShown.{find_at}
@@ -28,7 +30,8 @@ has ps pid fd {k} is = by_row (ready_in ps pid) refl is
     some None h = absurd (cc)
     some (Some j) h = cc
 
-    by_row : (r : Result Process Errno) → ready_in ps pid ≡ r → (r >>= (λ p. or_refuse EBADF (at p.descriptors fd))) ≡ Ok k → Has ps pid fd k
+    by_row : (r : Result Process Errno) → ready_in ps pid ≡ r
+        → (r >>= (λ p. or_refuse EBADF (at p.descriptors fd))) ≡ Ok k → Has ps pid fd k
     by_row (Err e) c h = absurd (cc)
     by_row (Ok p) c h = record { p = p; caller = c; names = some (at p.descriptors fd) h }
 
@@ -37,18 +40,21 @@ module _ {A : Type 0} (go : machine.Process ℕ → ℕ → Result A Errno) (fd 
   abbrev goes_on : machine.Process ℕ → Result A Errno
   goes_on p = named p fd >>= go p
 
-  goes : (p : Process) → goes_on (process_of p) ≡ (or_refuse EBADF (option_map (λ (k : Key). k.serial) (at p.descriptors fd)) >>= go (process_of p))
+  goes : (p : Process) → goes_on (process_of p) ≡ (or_refuse EBADF
+      (option_map (λ (k : Key). k.serial) (at p.descriptors fd)) >>= go (process_of p))
   goes p = ap (λ o. or_refuse EBADF o >>= go (process_of p)) (at-map (λ (k : Key). k.serial) p.descriptors fd)
 
 -- the same where it is known who calls
-pub has_key : (ps : ProcessRows) (pid fd : ℕ) {p : Process} {k : Key} → ready_in ps pid ≡ Ok p → key_in ps pid fd ≡ Ok k → at p.descriptors fd ≡ Some k
+pub has_key : (ps : ProcessRows) (pid fd : ℕ) {p : Process} {k : Key} → ready_in ps pid ≡ Ok p → key_in ps pid fd ≡ Ok k
+    → at p.descriptors fd ≡ Some k
 has_key ps pid fd {p} {k} caller is =
     let w = has ps pid fd is in
     let one : ◌≡◌ {A = Result Process Errno} (Ok p) (Ok w.p) = sym caller ∙ w.caller in
     let same : p ≡ w.p = cc in
     ap (λ (q : Process). at q.descriptors fd) same ∙ w.names
 
-abbrev pub has_by : (ps : ProcessRows) (pid fd : ℕ) {p : Process} {k : Key} → ready_in ps pid ≡ Ok p → key_in ps pid fd ≡ Ok k → Has ps pid fd k
+abbrev pub has_by : (ps : ProcessRows) (pid fd : ℕ) {p : Process} {k : Key} → ready_in ps pid ≡ Ok p
+    → key_in ps pid fd ≡ Ok k → Has ps pid fd k
 has_by ps pid fd {p = p} caller is = record { p = p; caller = caller; names = has_key ps pid fd caller is }
 
 module _ {ps : ProcessRows} {ds : DescriptionRows} {pipes : PipeRows} (t : Tied ps ds pipes) (pid fd : ℕ) where

@@ -1,6 +1,7 @@
 -- The end of a pipe that a descriptor names, as the tables find it and as the machine does.
 
-use Rattle.std.proofs.Common.{◌≡◌, ℕ, suc, List, [], ◌∷◌, map, ◌+◌, ◌-◌, Bool, true, false, not, Option, Some, None, IsOk, is_ok, Result, Ok, Err, refl, sym, ap, subst, ◌∙◌, arith}
+use Rattle.std.proofs.Common.{◌≡◌, ℕ, suc, List, [], ◌∷◌, map, ◌+◌, ◌-◌, Bool, true, false, not, Option, Some, None}
+use Rattle.std.proofs.Common.{IsOk, is_ok, Result, Ok, Err, refl, sym, ap, subst, ◌∙◌, arith}
 use Rattle.std.specs.Option.{option_map, option_and_then}
 use Rattle.pf_machine.specs.FileMap.{Files}
 use Rattle.pf_machine.specs.Refusals.{◌>>=◌, ◌>>◌, refuse_if, or_refuse}
@@ -14,7 +15,9 @@ use Rattle.pf_base.specs.declared.errno.Errno.TheVariants.{EBADF}
 use Rattle.pf_base.specs.declared.progress.Side.{Side}
 use Rattle.pf_base.specs.declared.progress.Side.TheVariants as sides
 use Rattle.pf_ring.specs.declared.ring.Window.{Window}
-use Rattle.pf_tables.specs.Rows.{ProcessRows, DescriptionRows, PipeRows, Key, Named, Process, Description, Pipe, process_of, description_of, pipe_of, processes_of, descriptions_of, pipes_of, state_of, ready_in, has, description_in, end_in, read_by, written_by, UsedRow, Tied}
+use Rattle.pf_tables.specs.Rows.{ProcessRows, DescriptionRows, PipeRows, Key, Named, Process, Description, Pipe}
+use Rattle.pf_tables.specs.Rows.{process_of, description_of, pipe_of, processes_of, descriptions_of, pipes_of, state_of}
+use Rattle.pf_tables.specs.Rows.{ready_in, has, description_in, end_in, read_by, written_by, UsedRow, Tied}
 use Rattle.pf_tables.proofs.ProcessTableReady.{shown_in, ready_shown, place_is}
 use Rattle.pf_tables.proofs.TablesTied.{finds}
 use Rattle.pf_tables.proofs.TablesShown.{shown, find_at}
@@ -66,36 +69,51 @@ module _ {X : Type 0} (f : Sight X) (side : Option Side) (ps : ProcessRows) (ds 
   sided b e = refuse_if (not b) EBADF >> Ok e
 
   -- the machine's test of the side is that of the rows
-  by_side : (p : machine.Process ℕ) (d : Description) (r : Pipe) → option_and_then (end_at itself s) (at p.descriptors fd) ≡ Some (end_of_rows f d r) → side_end side s p fd ≡ sided (has side d) (end_of_rows f d r)
+  by_side : (p : machine.Process ℕ) (d : Description) (r : Pipe)
+      → option_and_then (end_at itself s) (at p.descriptors fd) ≡ Some (end_of_rows f d r)
+      → side_end side s p fd ≡ sided (has side d) (end_of_rows f d r)
   by_side p d r h = of_side side
     where
       of_side : (x : Option Side) → side_end x s p fd ≡ sided (has x d) (end_of_rows f d r)
       of_side None = ap (or_refuse EBADF) h
-      of_side (Some sides.Read) = ap (λ o. or_refuse EBADF o >>= (λ e. refuse_if (not e.description.reads) EBADF >> Ok e)) h
-      of_side (Some sides.Write) = ap (λ o. or_refuse EBADF o >>= (λ e. refuse_if (not e.description.writes) EBADF >> Ok e)) h
+      of_side (Some sides.Read) =
+          ap (λ o. or_refuse EBADF o >>= (λ e. refuse_if (not e.description.reads) EBADF >> Ok e)) h
+      of_side (Some sides.Write) =
+          ap (λ o. or_refuse EBADF o >>= (λ e. refuse_if (not e.description.writes) EBADF >> Ok e)) h
 
   no_side : (p : machine.Process ℕ) → at p.descriptors fd ≡ None → side_end side s p fd ≡ Err EBADF
   no_side p h = of_side side
     where
       of_side : (x : Option Side) → side_end x s p fd ≡ Err EBADF
       of_side None = ap (λ o. or_refuse EBADF (option_and_then (end_at itself s) o)) h
-      of_side (Some sides.Read) = ap (λ o. or_refuse EBADF (option_and_then (end_at itself s) o) >>= (λ e. refuse_if (not e.description.reads) EBADF >> Ok e)) h
-      of_side (Some sides.Write) = ap (λ o. or_refuse EBADF (option_and_then (end_at itself s) o) >>= (λ e. refuse_if (not e.description.writes) EBADF >> Ok e)) h
+      of_side (Some sides.Read) =
+          ap (λ o. or_refuse EBADF (option_and_then (end_at itself s) o)
+          >>= (λ e. refuse_if (not e.description.reads) EBADF >> Ok e)) h
+      of_side (Some sides.Write) =
+          ap (λ o. or_refuse EBADF (option_and_then (end_at itself s) o)
+          >>= (λ e. refuse_if (not e.description.writes) EBADF >> Ok e)) h
 
-  shown_key : (p : Process) (o : Option Key) → at p.descriptors fd ≡ o → at (process_of p).descriptors fd ≡ option_map (λ k. k.serial) o
+  shown_key : (p : Process) (o : Option Key) → at p.descriptors fd ≡ o
+      → at (process_of p).descriptors fd ≡ option_map (λ k. k.serial) o
   shown_key p o g = at-map (λ (k : Key). k.serial) p.descriptors fd ∙ ap (option_map (λ (k : Key). k.serial)) g
 
   -- a description's end of its pipe
-  pub end_shown : (k : Key) (e : Named Description) (r : Pipe) → at ds k.serial ≡ Some (k.slot, e) → at pipes e.value.pipe.serial ≡ Some (e.value.pipe.slot, r) → end_at itself s k.serial ≡ Some (end_of_rows f e.value r)
+  pub end_shown : (k : Key) (e : Named Description) (r : Pipe) → at ds k.serial ≡ Some (k.slot, e)
+      → at pipes e.value.pipe.serial ≡ Some (e.value.pipe.slot, r)
+      → end_at itself s k.serial ≡ Some (end_of_rows f e.value r)
   end_shown k e r h g =
-      ap (option_and_then (λ (d : machine.Description ℕ). option_map (λ (pipe : machine.Pipe X). record { description = d; pipe = pipe }) (at s.pipes d.pipe))) (shown description_of ds k.serial (k.slot, e) h)
+      ap (option_and_then (λ (d : machine.Description ℕ). option_map
+      (λ (pipe : machine.Pipe X). record { description = d; pipe = pipe }) (at s.pipes d.pipe)))
+      (shown description_of ds k.serial (k.slot, e) h)
       ∙ ap (option_map (λ (pipe : machine.Pipe X). record { description = description_of (k.slot, e); pipe = pipe }))
-      (at-map f (pipes_of pipes) e.value.pipe.serial ∙ ap (option_map f) (shown pipe_of pipes e.value.pipe.serial (e.value.pipe.slot, r) g))
+      (at-map f (pipes_of pipes) e.value.pipe.serial
+      ∙ ap (option_map f) (shown pipe_of pipes e.value.pipe.serial (e.value.pipe.slot, r) g))
 
   -- what the tables find and what the machine finds: one refusal, or the end that the rows show
   abbrev pub Agrees : Result Description Errno → Result (End X ℕ) Errno → Type 0
   Agrees (Err e) machine = machine ≡ Err e
-  Agrees (Ok d) machine = (r : Pipe) × (at pipes d.pipe.serial ≡ Some (d.pipe.slot, r)) × (machine ≡ Ok (end_of_rows f d r))
+  Agrees (Ok d) machine =
+      (r : Pipe) × (at pipes d.pipe.serial ≡ Some (d.pipe.slot, r)) × (machine ≡ Ok (end_of_rows f d r))
 
   abbrev pub if_sided : Description → Result Description Errno
   if_sided d = refuse_if (not (has side d)) EBADF >> Ok d
@@ -103,45 +121,59 @@ module _ {X : Type 0} (f : Sight X) (side : Option Side) (ps : ProcessRows) (ds 
   abbrev pub of_key : Option Key → Result Description Errno
   of_key o = or_refuse EBADF o >>= (λ k. or_refuse EBADF (description_in ds k) >>= if_sided)
 
-  by_sides : (b : Bool) (d : Description) (r : Pipe) → at pipes d.pipe.serial ≡ Some (d.pipe.slot, r) → Agrees (refuse_if (not b) EBADF >> Ok d) (sided b (end_of_rows f d r))
+  by_sides : (b : Bool) (d : Description) (r : Pipe) → at pipes d.pipe.serial ≡ Some (d.pipe.slot, r)
+      → Agrees (refuse_if (not b) EBADF >> Ok d) (sided b (end_of_rows f d r))
   by_sides true d r h = (r, h, refl)
   by_sides false d r h = refl
 
-  pub by_key : (i : ℕ) (p : Process) → at ps i ≡ Some p → (o : Option Key) → at p.descriptors fd ≡ o → Agrees (of_key o) (side_end side s (process_of p) fd)
+  pub by_key : (i : ℕ) (p : Process) → at ps i ≡ Some p → (o : Option Key) → at p.descriptors fd ≡ o
+      → Agrees (of_key o) (side_end side s (process_of p) fd)
   by_key i p h None g = no_side (process_of p) (shown_key p None g)
   by_key i p h (Some k) g =
       let e = finds ds k (t.finds i (suc fd) p k h g) in
       let r = finds pipes e.0.value.pipe (t.is_end k.serial (k.slot, e.0) e.1).0 in
       let row = ap (option_map (λ (n : Named Description). n.value)) (find_at ds k.slot k.serial e.0 e.1) in
-      let machine = by_side (process_of p) e.0.value r.0 (ap (option_and_then (end_at itself s)) (shown_key p (Some k) g) ∙ end_shown k e.0 r.0 e.1 r.1) in
-      subst (λ o. Agrees (or_refuse EBADF o >>= if_sided) (side_end side s (process_of p) fd)) (sym row) (subst (Agrees (if_sided e.0.value)) (sym machine) (by_sides (has side e.0.value) e.0.value r.0 r.1))
+      let machine =
+      by_side (process_of p) e.0.value r.0 (ap (option_and_then (end_at itself s)) (shown_key p (Some k) g)
+      ∙ end_shown k e.0 r.0 e.1 r.1) in
+      subst (λ o. Agrees (or_refuse EBADF o >>= if_sided) (side_end side s (process_of p) fd)) (sym row)
+      (subst (Agrees (if_sided e.0.value)) (sym machine) (by_sides (has side e.0.value) e.0.value r.0 r.1))
 
-  by_caller : (r : Result Process Errno) → ready_in ps pid ≡ r → Agrees (r >>= (λ p. of_key (at p.descriptors fd))) (shown_in r >>= (λ p. side_end side s p fd))
+  by_caller : (r : Result Process Errno) → ready_in ps pid ≡ r
+      → Agrees (r >>= (λ p. of_key (at p.descriptors fd))) (shown_in r >>= (λ p. side_end side s p fd))
   by_caller (Err e) h = refl
   by_caller (Ok p) h = by_key (pid - 1) p (place_is ps pid p h) (at p.descriptors fd) refl
 
-  both_find : (r : Result Description Errno) → end_in side ps ds pid fd ≡ r → Agrees r (ready s pid >>= (λ p. side_end side s p fd))
+  both_find : (r : Result Description Errno) → end_in side ps ds pid fd ≡ r
+      → Agrees r (ready s pid >>= (λ p. side_end side s p fd))
   both_find r h =
       subst (λ x. Agrees x (ready s pid >>= (λ p. side_end side s p fd))) h
-      (subst (λ x. Agrees (end_in side ps ds pid fd) (x >>= (λ p. side_end side s p fd))) (sym (ready_shown ps pid)) (by_caller (ready_in ps pid) refl))
+      (subst (λ x. Agrees (end_in side ps ds pid fd) (x >>= (λ p. side_end side s p fd))) (sym (ready_shown ps pid))
+      (by_caller (ready_in ps pid) refl))
 
   -- The machine refuses what the tables refuse
-  pub refused : (err : Errno) → end_in side ps ds pid fd ≡ Err err → (ready s pid >>= (λ p. side_end side s p fd)) ≡ Err err
+  pub refused : (err : Errno) → end_in side ps ds pid fd ≡ Err err
+      → (ready s pid >>= (λ p. side_end side s p fd)) ≡ Err err
   refused err h = both_find (Err err) h
 
   -- and finds what they find
   pub found : (d : Description) → end_in side ps ds pid fd ≡ Ok d → Found f side ps ds pipes files files_made pid fd d
-  found d h = let w = both_find (Ok d) h in record { pipe = w.0; stands = w.1; is = w.2; caller = by_row (ready_in ps pid) refl h }
+  found d h =
+      let w = both_find (Ok d) h in record { pipe = w.0; stands = w.1; is = w.2; caller = by_row (ready_in ps pid) refl
+      h }
     where
-      by_row : (r : Result Process Errno) → ready_in ps pid ≡ r → (r >>= (λ p. of_key (at p.descriptors fd))) ≡ Ok d → IsOk (ready_in ps pid)
+      by_row : (r : Result Process Errno) → ready_in ps pid ≡ r → (r >>= (λ p. of_key (at p.descriptors fd))) ≡ Ok d
+          → IsOk (ready_in ps pid)
       by_row (Err e) c g = absurd (cc)
       by_row (Ok p) c g = ap is_ok c
 
   -- the counts of a pipe are the machine's
-  pub counted : (n place : ℕ) (r : Pipe) → at pipes n ≡ Some (place, r) → (readers itself s n ≡ r.readers) × (writers itself s n ≡ r.writers)
+  pub counted : (n place : ℕ) (r : Pipe) → at pipes n ≡ Some (place, r)
+      → (readers itself s n ≡ r.readers) × (writers itself s n ≡ r.writers)
   counted n place r h =
       let row = subst (UsedRow (read_by ds n + 0) (written_by ds n + 0)) h (t.uses n) in
-      (omega (arith, row.0, readers_shown ps ds pipes files files_made n), omega (arith, row.1, writers_shown ps ds pipes files files_made n))
+      (omega (arith, row.0, readers_shown ps ds pipes files files_made n), omega
+      (arith, row.1, writers_shown ps ds pipes files files_made n))
 
 -- Pipes with their rings are seen as they are
 

@@ -27,18 +27,23 @@ module _ (f : Live) where
   pub occupied-meaning : (s : State Window ℕ) → sum_of (λ p. length p.queue.segments) (meaning f s).pipes ≡ occupied s
   occupied-meaning s = segments s.pipes
     where
-      segments : (ps : List (Option (Pipe Window))) → sum_of (λ p. length p.queue.segments) (map (option_map (pipe_meaning f)) ps) ≡ sum_of (λ p. length p.queue.segments) ps
+      segments : (ps : List (Option (Pipe Window)))
+          → sum_of (λ p. length p.queue.segments) (map (option_map (pipe_meaning f)) ps)
+          ≡ sum_of (λ p. length p.queue.segments) ps
       segments [] = refl
       segments (None ∷ ps) = omega (arith, segments ps)
       segments (Some p ∷ ps) = omega (arith, length-map p.queue.segments (segment_of f), segments ps)
 
   -- where no ring shows a byte, no queue has one
-  pub empty-meaning : (s : State Window ℕ) → AreEmpty f s → (n : ℕ) (p : Pipe Segment) → at (meaning f s).pipes n ≡ Some p → bytes_of p.queue ≡ []
+  pub empty-meaning : (s : State Window ℕ) → AreEmpty f s → (n : ℕ) (p : Pipe Segment)
+      → at (meaning f s).pipes n ≡ Some p → bytes_of p.queue ≡ []
   empty-meaning s empty n p there = found (at s.pipes n) refl (sym (at-map (pipe_meaning f) s.pipes n) ∙ there)
     where
-      found : (o : Option (Pipe Window)) → at s.pipes n ≡ o → option_map (pipe_meaning f) o ≡ Some p → bytes_of p.queue ≡ []
+      found : (o : Option (Pipe Window)) → at s.pipes n ≡ o → option_map (pipe_meaning f) o ≡ Some p
+          → bytes_of p.queue ≡ []
       found None is none = absurd (cc)
-      found (Some q) is some = ap (λ (o : Option (Pipe Segment)). bytes_of (unwrap_or o p).queue) (sym some) ∙ empty n q is
+      found (Some q) is some =
+          ap (λ (o : Option (Pipe Segment)). bytes_of (unwrap_or o p).queue) (sym some) ∙ empty n q is
 
   pub total-meaning : (s : State Window ℕ) → total (meaning f s) ≡ sum_of (λ p. p.queue.capacity) s.pipes
   total-meaning s = sum_of-map (pipe_meaning f) (λ p. p.queue.capacity) s.pipes
@@ -47,7 +52,9 @@ module _ (f : Live) where
   sweep-meaning s = λ i. record {
     processes = s.processes;
     descriptions = live_descriptions itself s.processes s.descriptions;
-    pipes = keep_from-map (pipe_meaning f) (λ p. nat_lt 0 (ends itself (live_descriptions itself s.processes s.descriptions) p)) 0 s.pipes i;
+    pipes =
+        keep_from-map (pipe_meaning f) (λ p. nat_lt 0
+        (ends itself (live_descriptions itself s.processes s.descriptions) p)) 0 s.pipes i;
     files = s.files;
     files_made = s.files_made;
   }
@@ -80,7 +87,8 @@ module _ (f : Live) where
 
 -- rings by number
 
-pub ring_at-rings : (pipes : List (Option (Pipe Window))) (k : ℕ) → slice_index_or (map ring_or pipes) k no_ring ≡ ring_or (at pipes k)
+pub ring_at-rings : (pipes : List (Option (Pipe Window))) (k : ℕ)
+    → slice_index_or (map ring_or pipes) k no_ring ≡ ring_or (at pipes k)
 ring_at-rings [] k = refl
 ring_at-rings (p ∷ ps) zero = refl
 ring_at-rings (p ∷ ps) (suc k) = ring_at-rings ps k
@@ -92,17 +100,24 @@ module _ (f g : Live) where
   pub record Others (pipes : List (Option (Pipe Window))) (n : ℕ) : Type 0 where
     pub stay : (k : ℕ) → k ≢ n → option_map (pipe_meaning g) (at pipes k) ≡ option_map (pipe_meaning f) (at pipes k)
 
-  pub pipe_stays : (pipes : List (Option (Pipe Window))) (k : ℕ) → queue_of g (ring_or (at pipes k)) ≡ queue_of f (ring_or (at pipes k))
+  pub pipe_stays : (pipes : List (Option (Pipe Window))) (k : ℕ)
+      → queue_of g (ring_or (at pipes k)) ≡ queue_of f (ring_or (at pipes k))
       → option_map (pipe_meaning g) (at pipes k) ≡ option_map (pipe_meaning f) (at pipes k)
   pipe_stays pipes k = stays (at pipes k)
     where
-      stays : (o : Option (Pipe Window)) → queue_of g (ring_or o) ≡ queue_of f (ring_or o) → option_map (pipe_meaning g) o ≡ option_map (pipe_meaning f) o
+      stays : (o : Option (Pipe Window)) → queue_of g (ring_or o) ≡ queue_of f (ring_or o)
+          → option_map (pipe_meaning g) o ≡ option_map (pipe_meaning f) o
       stays None e = refl
-      stays (Some p) e = λ i. Some (record { queue = e i; owner = p.owner; file = p.file; read_opens = p.read_opens; write_opens = p.write_opens })
+      stays (Some p) e =
+          λ i. Some (record { queue = e i; owner = p.owner; file = p.file; read_opens = p.read_opens; write_opens =
+          p.write_opens })
 
   pub others_stay : (pipes : List (Option (Pipe Window))) (n : ℕ)
-      → ((k : ℕ) → k ≢ n → queue_of g (slice_index_or (map ring_or pipes) k no_ring) ≡ queue_of f (slice_index_or (map ring_or pipes) k no_ring)) → Others pipes n
-  others_stay pipes n h = record { stay = λ k ne. pipe_stays pipes k (subst (λ (r : Ring). queue_of g r ≡ queue_of f r) (ring_at-rings pipes k) (h k ne)) }
+      → ((k : ℕ) → k ≢ n → queue_of g (slice_index_or (map ring_or pipes) k no_ring)
+      ≡ queue_of f (slice_index_or (map ring_or pipes) k no_ring)) → Others pipes n
+  others_stay pipes n h =
+      record { stay = λ k ne. pipe_stays pipes k (subst (λ (r : Ring). queue_of g r ≡ queue_of f r)
+      (ring_at-rings pipes k) (h k ne)) }
 
   -- a pipe's ring changes
   pipes-with_queue : (pipes : List (Option (Pipe Window))) (n : ℕ) (r : Ring) → Others pipes n
@@ -118,10 +133,14 @@ module _ (f g : Live) where
       here None = refl
       here (Some p) = refl
 
-  pub meaning-with_queue : (s : State Window ℕ) (n : ℕ) (r : Ring) → Others s.pipes n → meaning g (with_queue s n r) ≡ with_queue (meaning f s) n (queue_of g r)
-  meaning-with_queue s n r o = λ i. record { processes = s.processes; descriptions = s.descriptions; pipes = pipes-with_queue s.pipes n r o i; files = s.files; files_made = s.files_made }
+  pub meaning-with_queue : (s : State Window ℕ) (n : ℕ) (r : Ring) → Others s.pipes n
+      → meaning g (with_queue s n r) ≡ with_queue (meaning f s) n (queue_of g r)
+  meaning-with_queue s n r o =
+      λ i. record { processes = s.processes; descriptions = s.descriptions; pipes = pipes-with_queue s.pipes n r o i;
+      files = s.files; files_made = s.files_made }
 
   -- a pipe goes
   pub pipes-without : (pipes : List (Option (Pipe Window))) (n : ℕ) → Others pipes n
-      → map (option_map (pipe_meaning g)) (slice_set pipes n None) ≡ slice_set (map (option_map (pipe_meaning f)) pipes) n None
+      → map (option_map (pipe_meaning g)) (slice_set pipes n None)
+      ≡ slice_set (map (option_map (pipe_meaning f)) pipes) n None
   pipes-without pipes n o = set-agree (pipe_meaning f) (pipe_meaning g) pipes n None o.stay

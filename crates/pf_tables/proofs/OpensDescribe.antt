@@ -1,6 +1,7 @@
 -- An open of a FIFO: its ends are counted, and its description is made.
 
-use Rattle.std.proofs.Common.{◌≡◌, ◌≢◌, ℕ, ◌+◌, ◌-◌, ◌<◌, ◌≤◌, Bool, true, false, List, [], ◌∷◌, ◌++◌, length, set, Option, Some, None, nat_eq, refl, sym, ap, subst, ◌∙◌, arith}
+use Rattle.std.proofs.Common.{◌≡◌, ◌≢◌, ℕ, ◌+◌, ◌-◌, ◌<◌, ◌≤◌, Bool, true, false, List, [], ◌∷◌, ◌++◌, length, set}
+use Rattle.std.proofs.Common.{Option, Some, None, nat_eq, refl, sym, ap, subst, ◌∙◌, arith}
 use Rattle.std.specs.Option.{option_map}
 use Rattle.std.specs.Map.{lookup}
 use Rattle.std.proofs.lemmas.List.{map-set}
@@ -15,10 +16,13 @@ use Rattle.pf_limits.proofs.SumLaws.{kept}
 use Rattle.pf_tables.specs.declared.tables.opens.Access.{Access as Stored}
 use Rattle.pf_tables.specs.Meaning.{AreCharged}
 use Rattle.pf_tables.specs.Opened.{counted, end_of, taking, Describes}
-use Rattle.pf_tables.specs.Rows.{ProcessRows, DescriptionRows, PipeRows, Key, Description, Pipe, Opens, made_by, reads_it, writes_it, holding, opens_at, opens_of, pipe_of, pipes_of, NoMore, AreFifos, TiedWith, Tied}
+use Rattle.pf_tables.specs.Rows.{ProcessRows, DescriptionRows, PipeRows, Key, Description, Pipe, Opens, made_by}
+use Rattle.pf_tables.specs.Rows.{reads_it, writes_it, holding, opens_at, opens_of, pipe_of, pipes_of, NoMore, AreFifos}
+use Rattle.pf_tables.specs.Rows.{TiedWith, Tied}
 use Rattle.pf_tables.proofs.ProcessTableReady.{place_of}
 use Rattle.pf_tables.proofs.Fifos.{same_file, same_place}
-use Rattle.pf_tables.proofs.TablesTied.{by_set, found, finds-new, miss, sides, once, repiped, described, piped, moved, put, pipe_row}
+use Rattle.pf_tables.proofs.TablesTied.{by_set, found, finds-new, miss, sides, once, repiped, described, piped, moved}
+use Rattle.pf_tables.proofs.TablesTied.{put, pipe_row}
 use Rattle.pf_tables.proofs.TablesShown.{shown}
 
 -- an open is for a side at least
@@ -35,7 +39,8 @@ module _ (a : Stored) (sided : IsSided a) (k : Key) where
 
   module _ (ps : ProcessRows) (ds : DescriptionRows) (pipes : PipeRows) (t : Tied ps ds pipes) where
     -- A pipe that stands gets its ends, and its description is in the hand
-    pub entered : (p : Pipe) → at pipes k.serial ≡ Some (k.slot, p) → TiedWith [] (end_of a k ∷ []) ps ds (put_at pipes k.serial (k.slot, counted a p))
+    pub entered : (p : Pipe) → at pipes k.serial ≡ Some (k.slot, p)
+        → TiedWith [] (end_of a k ∷ []) ps ds (put_at pipes k.serial (k.slot, counted a p))
     entered p stands =
         let s = sides (end_of a k) in
         let r = pipe_row [] [] ps ds pipes k p stands t in
@@ -45,15 +50,19 @@ module _ (a : Stored) (sided : IsSided a) (k : Key) where
         (omega (arith, r.0, s.0), omega (arith, r.1, s.1), omega (arith, s.0, s.1, sided))
 
     -- A pipe is made with its ends
-    pub founded : (p : Pipe) → k.serial ≡ length pipes → p.readers ≡ 0 → p.writers ≡ 0 → TiedWith [] (end_of a k ∷ []) ps ds (pipes ++ Some (k.slot, counted a p) ∷ [])
+    pub founded : (p : Pipe) → k.serial ≡ length pipes → p.readers ≡ 0 → p.writers ≡ 0
+        → TiedWith [] (end_of a k ∷ []) ps ds (pipes ++ Some (k.slot, counted a p) ∷ [])
     founded p k_is none nobody =
         let s = sides (end_of a k) in
-        piped [] [] ps ds pipes k (counted a p) (end_of a k ∷ []) k_is ((finds-new pipes (counted a p) k k_is, sided), tt) apart
+        piped [] [] ps ds pipes k (counted a p) (end_of a k ∷ []) k_is
+        ((finds-new pipes (counted a p) k k_is, sided), tt) apart
         (omega (arith, none, s.0)) (omega (arith, nobody, s.1)) (omega (arith, none, nobody, sided)) t
 
 -- The description is made, with one name: a descriptor, or the open that waits
-module _ {ps ps' : ProcessRows} {ds ds' : DescriptionRows} (pipes : PipeRows) {pid : ℕ} {d : Description} {before : Option ℕ} {reply : Reply} (z : Describes ps ps' ds ds' pid d before reply)
-    (awake : z.p.parked ≡ None) (within : first_free z.p.descriptors < MAX_DESCRIPTORS) (t : TiedWith [] (d ∷ []) ps ds pipes) where
+module _ {ps ps' : ProcessRows} {ds ds' : DescriptionRows} (pipes : PipeRows) {pid : ℕ} {d : Description}
+    {before : Option ℕ} {reply : Reply} (z : Describes ps ps' ds ds' pid d before reply)
+    (awake : z.p.parked ≡ None) (within : first_free z.p.descriptors < MAX_DESCRIPTORS)
+    (t : TiedWith [] (d ∷ []) ps ds pipes) where
   abbrev after : DescriptionRows
   after = ds ++ Some (z.k.slot, once d) ∷ []
 
@@ -64,25 +73,37 @@ module _ {ps ps' : ProcessRows} {ds ds' : DescriptionRows} (pipes : PipeRows) {p
   in_hand = described [] [] ps ds pipes z.k d z.k_is t
 
   by_waiting : (b : Option ℕ) → Tied (put_at ps (pid - 1) (taking b z.k z.p)) after pipes
-  by_waiting None = put [] [] ps after pipes (pid - 1) (first_free z.p.descriptors) z.p opener within z.k (at-first_free z.p.descriptors) in_hand
+  by_waiting None =
+      put [] [] ps after pipes (pid - 1) (first_free z.p.descriptors) z.p opener within z.k
+      (at-first_free z.p.descriptors) in_hand
   by_waiting (Some n) =
-      subst (λ o. TiedWith (holding o []) [] (put_at ps (pid - 1) (taking (Some n) z.k z.p)) after pipes) (ap made_by awake)
-      (moved [] [] ps after pipes (pid - 1) 0 z.p (taking (Some n) z.k z.p) opener (omega arith) (Some z.k) refl in_hand)
+      subst (λ o. TiedWith (holding o []) [] (put_at ps (pid - 1) (taking (Some n) z.k z.p)) after pipes)
+      (ap made_by awake)
+      (moved [] [] ps after pipes (pid - 1) 0 z.p (taking (Some n) z.k z.p) opener (omega arith) (Some z.k) refl
+      in_hand)
 
   pub seated_is : ps' ≡ put_at ps (pid - 1) (taking before z.k z.p)
   seated_is = z.seated ∙ ap (λ o. set ps (pid - 1) (option_map (taking before z.k) o)) opener
 
   pub admitted : Tied ps' ds' pipes
-  admitted = subst (λ x. Tied x ds' pipes) (sym seated_is) (subst (λ y. Tied (put_at ps (pid - 1) (taking before z.k z.p)) y pipes) (sym z.described) (by_waiting before))
+  admitted =
+      subst (λ x. Tied x ds' pipes) (sym seated_is)
+      (subst (λ y. Tied (put_at ps (pid - 1) (taking before z.k z.p)) y pipes) (sym z.described) (by_waiting before))
 
 -- The counters of pages stay the sums, as no ring changes
-pub entered-charged : (charges : UserPages) (a : Stored) (pipes : PipeRows) (k : Key) (p : Pipe) → at pipes k.serial ≡ Some (k.slot, p) → AreCharged charges (pipes_of pipes) → AreCharged charges (pipes_of (put_at pipes k.serial (k.slot, counted a p)))
+pub entered-charged : (charges : UserPages) (a : Stored) (pipes : PipeRows) (k : Key) (p : Pipe)
+    → at pipes k.serial ≡ Some (k.slot, p) → AreCharged charges (pipes_of pipes)
+    → AreCharged charges (pipes_of (put_at pipes k.serial (k.slot, counted a p)))
 entered-charged charges a pipes k p stands is =
     subst (AreCharged charges) (sym (map-set (option_map pipe_of) pipes k.serial (Some (k.slot, counted a p))))
-    (kept (λ (q : machine.Pipe Window). q.owner) (λ (q : machine.Pipe Window). q.queue.capacity) charges (pipes_of pipes) k.serial (pipe_of (k.slot, p)) (pipe_of (k.slot, counted a p)) is (shown pipe_of pipes k.serial (k.slot, p) stands) refl refl)
+    (kept (λ (q : machine.Pipe Window). q.owner) (λ (q : machine.Pipe Window). q.queue.capacity) charges
+    (pipes_of pipes) k.serial (pipe_of (k.slot, p)) (pipe_of (k.slot, counted a p)) is
+    (shown pipe_of pipes k.serial (k.slot, p) stands) refl refl)
 
 -- There are no more opens than descriptions, as one more is drawn
-pub entered-fifos : (es : List (ℕ × Key)) {drawn more : ℕ} (a : Stored) (pipes : PipeRows) (k : Key) (p : Pipe) → at pipes k.serial ≡ Some (k.slot, p) → more ≡ drawn + 1 → AreFifos es drawn (opens_of pipes) → AreFifos es more (opens_of (put_at pipes k.serial (k.slot, counted a p)))
+pub entered-fifos : (es : List (ℕ × Key)) {drawn more : ℕ} (a : Stored) (pipes : PipeRows) (k : Key) (p : Pipe)
+    → at pipes k.serial ≡ Some (k.slot, p) → more ≡ drawn + 1 → AreFifos es drawn (opens_of pipes)
+    → AreFifos es more (opens_of (put_at pipes k.serial (k.slot, counted a p)))
 entered-fifos es {drawn} {more} a pipes k p stands more_is f =
     subst (AreFifos es more) (sym (map-set (option_map opens_at) pipes k.serial (Some (k.slot, counted a p)))) changed
   where
@@ -99,13 +120,23 @@ entered-fifos es {drawn} {more} a pipes k p stands more_is f =
         let few = f.few k.serial (k.slot, p.opens) was in record {
           finds = λ file j h.
               let w = f.finds file j h in
-              by_set (λ m y. j.serial ≡ m → (o : Opens) × (y ≡ Some (j.slot, o)) × (o.file ≡ Some file)) (opens_of pipes) k.serial (Some (opens_at (k.slot, counted a p))) l
-              (λ e. let both : ◌≡◌ {A = Option (ℕ × Opens)} (Some (k.slot, p.opens)) (Some (j.slot, w.0)) = sym was ∙ sym (ap (at (opens_of pipes)) e) ∙ w.1 in
+              by_set (λ m y. j.serial ≡ m → (o : Opens) × (y ≡ Some (j.slot, o)) × (o.file ≡ Some file))
+              (opens_of pipes) k.serial (Some (opens_at (k.slot, counted a p))) l
+              (λ e. let both : ◌≡◌ {A = Option (ℕ × Opens)} (Some (k.slot, p.opens)) (Some (j.slot, w.0)) = sym was
+              ∙ sym (ap (at (opens_of pipes)) e) ∙ w.1 in
               ((counted a p).opens, ap (λ q. Some (q, (counted a p).opens)) (same_place both), same_file both ∙ w.2))
               (λ m _ e. (w.0, sym (ap (at (opens_of pipes)) e) ∙ w.1, w.2)) j.serial refl;
-          there = λ m o file. by_set (λ j y. y ≡ Some o → o.1.file ≡ Some file → lookup (nat_eq file) es ≡ Some (record { slot = o.0; serial = j })) (opens_of pipes) k.serial (Some (opens_at (k.slot, counted a p))) l
-              (λ h g. let place : k.slot ≡ o.0 = same_place h in f.there k.serial (k.slot, p.opens) file was (same_file h ∙ g) ∙ ap (λ q. Some (record { slot = q; serial = k.serial })) place) (λ j _ h g. f.there j o file h g) m;
-          few = λ m o. by_set (λ _ y. y ≡ Some o → NoMore more o) (opens_of pipes) k.serial (Some (opens_at (k.slot, counted a p))) l
-              (λ h. let it : ◌≡◌ {A = ℕ × Opens} (opens_at (k.slot, counted a p)) o = cc in subst (NoMore more) it (once_more a.reads p.opens.read few.0, once_more a.writes p.opens.write few.1))
+          there =
+              λ m o file. by_set (λ j y. y ≡ Some o → o.1.file ≡ Some file
+              → lookup (nat_eq file) es ≡ Some (record { slot = o.0; serial = j })) (opens_of pipes) k.serial
+              (Some (opens_at (k.slot, counted a p))) l
+              (λ h g. let place : k.slot ≡ o.0 = same_place h in f.there k.serial (k.slot, p.opens) file was
+              (same_file h ∙ g) ∙ ap (λ q. Some (record { slot = q; serial = k.serial })) place)
+              (λ j _ h g. f.there j o file h g) m;
+          few =
+              λ m o. by_set (λ _ y. y ≡ Some o → NoMore more o) (opens_of pipes) k.serial
+              (Some (opens_at (k.slot, counted a p))) l
+              (λ h. let it : ◌≡◌ {A = ℕ × Opens} (opens_at (k.slot, counted a p)) o = cc in subst (NoMore more) it
+              (once_more a.reads p.opens.read few.0, once_more a.writes p.opens.write few.1))
               (λ j _ h. let old = f.few j o h in (omega (arith, old.0, more_is), omega (arith, old.1, more_is))) m;
         }

@@ -1,6 +1,7 @@
 -- The pipe of a FIFO, as the tables find it by its key and as the machine does.
 
-use Rattle.std.proofs.Common.{◌≡◌, ◌≢◌, ℕ, zero, suc, Bool, true, false, List, [], ◌∷◌, map, Option, Some, None, IsSome, is_some, nat_eq, if◌then◌else◌, refl, sym, ap, subst, ◌∙◌, arith}
+use Rattle.std.proofs.Common.{◌≡◌, ◌≢◌, ℕ, zero, suc, Bool, true, false, List, [], ◌∷◌, Option, Some, None, IsSome}
+use Rattle.std.proofs.Common.{is_some, nat_eq, if◌then◌else◌, refl, sym, ap, subst, ◌∙◌, arith}
 use Rattle.std.specs.Option.{option_map}
 use Rattle.std.specs.Map.{lookup}
 use Rattle.std.proofs.lemmas.Bool.{eq-eqb, eqb-true}
@@ -12,7 +13,8 @@ use Rattle.pf_machine.specs.Opens.{first_where, is_of_file, fifo_pipe, fifo_read
 use Rattle.pf_fds.specs.Registry.{find}
 use Rattle.pf_limits.specs.UserPages.{UserPages}
 use Rattle.pf_tables.specs.Meaning.{Namespace}
-use Rattle.pf_tables.specs.Rows.{ProcessRows, DescriptionRows, PipeRows, Key, Pipe, Opens, opens_at, opens_of, pipe_of, state_of, AreFifos, Whole}
+use Rattle.pf_tables.specs.Rows.{ProcessRows, DescriptionRows, PipeRows, Key, Pipe, Opens, opens_at, opens_of, pipe_of}
+use Rattle.pf_tables.specs.Rows.{state_of, AreFifos, Whole}
 use Rattle.pf_tables.proofs.Ends.{as_kept, counted}
 use Rattle.pf_tables.proofs.TablesShown.{find_at}
 use Rattle.pf_machine.proofs.MapLaws.{first_where-map}
@@ -24,21 +26,27 @@ module _ {X : Type 0} (test : X → Bool) where
   abbrev next : Bool → List (Option X) → Option ℕ
   next b xs = if b then Some 0 else option_map (λ n. suc n) (first_where test xs)
 
-  pub first_is : (xs : List (Option X)) (n : ℕ) (x : X) → at xs n ≡ Some x → test x ≡ true → ((k : ℕ) (y : X) → at xs k ≡ Some y → test y ≡ true → k ≡ n) → first_where test xs ≡ Some n
+  pub first_is : (xs : List (Option X)) (n : ℕ) (x : X) → at xs n ≡ Some x → test x ≡ true
+      → ((k : ℕ) (y : X) → at xs k ≡ Some y → test y ≡ true → k ≡ n) → first_where test xs ≡ Some n
   first_is [] n x h t one = absurd (cc)
   first_is (None ∷ xs) zero x h t one = absurd (cc)
-  first_is (None ∷ xs) (suc n) x h t one = ap (option_map (λ m. suc m)) (first_is xs n x h t (λ k y g s. let after = one (suc k) y g s in omega (arith, after)))
+  first_is (None ∷ xs) (suc n) x h t one =
+      ap (option_map (λ m. suc m)) (first_is xs n x h t
+      (λ k y g s. let after = one (suc k) y g s in omega (arith, after)))
   first_is (Some y ∷ xs) zero x h t one = let same : y ≡ x = cc in ap (λ b. next b xs) (ap test same ∙ t)
-  first_is (Some y ∷ xs) (suc n) x h t one = by_test (test y) refl (first_is xs n x h t (λ k z g s. let after = one (suc k) z g s in omega (arith, after)))
+  first_is (Some y ∷ xs) (suc n) x h t one =
+      by_test (test y) refl (first_is xs n x h t (λ k z g s. let after = one (suc k) z g s in omega (arith, after)))
     where
       by_test : (b : Bool) → test y ≡ b → first_where test xs ≡ Some n → next b xs ≡ Some (suc n)
       by_test true e rest = let before = one 0 y refl e in absurd (omega (arith, before))
       by_test false e rest = ap (option_map (λ m. suc m)) rest
 
-  pub first_none : (xs : List (Option X)) → ((k : ℕ) (y : X) → at xs k ≡ Some y → test y ≡ false) → first_where test xs ≡ None
+  pub first_none : (xs : List (Option X)) → ((k : ℕ) (y : X) → at xs k ≡ Some y → test y ≡ false)
+      → first_where test xs ≡ None
   first_none [] all = refl
   first_none (None ∷ xs) all = ap (option_map (λ m. suc m)) (first_none xs (λ k. all (suc k)))
-  first_none (Some y ∷ xs) all = ap (λ b. next b xs) (all 0 y refl) ∙ ap (option_map (λ m. suc m)) (first_none xs (λ k. all (suc k)))
+  first_none (Some y ∷ xs) all =
+      ap (λ b. next b xs) (all 0 y refl) ∙ ap (option_map (λ m. suc m)) (first_none xs (λ k. all (suc k)))
 
 -- Whose file it is
 
@@ -59,23 +67,27 @@ module _ (es : List (ℕ × Key)) {drawn : ℕ} (pipes : PipeRows) (a : AreFifos
   abbrev test : ℕ × Opens → Bool
   test o = is_of_file file o.1.file
 
-  by_key : (found : Option Key) → lookup (nat_eq file) es ≡ found → first_where test (opens_of pipes) ≡ option_map (λ k. k.serial) found
+  by_key : (found : Option Key) → lookup (nat_eq file) es ≡ found
+      → first_where test (opens_of pipes) ≡ option_map (λ k. k.serial) found
   by_key None h =
       first_none test (opens_of pipes)
       (λ n o g. not_of_file file o.1.file (λ e. let key = sym h ∙ a.there n o file g e in absurd (cc)))
   by_key (Some k) h =
       let w = a.finds file k h in
       first_is test (opens_of pipes) k.serial (k.slot, w.0) w.1 (ap (is_of_file file) w.2 ∙ eq-eqb file file refl)
-      (λ n o g t. let both : ◌≡◌ {A = Option Key} (Some (record { slot = o.0; serial = n })) (Some k) = sym (a.there n o file g (of_file file o.1.file t)) ∙ h in
+      (λ n o g t. let both : ◌≡◌ {A = Option Key} (Some (record { slot = o.0; serial = n })) (Some k) = sym
+      (a.there n o file g (of_file file o.1.file t)) ∙ h in
       let same : record { slot = o.0; serial = n } ≡ k = cc in ap (λ (x : Key). x.serial) same)
 
   -- it finds the pipe
-  pub key_finds : (k : Key) → lookup (nat_eq file) es ≡ Some k → (p : Pipe) × (at pipes k.serial ≡ Some (k.slot, p)) × (p.opens.file ≡ Some file)
+  pub key_finds : (k : Key) → lookup (nat_eq file) es ≡ Some k
+      → (p : Pipe) × (at pipes k.serial ≡ Some (k.slot, p)) × (p.opens.file ≡ Some file)
   key_finds k h =
       let w = a.finds file k h in
       by_row (at pipes k.serial) refl (sym (at-map opens_at pipes k.serial) ∙ w.1) w.2
     where
-      by_row : (o : Option (ℕ × Pipe)) → at pipes k.serial ≡ o → {x : Opens} → option_map opens_at o ≡ Some (k.slot, x) → x.file ≡ Some file → (p : Pipe) × (at pipes k.serial ≡ Some (k.slot, p)) × (p.opens.file ≡ Some file)
+      by_row : (o : Option (ℕ × Pipe)) → at pipes k.serial ≡ o → {x : Opens} → option_map opens_at o ≡ Some (k.slot, x)
+          → x.file ≡ Some file → (p : Pipe) × (at pipes k.serial ≡ Some (k.slot, p)) × (p.opens.file ≡ Some file)
       by_row None h g e = absurd (cc)
       by_row (Some r) h {x} g e =
           let it : ◌≡◌ {A = ℕ × Opens} (r.0, r.1.opens) (k.slot, x) = cc in

@@ -1,6 +1,8 @@
 -- An open of a FIFO that somebody has open: all that it keeps and tells.
 
-use Rattle.std.proofs.Common.{◌≡◌, ℕ, zero, suc, ◌-◌, ◌^◌, ◌<◌, ◌≤◌, Bool, true, false, List, [], ◌∷◌, length, map, Option, Some, None, IsSome, IsOk, is_ok, Result, Ok, Err, nat_eq, nat_le, if◌then◌else◌, refl, sym, ap, subst, ◌∙◌, arith}
+use Rattle.std.proofs.Common.{◌≡◌, ℕ, zero, suc, ◌-◌, ◌^◌, ◌<◌, ◌≤◌, Bool, true, false, List, [], ◌∷◌, length, map}
+use Rattle.std.proofs.Common.{Option, Some, None, IsSome, IsOk, is_ok, Result, Ok, Err, nat_eq, nat_le, if◌then◌else◌}
+use Rattle.std.proofs.Common.{refl, sym, ap, subst, ◌∙◌, arith}
 use Rattle.std.specs.Option.{option_map}
 use Rattle.std.specs.Map.{lookup}
 use Rattle.std.proofs.lemmas.Bool.{leb-false, ltb-false}
@@ -26,14 +28,18 @@ use Rattle.pf_limits.specs.UserPages.{UserPages}
 use Rattle.pf_ring.specs.Table.{Joined}
 use Rattle.pf_tables.specs.declared.tables.opens.Access.{Access as Stored}
 use Rattle.pf_tables.specs.Meaning.{Namespace, ring_or}
-use Rattle.pf_tables.specs.Opened.{access_seen, before, counted, end_of, lacks_readers, may_open, opening, waits, HasFree, Describes}
+use Rattle.pf_tables.specs.Opened.{access_seen, before, counted, end_of, lacks_readers, may_open, opening, waits}
+use Rattle.pf_tables.specs.Opened.{HasFree, Describes}
 use Rattle.pf_tables.specs.Owns.{Owns}
-use Rattle.pf_tables.specs.Rows.{ProcessRows, DescriptionRows, PipeRows, Key, Process, Pipe, process_in, ready_in, process_of, description_of, pipe_of, pipes_of, opens_at, state_of, reads_it, writes_it, Whole, Tied}
+use Rattle.pf_tables.specs.Rows.{ProcessRows, DescriptionRows, PipeRows, Key, Process, Pipe, process_in, ready_in}
+use Rattle.pf_tables.specs.Rows.{process_of, description_of, pipe_of, pipes_of, opens_at, state_of, reads_it, writes_it}
+use Rattle.pf_tables.specs.Rows.{Whole, Tied}
 use Rattle.pf_tables.specs.Tables.{Makes}
 use Rattle.pf_tables.proofs.ProcessTableReady.{shown_in, readies, ready_shown, is_living, is_awake, place_of}
 use Rattle.pf_tables.proofs.Ends.{as_kept, counted as ends_counted}
 use Rattle.pf_tables.proofs.OpensOutcome as entered
-use Rattle.pf_tables.proofs.OpensDescribe.{IsSided, entered as entering, admitted, entered-charged, entered-fifos, seated_is}
+use Rattle.pf_tables.proofs.OpensDescribe.{IsSided, entered as entering, admitted, entered-charged, entered-fifos}
+use Rattle.pf_tables.proofs.OpensDescribe.{seated_is}
 use Rattle.pf_tables.proofs.OpensFind.{fifo_is, fifo_shown}
 use Rattle.pf_tables.proofs.TablesShown.{shown, find_was}
 use Rattle.pf_tables.proofs.TablesTied.{pipe_row}
@@ -50,7 +56,8 @@ at_most_one true = omega arith
 at_most_one false = omega arith
 
 -- a pipe keeps its ring
-ring_stays : (xs : List (Option (machine.Pipe Window))) (n : ℕ) (x y : machine.Pipe Window) → at xs n ≡ Some x → y.queue ≡ x.queue → map ring_or (put_at xs n y) ≡ map ring_or xs
+ring_stays : (xs : List (Option (machine.Pipe Window))) (n : ℕ) (x y : machine.Pipe Window) → at xs n ≡ Some x
+    → y.queue ≡ x.queue → map ring_or (put_at xs n y) ≡ map ring_or xs
 ring_stays [] n x y h e = refl
 ring_stays (z ∷ zs) zero x y h e = ap (λ r. r ∷ map ring_or zs) (e ∙ sym (ap ring_or h))
 ring_stays (z ∷ zs) (suc n) x y h e = ap (λ rs. ring_or z ∷ rs) (ring_stays zs n x y h e)
@@ -70,7 +77,8 @@ module _ (s : State Window ℕ) (pid : ℕ) (a : opens.Access) (file : ℕ) (may
   pub ready_is : Opener
   ready_is = by_caller (ready s pid) refl may
     where
-      by_tests : (x y z : Bool) → (refuse_if x EMFILE >> (refuse_if y ENXIO >> refuse_if z ENFILE)) ≡ Ok tt → (x ≡ false) × (z ≡ false)
+      by_tests : (x y z : Bool) → (refuse_if x EMFILE >> (refuse_if y ENXIO >> refuse_if z ENFILE)) ≡ Ok tt
+          → (x ≡ false) × (z ≡ false)
       by_tests true y z h = absurd (cc)
       by_tests false true z h = absurd (cc)
       by_tests false false true h = absurd (cc)
@@ -121,7 +129,9 @@ module _ {files : Files} {files_made : ℕ} {limits : Limits} {charges : UserPag
           (q, h, omega (arith, free, under))
 
   pub same_caller : (q : Process) → process_in ps pid ≡ Ok q → caller.0 ≡ q
-  same_caller q h = let both : ◌≡◌ {A = Result Process Errno} (Ok caller.0) (Ok q) = sym (is_living ps pid caller.0 caller.1) ∙ h in cc
+  same_caller q h =
+      let both : ◌≡◌ {A = Result Process Errno} (Ok caller.0) (Ok q) = sym (is_living ps pid caller.0 caller.1)
+      ∙ h in cc
 
   pub has_free : HasFree ps pid
   has_free q h = subst (λ (x : Process). first_free x.descriptors < MAX_DESCRIPTORS) (same_caller q h) caller.2
@@ -202,14 +212,16 @@ module _ {files : Files} {files_made : ℕ} {limits : Limits} {charges : UserPag
       machine_is : lookup (nat_eq file) es ≡ Some k
           → opening limits s pid (access_seen a) file ≡ Ok (told (outcome (before a p)) (answer (before a p)))
       machine_is found =
-          let numbers = ends_counted as_kept None ps ds pipes files files_made w.kept.tied pid 0 k.serial k.slot p stands in
+          let numbers =
+          ends_counted as_kept None ps ds pipes files files_made w.kept.tied pid 0 k.serial k.slot p stands in
           let others =
           ap (opens.kept_by (access_seen a))
           (entered.there files files_made a k p ps ds pipes stands pid z.p opener z.k z.k_is) in
           entered.goes limits s pid (process_of z.p) (access_seen a) file
           (readies ps pid z.p (caller.1 ∙ ap Ok (same_caller z.p z.is))) may_here
           ∙ ap (λ o. opens.pipe_of limits s (process_of z.p) file o >>= (λ at_pipe. first pid false
-          (opens.open_pipe itself (length s.descriptions) at_pipe.pipe at_pipe.state pid (process_of z.p) (access_seen a)
+          (opens.open_pipe itself (length s.descriptions) at_pipe.pipe at_pipe.state pid (process_of z.p)
+          (access_seen a)
           at_pipe.pipe))) (fifo_is es pipes w.filed file ps ds files files_made (Some k) found)
           ∙ entered.waits_or_not files files_made a k p ps ds pipes stands pid z.p opener z.k z.k_is
           (waits a p.readers p.writers) (λ i. is_waiting (access_seen a) (numbers.0 i) (numbers.1 i))

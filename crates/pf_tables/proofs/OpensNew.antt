@@ -1,6 +1,8 @@
 -- The first open of a FIFO: its pipe is made, and all that this keeps and tells.
 
-use Rattle.std.proofs.Common.{◌≡◌, ◌≢◌, ℕ, ◌+◌, ◌-◌, ◌^◌, ◌<◌, ◌≤◌, ◌⊎◌, Bool, true, false, List, [], ◌∷◌, ◌++◌, length, map, Option, Some, None, is_some, Result, Ok, Err, nat_eq, nat_le, if◌then◌else◌, refl, sym, ap, subst, ◌∙◌, inl, inr, arith}
+use Rattle.std.proofs.Common.{◌≡◌, ◌≢◌, ℕ, ◌+◌, ◌-◌, ◌^◌, ◌<◌, ◌≤◌, ◌⊎◌, Bool, true, false, List, [], ◌∷◌, ◌++◌, length}
+use Rattle.std.proofs.Common.{map, Option, Some, None, is_some, Result, Ok, Err, nat_eq, if◌then◌else◌, refl}
+use Rattle.std.proofs.Common.{sym, ap, subst, ◌∙◌, inl, inr, arith}
 use Rattle.std.specs.Option.{option_map}
 use Rattle.std.specs.Map.{lookup}
 use Rattle.std.proofs.Math.Seq.{set-append_seam}
@@ -11,7 +13,7 @@ use Rattle.pf_ring.specs.declared.ring.Window.{Window}
 use Rattle.pf_machine.specs.FileMap.{Files}
 use Rattle.pf_base.specs.Limits.{Limits}
 use Rattle.pf_machine.specs.Numbered.{at, put_at, first_free, sum_of}
-use Rattle.pf_machine.proofs.NumberedLaws.{at_past, at_within, at-push_old, at-push_new, first_free-map}
+use Rattle.pf_machine.proofs.NumberedLaws.{at_past, at_within, at-push_old, at-push_new}
 use Rattle.pf_machine.specs.Attempts.{first}
 use Rattle.pf_machine.specs.Counts.{readers, writers, total}
 use Rattle.pf_machine.specs.Opens as opens
@@ -21,7 +23,6 @@ use Rattle.pf_machine.specs.Queue.{empty}
 use Rattle.pf_machine.specs.Refusals.{◌>>=◌, ◌>>◌, refuse_if}
 use Rattle.pf_machine.specs.State as machine
 use Rattle.pf_machine.specs.State.{itself, State, Outcome, ready, told}
-use Rattle.pf_base.specs.declared.TheConstants.{MAX_DESCRIPTORS}
 use Rattle.pf_base.specs.declared.errno.Errno.{Errno}
 use Rattle.pf_base.specs.declared.errno.Errno.TheVariants.{ENFILE, ENOMEM}
 use Rattle.pf_base.specs.declared.step.Reply.{Reply}
@@ -31,10 +32,13 @@ use Rattle.pf_pipe.specs.Pipe.{unopened}
 use Rattle.pf_ring.specs.Table.{Joined}
 use Rattle.pf_tables.specs.declared.tables.opens.Access.{Access as Stored}
 use Rattle.pf_tables.specs.Meaning.{Namespace, ring_or, AreCharged}
-use Rattle.pf_tables.specs.Opened.{access_seen, before, counted, end_of, fifo_capacity, may_open, opening, waits, Describes, MakesFifo, SameKeys}
+use Rattle.pf_tables.specs.Opened.{access_seen, before, counted, end_of, fifo_capacity, may_open, opening, waits}
+use Rattle.pf_tables.specs.Opened.{Describes, MakesFifo, SameKeys}
 use Rattle.pf_tables.specs.Owns.{Owns}
 use Rattle.pf_tables.proofs.OwnsLaws.{joined_opened}
-use Rattle.pf_tables.specs.Rows.{ProcessRows, DescriptionRows, PipeRows, Key, Process, Pipe, Opens, ready_in, process_of, pipe_of, pipes_of, opens_at, opens_of, state_of, UsedRow, NoMore, AreFifos, Whole, Tied, read_by, written_by}
+use Rattle.pf_tables.specs.Rows.{ProcessRows, DescriptionRows, PipeRows, Key, Process, Pipe, Opens, ready_in}
+use Rattle.pf_tables.specs.Rows.{process_of, pipe_of, pipes_of, opens_at, opens_of, state_of, UsedRow, NoMore, AreFifos}
+use Rattle.pf_tables.specs.Rows.{Whole, Tied, read_by, written_by}
 use Rattle.pf_tables.specs.Tables.{Makes}
 use Rattle.pf_tables.proofs.ProcessTableReady.{readies, is_living, is_awake, place_of}
 use Rattle.pf_tables.proofs.OpensOutcome as entered
@@ -47,7 +51,8 @@ use Rattle.pf_tables.proofs.TablesSettled.{settled, readers_shown, writers_shown
 -- The keys
 
 -- the same FIFOs have the same keys
-pub fifos-alike : (es fs : List (ℕ × Key)) {drawn : ℕ} {opens : List (Option (ℕ × Opens))} → SameKeys es fs → AreFifos es drawn opens → AreFifos fs drawn opens
+pub fifos-alike : (es fs : List (ℕ × Key)) {drawn : ℕ} {opens : List (Option (ℕ × Opens))} → SameKeys es fs
+    → AreFifos es drawn opens → AreFifos fs drawn opens
 fifos-alike es fs {drawn} {opens} same a = record {
   finds = λ file k h. a.finds file k (sym (same file) ∙ h);
   there = λ n o file h g. same file ∙ a.there n o file h g;
@@ -55,20 +60,30 @@ fifos-alike es fs {drawn} {opens} same a = record {
 }
 
 -- nothing but their order has changed
-pub whole-alike : {charges charges' : UserPages} {es fs : List (ℕ × Key)} {ps : ProcessRows} {ds ds' : DescriptionRows} {pipes pipes' : PipeRows} → charges' ≡ charges → ds' ≡ ds → pipes' ≡ pipes → SameKeys es fs
+pub whole-alike : {charges charges' : UserPages} {es fs : List (ℕ × Key)} {ps : ProcessRows} {ds ds' : DescriptionRows}
+    {pipes pipes' : PipeRows} → charges' ≡ charges → ds' ≡ ds → pipes' ≡ pipes → SameKeys es fs
     → Whole charges es ps ds pipes → Whole charges' fs ps ds' pipes'
-whole-alike {charges} {es = es} {fs = fs} {ps = ps} {ds = ds} {ds' = ds'} {pipes = pipes} {pipes' = pipes'} same rows stored keys w =
-    subst (λ x. Whole x fs ps ds' pipes') (sym same) (subst (λ y. Whole charges fs ps y pipes') (sym rows) (subst (λ z. Whole charges fs ps ds z) (sym stored) (record { kept = w.kept; filed = fifos-alike es fs keys w.filed })))
+whole-alike {charges} {es =
+    es} {fs = fs} {ps = ps} {ds = ds} {ds' = ds'} {pipes = pipes} {pipes' = pipes'} same rows stored keys w =
+    subst (λ x. Whole x fs ps ds' pipes') (sym same)
+    (subst (λ y. Whole charges fs ps y pipes') (sym rows)
+    (subst (λ z. Whole charges fs ps ds z) (sym stored)
+    (record { kept = w.kept; filed = fifos-alike es fs keys w.filed })))
 
 -- a FIFO that had none gets one with its pipe
-pub fifos-founded : (es fs : List (ℕ × Key)) {drawn : ℕ} (opens : List (Option (ℕ × Opens))) (k : Key) (file : ℕ) → k.serial ≡ length opens → lookup (nat_eq file) es ≡ None
-    → ((n : ℕ) → lookup (nat_eq n) fs ≡ (if nat_eq file n then Some k else lookup (nat_eq n) es)) → AreFifos es drawn opens → AreFifos fs drawn (opens ++ Some (k.slot, unopened (Some file)) ∷ [])
+pub fifos-founded : (es fs : List (ℕ × Key)) {drawn : ℕ} (opens : List (Option (ℕ × Opens))) (k : Key) (file : ℕ)
+    → k.serial ≡ length opens → lookup (nat_eq file) es ≡ None
+    → ((n : ℕ) → lookup (nat_eq n) fs ≡ (if nat_eq file n then Some k else lookup (nat_eq n) es))
+    → AreFifos es drawn opens → AreFifos fs drawn (opens ++ Some (k.slot, unopened (Some file)) ∷ [])
 fifos-founded es fs {drawn} opens k file k_is none keys a = record {
   finds = λ f j h. by_file f j h (cases_eq f file);
-  there = λ n o f. by_push (λ j y. y ≡ Some o → o.1.file ≡ Some f → lookup (nat_eq f) fs ≡ Some (record { slot = o.0; serial = j })) opens (Some (k.slot, unopened (Some file)))
+  there =
+      λ n o f. by_push (λ j y. y ≡ Some o → o.1.file ≡ Some f
+      → lookup (nat_eq f) fs ≡ Some (record { slot = o.0; serial = j })) opens (Some (k.slot, unopened (Some file)))
       (λ h g. new o f h g) (λ j _ h g. old j o f h g (cases_eq f file)) n;
   few = λ n o. by_push (λ _ y. y ≡ Some o → NoMore drawn o) opens (Some (k.slot, unopened (Some file)))
-      (λ h. let it : ◌≡◌ {A = ℕ × Opens} (k.slot, unopened (Some file)) o = cc in subst (NoMore drawn) it (omega arith, omega arith)) (λ j _ h. a.few j o h) n;
+      (λ h. let it : ◌≡◌ {A = ℕ × Opens} (k.slot, unopened (Some file)) o = cc in subst (NoMore drawn) it
+      (omega arith, omega arith)) (λ j _ h. a.few j o h) n;
 }
   where
     mine : lookup (nat_eq file) fs ≡ Some k
@@ -77,24 +92,32 @@ fifos-founded es fs {drawn} opens k file k_is none keys a = record {
     others : (f : ℕ) → f ≢ file → lookup (nat_eq f) fs ≡ lookup (nat_eq f) es
     others f ne = keys f ∙ ap (λ b. if b then Some k else lookup (nat_eq f) es) (ne_eqb file f (λ e. ne (sym e)))
 
-    by_file : (f : ℕ) (j : Key) → lookup (nat_eq f) fs ≡ Some j → (f ≡ file) ⊎ (f ≢ file) → (o : Opens) × (at (opens ++ Some (k.slot, unopened (Some file)) ∷ []) j.serial ≡ Some (j.slot, o)) × (o.file ≡ Some f)
+    by_file : (f : ℕ) (j : Key) → lookup (nat_eq f) fs ≡ Some j → (f ≡ file) ⊎ (f ≢ file)
+        → (o : Opens) × (at (opens ++ Some (k.slot, unopened (Some file)) ∷ []) j.serial ≡ Some (j.slot, o))
+        × (o.file ≡ Some f)
     by_file f j h (inl same) =
         let both : ◌≡◌ {A = Option Key} (Some k) (Some j) = sym mine ∙ ap (λ q. lookup (nat_eq q) fs) (sym same) ∙ h in
         let it : k ≡ j = cc in
-        (unopened (Some file), ap (at (opens ++ Some (k.slot, unopened (Some file)) ∷ [])) (ap (λ (x : Key). x.serial) (sym it) ∙ k_is) ∙ at-push_new opens (Some (k.slot, unopened (Some file))) ∙ ap (λ (x : Key). Some (x.slot, unopened (Some file))) it, ap Some (sym same))
+        (unopened (Some file), ap (at (opens ++ Some (k.slot, unopened (Some file)) ∷ []))
+        (ap (λ (x : Key). x.serial) (sym it) ∙ k_is) ∙ at-push_new opens (Some (k.slot, unopened (Some file)))
+        ∙ ap (λ (x : Key). Some (x.slot, unopened (Some file))) it, ap Some (sym same))
     by_file f j h (inr ne) =
         let w = a.finds f j (sym (others f ne) ∙ h) in
-        (w.0, at-push_old opens (Some (k.slot, unopened (Some file))) j.serial (at_within opens j.serial (j.slot, w.0) w.1) ∙ w.1, w.2)
+        (w.0, at-push_old opens (Some (k.slot, unopened (Some file))) j.serial
+        (at_within opens j.serial (j.slot, w.0) w.1) ∙ w.1, w.2)
 
-    new : (o : ℕ × Opens) (f : ℕ) → ◌≡◌ {A = Option (ℕ × Opens)} (Some (k.slot, unopened (Some file))) (Some o) → o.1.file ≡ Some f → lookup (nat_eq f) fs ≡ Some (record { slot = o.0; serial = length opens })
+    new : (o : ℕ × Opens) (f : ℕ) → ◌≡◌ {A = Option (ℕ × Opens)} (Some (k.slot, unopened (Some file))) (Some o)
+        → o.1.file ≡ Some f → lookup (nat_eq f) fs ≡ Some (record { slot = o.0; serial = length opens })
     new o f h g =
         let it : ◌≡◌ {A = ℕ × Opens} (k.slot, unopened (Some file)) o = cc in
         let named : ◌≡◌ {A = Option ℕ} (Some file) (Some f) = ap (λ (x : ℕ × Opens). x.1.file) it ∙ g in
         let same : file ≡ f = cc in
         ap (λ q. lookup (nat_eq q) fs) (sym same) ∙ mine ∙ (λ i. Some (record { slot = (it i).0; serial = k_is i }))
 
-    old : (j : ℕ) (o : ℕ × Opens) (f : ℕ) → at opens j ≡ Some o → o.1.file ≡ Some f → (f ≡ file) ⊎ (f ≢ file) → lookup (nat_eq f) fs ≡ Some (record { slot = o.0; serial = j })
-    old j o f h g (inl same) = let gone = sym none ∙ ap (λ q. lookup (nat_eq q) es) (sym same) ∙ a.there j o f h g in absurd (cc)
+    old : (j : ℕ) (o : ℕ × Opens) (f : ℕ) → at opens j ≡ Some o → o.1.file ≡ Some f → (f ≡ file) ⊎ (f ≢ file)
+        → lookup (nat_eq f) fs ≡ Some (record { slot = o.0; serial = j })
+    old j o f h g (inl same) =
+        let gone = sym none ∙ ap (λ q. lookup (nat_eq q) es) (sym same) ∙ a.there j o f h g in absurd (cc)
     old j o f h g (inr ne) = others f ne ∙ a.there j o f h g
 
 -- The machine makes its pipe
@@ -186,7 +209,9 @@ module _ {files : Files} {files_made : ℕ} {limits : Limits} {charges : UserPag
   module _ (q : Process) (is : ready_in ps pid ≡ Ok q) where
     -- the pipe as it is made
     abbrev pub fresh : Pipe
-    fresh = record { ring = record { capacity = slots; segments = [] }; owner = q.cred.uid; readers = 0; writers = 0; opens = unopened (Some file) }
+    fresh =
+        record { ring = record { capacity = slots; segments = [] }; owner = q.cred.uid; readers = 0; writers = 0;
+        opens = unopened (Some file) }
 
     module _ (k : Key) (k_is : k.serial ≡ length pipes) where
       abbrev with_fresh : PipeRows
@@ -199,18 +224,23 @@ module _ {files : Files} {files_made : ℕ} {limits : Limits} {charges : UserPag
       stands = ap (at with_fresh) k_is ∙ at-push_new pipes (Some (k.slot, fresh))
 
       counted_is : put_at with_fresh k.serial (k.slot, counted a fresh) ≡ with_counted
-      counted_is = ap (λ m. put_at with_fresh m (k.slot, counted a fresh)) k_is ∙ set-append_seam pipes (Some (k.slot, fresh)) [] (Some (k.slot, counted a fresh))
+      counted_is =
+          ap (λ m. put_at with_fresh m (k.slot, counted a fresh)) k_is
+          ∙ set-append_seam pipes (Some (k.slot, fresh)) [] (Some (k.slot, counted a fresh))
 
       -- nothing is an end of it yet
       nobody : (read_by ds k.serial ≡ 0) × (written_by ds k.serial ≡ 0)
       nobody =
-          let row = subst (UsedRow (read_by ds k.serial + 0) (written_by ds k.serial + 0)) (at_past pipes k.serial (omega (arith, k_is))) (w.kept.tied.uses k.serial) in
+          let row =
+          subst (UsedRow (read_by ds k.serial + 0) (written_by ds k.serial + 0))
+          (at_past pipes k.serial (omega (arith, k_is))) (w.kept.tied.uses k.serial) in
           (omega (arith, row.0), omega (arith, row.1))
 
       module _ (sided : IsSided a) {ps' : ProcessRows} {ds' : DescriptionRows} {reply : Reply}
           (z : Describes ps ps' ds ds' pid (end_of a k) (before a fresh) reply) where
         same_opener : q ≡ z.p
-        same_opener = let both : ◌≡◌ {A = Result Process Errno} (Ok q) (Ok z.p) = sym (is_living ps pid q is) ∙ z.is in cc
+        same_opener =
+            let both : ◌≡◌ {A = Result Process Errno} (Ok q) (Ok z.p) = sym (is_living ps pid q is) ∙ z.is in cc
 
         awake : z.p.parked ≡ None
         awake = sym (ap (λ (x : Process). x.parked) same_opener) ∙ is_awake ps pid q is
@@ -234,16 +264,23 @@ module _ {files : Files} {files_made : ℕ} {limits : Limits} {charges : UserPag
           now_charged : AreCharged charges' (pipes_of with_counted)
           now_charged =
               subst (AreCharged charges') (sym (map_push (option_map pipe_of) pipes (Some (k.slot, counted a fresh))))
-              (made (λ (x : machine.Pipe Window). x.owner) (λ (x : machine.Pipe Window). x.queue.capacity) charges charges' (pipes_of pipes) w.kept.charged (pipe_of (k.slot, counted a fresh)) more)
+              (made (λ (x : machine.Pipe Window). x.owner) (λ (x : machine.Pipe Window). x.queue.capacity) charges
+              charges' (pipes_of pipes) w.kept.charged (pipe_of (k.slot, counted a fresh)) more)
 
           now_filed : AreFifos es' (length ds') (opens_of with_counted)
           now_filed =
-              let base = fifos-founded es es' (opens_of pipes) k file (k_is ∙ sym (length-map pipes (option_map opens_at))) no_key m.keys w.filed in
+              let base =
+              fifos-founded es es' (opens_of pipes) k file (k_is ∙ sym (length-map pipes (option_map opens_at))) no_key
+              m.keys w.filed in
               subst (λ xs. AreFifos es' (length ds') (opens_of xs)) counted_is
-              (entered-fifos es' a with_fresh k fresh stands (ap length z.described ∙ length_push ds _) (subst (AreFifos es' (length ds)) (sym (map_push (option_map opens_at) pipes (Some (k.slot, fresh)))) base))
+              (entered-fifos es' a with_fresh k fresh stands (ap length z.described ∙ length_push ds _)
+              (subst (AreFifos es' (length ds)) (sym (map_push (option_map opens_at) pipes (Some (k.slot, fresh))))
+              base))
 
           pub founded-whole : Whole charges' es' ps' ds' pipes'
-          founded-whole = subst (Whole charges' es' ps' ds') (sym m.stored) (record { kept = record { tied = now_tied; charged = now_charged }; filed = now_filed })
+          founded-whole =
+              subst (Whole charges' es' ps' ds') (sym m.stored)
+              (record { kept = record { tied = now_tied; charged = now_charged }; filed = now_filed })
 
         module _ (closed : fifo_pipe n.state file ≡ None) where
           seat : at ps (pid - 1) ≡ Some z.p
@@ -258,7 +295,8 @@ module _ {files : Files} {files_made : ℕ} {limits : Limits} {charges : UserPag
           shows : state_of ps' ds' with_counted files files_made ≡ outcome (before a fresh)
           shows =
               (λ i. state_of (seated_is with_counted z awake free
-              (founded a sided k ps ds pipes w.kept.tied fresh k_is refl refl) i) (z.described i) (sym counted_is i) files
+              (founded a sided k ps ds pipes w.kept.tied fresh k_is refl refl) i) (z.described i) (sym counted_is i)
+              files
               files_made)
               ∙ entered.entered-shown files files_made a k fresh ps ds with_fresh stands pid z.p seat z.k z.k_is
               (before a fresh)
@@ -286,9 +324,11 @@ module _ {files : Files} {files_made : ℕ} {limits : Limits} {charges : UserPag
           abbrev on : opens.Found Window ℕ → Result (Outcome Window ℕ) Errno
           on x =
               first pid false
-              (opens.open_pipe itself (length s.descriptions) x.pipe x.state pid (process_of z.p) (access_seen a) x.pipe)
+              (opens.open_pipe itself (length s.descriptions) x.pipe x.state pid (process_of z.p) (access_seen a)
+              x.pipe)
 
-          machine_is : opening limits s pid (access_seen a) file ≡ Ok (told (outcome (before a fresh)) (answer (before a fresh)))
+          machine_is : opening limits s pid (access_seen a) file
+              ≡ Ok (told (outcome (before a fresh)) (answer (before a fresh)))
           machine_is =
               let no_pipe : fifo_pipe s file ≡ None =
               subst (λ (x : Namespace). fifo_pipe x.state file ≡ None) (sym view) closed in

@@ -1,7 +1,7 @@
 -- The open in which a process waits, tried again.
 
 use Rattle.std.proofs.Common.{◌≡◌, ℕ, zero, suc, ◌-◌, Bool, true, false, Option, Some, None, set, if◌then◌else◌}
-use Rattle.std.proofs.Common.{Result, Ok, Err, refl, sym, ap, subst, ◌∙◌, arith}
+use Rattle.std.proofs.Common.{Ok, refl, sym, ap, subst, ◌∙◌, arith}
 use Rattle.std.specs.Option.{option_map, option_and_then}
 use Rattle.std.proofs.lemmas.List.{set-set}
 use Rattle.pf_machine.specs.Attempts.{Attempt, Waits, again, given, reopened}
@@ -10,10 +10,9 @@ use Rattle.pf_machine.specs.Machine.{call_of}
 use Rattle.pf_machine.specs.Numbered.{at, first_free}
 use Rattle.pf_machine.proofs.NumberedLaws.{at_within, at-put_same}
 use Rattle.pf_machine.specs.Refusals.{◌>>=◌, or_refuse}
-use Rattle.pf_machine.specs.State.{itself, State, Process, Outcome, process, of_living, with_process, change_process}
+use Rattle.pf_machine.specs.State.{itself, State, Process, process, of_living, with_process, change_process}
 use Rattle.pf_machine.specs.State.{with_descriptor, waiting, told}
 use Rattle.pf_machine.specs.Sweep.{sweep}
-use Rattle.pf_base.specs.declared.errno.Errno.{Errno}
 use Rattle.pf_base.specs.declared.errno.Errno.TheVariants.{ESRCH}
 use Rattle.pf_base.specs.declared.step.Reply.TheVariants.{Num, Parked}
 use Rattle.pf_ring.specs.declared.ring.Window.{Window}
@@ -23,7 +22,7 @@ use Rattle.pf_tables.specs.Owns.{Owns}
 use Rattle.pf_tables.specs.Tables.{over, woken, awoken, HasLowest}
 use Rattle.pf_tables.proofs.TablesShown.{set_same}
 
-module _ {old : Namespace} {pid : ℕ} {over_now : Bool} (w : IsOver old.state pid over_now) where
+module _ (old : Namespace) {pid : ℕ} {over_now : Bool} (w : IsOver old.state pid over_now) where
   abbrev s : State Window ℕ
   s = old.state
 
@@ -48,7 +47,8 @@ module _ {old : Namespace} {pid : ℕ} {over_now : Bool} (w : IsOver old.state p
   outcome b = if b then given s pid w.p w.n else Waits s (Opening w.n w.before)
 
   tried_again : (b : Bool) → over_now ≡ b
-      → of_living s pid (λ p. Ok (again s pid (reopened itself s pid p w.n w.before))) ≡ Ok (again s pid (Ok (outcome b)))
+      → of_living s pid (λ p. Ok (again s pid (reopened itself s pid p w.n w.before)))
+      ≡ Ok (again s pid (Ok (outcome b)))
   tried_again b is =
       ap (λ r. r >>= (λ p. Ok (again s pid (reopened itself s pid p w.n w.before)))) w.lives
       ∙ ap (λ r. Ok (again s pid r)) (w.is ∙ ap (λ x. Ok (outcome x)) is)
@@ -84,7 +84,8 @@ module _ {old : Namespace} {pid : ℕ} {over_now : Bool} (w : IsOver old.state p
       (ap (option_map (waiting None)) (at-put_same s.processes (pid - 1) (Some named)
       (at_within s.processes (pid - 1) w.p place)))
       ∙ set-set s.processes (pid - 1) (Some named) (Some (waiting None named))
-      ∙ ap (set s.processes (pid - 1)) (ap (λ o. Some (over o w.p)) (sym w.waits) ∙ ap (option_map woken) (sym place))) in
+      ∙ ap (set s.processes (pid - 1)) (ap (λ o. Some (over o w.p)) (sym w.waits)
+      ∙ ap (option_map woken) (sym place))) in
       record {
         n = w.n;
         before = w.before;

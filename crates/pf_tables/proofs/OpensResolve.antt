@@ -1,6 +1,7 @@
 -- A path is resolved to a FIFO, and what its open is told.
 
-use Rattle.std.proofs.Common.{◌≡◌, ℕ, ◌+◌, ◌<◌, Bool, true, false, not, ◌&&◌, List, length, Option, Some, None, Result, Ok, Err, refl, sym, ap, subst, ◌∙◌, arith}
+use Rattle.std.proofs.Common.{◌≡◌, ℕ, ◌+◌, ◌<◌, Bool, true, false, not, ◌&&◌, List, length, Result}
+use Rattle.std.proofs.Common.{Ok, Err, sym, ap, ◌∙◌, arith}
 use Rattle.pf_machine.specs.FileMap.{Files}
 use Rattle.pf_machine.specs.Numbered.{one_if}
 use Rattle.pf_machine.specs.Opens.{Access, openable, open_fifo, open_path}
@@ -20,10 +21,12 @@ use Rattle.pf_tables.specs.Tables.{Says}
 use Rattle.pf_walk.specs.Told.{Told as Answered}
 
 -- what may be opened is opened for a side at least
-pub sided : (files : Files) (c : Cred) (path : List ℕ) (a : Access) (x : File) → openable files c path a ≡ Ok x → 0 < one_if a.reads + one_if a.writes
+pub sided : (files : Files) (c : Cred) (path : List ℕ) (a : Access) (x : File) → openable files c path a ≡ Ok x
+    → 0 < one_if a.reads + one_if a.writes
 sided files c path a x h = by_sides a.reads a.writes _ h
   where
-    by_sides : (r w : Bool) (rest : Result File Errno) → (refuse_if (not r && not w) EINVAL >> rest) ≡ Ok x → 0 < one_if r + one_if w
+    by_sides : (r w : Bool) (rest : Result File Errno) → (refuse_if (not r && not w) EINVAL >> rest) ≡ Ok x
+        → 0 < one_if r + one_if w
     by_sides false false rest h = absurd (cc)
     by_sides true w rest h = omega arith
     by_sides false true rest h = omega arith
@@ -39,7 +42,8 @@ module _ (c : Limits) (s : State Window ℕ) (pid : ℕ) (path : List ℕ) {a b 
   go_on p = open_fifo itself (length s.descriptions) itself c s pid p a
 
   -- it was not found, or may not be opened
-  pub not_named : (old new : Namespace) (fault : Fault) → Answered (λ (file : ℕ). file) (Err fault) (fifo_named s pid path a)
+  pub not_named : (old new : Namespace) (fault : Fault)
+      → Answered (λ (file : ℕ). file) (Err fault) (fifo_named s pid path a)
       → Says old new (Err fault) (opens b)
   not_named old new faults.NoMemory h = tt
   not_named old new (faults.Errno e) h = ap opens (sym asked) ∙ by_caller (ready s pid) h
@@ -59,7 +63,8 @@ module _ (c : Limits) (s : State Window ℕ) (pid : ℕ) (path : List ℕ) {a b 
   pub goes_on : (file : ℕ) → fifo_named s pid path a ≡ Ok file → opens b ≡ opening c s pid a file
   goes_on file named = ap opens (sym asked) ∙ by_caller (ready s pid) named
     where
-      by_file : (r : Result File Errno) (go : ℕ → Result (Outcome Window ℕ) Errno) → (r >>= (λ x. Ok x.number)) ≡ Ok file
+      by_file : (r : Result File Errno) (go : ℕ → Result (Outcome Window ℕ) Errno)
+          → (r >>= (λ x. Ok x.number)) ≡ Ok file
           → (r >>= (λ x. go x.number)) ≡ go file
       by_file (Ok x) go g = let same : x.number ≡ file = cc in ap go same
       by_file (Err y) go g = absurd (cc)

@@ -1,6 +1,7 @@
 -- Whether a FIFO may be opened, whether an open is over, and what its description is.
 
-use Rattle.std.proofs.Common.{◌≡◌, ℕ, ◌-◌, ◌^◌, ◌<◌, ◌≤◌, Bool, true, false, length, Option, Some, None, Result, Ok, Err, nat_lt, nat_le, refl, sym, ap, subst, ◌∙◌, arith}
+use Rattle.std.proofs.Common.{◌≡◌, ℕ, ◌-◌, ◌^◌, ◌<◌, ◌≤◌, Bool, true, false, length, Option, Some, None, Result, Ok}
+use Rattle.std.proofs.Common.{Err, nat_lt, nat_le, refl, sym, ap, subst, ◌∙◌, arith}
 use Rattle.std.specs.Option.{option_map, option_and_then}
 use Rattle.std.proofs.lemmas.Bool.Decides.{nat_tests}
 use Rattle.std.proofs.lemmas.List.{length-map}
@@ -29,14 +30,17 @@ use Rattle.pf_limits.specs.UserPages.{UserPages, charged_to}
 use Rattle.pf_parked.specs.declared.call.Call.TheVariants.{Open}
 use Rattle.pf_tables.specs.Meaning.{Namespace}
 use Rattle.pf_tables.specs.Opened.{lacks_readers, may_open, fifo_capacity, other_opens, IsOver}
-use Rattle.pf_tables.specs.Rows.{ProcessRows, DescriptionRows, PipeRows, Key, Named, Process, Description, Pipe, call_of, call_in, made_by, process_at, process_in, ready_in, process_of, description_of, pipe_of, state_of, Kept}
+use Rattle.pf_tables.specs.Rows.{ProcessRows, DescriptionRows, PipeRows, Key, Named, Process, Description, Pipe}
+use Rattle.pf_tables.specs.Rows.{call_of, call_in, made_by, process_at, process_in, ready_in, process_of}
+use Rattle.pf_tables.specs.Rows.{description_of, pipe_of, state_of, Kept}
 use Rattle.pf_tables.proofs.ProcessTableReady.{shown_in, readies, living_shown, place_of}
 use Rattle.pf_tables.proofs.Ends.{as_kept, end_of_rows, end_shown, seen_as_kept}
 use Rattle.pf_tables.proofs.TablesTied.{finds}
 use Rattle.pf_tables.proofs.TablesShown.{find_at}
 
 -- a refusal goes on, and want of memory
-pub passed_on : {A B : Type 0} (fault : Fault) (answer : Result A Errno) (go : A → Result B Errno) → Answered (λ x. x) (Err fault) answer → Answered (λ (x : B). x) (Err fault) (answer >>= go)
+pub passed_on : {A B : Type 0} (fault : Fault) (answer : Result A Errno) (go : A → Result B Errno)
+    → Answered (λ x. x) (Err fault) answer → Answered (λ (x : B). x) (Err fault) (answer >>= go)
 passed_on (faults.Errno e) answer go is = ap (λ r. r >>= go) is
 passed_on faults.NoMemory answer go is = tt
 
@@ -59,7 +63,8 @@ module _ {files : Files} {files_made : ℕ} {charges : UserPages} {limits : Limi
     opener = subst (λ (m : Namespace). ready m.state pid ≡ Ok (process_of p)) view (readies ps pid p is)
 
     drawn_is : length s.descriptions ≡ length ds
-    drawn_is = sym (ap (λ (m : Namespace). length m.state.descriptions) view) ∙ length-map ds (option_map description_of)
+    drawn_is =
+        sym (ap (λ (m : Namespace). length m.state.descriptions) view) ∙ length-map ds (option_map description_of)
 
     pipes_drawn : length s.pipes ≡ length pipes
     pipes_drawn = sym (ap (λ (m : Namespace). length m.state.pipes) view) ∙ length-map pipes (option_map pipe_of)
@@ -68,14 +73,18 @@ module _ {files : Files} {files_made : ℕ} {charges : UserPages} {limits : Limi
       free_is : first_free (process_of p).descriptors ≡ low
       free_is = first_free-map (λ (k : Key). k.serial) p.descriptors ∙ sym lowest
 
-      judged : (full lacks spent : Bool) → nat_le MAX_DESCRIPTORS low ≡ full → lacks_readers s a file ≡ lacks → is_spent s.descriptions 1 ≡ spent
+      judged : (full lacks spent : Bool) → nat_le MAX_DESCRIPTORS low ≡ full → lacks_readers s a file ≡ lacks
+          → is_spent s.descriptions 1 ≡ spent
           → may_open s pid a file ≡ (refuse_if full EMFILE >> (refuse_if lacks ENXIO >> refuse_if spent ENFILE))
       judged full lacks spent x y z =
-          ap (λ r. r >>= (λ q. refuse_if (nat_le MAX_DESCRIPTORS (first_free q.descriptors)) EMFILE >> (refuse_if (lacks_readers s a file) ENXIO >> refuse_if (is_spent s.descriptions 1) ENFILE))) opener
-          ∙ (λ i. refuse_if ((ap (nat_le MAX_DESCRIPTORS) free_is ∙ x) i) EMFILE >> (refuse_if (y i) ENXIO >> refuse_if (z i) ENFILE))
+          ap (λ r. r >>= (λ q. refuse_if (nat_le MAX_DESCRIPTORS (first_free q.descriptors)) EMFILE
+          >> (refuse_if (lacks_readers s a file) ENXIO >> refuse_if (is_spent s.descriptions 1) ENFILE))) opener
+          ∙ (λ i. refuse_if ((ap (nat_le MAX_DESCRIPTORS) free_is ∙ x) i) EMFILE
+          >> (refuse_if (y i) ENXIO >> refuse_if (z i) ENFILE))
 
       pub full_refused : MAX_DESCRIPTORS ≤ low → may_open s pid a file ≡ Err EMFILE
-      full_refused past = judged true (lacks_readers s a file) (is_spent s.descriptions 1) (grind (arith, nat_tests)) refl refl
+      full_refused past =
+          judged true (lacks_readers s a file) (is_spent s.descriptions 1) (grind (arith, nat_tests)) refl refl
 
       module _ (within : low < MAX_DESCRIPTORS) where
         fits : nat_le MAX_DESCRIPTORS low ≡ false
@@ -100,7 +109,8 @@ module _ {files : Files} {files_made : ℕ} {charges : UserPages} {limits : Limi
       capacity : (spent : Bool) → is_spent s.pipes 1 ≡ spent
           → fifo_capacity n.limits s pid ≡ (refuse_if spent ENFILE >> slots)
       capacity spent x =
-          ap (λ r. r >>= (λ q. refuse_if (is_spent s.pipes 1) ENFILE >> told_as ENOMEM (capacity_for n.limits s q.cred)))
+          ap (λ r. r >>= (λ q. refuse_if (is_spent s.pipes 1) ENFILE >> told_as ENOMEM
+          (capacity_for n.limits s q.cred)))
           opener
           ∙ (λ j. refuse_if (x j) ENFILE >> told_as ENOMEM (capacity_for (sym view j).limits (sym view j).state p.cred))
           ∙ (λ j. refuse_if spent ENFILE >> told_as ENOMEM (new_capacity (same j) (is_privileged p.cred)
@@ -117,17 +127,22 @@ module _ {files : Files} {files_made : ℕ} {charges : UserPages} {limits : Limi
     sleeper : (p : Process) × (process_in ps pid ≡ Ok p) × (p.parked ≡ Some (Open d before))
     sleeper = by_row (process_at ps pid) refl waits
       where
-        by_row : (o : Option Process) → process_at ps pid ≡ o → option_and_then (λ (p : Process). p.parked) o ≡ Some (Open d before) → (p : Process) × (process_in ps pid ≡ Ok p) × (p.parked ≡ Some (Open d before))
+        by_row : (o : Option Process) → process_at ps pid ≡ o
+            → option_and_then (λ (p : Process). p.parked) o ≡ Some (Open d before)
+            → (p : Process) × (process_in ps pid ≡ Ok p) × (p.parked ≡ Some (Open d before))
         by_row None h g = absurd (cc)
         by_row (Some p) h g = (p, ap (or_refuse ESRCH) h, g)
 
     pub row : (e : Named Description) × (at ds d.serial ≡ Some (d.slot, e))
-    row = finds ds d (kept.tied.finds (pid - 1) 0 sleeper.0 d (place_of ps pid sleeper.0 sleeper.1) (ap made_by sleeper.2))
+    row =
+        finds ds d (kept.tied.finds (pid - 1) 0 sleeper.0 d (place_of ps pid sleeper.0 sleeper.1)
+        (ap made_by sleeper.2))
 
     pub pipe_row : (r : Pipe) × (at pipes row.0.value.pipe.serial ≡ Some (row.0.value.pipe.slot, r))
     pipe_row = finds pipes row.0.value.pipe (kept.tied.is_end d.serial (d.slot, row.0) row.1).0
 
-    over_in_state : IsOver (state_of ps ds pipes files files_made) pid (nat_lt before (other_opens row.0.value.reads pipe_row.0))
+    over_in_state : IsOver (state_of ps ds pipes files files_made) pid
+        (nat_lt before (other_opens row.0.value.reads pipe_row.0))
     over_in_state =
         let s = state_of ps ds pipes files files_made in
         record {
@@ -138,14 +153,17 @@ module _ {files : Files} {files_made : ℕ} {charges : UserPages} {limits : Limi
           waits = ap (option_map call_of) sleeper.2;
           is =
               ap (λ o. or_refuse EBADF o >>= (λ e. Ok (open_told s pid (process_of sleeper.0) d.serial before e)))
-              (subst (λ (t : State Window ℕ). end_at itself t d.serial ≡ Some (end_of_rows as_kept row.0.value pipe_row.0))
+              (subst (λ (t : State Window ℕ). end_at itself t d.serial
+              ≡ Some (end_of_rows as_kept row.0.value pipe_row.0))
               (seen_as_kept ps ds pipes files files_made)
               (end_shown as_kept None ps ds pipes files files_made kept.tied pid 0 d row.0 pipe_row.0 row.1
               pipe_row.1));
         }
 
     pub over_is : IsOver n.state pid (nat_lt before (other_opens row.0.value.reads pipe_row.0))
-    over_is = subst (λ (m : Namespace). IsOver m.state pid (nat_lt before (other_opens row.0.value.reads pipe_row.0))) view over_in_state
+    over_is =
+        subst (λ (m : Namespace). IsOver m.state pid (nat_lt before (other_opens row.0.value.reads pipe_row.0))) view
+        over_in_state
 
     -- the code finds its description, and the pipe
     row_found : option_map value_of (find ds d.slot d.serial) ≡ Some row.0.value
@@ -159,13 +177,17 @@ module _ {files : Files} {files_made : ℕ} {charges : UserPages} {limits : Limi
       same_end = let both : ◌≡◌ {A = Option Description} (Some row.0.value) (Some end) = sym row_found ∙ sym is in cc
 
       pipe_found : find pipes end.pipe.slot end.pipe.serial ≡ Some pipe_row.0
-      pipe_found = subst (λ (x : Description). find pipes x.pipe.slot x.pipe.serial ≡ Some pipe_row.0) same_end (find_at pipes row.0.value.pipe.slot row.0.value.pipe.serial pipe_row.0 pipe_row.1)
+      pipe_found =
+          subst (λ (x : Description). find pipes x.pipe.slot x.pipe.serial ≡ Some pipe_row.0) same_end
+          (find_at pipes row.0.value.pipe.slot row.0.value.pipe.serial pipe_row.0 pipe_row.1)
 
       pub pipe_not_gone : None ≡ find pipes end.pipe.slot end.pipe.serial → ⊥
       pipe_not_gone e = let there = pipe_found in absurd (cc)
 
-      pub over_told : (p : Pipe) → Some p ≡ find pipes end.pipe.slot end.pipe.serial → (x : ℕ) → x ≡ other_opens end.reads p → IsOver n.state pid (nat_lt before x)
+      pub over_told : (p : Pipe) → Some p ≡ find pipes end.pipe.slot end.pipe.serial → (x : ℕ)
+          → x ≡ other_opens end.reads p → IsOver n.state pid (nat_lt before x)
       over_told p there x x_is =
           let both : ◌≡◌ {A = Option Pipe} (Some pipe_row.0) (Some p) = sym pipe_found ∙ sym there in
           let same : pipe_row.0 ≡ p = cc in
-          subst (λ (m : ℕ). IsOver n.state pid (nat_lt before m)) ((λ i. other_opens (same_end i).reads (same i)) ∙ sym x_is) over_is
+          subst (λ (m : ℕ). IsOver n.state pid (nat_lt before m))
+          ((λ i. other_opens (same_end i).reads (same i)) ∙ sym x_is) over_is

@@ -1,6 +1,7 @@
 -- How a namespace's frames and its rings stay together when a ring changes, a pipe comes and a pipe goes.
 
-use Rattle.std.proofs.Common.{◌≡◌, ℕ, ◌+◌, ◌<◌, ◌≤◌, Bool, List, [], ◌∷◌, ◌++◌, length, map, refl, ap, sym, ◌∙◌, subst, arith, set, ◌-◌, nat_eq, if◌then◌else◌}
+use Rattle.std.proofs.Common.{◌≡◌, ℕ, ◌+◌, ◌<◌, ◌≤◌, List, [], ◌∷◌, ◌++◌, length, map, refl, ap, sym, ◌∙◌, subst}
+use Rattle.std.proofs.Common.{arith, set, ◌-◌, nat_eq, if◌then◌else◌}
 use Rattle.std.specs.Prelude.{Option, Some, None}
 use Rattle.std.specs.List.{sum_by}
 use Rattle.std.proofs.lemmas.List.{set-set, get_or-set_same, length-map, map-set, map_push}
@@ -8,9 +9,9 @@ use Rattle.std.specs.Option.{option_map}
 use Rattle.std.proofs.lemmas.List.Sums.{sum_by-cons}
 use Rattle.pf_base.specs.Limits.{Limits}
 use Rattle.pf_machine.specs.Queue.{empty, bytes_of}
-use Rattle.pf_machine.specs.Numbered.{at, put_at, clear_at, sum_of, weight}
+use Rattle.pf_machine.specs.Numbered.{at, clear_at, sum_of, weight}
 use Rattle.pf_machine.proofs.NumberedLaws.{at_within, sum_of-set, sum_of-le}
-use Rattle.pf_machine.specs.State.{State, Process, Pipe, opening, with_queue, holding}
+use Rattle.pf_machine.specs.State.{State, Pipe, opening, with_queue, holding}
 use Rattle.pf_frame.specs.Live.{Live, IsSound}
 use Rattle.pf_limits.specs.Sums.{AreSumsOf}
 use Rattle.pf_limits.specs.UserPages.{UserPages}
@@ -19,30 +20,38 @@ use Rattle.pf_ring.specs.Ring.{Ring, queue_of, no_ring}
 use Rattle.pf_ring.specs.Windows.{reach, limit, Keeps, Stands}
 use Rattle.pf_ring.specs.declared.ring.Window.{Window}
 use Rattle.pf_ring.specs.Table.{Joined, ring_at, slots_of, slots_used}
-use Rattle.pf_ring.proofs.TableLaws.{joined_after, queue_stays, joined_pushed, joined_cleared, joined_nothing, ring_stands, credits_for, held_le_used, none_held_bytes}
-use Rattle.pf_tables.specs.Meaning.{Namespace, meaning, pipe_meaning, ring_or, rings_of, pages, Charged, occupied, AreEmpty}
+use Rattle.pf_ring.proofs.TableLaws.{joined_after, queue_stays, joined_pushed, joined_cleared, joined_nothing}
+use Rattle.pf_ring.proofs.TableLaws.{ring_stands, credits_for, held_le_used, none_held_bytes}
+use Rattle.pf_tables.specs.Meaning.{Namespace, ring_or, rings_of, pages, Charged, occupied}
+use Rattle.pf_tables.specs.Meaning.{AreEmpty}
 use Rattle.pf_tables.proofs.MeaningLaws.{Others, others_stay, ring_at-rings}
 use Rattle.pf_tables.specs.Owns.{Owns}
 use Rattle.pf_tables.specs.Recharging.{Recharges}
 
 -- the ring of a pipe that is there
-pub ring_at-pipe : (pipes : List (Option (Pipe Window))) (n : ℕ) (p : Pipe Window) → at pipes n ≡ Some p → ring_at (map ring_or pipes) n ≡ p.queue
+pub ring_at-pipe : (pipes : List (Option (Pipe Window))) (n : ℕ) (p : Pipe Window) → at pipes n ≡ Some p
+    → ring_at (map ring_or pipes) n ≡ p.queue
 ring_at-pipe pipes n p there = ring_at-rings pipes n ∙ ap ring_or there
 
 -- the slots of all rings are the pages that all pipes are charged with
-pub slots-rings : (pipes : List (Option (Pipe Window))) → sum_by slots_of (map ring_or pipes) ≡ sum_of (λ p. p.queue.capacity) pipes
+pub slots-rings : (pipes : List (Option (Pipe Window)))
+    → sum_by slots_of (map ring_or pipes) ≡ sum_of (λ p. p.queue.capacity) pipes
 slots-rings [] = refl
 slots-rings (None ∷ ps) = sum_by-cons slots_of no_ring (map ring_or ps) ∙ ap (λ n. 0 + n) (slots-rings ps)
-slots-rings (Some p ∷ ps) = sum_by-cons slots_of p.queue (map ring_or ps) ∙ ap (λ n. p.queue.capacity + n) (slots-rings ps)
+slots-rings (Some p ∷ ps) =
+    sum_by-cons slots_of p.queue (map ring_or ps) ∙ ap (λ n. p.queue.capacity + n) (slots-rings ps)
 
 -- at the opening state nothing is live
-pub owns_opening : (f : Live) (limits : Limits) → ((q : ℕ) → f.count q ≡ 0) → f.shares ≡ 0 → limits.reserve ≡ f.reserved → Owns f (record { limits = limits; state = opening })
+pub owns_opening : (f : Live) (limits : Limits) → ((q : ℕ) → f.count q ≡ 0) → f.shares ≡ 0 → limits.reserve ≡ f.reserved
+    → Owns f (record { limits = limits; state = opening })
 owns_opening f limits counts shares reserve = record { joined = joined_nothing f counts shares; reserve = reserve }
 
 -- the ring of a pipe has changed. src: windows that were copied into it, none but for a tee and a splice
 
-module _ (f g : Live) (s : State Window ℕ) (n : ℕ) (p : Pipe Window) (r : Ring) (src : List Window) (bound : (q j : ℕ) → reach q src ≤ limit q (ring_at (rings_of s) j).segments)
-    (joined : Joined f (rings_of s)) (there : at s.pipes n ≡ Some p) (keeps : Keeps src p.queue.segments r.segments f g) where
+module _ (f g : Live) (s : State Window ℕ) (n : ℕ) (p : Pipe Window) (r : Ring) (src : List Window)
+    (bound : (q j : ℕ) → reach q src ≤ limit q (ring_at (rings_of s) j).segments)
+    (joined : Joined f (rings_of s)) (there : at s.pipes n ≡ Some p)
+    (keeps : Keeps src p.queue.segments r.segments f g) where
   keeps_at : Keeps src (ring_at (rings_of s) n).segments r.segments f g
   keeps_at = subst (λ (x : Ring). Keeps src x.segments r.segments f g) (sym (ring_at-pipe s.pipes n p there)) keeps
 
@@ -52,21 +61,31 @@ module _ (f g : Live) (s : State Window ℕ) (n : ℕ) (p : Pipe Window) (r : Ri
   pub others_written : Others f g s.pipes n
   others_written = others_stay f g s.pipes n (λ k ne. queue_stays f g (rings_of s) n k r src joined keeps_at ne)
 
-  pub joined_written : r.capacity ≡ p.queue.capacity → length r.segments ≤ r.capacity → Joined g (rings_of (with_queue s n r))
+  pub joined_written : r.capacity ≡ p.queue.capacity → length r.segments ≤ r.capacity
+      → Joined g (rings_of (with_queue s n r))
   joined_written same fits =
-      subst (Joined g) (sym (map-set ring_or s.pipes n (option_map (holding r) (at s.pipes n)) ∙ ap (λ (o : Option (Pipe Window)). set (rings_of s) n (ring_or (option_map (holding r) o))) there))
-      (joined_after f g (rings_of s) n r src within joined bound keeps_at (same ∙ ap slots_of (sym (ring_at-pipe s.pipes n p there))) fits)
+      subst (Joined g) (sym (map-set ring_or s.pipes n (option_map (holding r) (at s.pipes n))
+      ∙ ap (λ (o : Option (Pipe Window)). set (rings_of s) n (ring_or (option_map (holding r) o))) there))
+      (joined_after f g (rings_of s) n r src within joined bound keeps_at
+      (same ∙ ap slots_of (sym (ring_at-pipe s.pipes n p there))) fits)
 
   -- it is cleared, and its pipe is gone
-  pub joined_gone : r ≡ record { capacity = p.queue.capacity; segments = [] } → Joined g (map ring_or (clear_at s.pipes n))
+  pub joined_gone : r ≡ record { capacity = p.queue.capacity; segments = [] }
+      → Joined g (map ring_or (clear_at s.pipes n))
   joined_gone cleared =
-      let after : Joined g (set (rings_of s) n r) = joined_after f g (rings_of s) n r src within joined bound keeps_at (ap slots_of (cleared ∙ (λ i. record { capacity = (sym (ring_at-pipe s.pipes n p there) i).capacity; segments = [] }))) (subst (λ (x : Ring). length x.segments ≤ x.capacity) (sym cleared) (omega arith)) in
-      let bare : (ring_at (set (rings_of s) n r) n).segments ≡ [] = ap (λ (x : Ring). x.segments) (get_or-set_same (rings_of s) n r no_ring within ∙ cleared) in
-      subst (Joined g) (set-set (rings_of s) n r no_ring ∙ sym (map-set ring_or s.pipes n None)) (joined_cleared g (set (rings_of s) n r) n after bare)
+      let after : Joined g (set (rings_of s) n r) =
+      joined_after f g (rings_of s) n r src within joined bound keeps_at
+      (ap slots_of (cleared ∙ (λ i. record { capacity = (sym (ring_at-pipe s.pipes n p there) i).capacity; segments = []
+      }))) (subst (λ (x : Ring). length x.segments ≤ x.capacity) (sym cleared) (omega arith)) in
+      let bare : (ring_at (set (rings_of s) n r) n).segments ≡ [] =
+      ap (λ (x : Ring). x.segments) (get_or-set_same (rings_of s) n r no_ring within ∙ cleared) in
+      subst (Joined g) (set-set (rings_of s) n r no_ring ∙ sym (map-set ring_or s.pipes n None))
+      (joined_cleared g (set (rings_of s) n r) n after bare)
 
 -- one more pipe, with nothing in it
 
-pub joined_opened : (f : Live) (pipes : List (Option (Pipe Window))) (p : Pipe Window) {slots : ℕ} → p.queue ≡ empty slots
+pub joined_opened : (f : Live) (pipes : List (Option (Pipe Window))) (p : Pipe Window) {slots : ℕ}
+    → p.queue ≡ empty slots
     → Joined f (map ring_or pipes) → sum_of (λ (q : Pipe Window). q.queue.capacity) pipes + slots ≤ f.reserved
     → Joined f (map ring_or (pipes ++ Some p ∷ []))
 joined_opened f pipes p {slots} bare joined fits =
@@ -76,38 +95,53 @@ joined_opened f pipes p {slots} bare joined fits =
 
 -- the ring of a pipe that is there stands in the frames, and each of its free slots has a credit
 
-pub stands_at : (f : Live) (s : State Window ℕ) (n : ℕ) (p : Pipe Window) → Joined f (rings_of s) → at s.pipes n ≡ Some p → Stands f p.queue.segments
-stands_at f s n p joined there = subst (λ (r : Ring). Stands f r.segments) (ring_at-pipe s.pipes n p there) (ring_stands f (rings_of s) n joined)
+pub stands_at : (f : Live) (s : State Window ℕ) (n : ℕ) (p : Pipe Window) → Joined f (rings_of s)
+    → at s.pipes n ≡ Some p → Stands f p.queue.segments
+stands_at f s n p joined there =
+    subst (λ (r : Ring). Stands f r.segments) (ring_at-pipe s.pipes n p there) (ring_stands f (rings_of s) n joined)
 
-pub credits_at : (f : Live) (s : State Window ℕ) (n : ℕ) (p : Pipe Window) → IsSound f → Joined f (rings_of s) → at s.pipes n ≡ Some p → f.held + (p.queue.capacity - length p.queue.segments) ≤ f.reserved
-credits_at f s n p sound joined there = subst (λ (r : Ring). f.held + (r.capacity - length r.segments) ≤ f.reserved) (ring_at-pipe s.pipes n p there) (credits_for f (rings_of s) n sound joined)
+pub credits_at : (f : Live) (s : State Window ℕ) (n : ℕ) (p : Pipe Window) → IsSound f → Joined f (rings_of s)
+    → at s.pipes n ≡ Some p → f.held + (p.queue.capacity - length p.queue.segments) ≤ f.reserved
+credits_at f s n p sound joined there =
+    subst (λ (r : Ring). f.held + (r.capacity - length r.segments) ≤ f.reserved) (ring_at-pipe s.pipes n p there)
+    (credits_for f (rings_of s) n sound joined)
 
 -- the counters stay the sums where a ring keeps its capacity
-pub charged-with_queue : (charges : UserPages) (s : State Window ℕ) (n : ℕ) (p : Pipe Window) (r : Ring) → at s.pipes n ≡ Some p → r.capacity ≡ p.queue.capacity → Charged charges s → Charged charges (with_queue s n r)
+pub charged-with_queue : (charges : UserPages) (s : State Window ℕ) (n : ℕ) (p : Pipe Window) (r : Ring)
+    → at s.pipes n ≡ Some p → r.capacity ≡ p.queue.capacity → Charged charges s → Charged charges (with_queue s n r)
 charged-with_queue charges s n p r there same is =
-    subst (λ (o : Option (Pipe Window)). AreSumsOf (λ (q : Pipe Window). q.owner) (λ (q : Pipe Window). q.queue.capacity) charges (set s.pipes n (option_map (holding r) o))) (sym there)
-    (kept (λ (q : Pipe Window). q.owner) (λ (q : Pipe Window). q.queue.capacity) charges s.pipes n p (holding r p) is there refl same)
+    subst (λ (o : Option (Pipe Window)). AreSumsOf (λ (q : Pipe Window). q.owner)
+    (λ (q : Pipe Window). q.queue.capacity) charges (set s.pipes n (option_map (holding r) o))) (sym there)
+    (kept (λ (q : Pipe Window). q.owner) (λ (q : Pipe Window). q.queue.capacity) charges s.pipes n p (holding r p) is
+    there refl same)
 
 -- and where its owner is charged with what it has then
-pub recharged : (old new : UserPages) (s : State Window ℕ) (n : ℕ) (p : Pipe Window) (r : Ring) → at s.pipes n ≡ Some p → Recharges old new p.owner p.queue.capacity r.capacity → Charged old s → Charged new (with_queue s n r)
+pub recharged : (old new : UserPages) (s : State Window ℕ) (n : ℕ) (p : Pipe Window) (r : Ring) → at s.pipes n ≡ Some p
+    → Recharges old new p.owner p.queue.capacity r.capacity → Charged old s → Charged new (with_queue s n r)
 recharged old new s n p r there re is =
     let q : Option (Pipe Window) = option_map (holding r) (at s.pipes n) in
     let after : q ≡ Some (holding r p) = ap (option_map (holding r)) there in
     record {
       users = λ u.
           let h : Pipe Window → ℕ = λ (x : Pipe Window). if nat_eq x.owner u then x.queue.capacity else 0 in
-          omega (arith, re.users u, is.users u, sum_of-set h s.pipes n q (at_within s.pipes n p there), ap (weight h) there, ap (weight h) after);
+          omega (arith, re.users u, is.users u, sum_of-set h s.pipes n q (at_within s.pipes n p there), ap (weight h)
+          there, ap (weight h) after);
       total =
           let h : Pipe Window → ℕ = λ (x : Pipe Window). x.queue.capacity in
-          omega (arith, re.total, is.total, sum_of-set h s.pipes n q (at_within s.pipes n p there), ap (weight h) there, ap (weight h) after);
+          omega (arith, re.total, is.total, sum_of-set h s.pipes n q (at_within s.pipes n p there), ap (weight h) there,
+          ap (weight h) after);
     }
 
 -- nobody is charged otherwise
-pub charged-same : (old new : UserPages) (owner : ℕ) (s : State Window ℕ) → Recharges old new owner 0 0 → Charged old s → Charged new s
-charged-same old new owner s re is = record { users = λ u. omega (arith, re.users u, is.users u); total = omega (arith, re.total, is.total) }
+pub charged-same : (old new : UserPages) (owner : ℕ) (s : State Window ℕ) → Recharges old new owner 0 0 → Charged old s
+    → Charged new s
+charged-same old new owner s re is =
+    record { users = λ u. omega (arith, re.users u, is.users u); total = omega (arith, re.total, is.total) }
 
 -- and a pipe that goes takes its own with it
-pub pages-without : (pipes : List (Option (Pipe Window))) (n : ℕ) (p : Pipe Window) → at pipes n ≡ Some p → sum_of (λ (q : Pipe Window). q.queue.capacity) (clear_at pipes n) + p.queue.capacity ≡ sum_of (λ (q : Pipe Window). q.queue.capacity) pipes
+pub pages-without : (pipes : List (Option (Pipe Window))) (n : ℕ) (p : Pipe Window) → at pipes n ≡ Some p
+    → sum_of (λ (q : Pipe Window). q.queue.capacity) (clear_at pipes n) + p.queue.capacity
+    ≡ sum_of (λ (q : Pipe Window). q.queue.capacity) pipes
 pages-without pipes n p there =
     let h : Pipe Window → ℕ = λ (q : Pipe Window). q.queue.capacity in
     omega (arith, sum_of-set h pipes n None (at_within pipes n p there), ap (weight h) there)
@@ -119,18 +153,24 @@ pages_within f n o =
     omega (arith, slots, o.joined.reserve, o.reserve)
 
 -- the slots in use are those of all rings
-pub used-rings : (pipes : List (Option (Pipe Window))) → sum_by slots_used (map ring_or pipes) ≡ sum_of (λ p. length p.queue.segments) pipes
+pub used-rings : (pipes : List (Option (Pipe Window)))
+    → sum_by slots_used (map ring_or pipes) ≡ sum_of (λ p. length p.queue.segments) pipes
 used-rings [] = refl
 used-rings (None ∷ ps) = sum_by-cons slots_used no_ring (map ring_or ps) ∙ ap (λ n. 0 + n) (used-rings ps)
-used-rings (Some p ∷ ps) = sum_by-cons slots_used p.queue (map ring_or ps) ∙ ap (λ n. length p.queue.segments + n) (used-rings ps)
+used-rings (Some p ∷ ps) =
+    sum_by-cons slots_used p.queue (map ring_or ps) ∙ ap (λ n. length p.queue.segments + n) (used-rings ps)
 
 pub held_occupied : (f : Live) (n : Namespace) → IsSound f → Owns f n → f.held ≤ occupied n.state
-held_occupied f n sound o = subst (λ (k : ℕ). f.held ≤ k) (used-rings n.state.pipes) (held_le_used f (rings_of n.state) sound o.joined)
+held_occupied f n sound o =
+    subst (λ (k : ℕ). f.held ≤ k) (used-rings n.state.pipes) (held_le_used f (rings_of n.state) sound o.joined)
 
 pub none_empty : (f : Live) (n : Namespace) → IsSound f → Owns f n → f.held ≡ 0 → AreEmpty f n.state
-none_empty f n sound o none k p there = subst (λ (r : Ring). bytes_of (queue_of f r) ≡ []) (ring_at-pipe n.state.pipes k p there) (none_held_bytes f (rings_of n.state) sound o.joined none k)
+none_empty f n sound o none k p there =
+    subst (λ (r : Ring). bytes_of (queue_of f r) ≡ []) (ring_at-pipe n.state.pipes k p there)
+    (none_held_bytes f (rings_of n.state) sound o.joined none k)
 
 -- no ring has more slots in use than it has slots, so the slots in use are within the pages
 pub occupied_pages : (f : Live) (n : Namespace) → Owns f n → occupied n.state ≤ pages n.state
 occupied_pages f n o = sum_of-le (λ p. length p.queue.segments) (λ p. p.queue.capacity) n.state.pipes
-    (λ k p there. subst (λ (r : Ring). slots_used r ≤ slots_of r) (ring_at-pipe n.state.pipes k p there) (o.joined.fits k))
+    (λ k p there. subst (λ (r : Ring). slots_used r ≤ slots_of r) (ring_at-pipe n.state.pipes k p there)
+    (o.joined.fits k))

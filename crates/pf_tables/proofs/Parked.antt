@@ -1,6 +1,7 @@
 -- A call is over, or begins: what the tables keep and show of it.
 
-use Rattle.std.proofs.Common.{◌≡◌, ℕ, zero, suc, ◌-◌, [], ◌∷◌, set, map, Option, Some, None, IsOk, Result, Ok, refl, sym, ap, subst, ◌∙◌, arith}
+use Rattle.std.proofs.Common.{◌≡◌, ℕ, zero, suc, ◌-◌, [], ◌∷◌, set, map, Option, Some, None, IsOk, Result, Ok, refl}
+use Rattle.std.proofs.Common.{sym, ap, subst, ◌∙◌, arith}
 use Rattle.std.specs.Option.{option_map, option_and_then}
 use Rattle.std.proofs.lemmas.List.{map-set, set-set}
 use Rattle.pf_machine.specs.FileMap.{Files}
@@ -16,17 +17,21 @@ use Rattle.pf_limits.specs.UserPages.{UserPages}
 use Rattle.pf_parked.specs.declared.call.Call.TheVariants.{Open, Read, Write, Cross}
 use Rattle.pf_tables.specs.Meaning.{Namespace}
 use Rattle.pf_tables.specs.Rows as rows
-use Rattle.pf_tables.specs.Rows.{ProcessRows, DescriptionRows, PipeRows, Key, Process, Call, call_of, made_by, keys_of, keys_to, names_it, IsSpare, Finds, process_in, ready_in, process_of, processes_of, state_of, TiedWith, Tied, Kept}
+use Rattle.pf_tables.specs.Rows.{ProcessRows, DescriptionRows, PipeRows, Key, Process, Call, call_of, made_by, keys_of}
+use Rattle.pf_tables.specs.Rows.{IsSpare, process_in, ready_in, process_of, processes_of}
+use Rattle.pf_tables.specs.Rows.{state_of, TiedWith, Tied, Kept}
 use Rattle.pf_tables.specs.Tables.{over, woken, awoken, HasLowest}
 use Rattle.pf_tables.specs.Told.{waits_in}
-use Rattle.pf_tables.proofs.ProcessTableReady.{shown_in, found_in, living_shown, ready_shown, place_of, place_is, is_awake}
+use Rattle.pf_tables.proofs.ProcessTableReady.{shown_in, found_in, living_shown, ready_shown, place_of, place_is}
+use Rattle.pf_tables.proofs.ProcessTableReady.{is_awake}
 use Rattle.pf_tables.proofs.TablesTied.{moved, put}
 use Rattle.pf_tables.proofs.TablesShown.{shown}
 
 -- Who lives for the machine lives in the tables
 
 module _ {limits : Limits} {ps : ProcessRows} {ds : DescriptionRows} {pipes : PipeRows} {files : Files} {files_made : ℕ}
-    {n : Namespace} (view : record { limits = limits; state = state_of ps ds pipes files files_made } ≡ n) (pid : ℕ) where
+    {n : Namespace} (view : record { limits = limits; state = state_of ps ds pipes files files_made } ≡ n)
+        (pid : ℕ) where
   pub who : IsOk (living n.state pid) → (p : Process) × (process_in ps pid ≡ Ok p)
   who lives =
       found_in (process_in ps pid)
@@ -53,10 +58,13 @@ woken_shown p = by_call p.parked
     by_call (Some (Write fd write)) = refl
     by_call (Some (Cross crossing source sink n)) = refl
     by_call (Some (Open key kept)) =
-        ap (λ xs. record { cred = p.cred; descriptors = xs; parked = None }) (map-set (option_map (λ (k : Key). k.serial)) p.descriptors (first_free p.descriptors) (Some key))
-        ∙ ap (λ m. record { cred = p.cred; descriptors = put_at (map (option_map (λ (k : Key). k.serial)) p.descriptors) m key.serial; parked = None }) (sym (first_free-map (λ (k : Key). k.serial) p.descriptors))
+        ap (λ xs. record { cred = p.cred; descriptors = xs; parked = None })
+        (map-set (option_map (λ (k : Key). k.serial)) p.descriptors (first_free p.descriptors) (Some key))
+        ∙ ap (λ m. record { cred = p.cred; descriptors = put_at (map (option_map (λ (k : Key). k.serial)) p.descriptors)
+        m key.serial; parked = None }) (sym (first_free-map (λ (k : Key). k.serial) p.descriptors))
 
-module _ (ps : ProcessRows) (ds : DescriptionRows) (pipes : PipeRows) (t : Tied ps ds pipes) (i : ℕ) (p : Process) (stands : at ps i ≡ Some p) where
+module _ (ps : ProcessRows) (ds : DescriptionRows) (pipes : PipeRows) (t : Tied ps ds pipes) (i : ℕ) (p : Process)
+    (stands : at ps i ≡ Some p) where
   abbrev asleep : Process
   asleep = record p { parked = None }
 
@@ -67,14 +75,18 @@ module _ (ps : ProcessRows) (ds : DescriptionRows) (pipes : PipeRows) (t : Tied 
   pub woken-tied : IsSpare p → Tied (put_at ps i (rows.woken p)) ds pipes
   woken-tied spare = by_call p.parked refl in_hand
     where
-      by_call : (o : Option (Call Key)) → p.parked ≡ o → TiedWith (rows.holding (made_by o) []) [] (put_at ps i asleep) ds pipes → Tied (put_at ps i (rows.over o p)) ds pipes
+      by_call : (o : Option (Call Key)) → p.parked ≡ o
+          → TiedWith (rows.holding (made_by o) []) [] (put_at ps i asleep) ds pipes
+          → Tied (put_at ps i (rows.over o p)) ds pipes
       by_call None e u = u
       by_call (Some (Read fd n)) e u = u
       by_call (Some (Write fd write)) e u = u
       by_call (Some (Cross crossing source sink n)) e u = u
       by_call (Some (Open key kept)) e u =
           subst (λ x. Tied x ds pipes) (set-set ps i (Some asleep) (Some (rows.over (Some (Open key kept)) p)))
-          (put [] [] (put_at ps i asleep) ds pipes i (first_free p.descriptors) asleep (at-put_same ps i (Some asleep) (at_within ps i p stands)) (spare key kept e) key (at-first_free p.descriptors) u)
+          (put [] [] (put_at ps i asleep) ds pipes i (first_free p.descriptors) asleep
+          (at-put_same ps i (Some asleep) (at_within ps i p stands)) (spare key kept e) key
+          (at-first_free p.descriptors) u)
 
 module _ {charges : UserPages} {limits : Limits} {ps : ProcessRows} {ds : DescriptionRows} {pipes : PipeRows}
     {files : Files} {files_made : ℕ} (k : Kept charges ps ds pipes) {n : Namespace}
@@ -114,7 +126,8 @@ module _ {charges : UserPages} {limits : Limits} {ps : ProcessRows} {ds : Descri
       ∙ ap (λ (m : Namespace). record m { state = awoken m.state pid }) view
 
   -- what the machine sees of the call
-  pub call-shown : {o : Option (Call Key)} → o ≡ rows.call_in ps pid → option_map call_of o ≡ machine_call_of n.state pid
+  pub call-shown : {o : Option (Call Key)} → o ≡ rows.call_in ps pid
+      → option_map call_of o ≡ machine_call_of n.state pid
   call-shown is =
       ap (option_map call_of) is ∙ by_pid pid ∙ ap (λ (m : Namespace). machine_call_of m.state pid) view
     where
@@ -123,7 +136,8 @@ module _ {charges : UserPages} {limits : Limits} {ps : ProcessRows} {ds : Descri
       by_row None = refl
       by_row (Some p) = refl
 
-      by_pid : (m : ℕ) → option_map call_of (rows.call_in ps m) ≡ machine_call_of (state_of ps ds pipes files files_made) m
+      by_pid : (m : ℕ) → option_map call_of (rows.call_in ps m)
+          ≡ machine_call_of (state_of ps ds pipes files files_made) m
       by_pid zero = refl
       by_pid (suc i) =
           by_row (at ps i) ∙ ap (option_and_then (λ (p : machine.Process ℕ). p.parked)) (sym (at-map process_of ps i))

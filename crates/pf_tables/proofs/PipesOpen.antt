@@ -1,7 +1,9 @@
 -- A pipe is made: two descriptions and a pipe under the next numbers, and two keys at the lowest free descriptors.
 
-use Rattle.std.proofs.Common.{◌≡◌, ℕ, suc, ◌+◌, ◌-◌, ◌<◌, ◌≤◌, Bool, true, false, List, [], ◌∷◌, ◌++◌, length, set, Option, Some, None}
-use Rattle.std.proofs.Common.{◌||◌, Result, Ok, Err, IsOk, nat_lt, nat_le, refl, sym, ap, subst, ◌∙◌, arith, append_assoc, if◌then◌else◌}
+use Rattle.std.proofs.Common.{◌≡◌, ℕ, suc, ◌+◌, ◌-◌, ◌<◌, ◌≤◌, Bool, true, false, List, [], ◌∷◌, ◌++◌, length, set}
+use Rattle.std.proofs.Common.{Option, Some, None}
+use Rattle.std.proofs.Common.{◌||◌, Result, Ok, Err, IsOk, nat_lt, nat_le, refl, sym, ap, subst, ◌∙◌, arith}
+use Rattle.std.proofs.Common.{append_assoc}
 use Rattle.std.specs.Option.{option_map}
 use Rattle.std.proofs.lemmas.Bool.Decides.{nat_tests}
 use Rattle.std.proofs.lemmas.List.{map-set, length-map, map_push, length_push, set-set}
@@ -18,7 +20,8 @@ use Rattle.pf_base.specs.Permissions.{is_privileged}
 use Rattle.pf_machine.specs.Queue.{empty}
 use Rattle.pf_machine.specs.State as machine
 use Rattle.pf_machine.specs.State.{State, Outcome, ready, of_ready, told}
-use Rattle.pf_machine.specs.Pipes.{second_free, is_spent, capacity_for, reading as machine_reading, writing as machine_writing, new_pipe, with_two, opened, pipe}
+use Rattle.pf_machine.specs.Pipes.{second_free, is_spent, capacity_for, reading as machine_reading}
+use Rattle.pf_machine.specs.Pipes.{writing as machine_writing, new_pipe, with_two, opened, pipe}
 use Rattle.pf_base.specs.declared.TheConstants.{MAX_DESCRIPTORS, MAX_MADE}
 use Rattle.pf_base.specs.declared.errno.Errno.{Errno}
 use Rattle.pf_base.specs.declared.errno.Errno.TheVariants.{EMFILE, ENFILE}
@@ -30,8 +33,9 @@ use Rattle.pf_limits.specs.UserPages.{UserPages, charged_to, Charges}
 use Rattle.pf_limits.proofs.SumLaws.{made}
 use Rattle.pf_tables.specs.Meaning.{Namespace, AreCharged, rings_of}
 use Rattle.pf_tables.proofs.OwnsLaws.{joined_opened}
-use Rattle.pf_tables.specs.Rows.{ProcessRows, DescriptionRows, PipeRows, Key, Process, Description, Pipe, ready_in, with_keys}
-use Rattle.pf_tables.specs.Rows.{process_of, description_of, pipe_of, processes_of, descriptions_of, pipes_of, state_of}
+use Rattle.pf_tables.specs.Rows.{ProcessRows, DescriptionRows, PipeRows, Key, Process, Description, Pipe, ready_in}
+use Rattle.pf_tables.specs.Rows.{with_keys}
+use Rattle.pf_tables.specs.Rows.{process_of, description_of, pipe_of, pipes_of, state_of}
 use Rattle.pf_tables.specs.Rows.{NamedRow, TiedWith, Tied, Kept, Named}
 use Rattle.pf_tables.specs.Owns.{Owns}
 use Rattle.pf_tables.specs.Tables.{Makes, two_free}
@@ -76,7 +80,8 @@ module _ (xs : List (Option Key)) where
       let full : nat_le MAX_DESCRIPTORS (second_free xs) ≡ true = grind (arith, nat_tests) in
       ap (λ b. refuse_if b EMFILE >> Ok (first_free xs, second_free xs)) (sym full)
 
-  module _ (first : ℕ) (lowest : first ≡ first_free xs) (second : ℕ) (next : (k : Key) → second ≡ first_free (put_at xs first k)) where
+  module _ (first : ℕ) (lowest : first ≡ first_free xs) (second : ℕ)
+      (next : (k : Key) → second ≡ first_free (put_at xs first k)) where
     pub second_is : second ≡ second_free xs
     second_is =
         let zero : Key = record { slot = 0; serial = 0 } in
@@ -86,7 +91,8 @@ module _ (xs : List (Option Key)) where
     has_two within =
         let same = second_is in
         let free : nat_le MAX_DESCRIPTORS (second_free xs) ≡ false = grind (arith, nat_tests) in
-        (λ i. Ok (lowest i, second_is i)) ∙ ap (λ b. refuse_if b EMFILE >> Ok (first_free xs, second_free xs)) (sym free)
+        (λ i. Ok (lowest i, second_is i)) ∙ ap (λ b. refuse_if b EMFILE >> Ok (first_free xs, second_free xs))
+        (sym free)
 
   -- which they are
   module _ (free : ℕ × ℕ) (two : Ok free ≡ two_free xs) where
@@ -137,7 +143,8 @@ module _ (ps : ProcessRows) (ds : DescriptionRows) (pipes : PipeRows) (pid : ℕ
     pub piped_to : pipes' ≡ pipes ++ Some (r.slot, two_ended slots owner) ∷ []
     pub j_is : j.serial ≡ length ds
     pub k_is : k.serial ≡ length (ds ++ Some (j.slot, once (reading r nonblocking)) ∷ [])
-    pub named_to : ds' ≡ (ds ++ Some (j.slot, once (reading r nonblocking)) ∷ []) ++ Some (k.slot, once (writing r nonblocking)) ∷ []
+    pub named_to : ds' ≡ (ds ++ Some (j.slot, once (reading r nonblocking)) ∷ []) ++ Some
+        (k.slot, once (writing r nonblocking)) ∷ []
     pub set_to : ps' ≡ set ps (pid - 1) (with_keys free.0 j free.1 k (at ps (pid - 1)))
 
 -- a refusal stands before what goes on
@@ -287,7 +294,8 @@ module _ {files : Files} {files_made : ℕ} {charges : UserPages} {ps : ProcessR
       tied = tied_after;
       charged =
           subst (AreCharged charges')
-          (sym (ap pipes_of m.piped_to ∙ map_push (option_map pipe_of) pipes (Some (m.r.slot, two_ended slots p.cred.uid))))
+          (sym (ap pipes_of m.piped_to ∙ map_push (option_map pipe_of) pipes
+          (Some (m.r.slot, two_ended slots p.cred.uid))))
           (made (λ (q : machine.Pipe Window). q.owner) (λ (q : machine.Pipe Window). q.queue.capacity) charges charges'
           (pipes_of pipes) kept.charged (pipe_of (m.r.slot, two_ended slots p.cred.uid)) more);
     }

@@ -1,7 +1,9 @@
 -- A pipe's slots: how many they are told to be, and a pipe that gets another number of them.
 
-use Rattle.std.proofs.Common.{◌≡◌, ℕ, ◌+◌, ◌-◌, ◌*◌, ◌<◌, ◌≤◌, Bool, true, false, not, ◌&&◌, [], length, set, Option, Some, None}
-use Rattle.std.proofs.Common.{IsSome, is_some, Result, Ok, Err, nat_lt, refl, sym, ap, subst, ◌∙◌, arith, if◌then◌else◌, inl, inr}
+use Rattle.std.proofs.Common.{◌≡◌, ℕ, ◌+◌, ◌-◌, ◌*◌, ◌<◌, ◌≤◌, Bool, true, false, not, ◌&&◌, [], length, set, Option}
+use Rattle.std.proofs.Common.{Some, None}
+use Rattle.std.proofs.Common.{IsSome, is_some, Result, Ok, Err, nat_lt, refl, sym, ap, subst, ◌∙◌, arith, if◌then◌else◌}
+use Rattle.std.proofs.Common.{inl, inr}
 use Rattle.std.specs.Option.{option_map}
 use Rattle.std.proofs.lemmas.Bool.{lt-ltb, le-ltb, ltb-false, cases_lt}
 use Rattle.std.proofs.lemmas.List.{map-set, length-map}
@@ -38,7 +40,8 @@ use Rattle.pf_tables.specs.Owns.{Owns}
 use Rattle.pf_tables.proofs.OwnsLaws.{ring_at-pipe, slots-rings, pages-without, recharged, charged-same}
 use Rattle.pf_tables.proofs.TablesTied.{requeued}
 use Rattle.pf_tables.proofs.TablesSettled.{settled}
-use Rattle.pf_tables.specs.Rows.{ProcessRows, DescriptionRows, PipeRows, Process, Description, Pipe, process_of, pipe_of}
+use Rattle.pf_tables.specs.Rows.{ProcessRows, DescriptionRows, PipeRows, Process, Description, Pipe, process_of}
+use Rattle.pf_tables.specs.Rows.{pipe_of}
 use Rattle.pf_tables.specs.Rows.{pipes_of, state_of, ready_in, end_in, Tied, Kept}
 use Rattle.pf_tables.specs.Tables.{Makes, Says, verdict, Resizes, Refuses, Resizing}
 use Rattle.pf_tables.proofs.ProcessTableReady.{readies}

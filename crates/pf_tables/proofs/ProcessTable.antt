@@ -1,5 +1,5 @@
--- The processes stay as many places, and an open that waits keeps a descriptor to come; and those that wait in a call are
--- marked.
+-- The processes stay as many places, and an open that waits keeps a descriptor to come; and those that wait in a call
+-- are marked.
 
 use Rattle.std.proofs.Common.{◌≡◌, ◌≢◌, true, false, is_some, ℕ, zero, suc, ◌-◌, ◌<◌, ◌≤◌, List, [], ◌∷◌, length, set}
 use Rattle.std.proofs.Common.{length-set, subst, Option, Some, None, Ok, IsOk, refl, sym, ap, ◌∙◌, inl, inr, arith}
@@ -108,7 +108,8 @@ module _ (m : Marks) (ps : ProcessRows) (s : IsWatched m ps) where
     seated = seated;
     marked = λ k within. elim (cases_eq k i) [
       | inl same ↦
-          let there : at (set ps i x) k ≡ x = ap (at (set ps i x)) same ∙ at-put_same ps i x (omega (arith, s.seated.places)) in
+          let there : at (set ps i x) k ≡ x =
+          ap (at (set ps i x)) same ∙ at-put_same ps i x (omega (arith, s.seated.places)) in
           ap (is_marked m') same ∙ here ∙ sym (ap waits there)
       | inr other ↦ others k within other ∙ s.marked k within ∙ sym (ap waits (at-put_other ps i k x other))
     ];
@@ -124,7 +125,8 @@ module _ (m : Marks) (ps : ProcessRows) (s : IsWatched m ps) where
 
   -- with other descriptors
   pub still_watched : (i : ℕ) (p : Process) → at ps i ≡ Some p → (ks : Keys)
-      → IsSeated (put_at ps i (record p { descriptors = ks })) → IsWatched m (put_at ps i (record p { descriptors = ks }))
+      → IsSeated (put_at ps i (record p { descriptors = ks }))
+      → IsWatched m (put_at ps i (record p { descriptors = ks }))
   still_watched i p there ks seated =
       as_before i (Some (record p { descriptors = ks })) (place_in i p there) seated (sym (ap waits there))
 

@@ -1,6 +1,7 @@
 -- A process comes with no keys, or goes with none.
 
-use Rattle.std.proofs.Common.{◌≡◌, ℕ, ◌<◌, [], length, map, subst, replicate, Option, Some, None, refl, sym, ap, ◌∙◌, inl, inr, arith}
+use Rattle.std.proofs.Common.{◌≡◌, ℕ, ◌<◌, [], length, map, subst, replicate, Option, Some, None, refl, sym, ap, ◌∙◌}
+use Rattle.std.proofs.Common.{inl, inr, arith}
 use Rattle.std.specs.Option.{option_map}
 use Rattle.std.proofs.lemmas.Bool.{cases_lt}
 use Rattle.std.proofs.lemmas.List.{length-map, length-replicate, get_or-replicate}
@@ -12,12 +13,15 @@ use Rattle.pf_machine.specs.State.{vacant, opening}
 use Rattle.pf_base.specs.declared.TheConstants.{MAX_PROCESSES, MAX_DESCRIPTORS}
 use Rattle.pf_limits.specs.UserPages.{UserPages}
 use Rattle.pf_tables.specs.Meaning.{AreCharged}
-use Rattle.pf_tables.specs.Rows.{ProcessRows, DescriptionRows, PipeRows, Process, process_of, pipes_of, state_of, keys_of, keys_to, names_it, Tied}
+use Rattle.pf_tables.specs.Rows.{ProcessRows, DescriptionRows, PipeRows, Process, process_of, pipes_of, state_of}
+use Rattle.pf_tables.specs.Rows.{keys_of, keys_to, names_it, Tied}
 use Rattle.pf_tables.proofs.TablesTied.{reseated}
 
 pub vacant_at : {X : Type 0} (n k : ℕ) → at {X = X} (vacant n) k ≡ None
 unfolding vacant
-vacant_at {X} n k = elim (cases_lt k n) [ inl l ↦ get_or-replicate n k None None l | inr past ↦ at_past {X = X} (replicate n None) k (omega (arith, length-replicate {A = Option X} n None)) ]
+vacant_at {X} n k =
+    elim (cases_lt k n) [ inl l ↦ get_or-replicate n k None None l | inr past ↦ at_past {X = X} (replicate n None) k
+    (omega (arith, length-replicate {A = Option X} n None)) ]
 
 pub length-vacant : (X : Type 0) (n : ℕ) → length (vacant {X = X} n) ≡ n
 unfolding vacant
@@ -25,7 +29,8 @@ length-vacant X n = length-replicate {A = Option X} n None
 
 pub map-vacant : {X Y : Type 0} (f : X → Y) (n : ℕ) → map (option_map f) (vacant n) ≡ vacant n
 map-vacant {X} {Y} f n =
-    same_at (map (option_map f) (vacant n)) (vacant n) (length-map (vacant {X = X} n) (option_map f) ∙ length-vacant X n ∙ sym (length-vacant Y n))
+    same_at (map (option_map f) (vacant n)) (vacant n) (length-map (vacant {X =
+        X} n) (option_map f) ∙ length-vacant X n ∙ sym (length-vacant Y n))
     (λ k. at-map f (vacant n) k ∙ ap (option_map f) (vacant_at n k) ∙ sym (vacant_at n k))
 
 -- no key in any of its places
@@ -35,20 +40,29 @@ IsBare p = (m : ℕ) → at (keys_of p) m ≡ None
 bare_weight : (n : ℕ) (p : Process) → IsBare p → keys_to n p ≡ 0
 bare_weight n p bare = sum_of-none (names_it n) (keys_of p) (λ m k h. let none = bare m in absurd (cc))
 
-module _ (ps : ProcessRows) (ds : DescriptionRows) (pipes : PipeRows) (t : Tied ps ds pipes) (i : ℕ) (l : i < MAX_PROCESSES) where
-  pub made : at ps i ≡ None → (p : Process) → IsBare p → length p.descriptors ≡ MAX_DESCRIPTORS → Tied (put_at ps i p) ds pipes
+module _ (ps : ProcessRows) (ds : DescriptionRows) (pipes : PipeRows) (t : Tied ps ds pipes) (i : ℕ)
+    (l : i < MAX_PROCESSES) where
+  pub made : at ps i ≡ None → (p : Process) → IsBare p → length p.descriptors ≡ MAX_DESCRIPTORS
+      → Tied (put_at ps i p) ds pipes
   made none p bare wide =
-      reseated [] [] ps ds pipes t i (omega (arith, t.places, l)) (Some p) [] (λ q e. let it : p ≡ q = cc in ap (λ (x : Process). length x.descriptors) (sym it) ∙ wide)
-      (λ m q k e g. let it : p ≡ q = cc in let gap = sym (ap (λ (x : Process). at (keys_of x) m) it) ∙ bare m in absurd (cc)) tt (λ n. omega (arith, bare_weight n p bare, ap (weight (keys_to n)) none))
+      reseated [] [] ps ds pipes t i (omega (arith, t.places, l)) (Some p) [] (λ q e. let it : p ≡ q =
+          cc in ap (λ (x : Process). length x.descriptors) (sym it) ∙ wide)
+      (λ m q k e g. let it : p ≡ q = cc in let gap = sym (ap (λ (x : Process). at (keys_of x) m) it)
+      ∙ bare m in absurd (cc)) tt (λ n. omega (arith, bare_weight n p bare, ap (weight (keys_to n)) none))
 
   pub gone : (p : Process) → at ps i ≡ Some p → IsBare p → Tied (clear_at ps i) ds pipes
-  gone p stands bare = reseated [] [] ps ds pipes t i (omega (arith, t.places, l)) None [] (λ q e. absurd (cc)) (λ m q k e g. absurd (cc)) tt (λ n. omega (arith, ap (weight (keys_to n)) stands, bare_weight n p bare))
+  gone p stands bare =
+      reseated [] [] ps ds pipes t i (omega (arith, t.places, l)) None [] (λ q e. absurd (cc))
+      (λ m q k e g. absurd (cc)) tt (λ n. omega (arith, ap (weight (keys_to n)) stands, bare_weight n p bare))
 
 -- Nothing at all
 
-module _ (ps : ProcessRows) (ds : DescriptionRows) (pipes : PipeRows) (bare : ps ≡ vacant MAX_PROCESSES) (none : ds ≡ []) (no_pipe : pipes ≡ []) where
+module _ (ps : ProcessRows) (ds : DescriptionRows) (pipes : PipeRows) (bare : ps ≡ vacant MAX_PROCESSES)
+    (none : ds ≡ []) (no_pipe : pipes ≡ []) where
   pub nothing_tied : Tied ps ds pipes
-  nothing_tied = subst (λ xs. Tied xs ds pipes) (sym bare) (subst (λ ys. Tied (vacant MAX_PROCESSES) ys pipes) (sym none) (subst (λ zs. Tied (vacant MAX_PROCESSES) [] zs) (sym no_pipe) nothing))
+  nothing_tied =
+      subst (λ xs. Tied xs ds pipes) (sym bare) (subst (λ ys. Tied (vacant MAX_PROCESSES) ys pipes) (sym none)
+      (subst (λ zs. Tied (vacant MAX_PROCESSES) [] zs) (sym no_pipe) nothing))
     where
       nothing : Tied (vacant MAX_PROCESSES) [] []
       nothing = record {
@@ -56,20 +70,26 @@ module _ (ps : ProcessRows) (ds : DescriptionRows) (pipes : PipeRows) (bare : ps
         wide = λ i p h. let gap = vacant_at {X = Process} MAX_PROCESSES i in absurd (cc);
         finds = λ i m p k h g. let gap = vacant_at {X = Process} MAX_PROCESSES i in absurd (cc);
         in_hand = tt;
-        names = λ n. omega (arith, sum_of-none (keys_to n) (vacant MAX_PROCESSES) (λ i p h. let gap = vacant_at {X = Process} MAX_PROCESSES i in absurd (cc)));
+        names =
+            λ n. omega (arith, sum_of-none (keys_to n) (vacant MAX_PROCESSES)
+            (λ i p h. let gap = vacant_at {X = Process} MAX_PROCESSES i in absurd (cc)));
         is_end = λ n e h. absurd (cc);
         ends_in_hand = tt;
         uses = λ n. (refl, refl);
       }
 
   -- nobody is charged
-  pub nothing_charged : (limits : Limits) (u : UserPages) → u ≡ record { limits = limits; users = []; total = 0 } → AreCharged u (pipes_of pipes)
+  pub nothing_charged : (limits : Limits) (u : UserPages) → u ≡ record { limits = limits; users = []; total = 0 }
+      → AreCharged u (pipes_of pipes)
   nothing_charged limits u is =
       subst (λ (v : UserPages). AreCharged v (pipes_of pipes)) (sym is)
-      (subst (λ (xs : PipeRows). AreCharged (record { limits = limits; users = []; total = 0 }) (pipes_of xs)) (sym no_pipe) (record { users = λ w. refl; total = refl }))
+      (subst (λ (xs : PipeRows). AreCharged (record { limits = limits; users = []; total = 0 }) (pipes_of xs))
+      (sym no_pipe) (record { users = λ w. refl; total = refl }))
 
   pub nothing_shown : {files : Files} → files ≡ root_alone → state_of ps ds pipes files 0 ≡ opening
   nothing_shown {files} alone =
-      ap (λ xs. state_of xs ds pipes files 0) bare ∙ ap (λ ys. state_of (vacant MAX_PROCESSES) ys pipes files 0) none ∙ ap (λ zs. state_of (vacant MAX_PROCESSES) [] zs files 0) no_pipe
+      ap (λ xs. state_of xs ds pipes files 0) bare ∙ ap (λ ys. state_of (vacant MAX_PROCESSES) ys pipes files 0) none
+      ∙ ap (λ zs. state_of (vacant MAX_PROCESSES) [] zs files 0) no_pipe
       ∙ ap (λ fs. state_of (vacant MAX_PROCESSES) [] [] fs 0) alone
-      ∙ ap (λ xs. record { processes = xs; descriptions = []; pipes = []; files = root_alone; files_made = 0 }) (map-vacant process_of MAX_PROCESSES)
+      ∙ ap (λ xs. record { processes = xs; descriptions = []; pipes = []; files = root_alone; files_made = 0 })
+      (map-vacant process_of MAX_PROCESSES)

@@ -1,6 +1,7 @@
 -- Who makes a step, as the tables find it and as the machine does.
 
-use Rattle.std.proofs.Common.{◌≡◌, ℕ, zero, suc, ◌-◌, Bool, true, false, Option, Some, None, is_some, IsOk, Result, Ok, Err, refl, sym, ap, ◌∙◌, arith}
+use Rattle.std.proofs.Common.{◌≡◌, ℕ, zero, suc, ◌-◌, Bool, true, false, Option, Some, None, is_some, IsOk, Result, Ok}
+use Rattle.std.proofs.Common.{Err, refl, sym, ap, ◌∙◌, arith}
 use Rattle.std.specs.Option.{option_map}
 use Rattle.pf_machine.specs.Refusals.{◌>>=◌, ◌>>◌, refuse_if, or_refuse}
 use Rattle.pf_machine.specs.Numbered.{at}
@@ -9,7 +10,8 @@ use Rattle.pf_machine.specs.State as machine
 use Rattle.pf_machine.specs.State.{living_in}
 use Rattle.pf_base.specs.declared.errno.Errno.{Errno}
 use Rattle.pf_base.specs.declared.errno.Errno.TheVariants.{ESRCH, EBUSY}
-use Rattle.pf_tables.specs.Rows.{ProcessRows, Key, Process, Call, call_of, process_of, processes_of, process_in, awake, ready_in}
+use Rattle.pf_tables.specs.Rows.{ProcessRows, Key, Process, Call, call_of, process_of, processes_of, process_in, awake}
+use Rattle.pf_tables.specs.Rows.{ready_in}
 
 -- a process with what the machine sees of it
 abbrev pub shown_in : Result Process Errno → Result (machine.Process ℕ) Errno
@@ -26,7 +28,8 @@ machine_awake p = refuse_if (is_some p.parked) EBUSY >> Ok p
 pub awake_shown : (p : Process) → machine_awake (process_of p) ≡ shown_in (awake p)
 awake_shown p = by_call p.parked
   where
-    by_call : (o : Option (Call Key)) → (refuse_if (is_some (option_map call_of o)) EBUSY >> Ok (process_of p)) ≡ shown_in (refuse_if (is_some o) EBUSY >> Ok p)
+    by_call : (o : Option (Call Key)) → (refuse_if (is_some (option_map call_of o)) EBUSY >> Ok (process_of p))
+        ≡ shown_in (refuse_if (is_some o) EBUSY >> Ok p)
     by_call None = refl
     by_call (Some call) = refl
 
@@ -66,7 +69,8 @@ module _ (ps : ProcessRows) (pid : ℕ) where
 pub is_living : (ps : ProcessRows) (pid : ℕ) (p : Process) → ready_in ps pid ≡ Ok p → process_in ps pid ≡ Ok p
 is_living ps pid p h = by_row (process_in ps pid) h
   where
-    by_call : (q : Process) (b : Bool) → (refuse_if b EBUSY >> Ok q) ≡ Ok p → ◌≡◌ {A = Result Process Errno} (Ok q) (Ok p)
+    by_call : (q : Process) (b : Bool) → (refuse_if b EBUSY >> Ok q) ≡ Ok p
+        → ◌≡◌ {A = Result Process Errno} (Ok q) (Ok p)
     by_call q true g = absurd (cc)
     by_call q false g = g
 
@@ -93,7 +97,8 @@ place_is ps pid p h = place_of ps pid p (is_living ps pid p h)
 pub is_awake : (ps : ProcessRows) (pid : ℕ) (p : Process) → ready_in ps pid ≡ Ok p → p.parked ≡ None
 is_awake ps pid p h = by_row (process_in ps pid) h
   where
-    by_call : (q : Process) (o : Option (Call Key)) → q.parked ≡ o → (refuse_if (is_some o) EBUSY >> Ok q) ≡ Ok p → p.parked ≡ None
+    by_call : (q : Process) (o : Option (Call Key)) → q.parked ≡ o → (refuse_if (is_some o) EBUSY >> Ok q) ≡ Ok p
+        → p.parked ≡ None
     by_call q None e g = let same : q ≡ p = cc in ap (λ (x : Process). x.parked) (sym same) ∙ e
     by_call q (Some call) e g = absurd (cc)
 

@@ -1,6 +1,7 @@
 -- Exit as a loop over descriptors, by what `ExitLaws` says of the state on the way.
 
-use Rattle.std.proofs.Common.{◌≡◌, ℕ, ◌+◌, ◌-◌, ◌<◌, ◌≤◌, List, length, set, Option, Some, None, IsSome, is_some, Ok, refl}
+use Rattle.std.proofs.Common.{◌≡◌, ℕ, ◌+◌, ◌-◌, ◌<◌, ◌≤◌, List, length, set, Option, Some, None, IsSome, is_some, Ok}
+use Rattle.std.proofs.Common.{refl}
 use Rattle.std.proofs.Common.{sym, ap, ◌∙◌, inl, inr, arith, nat_le, length-set, if◌then◌else◌, suc}
 use Rattle.std.specs.Option.{option_map, option_and_then}
 use Rattle.std.proofs.lemmas.Bool.{cases_lt, le-leb, lt-leb}
@@ -20,7 +21,8 @@ use Rattle.pf_frame.specs.Live.{Live}
 use Rattle.pf_limits.specs.UserPages.{UserPages}
 use Rattle.pf_tables.specs.Meaning.{Namespace, meaning}
 use Rattle.pf_tables.specs.Rows as rows
-use Rattle.pf_tables.specs.Rows.{ProcessRows, DescriptionRows, PipeRows, Key, process_of, state_of, key_at, Kept, process_in}
+use Rattle.pf_tables.specs.Rows.{ProcessRows, DescriptionRows, PipeRows, Key, process_of, state_of, key_at, Kept}
+use Rattle.pf_tables.specs.Rows.{process_in}
 use Rattle.pf_tables.specs.Told.{Becomes}
 use Rattle.pf_tables.proofs.ProcessTableReady.{place_of}
 use Rattle.pf_machine.specs.Calls.{Call, Opening, Moving}
@@ -58,11 +60,14 @@ on_from from next within above =
     elim (cases_lt next MAX_DESCRIPTORS) [ inl l ↦ above l | inr past ↦ omega arith ]
 
 -- a process without a key at a descriptor has none for the machine
-pub has_no_descriptor : (ps : ProcessRows) (ds : DescriptionRows) (pipes : PipeRows) (files : Files) (files_made i fd : ℕ)
+pub has_no_descriptor : (ps : ProcessRows) (ds : DescriptionRows) (pipes : PipeRows) (files : Files)
+    (files_made i fd : ℕ)
     → key_at fd (at ps i) ≡ None → descriptor (state_of ps ds pipes files files_made) i fd ≡ None
-has_no_descriptor ps ds pipes files files_made i fd none = ap (option_and_then (λ (p : Process ℕ). at p.descriptors fd)) (at-map process_of ps i) ∙ by_row (at ps i) none
+has_no_descriptor ps ds pipes files files_made i fd none =
+    ap (option_and_then (λ (p : Process ℕ). at p.descriptors fd)) (at-map process_of ps i) ∙ by_row (at ps i) none
   where
-    by_row : (o : Option rows.Process) → key_at fd o ≡ None → option_and_then (λ (p : Process ℕ). at p.descriptors fd) (option_map process_of o) ≡ None
+    by_row : (o : Option rows.Process) → key_at fd o ≡ None
+        → option_and_then (λ (p : Process ℕ). at p.descriptors fd) (option_map process_of o) ≡ None
     by_row None h = refl
     by_row (Some p) h = at-map (λ (k : Key). k.serial) p.descriptors fd ∙ ap (option_map (λ (k : Key). k.serial)) h
 
@@ -70,13 +75,15 @@ has_no_descriptor ps ds pipes files files_made i fd none = ap (option_and_then (
 pub has_descriptor : (ps : ProcessRows) (ds : DescriptionRows) (pipes : PipeRows) (files : Files) (files_made i fd : ℕ)
     → IsSome (key_at fd (at ps i)) → IsSome (descriptor (state_of ps ds pipes files files_made) i fd)
 has_descriptor ps ds pipes files files_made i fd some =
-    ap (λ o. is_some (option_and_then (λ (p : Process ℕ). at p.descriptors fd) o)) (at-map process_of ps i) ∙ by_row (at ps i) some
+    ap (λ o. is_some (option_and_then (λ (p : Process ℕ). at p.descriptors fd) o)) (at-map process_of ps i)
+    ∙ by_row (at ps i) some
   where
     by_key : (o : Option Key) → is_some (option_map (λ (k : Key). k.serial) o) ≡ is_some o
     by_key None = refl
     by_key (Some k) = refl
 
-    by_row : (o : Option rows.Process) → IsSome (key_at fd o) → IsSome (option_and_then (λ (p : Process ℕ). at p.descriptors fd) (option_map process_of o))
+    by_row : (o : Option rows.Process) → IsSome (key_at fd o)
+        → IsSome (option_and_then (λ (p : Process ℕ). at p.descriptors fd) (option_map process_of o))
     by_row None h = h
     by_row (Some p) h = ap is_some (at-map (λ (k : Key). k.serial) p.descriptors fd) ∙ by_key (at p.descriptors fd) ∙ h
 

@@ -1,7 +1,9 @@
--- A process again under another pid: each of its keys names its description once more, and comes into the hand, until the
--- process that has them all is put down.
+-- A process again under another pid: each of its keys names its description once more, and comes into the hand, until
+-- the process that has them all is put down.
 
-use Rattle.std.proofs.Common.{◌≡◌, ℕ, zero, suc, ◌+◌, ◌-◌, ◌^◌, ◌<◌, ◌≤◌, Bool, true, false, nat_le, List, [], ◌∷◌, length, map, Option, Some, None, IsSome, is_some, Result, Ok, Err, refl, sym, ap, subst, ◌∙◌, arith, length-set}
+use Rattle.std.proofs.Common.{◌≡◌, ℕ, zero, suc, ◌+◌, ◌-◌, ◌^◌, ◌<◌, ◌≤◌, Bool, true, false, nat_le, List, [], ◌∷◌}
+use Rattle.std.proofs.Common.{length, map, Option, Some, None, IsSome, is_some, Result, Ok, Err, refl, sym, ap, subst}
+use Rattle.std.proofs.Common.{◌∙◌, arith, length-set}
 use Rattle.std.specs.Option.{option_map}
 use Rattle.std.proofs.lemmas.Bool.Decides.{nat_tests}
 use Rattle.std.proofs.lemmas.List.{map-set}
@@ -21,7 +23,10 @@ use Rattle.pf_fds.specs.Registry.{find}
 use Rattle.pf_limits.specs.UserPages.{UserPages}
 use Rattle.pf_ring.specs.declared.ring.Window.{Window}
 use Rattle.pf_tables.specs.Meaning.{Namespace}
-use Rattle.pf_tables.specs.Rows.{ProcessRows, DescriptionRows, PipeRows, Key, Named, Process, Description, ready_in, made_by, keys_of, keys_to, names_it, held, holding, process_of, description_of, processes_of, descriptions_of, pipes_of, state_of, Finds, AllFind, AreFew, with_name, with_first_names, named_once_more, TiedWith, Tied, Kept}
+use Rattle.pf_tables.specs.Rows.{ProcessRows, DescriptionRows, PipeRows, Key, Named, Process, Description, ready_in}
+use Rattle.pf_tables.specs.Rows.{made_by, keys_of, keys_to, names_it, held, holding, process_of, description_of}
+use Rattle.pf_tables.specs.Rows.{processes_of, descriptions_of, pipes_of, state_of, Finds, AllFind, AreFew, with_name}
+use Rattle.pf_tables.specs.Rows.{with_first_names, named_once_more, TiedWith, Tied, Kept}
 use Rattle.pf_tables.specs.Tables.{Makes}
 use Rattle.pf_tables.proofs.ProcessTableReady.{readies, place_is, is_awake}
 use Rattle.pf_tables.proofs.TablesTied.{finds, by_set, held-holding, reseated}
@@ -36,22 +41,28 @@ Row = ℕ × Named Description
 
 module _ {Y : Type 0} (g : Row → Y) (same : (e : Row) → g (one_more e) ≡ g e) where
   changed : (ds : DescriptionRows) (n : ℕ) → map (option_map g) (change_at one_more ds n) ≡ map (option_map g) ds
-  changed ds n = map-set (option_map g) ds n (option_map one_more (at ds n)) ∙ set_same (map (option_map g) ds) n (option_map g (option_map one_more (at ds n))) (by_row (at ds n) ∙ sym (at-map g ds n))
+  changed ds n =
+      map-set (option_map g) ds n (option_map one_more (at ds n))
+      ∙ set_same (map (option_map g) ds) n (option_map g (option_map one_more (at ds n)))
+      (by_row (at ds n) ∙ sym (at-map g ds n))
     where
       by_row : (o : Option Row) → option_map g (option_map one_more o) ≡ option_map g o
       by_row None = refl
       by_row (Some e) = ap Some (same e)
 
-  all_changed : (n : ℕ) (ks : List (Option Key)) (ds : DescriptionRows) → map (option_map g) (with_first_names n ks ds) ≡ map (option_map g) ds
+  all_changed : (n : ℕ) (ks : List (Option Key)) (ds : DescriptionRows)
+      → map (option_map g) (with_first_names n ks ds) ≡ map (option_map g) ds
   all_changed zero ks ds = refl
   all_changed (suc n) ks ds = by_key (at ks n) ∙ all_changed n ks ds
     where
-      by_key : (o : Option Key) → map (option_map g) (with_name o (with_first_names n ks ds)) ≡ map (option_map g) (with_first_names n ks ds)
+      by_key : (o : Option Key) → map (option_map g) (with_name o (with_first_names n ks ds))
+          ≡ map (option_map g) (with_first_names n ks ds)
       by_key None = refl
       by_key (Some k) = changed (with_first_names n ks ds) k.serial
 
 -- where there is no key for some of them, nothing changes
-pub names_skip : (ks : List (Option Key)) (ds : DescriptionRows) (n d : ℕ) → ((k : ℕ) → n ≤ k → k < n + d → at ks k ≡ None)
+pub names_skip : (ks : List (Option Key)) (ds : DescriptionRows) (n d : ℕ)
+    → ((k : ℕ) → n ≤ k → k < n + d → at ks k ≡ None)
     → with_first_names n ks ds ≡ with_first_names (n + d) ks ds
 names_skip ks ds n zero none = let same : n ≡ n + 0 = omega arith in ap (λ m. with_first_names m ks ds) same
 names_skip ks ds n (suc d) none =
@@ -60,7 +71,8 @@ names_skip ks ds n (suc d) none =
     ∙ ap (λ o. with_name o (with_first_names (n + d) ks ds)) (sym (none (n + d) (omega arith) (omega arith)))
     ∙ ap (λ m. with_first_names m ks ds) same
 
-pub names_next : (ks : List (Option Key)) (ds : DescriptionRows) (n m : ℕ) → n ≤ m → ((k : ℕ) → n ≤ k → k < m → at ks k ≡ None)
+pub names_next : (ks : List (Option Key)) (ds : DescriptionRows) (n m : ℕ) → n ≤ m
+    → ((k : ℕ) → n ≤ k → k < m → at ks k ≡ None)
     → with_first_names n ks ds ≡ with_first_names m ks ds
 names_next ks ds n m more none =
     let same : n + (m - n) ≡ m = omega arith in
@@ -71,7 +83,8 @@ pub one_named : (ks : List (Option Key)) (ds rows : DescriptionRows) (n : ℕ) (
     → rows ≡ with_first_names n ks ds → with_name o rows ≡ with_first_names (n + 1) ks ds
 one_named ks ds rows n o here is =
     let same : suc n ≡ n + 1 = omega arith in
-    ap (with_name o) is ∙ ap (λ k. with_name k (with_first_names n ks ds)) (sym here) ∙ ap (λ m. with_first_names m ks ds) same
+    ap (with_name o) is ∙ ap (λ k. with_name k (with_first_names n ks ds)) (sym here)
+    ∙ ap (λ m. with_first_names m ks ds) same
 
 pub nothing : {X : Type 0} (o : Option X) → ((x : X) → o ≡ Some x → ⊥) → o ≡ None
 nothing None h = refl
@@ -85,7 +98,9 @@ module _ (n : ℕ) (ks : List (Option Key)) (ds : DescriptionRows) where
   names_unshown = all_changed description_of (λ e. refl) n ks ds
 
   still_finds : (k : Key) → Finds ds k → Finds (with_first_names n ks ds) k
-  still_finds k h = sym (at-map place_of (with_first_names n ks ds) k.serial) ∙ ap (λ xs. at xs k.serial) (all_changed place_of (λ e. refl) n ks ds) ∙ at-map place_of ds k.serial ∙ h
+  still_finds k h =
+      sym (at-map place_of (with_first_names n ks ds) k.serial)
+      ∙ ap (λ xs. at xs k.serial) (all_changed place_of (λ e. refl) n ks ds) ∙ at-map place_of ds k.serial ∙ h
 
 -- before each of its keys is named, its description stands and has few names
 module _ (ks : List (Option Key)) (ds : DescriptionRows) (all : AllFind ks ds) (few : AreFew ds) where
@@ -96,14 +111,18 @@ module _ (ks : List (Option Key)) (ds : DescriptionRows) (all : AllFind ks ds) (
   few_first zero = λ m e h. omega (arith, few m e h)
   few_first (suc n) = by_key (at ks n) refl (few_first n)
     where
-      by_key : (o : Option Key) → at ks n ≡ o → FewAfter n (with_first_names n ks ds) → FewAfter (suc n) (with_name o (with_first_names n ks ds))
+      by_key : (o : Option Key) → at ks n ≡ o → FewAfter n (with_first_names n ks ds)
+          → FewAfter (suc n) (with_name o (with_first_names n ks ds))
       by_key None g so_far = λ m e h. omega (arith, so_far m e h)
       by_key (Some k) g so_far =
           let r = finds (with_first_names n ks ds) k (still_finds n ks ds k (all n k g)) in
-          λ m e h. by_set (λ _ x. x ≡ Some e → e.1.names ≤ 65792 + suc n) (with_first_names n ks ds) k.serial (Some (k.slot, record r.0 { names = r.0.names + 1 })) (at_within (with_first_names n ks ds) k.serial (k.slot, r.0) r.1)
+          λ m e h. by_set (λ _ x. x ≡ Some e → e.1.names ≤ 65792 + suc n) (with_first_names n ks ds) k.serial
+              (Some (k.slot, record r.0 { names =
+              r.0.names + 1 })) (at_within (with_first_names n ks ds) k.serial (k.slot, r.0) r.1)
           (λ i. let it : ◌≡◌ {A = Row} (k.slot, record r.0 { names = r.0.names + 1 }) e = cc in
           omega (arith, ap (λ (x : Row). x.1.names) it, so_far k.serial (k.slot, r.0) r.1))
-          (λ j _ i. omega (arith, so_far j e i)) m (sym (ap (λ xs. at xs m) (named_row (with_first_names n ks ds) k r.0 r.1)) ∙ h)
+          (λ j _ i. omega (arith, so_far j e i)) m (sym
+          (ap (λ xs. at xs m) (named_row (with_first_names n ks ds) k r.0 r.1)) ∙ h)
 
   module _ (n : ℕ) (k : Key) (is : at ks n ≡ Some k) where
     row : (e : Named Description) × (at (with_first_names n ks ds) k.serial ≡ Some (k.slot, e))
@@ -125,24 +144,31 @@ hand zero ks = []
 hand (suc n) ks = holding (at ks n) (hand n ks)
 
 -- each of them counts
-held_first : (h : Key → ℕ) (n : ℕ) (x : Option Key) (ks : List (Option Key)) → held h (hand (suc n) (x ∷ ks)) ≡ weight h x + held h (hand n ks)
+held_first : (h : Key → ℕ) (n : ℕ) (x : Option Key) (ks : List (Option Key))
+    → held h (hand (suc n) (x ∷ ks)) ≡ weight h x + held h (hand n ks)
 held_first h zero x ks = held-holding h x []
-held_first h (suc n) x ks = omega (arith, held-holding h (at ks n) (hand (suc n) (x ∷ ks)), held-holding h (at ks n) (hand n ks), held_first h n x ks)
+held_first h (suc n) x ks =
+    omega (arith, held-holding h (at ks n) (hand (suc n) (x ∷ ks)), held-holding h (at ks n) (hand n ks), held_first h n
+    x ks)
 
 held_all : (h : Key → ℕ) (ks : List (Option Key)) → held h (hand (length ks) ks) ≡ sum_of h ks
 held_all h [] = refl
 held_all h (x ∷ ks) = omega (arith, held_first h (length ks) x ks, held_all h ks)
 
-module _ (ps : ProcessRows) (ds : DescriptionRows) (pipes : PipeRows) (t : Tied ps ds pipes) (i : ℕ) (p : Process) (there : at ps i ≡ Some p) (asleep : p.parked ≡ None) where
+module _ (ps : ProcessRows) (ds : DescriptionRows) (pipes : PipeRows) (t : Tied ps ds pipes) (i : ℕ) (p : Process)
+    (there : at ps i ≡ Some p) (asleep : p.parked ≡ None) where
   tied_first : (n : ℕ) → TiedWith (hand n p.descriptors) [] ps (with_first_names n p.descriptors ds) pipes
   tied_first zero = t
   tied_first (suc n) = by_key (at p.descriptors n) refl (tied_first n)
     where
-      by_key : (o : Option Key) → at p.descriptors n ≡ o → TiedWith (hand n p.descriptors) [] ps (with_first_names n p.descriptors ds) pipes → TiedWith (holding o (hand n p.descriptors)) [] ps (with_name o (with_first_names n p.descriptors ds)) pipes
+      by_key : (o : Option Key) → at p.descriptors n ≡ o
+          → TiedWith (hand n p.descriptors) [] ps (with_first_names n p.descriptors ds) pipes
+          → TiedWith (holding o (hand n p.descriptors)) [] ps (with_name o (with_first_names n p.descriptors ds)) pipes
       by_key None h u = u
       by_key (Some k) h u =
           let r = finds (with_first_names n p.descriptors ds) k (u.finds i (suc n) p k there h) in
-          subst (λ x. TiedWith (k ∷ hand n p.descriptors) [] ps x pipes) (sym (named_row (with_first_names n p.descriptors ds) k r.0 r.1))
+          subst (λ x. TiedWith (k ∷ hand n p.descriptors) [] ps x pipes)
+          (sym (named_row (with_first_names n p.descriptors ds) k r.0 r.1))
           (named_again (hand n p.descriptors) [] ps (with_first_names n p.descriptors ds) pipes k r.0 r.1 u)
 
   -- and are put down at once
@@ -150,10 +176,12 @@ module _ (ps : ProcessRows) (ds : DescriptionRows) (pipes : PipeRows) (t : Tied 
     forked-tied : Tied (put_at ps j p) (named_once_more p.descriptors ds) pipes
     forked-tied =
         let u = tied_first (length p.descriptors) in
-        reseated (hand (length p.descriptors) p.descriptors) [] ps (named_once_more p.descriptors ds) pipes u j (omega (arith, t.places, j_in)) (Some p) []
+        reseated (hand (length p.descriptors) p.descriptors) [] ps (named_once_more p.descriptors ds) pipes u j
+        (omega (arith, t.places, j_in)) (Some p) []
         (λ q e. let it : p ≡ q = cc in ap (λ (x : Process). length x.descriptors) (sym it) ∙ t.wide i p there)
         (λ m q k e g. let it : p ≡ q = cc in u.finds i m p k there (ap (λ (x : Process). at (keys_of x) m) it ∙ g)) tt
-        (λ n. omega (arith, ap (weight (keys_to n)) free, ap (λ o. weight (names_it n) (made_by o)) asleep, held_all (names_it n) p.descriptors))
+        (λ n. omega (arith, ap (weight (keys_to n)) free, ap (λ o. weight (names_it n) (made_by o)) asleep, held_all
+        (names_it n) p.descriptors))
 
 -- What the machine says, and what is left
 

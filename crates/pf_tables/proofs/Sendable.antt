@@ -28,7 +28,8 @@ description_send = search sendable depth 20
 
 module _ (A : RattleType) (g : Allocator.Ghosts A.Denot) (s : IsSend A) (f : Frees g g.dealloc_token) where
   in_file_tree_send : IsSend (in_file_tree.the_row A g)
-  in_file_tree_send = declared_send (in_file_tree.the_type A g) (as_row_send (Tree.the_field A g) (tree.tree_send A g s f), tt)
+  in_file_tree_send =
+      declared_send (in_file_tree.the_type A g) (as_row_send (Tree.the_field A g) (tree.tree_send A g s f), tt)
 
   file_tree_send : IsSend (FileTree.the_row A g)
   file_tree_send = view_send (in_file_tree.the_row A g) _ _ _ _ in_file_tree_send
@@ -37,10 +38,14 @@ module _ (A : RattleType) (g : Allocator.Ghosts A.Denot) (s : IsSend A) (f : Fre
   in_tables_send =
       let pages = as_row_send UserPages.the_field user_pages.the_send in
       let processes = as_row_send ProcessTable.the_field process_table.the_send in
-      let descriptions = as_row_send (Descriptions.the_field Description.the_row) (of_descriptions.the_send Description.the_row description_send) in
+      let descriptions =
+      as_row_send (Descriptions.the_field Description.the_row)
+      (of_descriptions.the_send Description.the_row description_send) in
       let pipes = as_row_send (Registry.the_field Pipe.the_row) (registry.the_send Pipe.the_row pipe.the_send) in
       let files = as_row_send (FileTree.the_field A g) file_tree_send in
-      declared_send (in_tables.the_type A g) (pages, (processes, (descriptions, (pipes, (search (sendable, as_row_send, crosses, maps.crosses) depth 40, (files, (search sendable, tt)))))))
+      declared_send (in_tables.the_type A g) (pages,
+      (processes, (descriptions, (pipes, (search (sendable, as_row_send, crosses, maps.crosses) depth 40,
+      (files, (search sendable, tt)))))))
 
   pub tables_send : IsSend (Tables.the_row A g)
   tables_send = view_send (in_tables.the_row A g) _ _ _ _ in_tables_send

@@ -8,19 +8,23 @@ use Rattle.pf_machine.specs.Numbered.{at}
 use Rattle.pf_machine.proofs.NumberedLaws.{at-map}
 use Rattle.pf_fds.specs.Registry.{find, if_placed}
 
-pub from_map : {X Y : Type 0} (f : X → Y) (o : Option X) (y : Y) → option_map f o ≡ Some y → (x : X) × (o ≡ Some x) × (f x ≡ y)
+pub from_map : {X Y : Type 0} (f : X → Y) (o : Option X) (y : Y) → option_map f o ≡ Some y
+    → (x : X) × (o ≡ Some x) × (f x ≡ y)
 from_map f None y h = absurd (cc)
 from_map f (Some x) y h = (x, refl, cc)
 
 -- what is shown at a number stands there
-pub was : {X Y : Type 0} (f : X → Y) (xs : List (Option X)) (k : ℕ) (y : Y) → at (map (option_map f) xs) k ≡ Some y → (x : X) × (at xs k ≡ Some x) × (f x ≡ y)
+pub was : {X Y : Type 0} (f : X → Y) (xs : List (Option X)) (k : ℕ) (y : Y) → at (map (option_map f) xs) k ≡ Some y
+    → (x : X) × (at xs k ≡ Some x) × (f x ≡ y)
 was f xs k y h = from_map f (at xs k) y (sym (at-map f xs k) ∙ h)
 
-pub shown : {X Y : Type 0} (f : X → Y) (xs : List (Option X)) (k : ℕ) (x : X) → at xs k ≡ Some x → at (map (option_map f) xs) k ≡ Some (f x)
+pub shown : {X Y : Type 0} (f : X → Y) (xs : List (Option X)) (k : ℕ) (x : X) → at xs k ≡ Some x
+    → at (map (option_map f) xs) k ≡ Some (f x)
 shown f xs k x h = at-map f xs k ∙ ap (option_map f) h
 
 -- a value stands at a number exactly where its key finds it
-pub find_at : {T : Type 0} (xs : List (Option (ℕ × T))) (place n : ℕ) (x : T) → at xs n ≡ Some (place, x) → find xs place n ≡ Some x
+pub find_at : {T : Type 0} (xs : List (Option (ℕ × T))) (place n : ℕ) (x : T) → at xs n ≡ Some (place, x)
+    → find xs place n ≡ Some x
 find_at xs place n x h = ap (if_placed place) h ∙ ap (λ b. if b then Some x else None) (eq-eqb place place refl)
 
 placed_was : {T : Type 0} (place : ℕ) (o : Option (ℕ × T)) (x : T) → if_placed place o ≡ Some x → o ≡ Some (place, x)
@@ -28,15 +32,18 @@ placed_was place None x h = absurd (cc)
 placed_was {T} place (Some e) x h =
     elim (cases_eq e.0 place) [
       | inl same ↦
-          let found : ◌≡◌ {A = Option T} (Some e.1) (Some x) = sym (ap (λ b. if b then Some e.1 else None) (eq-eqb e.0 place same)) ∙ h in
+          let found : ◌≡◌ {A =
+          Option T} (Some e.1) (Some x) = sym (ap (λ b. if b then Some e.1 else None) (eq-eqb e.0 place same)) ∙ h in
           let value : e.1 ≡ x = cc in
           ap (λ n. Some (n, e.1)) same ∙ ap (λ y. Some (place, y)) value
       | inr differs ↦
-          let none : ◌≡◌ {A = Option T} None (Some x) = sym (ap (λ b. if b then Some e.1 else None) (ne_eqb e.0 place differs)) ∙ h in
+          let none : ◌≡◌ {A =
+          Option T} None (Some x) = sym (ap (λ b. if b then Some e.1 else None) (ne_eqb e.0 place differs)) ∙ h in
           absurd (cc)
     ]
 
-pub find_was : {T : Type 0} (xs : List (Option (ℕ × T))) (place n : ℕ) (x : T) → find xs place n ≡ Some x → at xs n ≡ Some (place, x)
+pub find_was : {T : Type 0} (xs : List (Option (ℕ × T))) (place n : ℕ) (x : T) → find xs place n ≡ Some x
+    → at xs n ≡ Some (place, x)
 find_was xs place n x h = placed_was place (at xs n) x h
 
 -- a list set to what stands there

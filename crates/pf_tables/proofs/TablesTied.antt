@@ -1,28 +1,35 @@
 -- Five small changes, each of which keeps the counters tied: what one table lets go is in the hand, and what another
 -- takes in comes from there. Each step of the machine is a chain of them, and of these instances of theirs.
 
-use Rattle.std.proofs.Common.{◌≡◌, ◌≢◌, ℕ, suc, ◌+◌, ◌<◌, ◌≤◌, Bool, ◌&&◌, List, [], ◌∷◌, ◌++◌, length, set, Option, Some, None, refl, sym, ap, subst, ◌∙◌, inl, inr, arith, nat_eq, length-set}
+use Rattle.std.proofs.Common.{◌≡◌, ◌≢◌, ℕ, suc, ◌+◌, ◌<◌, ◌≤◌, Bool, ◌&&◌, List, [], ◌∷◌, ◌++◌, length, set, Option}
+use Rattle.std.proofs.Common.{Some, None, refl, sym, ap, subst, ◌∙◌, inl, inr, arith, nat_eq, length-set}
 use Rattle.std.specs.Option.{option_map}
 use Rattle.std.proofs.lemmas.Bool.{cases_eq, cases_lt, eq-eqb, ne_eqb}
 use Rattle.std.proofs.lemmas.List.{length_push}
 use Rattle.pf_machine.specs.Numbered.{at, put_at, sum_of, weight, one_if}
-use Rattle.pf_machine.proofs.NumberedLaws.{at_past, at_within, at-put_same, at-put_other, at-push_old, at-push_new, sum_of-set, sum_of-push, weight-le-sum_of}
+use Rattle.pf_machine.proofs.NumberedLaws.{at_past, at_within, at-put_same, at-put_other, at-push_old, at-push_new}
+use Rattle.pf_machine.proofs.NumberedLaws.{sum_of-set, sum_of-push, weight-le-sum_of}
 use Rattle.pf_base.specs.declared.TheConstants.{MAX_DESCRIPTORS}
-use Rattle.pf_tables.specs.Rows.{ProcessRows, DescriptionRows, PipeRows, Key, Named, Process, Description, Pipe, names_it, keys_of, keys_to, named, reads_it, writes_it, read_by, written_by, held, Each, holding, Finds, NamedRow, UsedRow, IsEnd, TiedWith}
+use Rattle.pf_tables.specs.Rows.{ProcessRows, DescriptionRows, PipeRows, Key, Named, Process, Description, Pipe}
+use Rattle.pf_tables.specs.Rows.{names_it, keys_of, keys_to, named, reads_it, writes_it, read_by, written_by, held}
+use Rattle.pf_tables.specs.Rows.{Each, holding, Finds, NamedRow, UsedRow, IsEnd, TiedWith}
 
 -- Each number after one has changed, and after one more
 
-pub by_set : {X : Type 0} (P : ℕ → Option X → Type 0) (xs : List (Option X)) (n : ℕ) (y : Option X) → n < length xs → P n y → ((k : ℕ) → k ≢ n → P k (at xs k)) → (k : ℕ) → P k (at (set xs n y) k)
+pub by_set : {X : Type 0} (P : ℕ → Option X → Type 0) (xs : List (Option X)) (n : ℕ) (y : Option X) → n < length xs
+    → P n y → ((k : ℕ) → k ≢ n → P k (at xs k)) → (k : ℕ) → P k (at (set xs n y) k)
 by_set P xs n y l new old k =
     elim (cases_eq k n) [
       | inl same ↦ subst (λ m. P m (at (set xs n y) m)) (sym same) (subst (P n) (sym (at-put_same xs n y l)) new)
       | inr other ↦ subst (P k) (sym (at-put_other xs n k y other)) (old k other)
     ]
 
-pub by_push : {X : Type 0} (P : ℕ → Option X → Type 0) (xs : List (Option X)) (y : Option X) → P (length xs) y → ((k : ℕ) → k ≢ length xs → P k (at xs k)) → (k : ℕ) → P k (at (xs ++ y ∷ []) k)
+pub by_push : {X : Type 0} (P : ℕ → Option X → Type 0) (xs : List (Option X)) (y : Option X) → P (length xs) y
+    → ((k : ℕ) → k ≢ length xs → P k (at xs k)) → (k : ℕ) → P k (at (xs ++ y ∷ []) k)
 by_push P xs y new old k =
     elim (cases_eq k (length xs)) [
-      | inl same ↦ subst (λ m. P m (at (xs ++ y ∷ []) m)) (sym same) (subst (P (length xs)) (sym (at-push_new xs y)) new)
+      | inl same ↦ subst (λ m. P m (at (xs ++ y ∷ []) m)) (sym same)
+      (subst (P (length xs)) (sym (at-push_new xs y)) new)
       | inr other ↦ subst (P k) (sym (stays other)) (old k other)
     ]
   where
@@ -35,25 +42,36 @@ by_push P xs y new old k =
 
 -- Keys that find something
 
-pub finds : {T : Type 0} (rows : List (Option (ℕ × T))) (k : Key) → Finds rows k → (x : T) × (at rows k.serial ≡ Some (k.slot, x))
+pub finds : {T : Type 0} (rows : List (Option (ℕ × T))) (k : Key) → Finds rows k
+    → (x : T) × (at rows k.serial ≡ Some (k.slot, x))
 finds {T} rows k f = by_row (at rows k.serial) refl f
   where
-    by_row : (o : Option (ℕ × T)) → at rows k.serial ≡ o → option_map (λ (e : ℕ × T). e.0) o ≡ Some k.slot → (x : T) × (at rows k.serial ≡ Some (k.slot, x))
+    by_row : (o : Option (ℕ × T)) → at rows k.serial ≡ o → option_map (λ (e : ℕ × T). e.0) o ≡ Some k.slot
+        → (x : T) × (at rows k.serial ≡ Some (k.slot, x))
     by_row None h g = absurd (cc)
     by_row (Some e) h g = let place : e.0 ≡ k.slot = cc in (e.1, h ∙ ap (λ m. Some (m, e.1)) place)
 
-pub found : {T : Type 0} (rows : List (Option (ℕ × T))) (k : Key) (x : T) → at rows k.serial ≡ Some (k.slot, x) → Finds rows k
+pub found : {T : Type 0} (rows : List (Option (ℕ × T))) (k : Key) (x : T) → at rows k.serial ≡ Some (k.slot, x)
+    → Finds rows k
 found {T} rows k x h = ap (option_map (λ (e : ℕ × T). e.0)) h
 
-finds-set : {T : Type 0} (rows : List (Option (ℕ × T))) (n : ℕ) (y : Option (ℕ × T)) → n < length rows → (k : Key) → (k.serial ≡ n → option_map (λ (e : ℕ × T). e.0) y ≡ Some k.slot) → Finds rows k → Finds (set rows n y) k
+finds-set : {T : Type 0} (rows : List (Option (ℕ × T))) (n : ℕ) (y : Option (ℕ × T)) → n < length rows → (k : Key)
+    → (k.serial ≡ n → option_map (λ (e : ℕ × T). e.0) y ≡ Some k.slot) → Finds rows k → Finds (set rows n y) k
 finds-set {T} rows n y l k new f =
-    by_set (λ m o. k.serial ≡ m → option_map (λ (e : ℕ × T). e.0) o ≡ Some k.slot) rows n y l new (λ m other e. subst (λ s. option_map (λ (e : ℕ × T). e.0) (at rows s) ≡ Some k.slot) e f) k.serial refl
+    by_set (λ m o. k.serial ≡ m → option_map (λ (e : ℕ × T). e.0) o ≡ Some k.slot) rows n y l new
+    (λ m other e. subst (λ s. option_map (λ (e : ℕ × T). e.0) (at rows s) ≡ Some k.slot) e f) k.serial refl
 
-finds-push : {T : Type 0} (rows : List (Option (ℕ × T))) (y : Option (ℕ × T)) (k : Key) → Finds rows k → Finds (rows ++ y ∷ []) k
-finds-push {T} rows y k f = let x = finds rows k f in ap (option_map (λ (e : ℕ × T). e.0)) (at-push_old rows y k.serial (at_within rows k.serial (k.slot, x.0) x.1)) ∙ f
+finds-push : {T : Type 0} (rows : List (Option (ℕ × T))) (y : Option (ℕ × T)) (k : Key) → Finds rows k
+    → Finds (rows ++ y ∷ []) k
+finds-push {T} rows y k f =
+    let x = finds rows k f in ap (option_map (λ (e : ℕ × T). e.0))
+    (at-push_old rows y k.serial (at_within rows k.serial (k.slot, x.0) x.1)) ∙ f
 
-pub finds-new : {T : Type 0} (rows : List (Option (ℕ × T))) (x : T) (k : Key) → k.serial ≡ length rows → Finds (rows ++ Some (k.slot, x) ∷ []) k
-finds-new rows x k e = found (rows ++ Some (k.slot, x) ∷ []) k x (ap (at (rows ++ Some (k.slot, x) ∷ [])) e ∙ at-push_new rows (Some (k.slot, x)))
+pub finds-new : {T : Type 0} (rows : List (Option (ℕ × T))) (x : T) (k : Key) → k.serial ≡ length rows
+    → Finds (rows ++ Some (k.slot, x) ∷ []) k
+finds-new rows x k e =
+    found (rows ++ Some (k.slot, x) ∷ []) k x (ap (at (rows ++ Some (k.slot, x) ∷ [])) e
+    ∙ at-push_new rows (Some (k.slot, x)))
 
 -- What is counted
 
@@ -69,18 +87,26 @@ names_one k = ap one_if (eq-eqb k.serial k.serial refl)
 pub names_none : (n : ℕ) (k : Key) → k.serial ≢ n → names_it n k ≡ 0
 names_none n k e = ap one_if (ne_eqb k.serial n e)
 
-counts : (ps : ProcessRows) (i m : ℕ) (p : Process) (k : Key) → at ps i ≡ Some p → at (keys_of p) m ≡ Some k → 0 < named ps k.serial
+counts : (ps : ProcessRows) (i m : ℕ) (p : Process) (k : Key) → at ps i ≡ Some p → at (keys_of p) m ≡ Some k
+    → 0 < named ps k.serial
 counts ps i m p k h g =
-    omega (arith, ap (weight (keys_to k.serial)) h, ap (weight (names_it k.serial)) g, names_one k, weight-le-sum_of (keys_to k.serial) ps i, weight-le-sum_of (names_it k.serial) (keys_of p) m)
+    omega (arith, ap (weight (keys_to k.serial)) h, ap (weight (names_it k.serial)) g, names_one k, weight-le-sum_of
+    (keys_to k.serial) ps i, weight-le-sum_of (names_it k.serial) (keys_of p) m)
 
-pub sides : (d : Description) → (reads_it d.pipe.serial d ≡ one_if d.reads) × (writes_it d.pipe.serial d ≡ one_if d.writes)
+pub sides : (d : Description) → (reads_it d.pipe.serial d ≡ one_if d.reads)
+    × (writes_it d.pipe.serial d ≡ one_if d.writes)
 sides d = (hit d.pipe.serial d.reads, hit d.pipe.serial d.writes)
 
-each-map : {X : Type 0} (f g : ℕ → X → ℕ) (P Q : X → Type 0) (xs : List X) → ((x : X) → ((n : ℕ) → f n x ≤ held (f n) xs) → ((n : ℕ) → g n x ≤ held (g n) xs) → P x → Q x) → Each P xs → Each Q xs
+each-map : {X : Type 0} (f g : ℕ → X → ℕ) (P Q : X → Type 0) (xs : List X)
+    → ((x : X) → ((n : ℕ) → f n x ≤ held (f n) xs) → ((n : ℕ) → g n x ≤ held (g n) xs) → P x → Q x) → Each P xs
+    → Each Q xs
 each-map f g P Q [] h e = e
-each-map f g P Q (x ∷ xs) h e = (h x (λ n. omega arith) (λ n. omega arith) e.0, each-map f g P Q xs (λ y a b. h y (λ n. omega (arith, a n)) (λ n. omega (arith, b n))) e.1)
+each-map f g P Q (x ∷ xs) h e =
+    (h x (λ n. omega arith) (λ n. omega arith) e.0, each-map f g P Q xs
+    (λ y a b. h y (λ n. omega (arith, a n)) (λ n. omega (arith, b n))) e.1)
 
-pub held-holding : {X : Type 0} (h : X → ℕ) (o : Option X) (xs : List X) → held h (holding o xs) ≡ weight h o + held h xs
+pub held-holding : {X : Type 0} (h : X → ℕ) (o : Option X) (xs : List X)
+    → held h (holding o xs) ≡ weight h o + held h xs
 held-holding h None xs = omega arith
 held-holding h (Some x) xs = refl
 
@@ -93,15 +119,20 @@ once d = record { value = d; names = 1 }
 
 module _ (K : List Key) (E : List Description) (ps : ProcessRows) (ds : DescriptionRows) (pipes : PipeRows) where
   -- What stands in a process's place changes: its keys by what is in the hand
-  pub reseated : TiedWith K E ps ds pipes → (i : ℕ) → i < length ps → (o : Option Process) (K' : List Key) → ((q : Process) → o ≡ Some q → length q.descriptors ≡ 256)
+  pub reseated : TiedWith K E ps ds pipes → (i : ℕ) → i < length ps → (o : Option Process) (K' : List Key)
+      → ((q : Process) → o ≡ Some q → length q.descriptors ≡ 256)
       → ((m : ℕ) (q : Process) (k : Key) → o ≡ Some q → at (keys_of q) m ≡ Some k → Finds ds k) → Each (Finds ds) K'
-      → ((n : ℕ) → weight (keys_to n) (at ps i) + held (names_it n) K ≡ weight (keys_to n) o + held (names_it n) K') → TiedWith K' E (set ps i o) ds pipes
+      → ((n : ℕ) → weight (keys_to n) (at ps i) + held (names_it n) K ≡ weight (keys_to n) o + held (names_it n) K')
+      → TiedWith K' E (set ps i o) ds pipes
   reseated t i l o K' wide finds in_hand recount = record {
     places = length-set ps i o ∙ t.places;
     wide = by_set (λ _ x. (q : Process) → x ≡ Some q → length q.descriptors ≡ 256) ps i o l wide (λ j _. t.wide j);
-    finds = λ j m q k. by_set (λ _ x. (m : ℕ) (q : Process) (k : Key) → x ≡ Some q → at (keys_of q) m ≡ Some k → Finds ds k) ps i o l finds (λ b _ m. t.finds b m) j m q k;
+    finds =
+        λ j m q k. by_set (λ _ x. (m : ℕ) (q : Process) (k : Key) → x ≡ Some q → at (keys_of q) m ≡ Some k → Finds ds k)
+        ps i o l finds (λ b _ m. t.finds b m) j m q k;
     in_hand = in_hand;
-    names = λ n. subst (λ c. NamedRow c (at ds n)) (omega (arith, sum_of-set (keys_to n) ps i o l, recount n)) (t.names n);
+    names =
+        λ n. subst (λ c. NamedRow c (at ds n)) (omega (arith, sum_of-set (keys_to n) ps i o l, recount n)) (t.names n);
     is_end = t.is_end;
     ends_in_hand = t.ends_in_hand;
     uses = t.uses;
@@ -109,11 +140,13 @@ module _ (K : List Key) (E : List Description) (ps : ProcessRows) (ds : Descript
 
 module _ (K : List Key) (E : List Description) (ps : ProcessRows) (ds : DescriptionRows) (pipes : PipeRows) where
   -- 1. One of a process's keys is set: what was there comes into the hand, and what is put there leaves it
-  module _ (i m : ℕ) (p p' : Process) (stands : at ps i ≡ Some p) (m_in : m < 257) (o : Option Key) (is : keys_of p' ≡ set (keys_of p) m o) (t : TiedWith (holding o K) E ps ds pipes) where
+  module _ (i m : ℕ) (p p' : Process) (stands : at ps i ≡ Some p) (m_in : m < 257) (o : Option Key)
+      (is : keys_of p' ≡ set (keys_of p) m o) (t : TiedWith (holding o K) E ps ds pipes) where
     width : length p.descriptors ≡ 256
     width = t.wide i p stands
 
-    recount : (n : ℕ) → weight (keys_to n) (at ps i) + held (names_it n) (holding o K) ≡ keys_to n p' + held (names_it n) (holding (at (keys_of p) m) K)
+    recount : (n : ℕ) → weight (keys_to n) (at ps i) + held (names_it n) (holding o K)
+        ≡ keys_to n p' + held (names_it n) (holding (at (keys_of p) m) K)
     recount n =
         omega (
           arith,
@@ -124,72 +157,104 @@ module _ (K : List Key) (E : List Description) (ps : ProcessRows) (ds : Descript
           held-holding (names_it n) (at (keys_of p) m) K,
         )
 
-    let_go : (x : Option Key) → Each (Finds ds) (holding x K) → ((k : Key) → x ≡ Some k → Finds ds k) × Each (Finds ds) K
+    let_go : (x : Option Key) → Each (Finds ds) (holding x K)
+        → ((k : Key) → x ≡ Some k → Finds ds k) × Each (Finds ds) K
     let_go None e = (λ k h. absurd (cc), e)
     let_go (Some j) e = (λ k h. let it : j ≡ k = cc in subst (Finds ds) it e.0, e.1)
 
-    take_up : (x : Option Key) → ((k : Key) → x ≡ Some k → Finds ds k) → Each (Finds ds) K → Each (Finds ds) (holding x K)
+    take_up : (x : Option Key) → ((k : Key) → x ≡ Some k → Finds ds k) → Each (Finds ds) K
+        → Each (Finds ds) (holding x K)
     take_up None f e = e
     take_up (Some k) f e = (f k refl, e)
 
     pub moved : TiedWith (holding (at (keys_of p) m) K) E (put_at ps i p') ds pipes
     moved =
         reseated (holding o K) E ps ds pipes t i (at_within ps i p stands) (Some p') (holding (at (keys_of p) m) K)
-        (λ q e. let it : p' ≡ q = cc in ap (λ (x : Process). length x.descriptors) (sym it) ∙ omega (arith, ap length is, length-set (keys_of p) m o, width))
+        (λ q e. let it : p' ≡ q = cc in ap (λ (x : Process). length x.descriptors) (sym it)
+        ∙ omega (arith, ap length is, length-set (keys_of p) m o, width))
         (λ n q k e g. let it : p' ≡ q = cc in
-        by_set (λ _ x. x ≡ Some k → Finds ds k) (keys_of p) m o (omega (arith, width, m_in)) ((let_go o t.in_hand).0 k) (λ b _. t.finds i b p k stands) n (sym (ap (λ ks. at ks n) is) ∙ ap (λ (x : Process). at (keys_of x) n) it ∙ g))
+        by_set (λ _ x. x ≡ Some k → Finds ds k) (keys_of p) m o (omega (arith, width, m_in)) ((let_go o t.in_hand).0 k)
+        (λ b _. t.finds i b p k stands) n (sym (ap (λ ks. at ks n) is) ∙ ap (λ (x : Process). at (keys_of x) n) it ∙ g))
         (take_up (at (keys_of p) m) (λ k. t.finds i m p k stands) (let_go o t.in_hand).1) recount
 
   -- 2. A description changes or goes: its names by what is in the hand, its ends too
-  module _ (t : TiedWith K E ps ds pipes) (s : ℕ) (row : ℕ × Named Description) (stands : at ds s ≡ Some row) (y : Option (ℕ × Named Description)) (K' : List Key) (E' : List Description)
+  module _ (t : TiedWith K E ps ds pipes) (s : ℕ) (row : ℕ × Named Description) (stands : at ds s ≡ Some row)
+      (y : Option (ℕ × Named Description)) (K' : List Key) (E' : List Description)
       (same_place : (e : ℕ × Named Description) → y ≡ Some e → (e.0 ≡ row.0) × IsEnd pipes e.1.value)
       (in_hand : Each (Finds ds) K')
       (others : (n : ℕ) → n ≢ s → held (names_it n) K ≡ held (names_it n) K')
       (is : NamedRow (named ps s + held (names_it s) K') y)
       (ends_in_hand : Each (IsEnd pipes) E')
-      (reads : (n : ℕ) → weight (λ (e : ℕ × Named Description). reads_it n e.1.value) y + held (reads_it n) E' ≡ reads_it n row.1.value + held (reads_it n) E)
-      (writes : (n : ℕ) → weight (λ (e : ℕ × Named Description). writes_it n e.1.value) y + held (writes_it n) E' ≡ writes_it n row.1.value + held (writes_it n) E) where
+      (reads : (n : ℕ) → weight (λ (e : ℕ × Named Description). reads_it n e.1.value) y + held (reads_it n) E'
+      ≡ reads_it n row.1.value + held (reads_it n) E)
+      (writes : (n : ℕ) → weight (λ (e : ℕ × Named Description). writes_it n e.1.value) y + held (writes_it n) E'
+      ≡ writes_it n row.1.value + held (writes_it n) E) where
     row_within : s < length ds
     row_within = at_within ds s row stands
 
     still_finds : (k : Key) → (k.serial ≡ s → 0 < named ps s + held (names_it s) K') → Finds ds k → Finds (set ds s y) k
     still_finds k some f = finds-set ds s y row_within k (λ e. by_row y refl is (some e) e) f
       where
-        by_row : (o : Option (ℕ × Named Description)) → y ≡ o → NamedRow (named ps s + held (names_it s) K') o → 0 < named ps s + held (names_it s) K' → k.serial ≡ s → option_map (λ (e : ℕ × Named Description). e.0) o ≡ Some k.slot
+        by_row : (o : Option (ℕ × Named Description)) → y ≡ o → NamedRow (named ps s + held (names_it s) K') o
+            → 0 < named ps s + held (names_it s) K' → k.serial ≡ s
+            → option_map (λ (e : ℕ × Named Description). e.0) o ≡ Some k.slot
         by_row None h none l e = absurd (omega (arith, none, l))
-        by_row (Some x) h c l e = ap Some ((same_place x h).0) ∙ (sym (ap (option_map (λ (e : ℕ × Named Description). e.0)) (ap (at ds) e ∙ stands)) ∙ f)
+        by_row (Some x) h c l e =
+            ap Some ((same_place x h).0) ∙ (sym (ap (option_map (λ (e : ℕ × Named Description). e.0))
+            (ap (at ds) e ∙ stands)) ∙ f)
 
     pub redescribed : TiedWith K' E' ps (set ds s y) pipes
     redescribed = record {
       places = t.places;
       wide = t.wide;
-      finds = λ i fd p k h g. still_finds k (λ e. let c = counts ps i fd p k h g in let d = ap (named ps) e in omega (arith, c, d)) (t.finds i fd p k h g);
-      in_hand = each-map names_it names_it (Finds ds) (Finds (set ds s y)) K' (λ k a _. still_finds k (λ e. let one = names_one k in let le = a k.serial in let same = ap (λ m. held (names_it m) K') e in omega (arith, one, le, same))) in_hand;
-      names = by_set (λ n x. NamedRow (named ps n + held (names_it n) K') x) ds s y row_within is (λ n ne. subst (λ c. NamedRow (named ps n + c) (at ds n)) (others n ne) (t.names n));
-      is_end = λ n e. by_set (λ _ x. x ≡ Some e → IsEnd pipes e.1.value) ds s y row_within (λ h. (same_place e h).1) (λ m _. t.is_end m e) n;
+      finds =
+          λ i fd p k h g. still_finds k (λ e. let c = counts ps i fd p k h g in let d = ap (named ps) e in omega
+          (arith, c, d)) (t.finds i fd p k h g);
+      in_hand =
+          each-map names_it names_it (Finds ds) (Finds (set ds s y)) K'
+          (λ k a _. still_finds k (λ e. let one = names_one k in let le = a k.serial in let same = ap
+          (λ m. held (names_it m) K') e in omega (arith, one, le, same))) in_hand;
+      names =
+          by_set (λ n x. NamedRow (named ps n + held (names_it n) K') x) ds s y row_within is
+          (λ n ne. subst (λ c. NamedRow (named ps n + c) (at ds n)) (others n ne) (t.names n));
+      is_end =
+          λ n e. by_set (λ _ x. x ≡ Some e → IsEnd pipes e.1.value) ds s y row_within (λ h. (same_place e h).1)
+          (λ m _. t.is_end m e) n;
       ends_in_hand = ends_in_hand;
       uses = λ n. used_as (at pipes n) _ _ _ _ (t.uses n)
-          (omega (arith, sum_of-set (λ (e : ℕ × Named Description). reads_it n e.1.value) ds s y row_within, ap (weight (λ (e : ℕ × Named Description). reads_it n e.1.value)) stands, reads n))
-          (omega (arith, sum_of-set (λ (e : ℕ × Named Description). writes_it n e.1.value) ds s y row_within, ap (weight (λ (e : ℕ × Named Description). writes_it n e.1.value)) stands, writes n));
+          (omega (arith, sum_of-set (λ (e : ℕ × Named Description). reads_it n e.1.value) ds s y row_within, ap
+          (weight (λ (e : ℕ × Named Description). reads_it n e.1.value)) stands, reads n))
+          (omega (arith, sum_of-set (λ (e : ℕ × Named Description). writes_it n e.1.value) ds s y row_within, ap
+          (weight (λ (e : ℕ × Named Description). writes_it n e.1.value)) stands, writes n));
     }
 
   -- 3. A pipe changes or goes
-  module _ (t : TiedWith K E ps ds pipes) (s : ℕ) (row : ℕ × Pipe) (stands : at pipes s ≡ Some row) (y : Option (ℕ × Pipe)) (E' : List Description)
+  module _ (t : TiedWith K E ps ds pipes) (s : ℕ) (row : ℕ × Pipe) (stands : at pipes s ≡ Some row)
+      (y : Option (ℕ × Pipe)) (E' : List Description)
       (same_place : (e : ℕ × Pipe) → y ≡ Some e → e.0 ≡ row.0)
       (ends_in_hand : Each (IsEnd pipes) E')
-      (others : (n : ℕ) → n ≢ s → (held (reads_it n) E ≡ held (reads_it n) E') × (held (writes_it n) E ≡ held (writes_it n) E'))
+      (others : (n : ℕ) → n ≢ s → (held (reads_it n) E ≡ held (reads_it n) E')
+      × (held (writes_it n) E ≡ held (writes_it n) E'))
       (is : UsedRow (read_by ds s + held (reads_it s) E') (written_by ds s + held (writes_it s) E') y) where
     pipe_within : s < length pipes
     pipe_within = at_within pipes s row stands
 
-    still_end : (d : Description) → (reads_it d.pipe.serial d ≤ read_by ds d.pipe.serial + held (reads_it d.pipe.serial) E') → (writes_it d.pipe.serial d ≤ written_by ds d.pipe.serial + held (writes_it d.pipe.serial) E') → IsEnd pipes d → IsEnd (set pipes s y) d
+    still_end : (d : Description) → (reads_it d.pipe.serial d ≤ read_by ds d.pipe.serial + held (reads_it d.pipe.serial)
+        E') → (writes_it d.pipe.serial d ≤ written_by ds d.pipe.serial + held (writes_it d.pipe.serial) E')
+        → IsEnd pipes d → IsEnd (set pipes s y) d
     still_end d r w f = (finds-set pipes s y pipe_within d.pipe (λ e. by_row y refl is e) f.0, f.1)
       where
-        by_row : (o : Option (ℕ × Pipe)) → y ≡ o → UsedRow (read_by ds s + held (reads_it s) E') (written_by ds s + held (writes_it s) E') o → d.pipe.serial ≡ s → option_map (λ (e : ℕ × Pipe). e.0) o ≡ Some d.pipe.slot
+        by_row : (o : Option (ℕ × Pipe)) → y ≡ o → UsedRow (read_by ds s + held (reads_it s) E')
+            (written_by ds s + held (writes_it s) E') o → d.pipe.serial ≡ s
+            → option_map (λ (e : ℕ × Pipe). e.0) o ≡ Some d.pipe.slot
         by_row None h none e =
-            let none' : ((read_by ds d.pipe.serial + held (reads_it d.pipe.serial) E') ≡ 0) × ((written_by ds d.pipe.serial + held (writes_it d.pipe.serial) E') ≡ 0) = subst (λ m. ((read_by ds m + held (reads_it m) E') ≡ 0) × ((written_by ds m + held (writes_it m) E') ≡ 0)) (sym e) none in
+            let none' : ((read_by ds d.pipe.serial + held (reads_it d.pipe.serial) E') ≡ 0)
+            × ((written_by ds d.pipe.serial + held (writes_it d.pipe.serial) E') ≡ 0) =
+            subst (λ m. ((read_by ds m + held (reads_it m) E') ≡ 0) × ((written_by ds m + held (writes_it m) E') ≡ 0))
+            (sym e) none in
             absurd (omega (arith, none'.0, none'.1, r, w, (sides d).0, (sides d).1, f.1))
-        by_row (Some x) h c e = ap Some (same_place x h) ∙ (sym (ap (option_map (λ (e : ℕ × Pipe). e.0)) (ap (at pipes) e ∙ stands)) ∙ f.0)
+        by_row (Some x) h c e =
+            ap Some (same_place x h) ∙ (sym (ap (option_map (λ (e : ℕ × Pipe). e.0)) (ap (at pipes) e ∙ stands)) ∙ f.0)
 
     pub repiped : TiedWith K E' ps ds (set pipes s y)
     repiped = record {
@@ -199,38 +264,63 @@ module _ (K : List Key) (E : List Description) (ps : ProcessRows) (ds : Descript
       in_hand = t.in_hand;
       names = t.names;
       is_end = λ n e h. still_end e.1.value
-          (omega (arith, weight-le-sum_of (λ (x : ℕ × Named Description). reads_it e.1.value.pipe.serial x.1.value) ds n, ap (weight (λ (x : ℕ × Named Description). reads_it e.1.value.pipe.serial x.1.value)) h))
-          (omega (arith, weight-le-sum_of (λ (x : ℕ × Named Description). writes_it e.1.value.pipe.serial x.1.value) ds n, ap (weight (λ (x : ℕ × Named Description). writes_it e.1.value.pipe.serial x.1.value)) h))
+          (omega (arith, weight-le-sum_of (λ (x : ℕ × Named Description). reads_it e.1.value.pipe.serial x.1.value) ds
+          n, ap (weight (λ (x : ℕ × Named Description). reads_it e.1.value.pipe.serial x.1.value)) h))
+          (omega (arith, weight-le-sum_of (λ (x : ℕ × Named Description). writes_it e.1.value.pipe.serial x.1.value) ds
+          n, ap (weight (λ (x : ℕ × Named Description). writes_it e.1.value.pipe.serial x.1.value)) h))
           (t.is_end n e h);
-      ends_in_hand = each-map reads_it writes_it (IsEnd pipes) (IsEnd (set pipes s y)) E' (λ d a b. still_end d (omega (arith, a d.pipe.serial)) (omega (arith, b d.pipe.serial))) ends_in_hand;
-      uses = by_set (λ n x. UsedRow (read_by ds n + held (reads_it n) E') (written_by ds n + held (writes_it n) E') x) pipes s y pipe_within is
-          (λ n ne. used_as (at pipes n) _ _ _ _ (t.uses n) (ap (λ c. read_by ds n + c) (others n ne).0) (ap (λ c. written_by ds n + c) (others n ne).1));
+      ends_in_hand =
+          each-map reads_it writes_it (IsEnd pipes) (IsEnd (set pipes s y)) E'
+          (λ d a b. still_end d (omega (arith, a d.pipe.serial)) (omega (arith, b d.pipe.serial))) ends_in_hand;
+      uses =
+          by_set (λ n x. UsedRow (read_by ds n + held (reads_it n) E') (written_by ds n + held (writes_it n) E') x)
+          pipes s y pipe_within is
+          (λ n ne. used_as (at pipes n) _ _ _ _ (t.uses n) (ap (λ c. read_by ds n + c) (others n ne).0)
+          (ap (λ c. written_by ds n + c) (others n ne).1));
     }
 
   -- 4. A description that was in the hand is made, and its one name is in the hand
-  pub described : (k : Key) (d : Description) → k.serial ≡ length ds → TiedWith K (d ∷ E) ps ds pipes → TiedWith (k ∷ K) E ps (ds ++ Some (k.slot, once d) ∷ []) pipes
+  pub described : (k : Key) (d : Description) → k.serial ≡ length ds → TiedWith K (d ∷ E) ps ds pipes
+      → TiedWith (k ∷ K) E ps (ds ++ Some (k.slot, once d) ∷ []) pipes
   described k d k_is t =
-      let none : named ps (length ds) + held (names_it (length ds)) K ≡ 0 = subst (NamedRow (named ps (length ds) + held (names_it (length ds)) K)) (at_past ds (length ds) (omega arith)) (t.names (length ds)) in record {
+      let none : named ps (length ds) + held (names_it (length ds)) K ≡ 0 =
+      subst (NamedRow (named ps (length ds) + held (names_it (length ds)) K)) (at_past ds (length ds) (omega arith))
+      (t.names (length ds)) in record {
         places = t.places;
         wide = t.wide;
         finds = λ i fd p j h g. finds-push ds (Some (k.slot, once d)) j (t.finds i fd p j h g);
-        in_hand = (finds-new ds (once d) k k_is, each-map names_it names_it (Finds ds) (Finds (ds ++ Some (k.slot, once d) ∷ [])) K (λ j _ _. finds-push ds (Some (k.slot, once d)) j) t.in_hand);
+        in_hand =
+            (finds-new ds (once d) k k_is, each-map names_it names_it (Finds ds)
+            (Finds (ds ++ Some (k.slot, once d) ∷ [])) K (λ j _ _. finds-push ds (Some (k.slot, once d)) j) t.in_hand);
         names = by_push (λ n x. NamedRow (named ps n + held (names_it n) (k ∷ K)) x) ds (Some (k.slot, once d))
-            (let mine = names_one k in let at_it = ap (λ n. names_it n k) k_is in (omega (arith, none, mine, at_it), omega (arith, none, mine, at_it)))
-            (λ n ne. subst (λ c. NamedRow (named ps n + c) (at ds n)) (let zero = names_none n k (λ e. ne (sym e ∙ k_is)) in omega (arith, zero)) (t.names n));
-        is_end = λ n e. by_push (λ _ x. x ≡ Some e → IsEnd pipes e.1.value) ds (Some (k.slot, once d)) (λ h. let it : ◌≡◌ {A = ℕ × Named Description} (k.slot, once d) e = cc in subst (λ (x : ℕ × Named Description). IsEnd pipes x.1.value) it t.ends_in_hand.0) (λ m _. t.is_end m e) n;
+            (let mine = names_one k in let at_it = ap (λ n. names_it n k) k_is in
+            (omega (arith, none, mine, at_it), omega (arith, none, mine, at_it)))
+            (λ n ne. subst (λ c. NamedRow (named ps n + c) (at ds n))
+            (let zero = names_none n k (λ e. ne (sym e ∙ k_is)) in omega (arith, zero)) (t.names n));
+        is_end =
+            λ n e. by_push (λ _ x. x ≡ Some e → IsEnd pipes e.1.value) ds (Some (k.slot, once d))
+            (λ h. let it : ◌≡◌ {A = ℕ × Named Description} (k.slot, once d) e = cc in subst
+            (λ (x : ℕ × Named Description). IsEnd pipes x.1.value) it t.ends_in_hand.0) (λ m _. t.is_end m e) n;
         ends_in_hand = t.ends_in_hand.1;
         uses = λ n. used_as (at pipes n) _ _ _ _ (t.uses n)
-            (omega (arith, sum_of-push (λ (e : ℕ × Named Description). reads_it n e.1.value) ds (Some (k.slot, once d))))
-            (omega (arith, sum_of-push (λ (e : ℕ × Named Description). writes_it n e.1.value) ds (Some (k.slot, once d))));
+            (omega (arith, sum_of-push (λ (e : ℕ × Named Description). reads_it n e.1.value) ds
+            (Some (k.slot, once d))))
+            (omega (arith, sum_of-push (λ (e : ℕ × Named Description). writes_it n e.1.value) ds
+            (Some (k.slot, once d))));
       }
 
   -- 5. A pipe is made, and its ends are in the hand
-  pub piped : (r : Key) (p : Pipe) (E' : List Description) → r.serial ≡ length pipes → Each (IsEnd (pipes ++ Some (r.slot, p) ∷ [])) E'
-      → ((n : ℕ) → n ≢ r.serial → (held (reads_it n) E ≡ held (reads_it n) E') × (held (writes_it n) E ≡ held (writes_it n) E'))
-      → p.readers ≡ held (reads_it r.serial) E' → p.writers ≡ held (writes_it r.serial) E' → 0 < p.readers + p.writers → TiedWith K E ps ds pipes → TiedWith K E' ps ds (pipes ++ Some (r.slot, p) ∷ [])
+  pub piped : (r : Key) (p : Pipe) (E' : List Description) → r.serial ≡ length pipes
+      → Each (IsEnd (pipes ++ Some (r.slot, p) ∷ [])) E'
+      → ((n : ℕ) → n ≢ r.serial → (held (reads_it n) E ≡ held (reads_it n) E')
+      × (held (writes_it n) E ≡ held (writes_it n) E'))
+      → p.readers ≡ held (reads_it r.serial) E' → p.writers ≡ held (writes_it r.serial) E' → 0 < p.readers + p.writers
+      → TiedWith K E ps ds pipes → TiedWith K E' ps ds (pipes ++ Some (r.slot, p) ∷ [])
   piped r p E' r_is ends_in_hand others readers writers some t =
-      let none = subst (UsedRow (read_by ds r.serial + held (reads_it r.serial) E) (written_by ds r.serial + held (writes_it r.serial) E)) (at_past pipes r.serial (omega (arith, r_is))) (t.uses r.serial) in record {
+      let none =
+      subst (UsedRow (read_by ds r.serial + held (reads_it r.serial) E)
+      (written_by ds r.serial + held (writes_it r.serial) E)) (at_past pipes r.serial (omega (arith, r_is)))
+      (t.uses r.serial) in record {
         places = t.places;
         wide = t.wide;
         finds = t.finds;
@@ -238,34 +328,52 @@ module _ (K : List Key) (E : List Description) (ps : ProcessRows) (ds : Descript
         names = t.names;
         is_end = λ n e h. let end = t.is_end n e h in (finds-push pipes (Some (r.slot, p)) e.1.value.pipe end.0, end.1);
         ends_in_hand = ends_in_hand;
-        uses = by_push (λ n x. UsedRow (read_by ds n + held (reads_it n) E') (written_by ds n + held (writes_it n) E') x) pipes (Some (r.slot, p))
-            (subst (λ n. UsedRow (read_by ds n + held (reads_it n) E') (written_by ds n + held (writes_it n) E') (Some (r.slot, p))) r_is (omega (arith, none.0, readers), omega (arith, none.1, writers), omega (arith, none.0, none.1, readers, writers, some)))
-            (λ n ne. let o = others n (λ e. ne (e ∙ r_is)) in used_as (at pipes n) _ _ _ _ (t.uses n) (ap (λ c. read_by ds n + c) o.0) (ap (λ c. written_by ds n + c) o.1));
+        uses =
+            by_push (λ n x. UsedRow (read_by ds n + held (reads_it n) E') (written_by ds n + held (writes_it n) E') x)
+            pipes (Some (r.slot, p))
+            (subst (λ n. UsedRow (read_by ds n + held (reads_it n) E') (written_by ds n + held (writes_it n) E')
+            (Some (r.slot, p))) r_is (omega (arith, none.0, readers), omega (arith, none.1, writers), omega
+            (arith, none.0, none.1, readers, writers, some)))
+            (λ n ne. let o = others n (λ e. ne (e ∙ r_is)) in used_as (at pipes n) _ _ _ _ (t.uses n)
+            (ap (λ c. read_by ds n + c) o.0) (ap (λ c. written_by ds n + c) o.1));
       }
 
 -- What a row of tied tables counts, and instances
 
 module _ (K : List Key) (E : List Description) (ps : ProcessRows) (ds : DescriptionRows) (pipes : PipeRows) where
   module _ (k : Key) (d : Named Description) (stands : at ds k.serial ≡ Some (k.slot, d)) where
-    pub place_and_end : {K' : List Key} → TiedWith K' E ps ds pipes → (m : ℕ) (e : ℕ × Named Description) → ◌≡◌ {A = Option (ℕ × Named Description)} (Some (k.slot, record d { names = m })) (Some e) → (e.0 ≡ k.slot) × IsEnd pipes e.1.value
+    pub place_and_end : {K' : List Key} → TiedWith K' E ps ds pipes → (m : ℕ) (e : ℕ × Named Description)
+        → ◌≡◌ {A = Option (ℕ × Named Description)} (Some (k.slot, record d { names = m })) (Some e)
+        → (e.0 ≡ k.slot) × IsEnd pipes e.1.value
     place_and_end t m e h =
         let it : ◌≡◌ {A = ℕ × Named Description} (k.slot, record d { names = m }) e = cc in
-        (ap (λ (x : ℕ × Named Description). x.0) (sym it), subst (λ (x : ℕ × Named Description). IsEnd pipes x.1.value) it (t.is_end k.serial (k.slot, d) stands))
+        (ap (λ (x : ℕ × Named Description). x.0) (sym it), subst (λ (x : ℕ × Named Description). IsEnd pipes x.1.value)
+        it (t.is_end k.serial (k.slot, d) stands))
 
-    pub names_row : {K' : List Key} → TiedWith K' E ps ds pipes → (d.names ≡ named ps k.serial + held (names_it k.serial) K') × (0 < named ps k.serial + held (names_it k.serial) K')
+    pub names_row : {K' : List Key} → TiedWith K' E ps ds pipes
+        → (d.names ≡ named ps k.serial + held (names_it k.serial) K')
+        × (0 < named ps k.serial + held (names_it k.serial) K')
     names_row {K'} t = subst (NamedRow (named ps k.serial + held (names_it k.serial) K')) stands (t.names k.serial)
 
   module _ (r : Key) (p : Pipe) (stands : at pipes r.serial ≡ Some (r.slot, p)) where
-    pub pipe_row : {E' : List Description} → TiedWith K E' ps ds pipes → (p.readers ≡ read_by ds r.serial + held (reads_it r.serial) E') × (p.writers ≡ written_by ds r.serial + held (writes_it r.serial) E') × (0 < (read_by ds r.serial + held (reads_it r.serial) E') + (written_by ds r.serial + held (writes_it r.serial) E'))
-    pipe_row {E'} t = subst (UsedRow (read_by ds r.serial + held (reads_it r.serial) E') (written_by ds r.serial + held (writes_it r.serial) E')) stands (t.uses r.serial)
+    pub pipe_row : {E' : List Description} → TiedWith K E' ps ds pipes
+        → (p.readers ≡ read_by ds r.serial + held (reads_it r.serial) E')
+        × (p.writers ≡ written_by ds r.serial + held (writes_it r.serial) E')
+        × (0 < (read_by ds r.serial + held (reads_it r.serial) E')
+        + (written_by ds r.serial + held (writes_it r.serial) E'))
+    pipe_row {E'} t =
+        subst (UsedRow (read_by ds r.serial + held (reads_it r.serial) E')
+        (written_by ds r.serial + held (writes_it r.serial) E')) stands (t.uses r.serial)
 
     pub same_place : (q : Pipe) (e : ℕ × Pipe) → ◌≡◌ {A = Option (ℕ × Pipe)} (Some (r.slot, q)) (Some e) → e.0 ≡ r.slot
     same_place q e h = let it : ◌≡◌ {A = ℕ × Pipe} (r.slot, q) e = cc in ap (λ (x : ℕ × Pipe). x.0) (sym it)
 
     -- another ring
-    pub requeued : (w : Pipe) → w.readers ≡ p.readers → w.writers ≡ p.writers → TiedWith K E ps ds pipes → TiedWith K E ps ds (put_at pipes r.serial (r.slot, w))
+    pub requeued : (w : Pipe) → w.readers ≡ p.readers → w.writers ≡ p.writers → TiedWith K E ps ds pipes
+        → TiedWith K E ps ds (put_at pipes r.serial (r.slot, w))
     requeued w a b t =
-        repiped K E ps ds pipes t r.serial (r.slot, p) stands (Some (r.slot, w)) E (same_place w) t.ends_in_hand (λ n _. (refl, refl))
+        repiped K E ps ds pipes t r.serial (r.slot, p) stands (Some (r.slot, w)) E (same_place w) t.ends_in_hand
+        (λ n _. (refl, refl))
         (let c = pipe_row t in (a ∙ c.0, b ∙ c.1, c.2))
 
   -- a key goes from the hand into an empty descriptor
@@ -273,6 +381,9 @@ module _ (K : List Key) (E : List Description) (ps : ProcessRows) (ds : Descript
     abbrev with_descriptors : List (Option Key) → Process
     with_descriptors ks = record p { descriptors = ks }
 
-    pub put : (k : Key) → at p.descriptors fd ≡ None → TiedWith (k ∷ K) E ps ds pipes → TiedWith K E (put_at ps i (record p { descriptors = put_at p.descriptors fd k })) ds pipes
+    pub put : (k : Key) → at p.descriptors fd ≡ None → TiedWith (k ∷ K) E ps ds pipes
+        → TiedWith K E (put_at ps i (record p { descriptors = put_at p.descriptors fd k })) ds pipes
     put k e t =
-        subst (λ o. TiedWith (holding o K) E (put_at ps i (with_descriptors (put_at p.descriptors fd k))) ds pipes) e (moved K E ps ds pipes i (suc fd) p (with_descriptors (put_at p.descriptors fd k)) stands (omega arith) (Some k) refl t)
+        subst (λ o. TiedWith (holding o K) E (put_at ps i (with_descriptors (put_at p.descriptors fd k))) ds pipes) e
+        (moved K E ps ds pipes i (suc fd) p (with_descriptors (put_at p.descriptors fd k)) stands (omega arith) (Some k)
+        refl t)

@@ -1,6 +1,8 @@
 -- A write that comes to its end at once, or stops short of it; and whether a descriptor's description has O_NONBLOCK.
 
-use Rattle.std.proofs.Common.{◌≡◌, ℕ, zero, suc, ◌<◌, ◌≤◌, Bool, true, false, List, length, nat_eq, nat_lt, nat_le, Option, Some, None, Result, Ok, Err, inl, inr, if◌then◌else◌, refl, sym, ap, subst, ◌∙◌, arith}
+use Rattle.std.proofs.Common.{◌≡◌, ℕ, zero, suc, ◌<◌, ◌≤◌, Bool, true, false, List, length, nat_eq, nat_lt, nat_le}
+use Rattle.std.proofs.Common.{Option, Some, None, Result, Ok, Err, inl, inr, if◌then◌else◌, refl, sym, ap, subst, ◌∙◌}
+use Rattle.std.proofs.Common.{arith}
 use Rattle.std.proofs.lemmas.Bool.{eqb-true, eqb-false, le-ltb, le-leb, lt-leb}
 use Rattle.pf_machine.specs.FileMap.{Files}
 use Rattle.pf_base.specs.Limits.{Limits}
@@ -30,7 +32,8 @@ use Rattle.pf_tables.proofs.Transfers.{bind-bind}
 -- How far a write comes
 
 -- P holds of both branches
-branch : {X : Type 0} (P : X → Type 0) (b : Bool) (x y : X) → (b ≡ true → P x) → (b ≡ false → P y) → P (if b then x else y)
+branch : {X : Type 0} (P : X → Type 0) (b : Bool) (x y : X) → (b ≡ true → P x) → (b ≡ false → P y)
+    → P (if b then x else y)
 branch P true x y h k = h refl
 branch P false x y h k = k refl
 
@@ -41,7 +44,9 @@ portion_all false n room fits = omega (arith, fits)
 
 -- and fewer where there is not
 portion_short : (whole : Bool) (n room : ℕ) → room < n → portion whole n room < n
-portion_short true n room short = let none : portion true n room ≡ 0 = ap (λ b. if b then n else 0) (lt-leb n room short) in omega (arith, none, short)
+portion_short true n room short =
+    let none : portion true n room ≡ 0 = ap (λ b. if b then n else 0) (lt-leb n room short) in omega
+    (arith, none, short)
 portion_short false n room short = omega (arith, short)
 
 positive : (k : ℕ) → nat_eq k 0 ≡ false → 0 < k
@@ -56,7 +61,9 @@ module _ (q : Queue) (whole : Bool) (x : List ℕ) where
   IsCut p = IsShort p.progress (length x)
 
   all_put : nat_eq (length x) 0 ≡ false → (n : ℕ) → n ≡ length x → Ends (put_some q x n)
-  all_put some n is = branch Ends (nat_eq n 0) _ _ (λ e. absurd (eqb-false (length x) 0 some (sym is ∙ eqb-true n 0 e))) (λ _. inl (ap Moved is))
+  all_put some n is =
+      branch Ends (nat_eq n 0) _ _ (λ e. absurd (eqb-false (length x) 0 some (sym is ∙ eqb-true n 0 e)))
+      (λ _. inl (ap Moved is))
 
   some_put : (n : ℕ) → n < length x → IsCut (put_some q x n)
   some_put n short = branch IsCut (nat_eq n 0) _ _ (λ _. tt) (λ _. short)
@@ -65,13 +72,15 @@ module _ (q : Queue) (whole : Bool) (x : List ℕ) where
   pub ends : (k : ℕ) → (0 < k → length x ≤ room_of q) → Ends (write_now q k whole x)
   ends k fits =
       branch Ends (nat_eq (length x) 0) _ _ (λ none. inl (ap Moved (sym (eqb-true (length x) 0 none)))) (λ some.
-      branch Ends (nat_eq k 0) _ _ (λ _. inr refl) (λ e. all_put some _ (portion_all whole (length x) (room_of q) (fits (positive k e)))))
+      branch Ends (nat_eq k 0) _ _ (λ _. inr refl) (λ e. all_put some _
+      (portion_all whole (length x) (room_of q) (fits (positive k e)))))
 
   -- a write that somebody reads and there is no room for stops short of its end
   pub stops : (k : ℕ) → 0 < k → room_of q < length x → IsCut (write_now q k whole x)
   stops k some short =
       branch IsCut (nat_eq (length x) 0) _ _ (λ none. absurd (omega (arith, eqb-true (length x) 0 none, short))) (λ _.
-      branch IsCut (nat_eq k 0) _ _ (λ none. absurd (omega (arith, eqb-true k 0 none, some))) (λ _. some_put _ (portion_short whole (length x) (room_of q) short)))
+      branch IsCut (nat_eq k 0) _ _ (λ none. absurd (omega (arith, eqb-true k 0 none, some)))
+      (λ _. some_put _ (portion_short whole (length x) (room_of q) short)))
 
 -- What the machine does
 
@@ -80,40 +89,57 @@ abbrev flagged : Result (End Segment ℕ) Errno → Bool
 flagged (Ok e) = e.description.nonblocking
 flagged (Err e) = false
 
-flag_found : (s : State Segment ℕ) (fd : ℕ) (r : Result (Process ℕ) Errno) → flag_of s fd r ≡ flagged (r >>= (λ p. end_of itself s p fd))
+flag_found : (s : State Segment ℕ) (fd : ℕ) (r : Result (Process ℕ) Errno)
+    → flag_of s fd r ≡ flagged (r >>= (λ p. end_of itself s p fd))
 flag_found s fd (Ok p) = refl
 flag_found s fd (Err e) = refl
 
-module _ {files : Files} {files_made : ℕ} (f : Live) (limits : Limits) (charges : UserPages) (ps : ProcessRows) (ds : DescriptionRows) (pipes : PipeRows) (kept : Kept charges ps ds pipes)
-    (n : Namespace) (view : record { limits = limits; state = state_of ps ds pipes files files_made } ≡ n) (pid fd : ℕ) where
+module _ {files : Files} {files_made : ℕ} (f : Live) (limits : Limits) (charges : UserPages) (ps : ProcessRows)
+    (ds : DescriptionRows) (pipes : PipeRows) (kept : Kept charges ps ds pipes)
+    (n : Namespace) (view : record { limits = limits; state = state_of ps ds pipes files files_made } ≡ n)
+    (pid fd : ℕ) where
   abbrev s : State Segment ℕ
   s = meaning f (state_of ps ds pipes files files_made)
 
   -- the flag that the tables find is the machine's
-  pub flag_told : (d : Description) → end_in None ps ds pid fd ≡ Ok d → d.nonblocking ≡ is_nonblocking_at (meaning f n.state) pid fd
+  pub flag_told : (d : Description) → end_in None ps ds pid fd ≡ Ok d
+      → d.nonblocking ≡ is_nonblocking_at (meaning f n.state) pid fd
   flag_told d h =
       subst (λ (v : Namespace). d.nonblocking ≡ is_nonblocking_at (meaning f v.state) pid fd) view
-      (sym (flag_found s fd (ready s pid) ∙ ap flagged (found (pipe_meaning f) None ps ds pipes files files_made kept.tied pid fd d h).is))
+      (sym (flag_found s fd (ready s pid) ∙ ap flagged
+      (found (pipe_meaning f) None ps ds pipes files files_made kept.tied pid fd d h).is))
 
   pub no_flag : (e : Errno) → end_in None ps ds pid fd ≡ Err e → false ≡ is_nonblocking_at (meaning f n.state) pid fd
   no_flag e h =
       subst (λ (v : Namespace). false ≡ is_nonblocking_at (meaning f v.state) pid fd) view
-      (sym (flag_found s fd (ready s pid) ∙ ap flagged (refused (pipe_meaning f) None ps ds pipes files files_made kept.tied pid fd e h)))
+      (sym (flag_found s fd (ready s pid) ∙ ap flagged
+      (refused (pipe_meaning f) None ps ds pipes files files_made kept.tied pid fd e h)))
 
   -- a write into a pipe that was found, which has readers and no room for all bytes, stops short of its end
-  pub stops_at : (d : Description) (r : Pipe) (x : List ℕ) → end_in (Some Write) ps ds pid fd ≡ Ok d → find pipes d.pipe.slot d.pipe.serial ≡ Some r → length x ≤ MAX_WRITE
-      → 0 < r.readers → room_of (queue_of f r.ring) < length x → Stops (attempted (meaning f n.state) pid (Writing fd x 0)) (length x)
+  pub stops_at : (d : Description) (r : Pipe) (x : List ℕ) → end_in (Some Write) ps ds pid fd ≡ Ok d
+      → find pipes d.pipe.slot d.pipe.serial ≡ Some r → length x ≤ MAX_WRITE
+      → 0 < r.readers → room_of (queue_of f r.ring) < length x
+      → Stops (attempted (meaning f n.state) pid (Writing fd x 0)) (length x)
   stops_at d r x h handed fits some short =
       let w = found (pipe_meaning f) (Some Write) ps ds pipes files files_made kept.tied pid fd d h in
-      let one : ◌≡◌ {A = Option (ℕ × Pipe)} (Some (d.pipe.slot, w.pipe)) (Some (d.pipe.slot, r)) = sym w.stands ∙ find_was pipes d.pipe.slot d.pipe.serial r handed in
+      let one : ◌≡◌ {A =
+      Option (ℕ × Pipe)} (Some (d.pipe.slot, w.pipe)) (Some (d.pipe.slot, r)) = sym w.stands
+      ∙ find_was pipes d.pipe.slot d.pipe.serial r handed in
       let pair : ◌≡◌ {A = ℕ × Pipe} (d.pipe.slot, w.pipe) (d.pipe.slot, r) = cc in
       let same : w.pipe ≡ r = ap (λ (p : ℕ × Pipe). p.1) pair in
-      let counts = counted (pipe_meaning f) (Some Write) ps ds pipes files files_made kept.tied pid fd d.pipe.serial d.pipe.slot w.pipe w.stands in
-      let go : Bool → Result Tried Errno = λ b. refuse_if b EINVAL >> Ok (try_write s (end_of_rows (pipe_meaning f) d w.pipe) x 0) in
+      let counts =
+      counted (pipe_meaning f) (Some Write) ps ds pipes files files_made kept.tied pid fd d.pipe.serial d.pipe.slot
+      w.pipe w.stands in
+      let go : Bool → Result Tried Errno =
+      λ b. refuse_if b EINVAL >> Ok (try_write s (end_of_rows (pipe_meaning f) d w.pipe) x 0) in
       subst (λ (v : Namespace). Stops (attempted (meaning f v.state) pid (Writing fd x 0)) (length x)) view
       (record {
         tried = try_write s (end_of_rows (pipe_meaning f) d w.pipe) x 0;
-        is = bind-bind (ready s pid) (λ p. writing_end itself s p fd) _ ∙ ap (λ m. m >>= (λ e. refuse_if (nat_lt MAX_WRITE (length x)) EINVAL >> Ok (try_write s e x 0))) w.is ∙ ap go (le-ltb MAX_WRITE (length x) fits);
+        is =
+            bind-bind (ready s pid) (λ p. writing_end itself s p fd) _
+            ∙ ap (λ m. m >>= (λ e. refuse_if (nat_lt MAX_WRITE (length x)) EINVAL >> Ok (try_write s e x 0))) w.is
+            ∙ ap go (le-ltb MAX_WRITE (length x) fits);
         short = stops (queue_of f w.pipe.ring) (nat_le (length x) PIPE_BUF) x (readers itself s d.pipe.serial)
-            (subst (λ k. 0 < k) (ap (λ (p : Pipe). p.readers) (sym same) ∙ sym counts.0) some) (subst (λ (p : Pipe). room_of (queue_of f p.ring) < length x) (sym same) short);
+            (subst (λ k. 0 < k) (ap (λ (p : Pipe). p.readers) (sym same) ∙ sym counts.0) some)
+            (subst (λ (p : Pipe). room_of (queue_of f p.ring) < length x) (sym same) short);
       })

@@ -80,8 +80,8 @@ abbrev pub HasReadTruncated : Live → Namespace → List ℕ → List ℕ → R
 HasReadTruncated g new before after (Ok progress) machine = Truncates g new machine progress before after
 HasReadTruncated g new before after (Err e) machine = (machine ≡ Err e) × (after ≡ before)
 
--- as what a reply to such a call is told: a number, where it has bytes how many; an error; or nothing, where it waits on.
--- It is told no other reply
+-- as what a reply to such a call is told: a number, where it has bytes how many; an error; or nothing, where it waits
+-- on. It is told no other reply
 abbrev pub number_told : Reply → Result (Option ℕ) Errno
 number_told (replies.Num n) = Ok (Some n)
 number_told (replies.Bytes bytes) = Ok (Some (length bytes))

@@ -1,6 +1,7 @@
 -- What an open of a FIFO does to the tables and tells.
 
-use Rattle.std.specs.Prelude.{◌≡◌, ℕ, ◌+◌, ◌-◌, ◌<◌, ⊤, Bool, not, ◌&&◌, List, [], ◌∷◌, ◌++◌, length, Option, Some, None, nat_eq, nat_le, if◌then◌else◌, Result, Ok, Err}
+use Rattle.std.specs.Prelude.{◌≡◌, ℕ, ◌+◌, ◌-◌, ◌<◌, Bool, not, ◌&&◌, List, [], ◌∷◌, ◌++◌, length, Option, Some}
+use Rattle.std.specs.Prelude.{None, nat_eq, nat_le, if◌then◌else◌, Result, Ok}
 use Rattle.std.specs.Map.{lookup}
 use Rattle.pf_machine.specs.Refusals.{◌>>=◌, ◌>>◌, refuse_if}
 use Rattle.pf_base.specs.Limits.{Limits}
@@ -101,7 +102,8 @@ abbrev pub HasFree : ProcessRows → ℕ → Type 0
 HasFree ps pid = (p : Process) → process_in ps pid ≡ Ok p → first_free p.descriptors < MAX_DESCRIPTORS
 
 -- one description more, which has one name
-pub record Describes (ps ps' : ProcessRows) (ds ds' : DescriptionRows) (pid : ℕ) (end : Description) (kept : Option ℕ) (reply : Reply) : Type 0 where
+pub record Describes (ps ps' : ProcessRows) (ds ds' : DescriptionRows) (pid : ℕ) (end : Description) (kept : Option ℕ)
+    (reply : Reply) : Type 0 where
   pub k : Key
   pub k_is : k.serial ≡ length ds
   pub described : ds' ≡ ds ++ Some (k.slot, record { value = end; names = 1 }) ∷ []
@@ -115,7 +117,8 @@ abbrev pub SameKeys : List (ℕ × Key) → List (ℕ × Key) → Type 0
 SameKeys es fs = (n : ℕ) → lookup (nat_eq n) fs ≡ lookup (nat_eq n) es
 
 -- one pipe more, and its FIFO's key
-pub record MakesFifo (pipes pipes' : PipeRows) (es fs : List (ℕ × Key)) (pipe : Pipe) (file : ℕ) (k : Key) : Type 0 where
+pub record MakesFifo (pipes pipes' : PipeRows) (es fs : List (ℕ × Key)) (pipe : Pipe) (file : ℕ)
+    (k : Key) : Type 0 where
   pub k_is : k.serial ≡ length pipes
   pub stored : pipes' ≡ pipes ++ Some (k.slot, pipe) ∷ []
   pub keys : (n : ℕ) → lookup (nat_eq n) fs ≡ (if nat_eq file n then Some k else lookup (nat_eq n) es)

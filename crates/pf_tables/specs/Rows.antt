@@ -1,6 +1,7 @@
 -- What the tables mean to the lone machine, and how their counters are tied to it. No public clause cites this module.
 
-use Rattle.std.specs.Prelude.{◌≡◌, ℕ, zero, suc, ◌+◌, ◌-◌, ◌*◌, ◌<◌, ◌≤◌, Bool, true, false, not, ◌&&◌, List, [], ◌∷◌, length, map, Option, Some, None, is_some, nat_lt, nat_eq, ⊤, if◌then◌else◌, Result, Ok}
+use Rattle.std.specs.Prelude.{◌≡◌, ℕ, zero, suc, ◌+◌, ◌-◌, ◌*◌, ◌<◌, ◌≤◌, Bool, true, false, not, ◌&&◌, List, [], ◌∷◌}
+use Rattle.std.specs.Prelude.{length, map, Option, Some, None, is_some, nat_lt, nat_eq, ⊤, if◌then◌else◌, Result, Ok}
 use Rattle.std.specs.Option.{option_map, option_and_then}
 use Rattle.std.specs.Map.{lookup}
 use Rattle.pf_ring.specs.declared.ring.Window.{Window}
@@ -231,7 +232,8 @@ abbrev pub made_by : Option (Call Key) → Option Key
 made_by (Some (Open description kept)) = Some description
 made_by _ = None
 
--- all keys of a process: that of its parked open, whose description no descriptor names yet, and those of its descriptors
+-- all keys of a process: that of its parked open, whose description no descriptor names yet, and those of its
+-- descriptors
 abbrev pub keys_of : Process → List (Option Key)
 keys_of p = made_by p.parked ∷ p.descriptors
 
@@ -321,7 +323,8 @@ module _ (keys : List Key) (ends : List Description) (ps : ProcessRows) (ds : De
     pub names : (n : ℕ) → NamedRow (named ps n + held (names_it n) keys) (at ds n)
     pub is_end : (n : ℕ) (e : ℕ × Named Description) → at ds n ≡ Some e → IsEnd pipes e.1.value
     pub ends_in_hand : Each (IsEnd pipes) ends
-    pub uses : (n : ℕ) → UsedRow (read_by ds n + held (reads_it n) ends) (written_by ds n + held (writes_it n) ends) (at pipes n)
+    pub uses : (n : ℕ) → UsedRow (read_by ds n + held (reads_it n) ends) (written_by ds n + held (writes_it n) ends)
+        (at pipes n)
 
 -- nothing in the hand
 abbrev pub Tied : ProcessRows → DescriptionRows → PipeRows → Type 0
@@ -354,6 +357,7 @@ pub record Kept (charges : UserPages) (ps : ProcessRows) (ds : DescriptionRows) 
   pub charged : AreCharged charges (pipes_of pipes)
 
 -- and the keys of the FIFOs are those of their pipes
-pub record Whole (charges : UserPages) (fifos : List (ℕ × Key)) (ps : ProcessRows) (ds : DescriptionRows) (pipes : PipeRows) : Type 0 where
+pub record Whole (charges : UserPages) (fifos : List (ℕ × Key)) (ps : ProcessRows) (ds : DescriptionRows)
+    (pipes : PipeRows) : Type 0 where
   pub kept : Kept charges ps ds pipes
   pub filed : AreFifos fifos (length ds) (opens_of pipes)

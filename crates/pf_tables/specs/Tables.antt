@@ -1,14 +1,15 @@
 -- What the calls of the tables do, in terms of the lone machine's state.
 
-use Rattle.std.specs.Prelude.{◌≡◌, ℕ, ◌≤◌, ⊤, length, nat_lt, if◌then◌else◌, Bool, true, false, List, Option, Some, None, Result, Ok, Err, nat_le, nat_eq}
+use Rattle.std.specs.Prelude.{◌≡◌, ℕ, ◌≤◌, ⊤, length, nat_lt, if◌then◌else◌, Bool, true, false, List, Option, Some}
+use Rattle.std.specs.Prelude.{None, Result, Ok, Err, nat_le, nat_eq}
 use Rattle.std.specs.Map.{lookup}
 use Rattle.std.specs.Option.{option_and_then}
 use Rattle.pf_machine.specs.Refusals.{◌>>=◌, ◌>>◌, refuse_if, or_refuse}
 use Rattle.pf_machine.specs.FileMap.{Files}
-use Rattle.pf_machine.specs.Queue.{Segment}
 use Rattle.pf_machine.specs.Numbered.{at, clear_at, change_at, first_free}
 use Rattle.pf_machine.specs.Calls.{Call, Opening, Moving}
-use Rattle.pf_machine.specs.State.{itself, State, Process, Pipe, Outcome, living, told, change_process, with_descriptor, waiting}
+use Rattle.pf_machine.specs.State.{itself, State, Process, Pipe, Outcome, living, told, change_process, with_descriptor}
+use Rattle.pf_machine.specs.State.{waiting}
 use Rattle.pf_machine.specs.Descriptors.{without_descriptor}
 use Rattle.pf_machine.specs.Sweep.{sweep}
 use Rattle.pf_machine.specs.Pipes.{second_free}
@@ -23,12 +24,11 @@ use Rattle.pf_base.specs.declared.step.Reply.TheVariants.{Num}
 use Rattle.pf_limits.specs.UserPages.{UserPages, charged_to}
 use Rattle.pf_frame.specs.Live.{Live}
 use Rattle.pf_ring.specs.declared.ring.Window.{Window}
-use Rattle.pf_tables.specs.Meaning.{Namespace, meaning}
+use Rattle.pf_tables.specs.Meaning.{Namespace}
 use Rattle.pf_tables.specs.Rows as rows
 use Rattle.pf_tables.specs.Rows.{ProcessRows, DescriptionRows, PipeRows, state_of, Tied}
 use Rattle.pf_tables.specs.Owns.{Owns}
 use Rattle.pf_tables.specs.Recharging.{Recharges}
-use Rattle.pf_tables.specs.Told.{Becomes}
 
 module _ {X : Type 0} where
   -- the description's number at a descriptor of the process in place i
@@ -119,7 +119,8 @@ Resizing u v p q privileged to (Err (faults.Errno e)) = (verdict u privileged p 
 Resizing u v p q privileged to (Err faults.NoMemory) = Refuses u v p q
 
 -- the rows that are left are tied, and show the state without a descriptor and without what nobody can reach any more
-pub record Left (ps : ProcessRows) (ds : DescriptionRows) (pipes : PipeRows) (ps' : ProcessRows) (ds' : DescriptionRows) (pipes' : PipeRows) (i fd : ℕ) : Type 0 where
+pub record Left (ps : ProcessRows) (ds : DescriptionRows) (pipes : PipeRows) (ps' : ProcessRows) (ds' : DescriptionRows)
+    (pipes' : PipeRows) (i fd : ℕ) : Type 0 where
   pub tied : Tied ps' ds' pipes'
   pub state : (files : Files) (files_made : ℕ)
       → state_of ps' ds' pipes' files files_made ≡ sweep itself (emptied (state_of ps ds pipes files files_made) i fd)

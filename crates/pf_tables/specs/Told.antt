@@ -55,7 +55,8 @@ abbrev pub transferred : State Segment ℕ → ℕ → Bool → Transfer → Res
 transferred s pid flag call = ready s pid >>= (λ p. transfer s pid p flag call)
 
 -- it came so far, moved these bytes, and left this state, without what nobody can reach any more
-pub record Came (g : Live) (new : Namespace) (machine : Result Tried Errno) (progress : Progress) (bytes : List ℕ) : Type 0 where
+pub record Came (g : Live) (new : Namespace) (machine : Result Tried Errno) (progress : Progress)
+    (bytes : List ℕ) : Type 0 where
   pub tried : Tried
   pub is : machine ≡ Ok tried
   pub progress_is : tried.progress ≡ progress
@@ -99,7 +100,8 @@ pub record Stops (machine : Result Tried Errno) (number : ℕ) : Type 0 where
   pub short : IsShort tried.progress number
 
 abbrev pub HasWritten : Live → Namespace → List ℕ → Result (Option Progress) Errno → Result Tried Errno → Type 0
-HasWritten g new x (Ok (Some progress)) machine = Came g new machine progress (take (moved progress) x) × IsDone progress (length x)
+HasWritten g new x (Ok (Some progress)) machine =
+    Came g new machine progress (take (moved progress) x) × IsDone progress (length x)
 HasWritten g new x (Ok None) machine = Stops machine (length x)
 HasWritten g new x (Err e) machine = machine ≡ Err e
 
@@ -129,7 +131,8 @@ Says f g old new (Ok reply) machine = settled machine ≡ Ok (record { state = m
 Says f g old new (Err (faults.Errno e)) machine = (machine ≡ Err e) × (meaning g new.state ≡ meaning f old.state)
 Says f g old new (Err faults.NoMemory) machine = (new ≡ old) × (g ≡ f)
 
-pub record Told (f g : Live) (old new : Namespace) (result : Result Reply Fault) (machine : Result (Outcome Segment ℕ) Errno) : Type 0 where
+pub record Told (f g : Live) (old new : Namespace) (result : Result Reply Fault)
+    (machine : Result (Outcome Segment ℕ) Errno) : Type 0 where
   pub owns : Owns g new
   pub limits : new.limits ≡ old.limits
   pub says : Says f g old new result machine

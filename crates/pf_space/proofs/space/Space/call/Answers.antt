@@ -5,8 +5,10 @@
 use Rattle.std.proofs.Common.{◌+◌, length, refl, subst, sym, ap, ◌∙◌}
 use Rattle.pf_machine.specs.Machine.{call}
 use Rattle.pf_machine.specs.State.{itself}
-use Rattle.pf_machine.proofs.NaturalCalls.{spawn-call, pipe-call, fork-call, dup-call, set_nonblock-call, mkdir-call, mkfifo-call}
-use Rattle.pf_machine.proofs.NaturalCalls.{unlink-call, rmdir-call, chmod-call, stat-call, list-call, open-call, set_size-call, get_size-call}
+use Rattle.pf_machine.proofs.NaturalCalls.{spawn-call, pipe-call, fork-call, dup-call, set_nonblock-call, mkdir-call}
+use Rattle.pf_machine.proofs.NaturalCalls.{mkfifo-call}
+use Rattle.pf_machine.proofs.NaturalCalls.{unlink-call, rmdir-call, chmod-call, stat-call, list-call, open-call}
+use Rattle.pf_machine.proofs.NaturalCalls.{set_size-call, get_size-call}
 use Rattle.pf_base.specs.declared.progress.Crossing.TheVariants as crossings
 use Rattle.pf_base.specs.declared.step.Step.{Step}
 use Rattle.pf_base.specs.declared.step.Step.TheVariants as steps
@@ -20,15 +22,20 @@ pub returns-in-Tee-clause-told : goal.returns-in-Tee-clause-told
 returns-in-Tee-clause-told g c =
     let f = g.F.Frames.live c.args.door.now in
     let after = g.F.Frames.live c.cross.new.door in
-    subst (λ (step : Step). Told f after c.args.self.now c.cross.new.self c.cross.result (call c.args.self.now.limits (meaning f c.args.self.now.state) step)) (sym c.in-Tee.is)
-    (crossed_first f after c.args.self.now c.cross.new.self c.cross.result c.in-Tee.pid c.in-Tee.nonblock crossings.Tee c.in-Tee.source c.in-Tee.sink c.in-Tee.n c.cross.ensures.told)
+    subst (λ (step : Step). Told f after c.args.self.now c.cross.new.self c.cross.result
+    (call c.args.self.now.limits (meaning f c.args.self.now.state) step)) (sym c.in-Tee.is)
+    (crossed_first f after c.args.self.now c.cross.new.self c.cross.result c.in-Tee.pid c.in-Tee.nonblock crossings.Tee
+    c.in-Tee.source c.in-Tee.sink c.in-Tee.n c.cross.ensures.told)
 
 pub returns-in-Splice-clause-told : goal.returns-in-Splice-clause-told
 returns-in-Splice-clause-told g c =
     let f = g.F.Frames.live c.args.door.now in
     let after = g.F.Frames.live c.cross-in-Splice.new.door in
-    subst (λ (step : Step). Told f after c.args.self.now c.cross-in-Splice.new.self c.cross-in-Splice.result (call c.args.self.now.limits (meaning f c.args.self.now.state) step)) (sym c.in-Splice.is)
-    (crossed_first f after c.args.self.now c.cross-in-Splice.new.self c.cross-in-Splice.result c.in-Splice.pid c.in-Splice.nonblock crossings.Splice c.in-Splice.source c.in-Splice.sink c.in-Splice.n c.cross-in-Splice.ensures.told)
+    subst (λ (step : Step). Told f after c.args.self.now c.cross-in-Splice.new.self c.cross-in-Splice.result
+    (call c.args.self.now.limits (meaning f c.args.self.now.state) step)) (sym c.in-Splice.is)
+    (crossed_first f after c.args.self.now c.cross-in-Splice.new.self c.cross-in-Splice.result c.in-Splice.pid
+    c.in-Splice.nonblock crossings.Splice c.in-Splice.source c.in-Splice.sink c.in-Splice.n
+    c.cross-in-Splice.ensures.told)
 
 pub returns-in-Spawn-clause-told : goal.returns-in-Spawn-clause-told
 returns-in-Spawn-clause-told g c =

@@ -18,9 +18,18 @@ returns-clause-told g c =
     let t = Bringing c.args.crossing c.args.source c.args.sink c.args.n in
     let came = c.in_ok-number.ensures.crossed in
     let same = c.in_ok-number.ensures.untouched (ap moved c.in-WouldBlock.is) in
-    let told = parks f after c.self.inside.tables c.cross_now.new.self c.park.new.self c.args.pid t came.tried came.is c.in_ok-number.ensures.owns c.in_ok-number.ensures.limits came.state (Moving t) refl (ap (transfer_told t came.tried) (came.progress_is ∙ c.in-WouldBlock.is)) c.park.ensures in
-    let flag : (not c.args.again && (c.args.flag || (is_nonblocking_at (meaning f c.self.inside.tables.state) c.args.pid c.args.source || is_nonblocking_at (meaning f c.self.inside.tables.state) c.args.pid c.args.sink))) ≡ false =
-    (λ j. let s = meaning (g.F.Frames.live (sym same.1 j)) (sym same.0 j).state in not c.args.again && (c.args.flag || (is_nonblocking_at s c.args.pid c.args.source || is_nonblocking_at s c.args.pid c.args.sink)))
+    let told =
+    parks f after c.self.inside.tables c.cross_now.new.self c.park.new.self c.args.pid t came.tried came.is
+    c.in_ok-number.ensures.owns c.in_ok-number.ensures.limits came.state (Moving t) refl
+    (ap (transfer_told t came.tried) (came.progress_is ∙ c.in-WouldBlock.is)) c.park.ensures in
+    let flag : (not c.args.again && (c.args.flag || (is_nonblocking_at (meaning f c.self.inside.tables.state) c.args.pid
+    c.args.source || is_nonblocking_at (meaning f c.self.inside.tables.state) c.args.pid c.args.sink))) ≡ false =
+    (λ j. let s = meaning (g.F.Frames.live (sym same.1 j)) (sym same.0 j).state in not c.args.again
+    && (c.args.flag || (is_nonblocking_at s c.args.pid c.args.source || is_nonblocking_at s c.args.pid c.args.sink)))
     ∙ sym c.mustnt_wait.ensures ∙ c.if-mustnt_wait.false in
-    subst (λ (o : Namespace). Told f after o c.park.new.self (Ok replies.Parked) (tried_call (meaning f o.state) c.args.pid (not c.args.again && (c.args.flag || (is_nonblocking_at (meaning f o.state) c.args.pid c.args.source || is_nonblocking_at (meaning f o.state) c.args.pid c.args.sink))) t)) c.self.view_is
-    (subst (λ b. Told f after c.self.inside.tables c.park.new.self (Ok replies.Parked) (tried_call (meaning f c.self.inside.tables.state) c.args.pid b t)) (sym flag) told)
+    subst (λ (o : Namespace). Told f after o c.park.new.self (Ok replies.Parked)
+    (tried_call (meaning f o.state) c.args.pid (not c.args.again
+    && (c.args.flag || (is_nonblocking_at (meaning f o.state) c.args.pid c.args.source || is_nonblocking_at
+    (meaning f o.state) c.args.pid c.args.sink))) t)) c.self.view_is
+    (subst (λ b. Told f after c.self.inside.tables c.park.new.self (Ok replies.Parked)
+    (tried_call (meaning f c.self.inside.tables.state) c.args.pid b t)) (sym flag) told)

@@ -17,7 +17,9 @@ use Rattle.pf_space.proofs.space.Space.fill_again.Goals as goal
 pub wake-requires : goal.wake-requires
 wake-requires g c =
     let f = g.F.Frames.live c.args.door.now in
-    let waits = subst (λ (o : Namespace). call_of (meaning f o.state) c.args.pid ≡ Some (Moving (Reading c.args.fd c.args.n))) (sym c.self.view_is) c.requires.waits in
+    let waits =
+    subst (λ (o : Namespace). call_of (meaning f o.state) c.args.pid ≡ Some (Moving (Reading c.args.fd c.args.n)))
+    (sym c.self.view_is) c.requires.waits in
     record { lives = lemmas.lives_there (meaning f c.self.inside.tables.state) c.args.pid c.args.fd c.args.n waits }
 
 pub returns-in_err-number-clause-answers : goal.returns-in_err-number-clause-answers
@@ -27,11 +29,19 @@ returns-in_err-number-clause-answers g c =
     let old = c.self.inside.tables in
     let mid = c.wake.new.self in
     let new = c.read_truncated.new.self in
-    let waits = subst (λ (o : Namespace). call_of (meaning f o.state) c.args.pid ≡ Some (Moving (Reading c.args.fd c.args.n))) (sym c.self.view_is) c.requires.waits in
+    let waits =
+    subst (λ (o : Namespace). call_of (meaning f o.state) c.args.pid ≡ Some (Moving (Reading c.args.fd c.args.n)))
+    (sym c.self.view_is) c.requires.waits in
     let same = c.in_err-number.ensures.refused in
-    let told = subst (λ (o : Namespace). Replied (λ (reply : Reply). Answers o.limits (Done reply) (meaning f o.state) (Resume c.args.pid) (meaning after new.state)) (Err c.in_err-number.field-0.0) c.args.buffer.now c.read_truncated.new.buffer) c.self.view_is
-    (lemmas.is_refused f after old mid new c.args.pid c.args.fd c.args.n waits c.wake.ensures.namespace (settled-meaning f old.state c.settled.ensures) (Err c.in_err-number.field-0.0) c.args.buffer.now c.read_truncated.new.buffer
-    c.in_err-number.field-0.0 c.in_err-number.ensures.read.0 c.in_err-number.ensures.owns c.in_err-number.ensures.limits (λ i. meaning (g.F.Frames.live (same.1 i)) (same.0 i).state) refl c.in_err-number.ensures.read.1) in
+    let told =
+    subst (λ (o : Namespace). Replied (λ (reply : Reply). Answers o.limits (Done reply) (meaning f o.state)
+    (Resume c.args.pid) (meaning after new.state)) (Err c.in_err-number.field-0.0) c.args.buffer.now
+    c.read_truncated.new.buffer) c.self.view_is
+    (lemmas.is_refused f after old mid new c.args.pid c.args.fd c.args.n waits c.wake.ensures.namespace
+    (settled-meaning f old.state c.settled.ensures) (Err c.in_err-number.field-0.0) c.args.buffer.now
+    c.read_truncated.new.buffer
+    c.in_err-number.field-0.0 c.in_err-number.ensures.read.0 c.in_err-number.ensures.owns c.in_err-number.ensures.limits
+    (λ i. meaning (g.F.Frames.live (same.1 i)) (same.0 i).state) refl c.in_err-number.ensures.read.1) in
     search rules
 
 pub returns-in-Moved-clause-answers : goal.returns-in-Moved-clause-answers
@@ -41,10 +51,16 @@ returns-in-Moved-clause-answers g c =
     let old = c.self.inside.tables in
     let mid = c.wake.new.self in
     let new = c.read_truncated.new.self in
-    let waits = subst (λ (o : Namespace). call_of (meaning f o.state) c.args.pid ≡ Some (Moving (Reading c.args.fd c.args.n))) (sym c.self.view_is) c.requires.waits in
+    let waits =
+    subst (λ (o : Namespace). call_of (meaning f o.state) c.args.pid ≡ Some (Moving (Reading c.args.fd c.args.n)))
+    (sym c.self.view_is) c.requires.waits in
     let made = c.in_ok-number.ensures in
-    subst (λ (o : Namespace). Replied (λ (reply : Reply). Answers o.limits (Done reply) (meaning f o.state) (Resume c.args.pid) (meaning after new.state)) (Ok (Some c.in-Moved.number)) c.args.buffer.now c.read_truncated.new.buffer) c.self.view_is
-    (lemmas.comes f after old mid new c.args.pid c.args.fd c.args.n waits c.wake.ensures.namespace (settled-meaning f old.state c.settled.ensures) (Ok (Some c.in-Moved.number)) c.args.buffer.now c.read_truncated.new.buffer
+    subst (λ (o : Namespace). Replied (λ (reply : Reply). Answers o.limits (Done reply) (meaning f o.state)
+    (Resume c.args.pid) (meaning after new.state)) (Ok (Some c.in-Moved.number)) c.args.buffer.now
+    c.read_truncated.new.buffer) c.self.view_is
+    (lemmas.comes f after old mid new c.args.pid c.args.fd c.args.n waits c.wake.ensures.namespace
+    (settled-meaning f old.state c.settled.ensures) (Ok (Some c.in-Moved.number)) c.args.buffer.now
+    c.read_truncated.new.buffer
     _ made.read made.owns made.limits c.in-Moved.number c.in-Moved.is refl)
 
 pub returns-in-EndOfFile-clause-answers : goal.returns-in-EndOfFile-clause-answers
@@ -54,10 +70,15 @@ returns-in-EndOfFile-clause-answers g c =
     let old = c.self.inside.tables in
     let mid = c.wake.new.self in
     let new = c.read_truncated.new.self in
-    let waits = subst (λ (o : Namespace). call_of (meaning f o.state) c.args.pid ≡ Some (Moving (Reading c.args.fd c.args.n))) (sym c.self.view_is) c.requires.waits in
+    let waits =
+    subst (λ (o : Namespace). call_of (meaning f o.state) c.args.pid ≡ Some (Moving (Reading c.args.fd c.args.n)))
+    (sym c.self.view_is) c.requires.waits in
     let made = c.in_ok-number.ensures in
-    subst (λ (o : Namespace). Replied (λ (reply : Reply). Answers o.limits (Done reply) (meaning f o.state) (Resume c.args.pid) (meaning after new.state)) (Ok (Some 0)) c.args.buffer.now c.read_truncated.new.buffer) c.self.view_is
-    (lemmas.ends f after old mid new c.args.pid c.args.fd c.args.n waits c.wake.ensures.namespace (settled-meaning f old.state c.settled.ensures) (Ok (Some 0)) c.args.buffer.now c.read_truncated.new.buffer
+    subst (λ (o : Namespace). Replied (λ (reply : Reply). Answers o.limits (Done reply) (meaning f o.state)
+    (Resume c.args.pid) (meaning after new.state)) (Ok (Some 0)) c.args.buffer.now c.read_truncated.new.buffer)
+    c.self.view_is
+    (lemmas.ends f after old mid new c.args.pid c.args.fd c.args.n waits c.wake.ensures.namespace
+    (settled-meaning f old.state c.settled.ensures) (Ok (Some 0)) c.args.buffer.now c.read_truncated.new.buffer
     _ made.read made.owns made.limits c.in-EndOfFile.is refl)
 
 pub returns-clause-answers : goal.returns-clause-answers
@@ -68,18 +89,25 @@ returns-clause-answers g c =
     let mid = c.wake.new.self in
     let between = c.read_truncated.new.self in
     let new = c.park.new.self in
-    let waits = subst (λ (o : Namespace). call_of (meaning f o.state) c.args.pid ≡ Some (Moving (Reading c.args.fd c.args.n))) (sym c.self.view_is) c.requires.waits in
+    let waits =
+    subst (λ (o : Namespace). call_of (meaning f o.state) c.args.pid ≡ Some (Moving (Reading c.args.fd c.args.n)))
+    (sym c.self.view_is) c.requires.waits in
     let made = c.in_ok-number.ensures in
-    subst (λ (o : Namespace). Replied (λ (reply : Reply). Answers o.limits (Done reply) (meaning f o.state) (Resume c.args.pid) (meaning after new.state)) (Ok None) c.args.buffer.now c.read_truncated.new.buffer) c.self.view_is
-    (lemmas.waits_on f after old mid new c.args.pid c.args.fd c.args.n waits c.wake.ensures.namespace (settled-meaning f old.state c.settled.ensures) (Ok None) c.args.buffer.now c.read_truncated.new.buffer
+    subst (λ (o : Namespace). Replied (λ (reply : Reply). Answers o.limits (Done reply) (meaning f o.state)
+    (Resume c.args.pid) (meaning after new.state)) (Ok None) c.args.buffer.now c.read_truncated.new.buffer)
+    c.self.view_is
+    (lemmas.waits_on f after old mid new c.args.pid c.args.fd c.args.n waits c.wake.ensures.namespace
+    (settled-meaning f old.state c.settled.ensures) (Ok None) c.args.buffer.now c.read_truncated.new.buffer
     between _ made.read made.owns made.limits c.in-WouldBlock.is c.park.ensures refl)
 
 pub returns-clause-owns : goal.returns-clause-owns
 returns-clause-owns g c =
     let owns = c.in_ok-number.ensures.owns in
-    subst (Owns (g.F.Frames.live c.read_truncated.new.door)) (sym c.park.ensures) (record { joined = owns.joined; reserve = owns.reserve })
+    subst (Owns (g.F.Frames.live c.read_truncated.new.door)) (sym c.park.ensures)
+    (record { joined = owns.joined; reserve = owns.reserve })
 
 pub returns-clause-limits : goal.returns-clause-limits
 returns-clause-limits g c =
-    ap (λ (n : Namespace). n.limits) c.park.ensures ∙ c.in_ok-number.ensures.limits ∙ ap (λ (n : Namespace). n.limits) c.wake.ensures.namespace
+    ap (λ (n : Namespace). n.limits) c.park.ensures ∙ c.in_ok-number.ensures.limits
+    ∙ ap (λ (n : Namespace). n.limits) c.wake.ensures.namespace
     ∙ ap (λ (n : Namespace). n.limits) c.self.view_is

@@ -11,10 +11,12 @@ use Rattle.pf_space.proofs.space.Space.reply_bound.Goals as goal
 pub returns-in-List-clause-covers : goal.returns-in-List-clause-covers
 returns-in-List-clause-covers g c =
     subst (λ (s : Step). Covers c.args.self.now s c.list_bound.result) (sym c.in-List.is)
-    (subst (λ (n : Namespace). Covers n (List c.in-List.pid c.in-List.path) c.list_bound.result) c.self.view_is (c.list_bound.ensures.covers c.in-List.pid c.in-List.path))
+    (subst (λ (n : Namespace). Covers n (List c.in-List.pid c.in-List.path) c.list_bound.result) c.self.view_is
+    (c.list_bound.ensures.covers c.in-List.pid c.in-List.path))
 
 pub returns-in_default : goal.returns-in_default
 returns-in_default g c = record {
-  covers = lemmas.others c.args.self.now c.args.step.now c.in_default.not-Read c.in_default.not-List c.in_default.not-Resume;
+  covers =
+      lemmas.others c.args.self.now c.args.step.now c.in_default.not-Read c.in_default.not-List c.in_default.not-Resume;
   most = omega arith;
 }

@@ -12,7 +12,8 @@ use Rattle.pf_space.proofs.space.Space.resume_into.Goals as goal
 pub fill_again-requires-clause-waits : goal.fill_again-requires-clause-waits
 fill_again-requires-clause-waits g c =
     let f = g.F.Frames.live c.args.door.now in
-    subst (λ (o : Namespace). call_of (meaning f o.state) c.args.pid ≡ Some (Moving (Reading c.in-Some.read.fd c.in-Some.read.n))) c.self.view_is
+    subst (λ (o : Namespace). call_of (meaning f o.state) c.args.pid
+    ≡ Some (Moving (Reading c.in-Some.read.fd c.in-Some.read.n))) c.self.view_is
     (read_is (call_of c.self.inside.tables.state c.args.pid) c.in-Some.read c.in-Some.ensures)
 
 pub resume_others-requires-clause-quiet : goal.resume_others-requires-clause-quiet
@@ -22,16 +23,22 @@ resume_others-requires-clause-quiet g c =
     (no_read (call_of c.self.inside.tables.state c.args.pid) c.in-None.ensures)
 
 pub returns-in-Some-clause-spread : goal.returns-in-Some-clause-spread
-returns-in-Some-clause-spread g c = held_occupied _ c.fill_again.new.self (g.met.F.Frames.sound _ c.fill_again.ensures.fact) c.fill_again.ensures.owns
+returns-in-Some-clause-spread g c =
+    held_occupied _ c.fill_again.new.self (g.met.F.Frames.sound _ c.fill_again.ensures.fact) c.fill_again.ensures.owns
 
 pub returns-in-Some-clause-none : goal.returns-in-Some-clause-none
-returns-in-Some-clause-none g c = none_empty _ c.fill_again.new.self (g.met.F.Frames.sound _ c.fill_again.ensures.fact) c.fill_again.ensures.owns
+returns-in-Some-clause-none g c =
+    none_empty _ c.fill_again.new.self (g.met.F.Frames.sound _ c.fill_again.ensures.fact) c.fill_again.ensures.owns
 
 pub returns-in-None-clause-answers : goal.returns-in-None-clause-answers
 returns-in-None-clause-answers g c = c.resume_others.ensures.answers c.args.buffer.now
 
 pub returns-in-None-clause-spread : goal.returns-in-None-clause-spread
-returns-in-None-clause-spread g c = held_occupied _ c.resume_others.new.self (g.met.F.Frames.sound _ c.resume_others.ensures.fact) c.resume_others.ensures.owns
+returns-in-None-clause-spread g c =
+    held_occupied _ c.resume_others.new.self (g.met.F.Frames.sound _ c.resume_others.ensures.fact)
+    c.resume_others.ensures.owns
 
 pub returns-in-None-clause-none : goal.returns-in-None-clause-none
-returns-in-None-clause-none g c = none_empty _ c.resume_others.new.self (g.met.F.Frames.sound _ c.resume_others.ensures.fact) c.resume_others.ensures.owns
+returns-in-None-clause-none g c =
+    none_empty _ c.resume_others.new.self (g.met.F.Frames.sound _ c.resume_others.ensures.fact)
+    c.resume_others.ensures.owns

@@ -8,25 +8,32 @@ use Rattle.pf_space.proofs.Steps.{refused_step}
 use Rattle.pf_space.proofs.space.Space.write_from.Goals as goal
 
 pub returns-in-Ok-clause-spread : goal.returns-in-Ok-clause-spread
-returns-in-Ok-clause-spread g c = held_occupied _ c.write.new.self (g.met.F.Frames.sound _ c.write.ensures.fact) c.write.ensures.told.owns
+returns-in-Ok-clause-spread g c =
+    held_occupied _ c.write.new.self (g.met.F.Frames.sound _ c.write.ensures.fact) c.write.ensures.told.owns
 
 pub returns-in-Ok-clause-none : goal.returns-in-Ok-clause-none
-returns-in-Ok-clause-none g c = none_empty _ c.write.new.self (g.met.F.Frames.sound _ c.write.ensures.fact) c.write.ensures.told.owns
+returns-in-Ok-clause-none g c =
+    none_empty _ c.write.new.self (g.met.F.Frames.sound _ c.write.ensures.fact) c.write.ensures.told.owns
 
 pub returns-in-Err-Errno-clause-answers : goal.returns-in-Err-Errno-clause-answers
 returns-in-Err-Errno-clause-answers g c =
     let told = rw c.in-Err-Errno.field-0-is at c.in-Err-Errno.ensures.told in
     let still = rw c.self.view_is at c.settled.ensures in
-    refused_step c.args.self.now.limits _ _ (steps.Write c.args.pid c.args.fd c.args.bytes.now) _ told.says.0 told.says.1 (settled-meaning (g.F.Frames.live c.args.door.now) c.args.self.now.state still)
+    refused_step c.args.self.now.limits _ _ (steps.Write c.args.pid c.args.fd c.args.bytes.now) _ told.says.0
+    told.says.1 (settled-meaning (g.F.Frames.live c.args.door.now) c.args.self.now.state still)
 
 pub returns-in-Err-Errno-clause-spread : goal.returns-in-Err-Errno-clause-spread
-returns-in-Err-Errno-clause-spread g c = held_occupied _ c.write.new.self (g.met.F.Frames.sound _ c.write.ensures.fact) c.write.ensures.told.owns
+returns-in-Err-Errno-clause-spread g c =
+    held_occupied _ c.write.new.self (g.met.F.Frames.sound _ c.write.ensures.fact) c.write.ensures.told.owns
 
 pub returns-in-Err-Errno-clause-none : goal.returns-in-Err-Errno-clause-none
-returns-in-Err-Errno-clause-none g c = none_empty _ c.write.new.self (g.met.F.Frames.sound _ c.write.ensures.fact) c.write.ensures.told.owns
+returns-in-Err-Errno-clause-none g c =
+    none_empty _ c.write.new.self (g.met.F.Frames.sound _ c.write.ensures.fact) c.write.ensures.told.owns
 
 pub returns-in-Err-NoMemory-clause-spread : goal.returns-in-Err-NoMemory-clause-spread
-returns-in-Err-NoMemory-clause-spread g c = held_occupied _ c.write.new.self (g.met.F.Frames.sound _ c.write.ensures.fact) c.write.ensures.told.owns
+returns-in-Err-NoMemory-clause-spread g c =
+    held_occupied _ c.write.new.self (g.met.F.Frames.sound _ c.write.ensures.fact) c.write.ensures.told.owns
 
 pub returns-in-Err-NoMemory-clause-none : goal.returns-in-Err-NoMemory-clause-none
-returns-in-Err-NoMemory-clause-none g c = none_empty _ c.write.new.self (g.met.F.Frames.sound _ c.write.ensures.fact) c.write.ensures.told.owns
+returns-in-Err-NoMemory-clause-none g c =
+    none_empty _ c.write.new.self (g.met.F.Frames.sound _ c.write.ensures.fact) c.write.ensures.told.owns

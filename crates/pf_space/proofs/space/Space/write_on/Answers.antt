@@ -19,12 +19,21 @@ returns-clause-told g c =
     let t = Writing c.args.fd x c.args.write.written in
     let came = c.in_ok-n.ensures.wrote in
     let is : attempted (meaning f c.self.inside.tables.state) c.args.pid t ≡ Ok came.tried =
-    (λ j. attempted (meaning f c.self.inside.tables.state) c.args.pid (Writing c.args.fd (sym c.bytes.ensures j) (sym c.written-written.ensures.written j))) ∙ came.is in
+    (λ j. attempted (meaning f c.self.inside.tables.state) c.args.pid
+    (Writing c.args.fd (sym c.bytes.ensures j) (sym c.written-written.ensures.written j))) ∙ came.is in
     let rest = c.match-branch-2.write in
-    let waits : transfer_told t came.tried came.tried.progress ≡ Ok (Waits came.tried.state (Moving (Writing c.args.fd rest.bytes rest.written))) =
+    let waits : transfer_told t came.tried came.tried.progress
+    ≡ Ok (Waits came.tried.state (Moving (Writing c.args.fd rest.bytes rest.written))) =
     elim c.match-branch-2.branch [
-      | in-Moved+else-written-n w ↦ goes_on came.tried c.args.fd x c.args.write.written w.in-Moved.n rest (λ e. w.if-written-n.false (ap (λ m. m + w.in-Moved.n) c.written-written.ensures.written ∙ e ∙ sym w.total.ensures)) (w.write-is ∙ w.advance.ensures) (came.progress_is ∙ w.in-Moved.is)
-      | in-WouldBlock w ↦ stays_waiting came.tried c.args.fd c.args.write rest w.write-is (blocked_as came.progress_is w.in-WouldBlock.is)
+      | in-Moved+else-written-n w ↦ goes_on came.tried c.args.fd x c.args.write.written w.in-Moved.n rest
+      (λ e. w.if-written-n.false (ap (λ m. m + w.in-Moved.n) c.written-written.ensures.written ∙ e
+      ∙ sym w.total.ensures)) (w.write-is ∙ w.advance.ensures) (came.progress_is ∙ w.in-Moved.is)
+      | in-WouldBlock w ↦ stays_waiting came.tried c.args.fd c.args.write rest w.write-is
+      (blocked_as came.progress_is w.in-WouldBlock.is)
     ] in
-    let told = parks f after c.self.inside.tables c.write_now.new.self c.park.new.self c.args.pid t came.tried is c.in_ok-n.ensures.owns c.in_ok-n.ensures.limits came.state (Moving (Writing c.args.fd rest.bytes rest.written)) refl waits c.park.ensures in
-    subst (λ (o : Namespace). Told f after o c.park.new.self (Ok replies.Parked) (tried_call (meaning f o.state) c.args.pid false t)) c.self.view_is told
+    let told =
+    parks f after c.self.inside.tables c.write_now.new.self c.park.new.self c.args.pid t came.tried is
+    c.in_ok-n.ensures.owns c.in_ok-n.ensures.limits came.state (Moving (Writing c.args.fd rest.bytes rest.written)) refl
+    waits c.park.ensures in
+    subst (λ (o : Namespace). Told f after o c.park.new.self (Ok replies.Parked)
+    (tried_call (meaning f o.state) c.args.pid false t)) c.self.view_is told

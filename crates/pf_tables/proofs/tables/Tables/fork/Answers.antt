@@ -18,19 +18,23 @@ returns-then-i-ge-MAX_PROCESSES-clause-says g c =
 
 pub name_all-requires-clause-stand : goal.name_all-requires-clause-stand
 name_all-requires-clause-stand g c =
-    subst (λ (keys : List (Option Key)). AllFind keys c.self.inside.descriptions.items) (sym c.in_ok-descriptors.ensures)
+    subst (λ (keys : List (Option Key)). AllFind keys c.self.inside.descriptions.items)
+    (sym c.in_ok-descriptors.ensures)
     (lemmas.all_find c.self.invariant.kept c.self.view_is c.args.pid c.in_ok-parent.ensures)
 
 pub name_all-requires-clause-few : goal.name_all-requires-clause-few
 name_all-requires-clause-few g c = lemmas.are_few c.self.invariant.kept c.self.view_is c.args.pid c.in_ok-parent.ensures
 
-same : (g : Over) (c : After-put g) → ◌≡◌ {A = Process} (record { cred = c.in_ok-cred.cred; descriptors = c.in_ok-descriptors.descriptors; parked = None }) c.in_ok-parent.parent.now
+same : (g : Over) (c : After-put g) → ◌≡◌ {A = Process}
+    (record { cred = c.in_ok-cred.cred; descriptors = c.in_ok-descriptors.descriptors; parked = None })
+    c.in_ok-parent.parent.now
 same g c =
     let awake = is_awake c.self.inside.processes c.args.pid c.in_ok-parent.parent.now c.in_ok-parent.ensures in
     λ j. record { cred = c.in_ok-cred.ensures j; descriptors = c.in_ok-descriptors.ensures j; parked = sym awake j }
 
 pub put-requires-clause-free : goal.put-requires-clause-free
-put-requires-clause-free g c = ap (at c.self.inside.processes) c.lowest-i.ensures.lowest ∙ at-first_free c.self.inside.processes
+put-requires-clause-free g c =
+    ap (at c.self.inside.processes) c.lowest-i.ensures.lowest ∙ at-first_free c.self.inside.processes
 
 pub invariant_of-self : goal.invariant_of-self
 invariant_of-self g c =
@@ -38,7 +42,10 @@ invariant_of-self g c =
       kept =
           lemmas.forked-kept c.self.invariant.kept c.self.view_is c.args.pid c.in_ok-parent.ensures _
           c.lowest-i.ensures.lowest c.if-i-ge-MAX_PROCESSES.false (same g c) c.put.ensures c.name_all.ensures;
-      filed = fifos-changed _ _ _ (ap length c.name_all.ensures ∙ lemmas.as_many (length c.in_ok-descriptors.descriptors) c.in_ok-descriptors.descriptors c.self.inside.descriptions.items) c.self.invariant.filed;
+      filed =
+          fifos-changed _ _ _ (ap length c.name_all.ensures
+          ∙ lemmas.as_many (length c.in_ok-descriptors.descriptors) c.in_ok-descriptors.descriptors
+          c.self.inside.descriptions.items) c.self.invariant.filed;
     }
 
 pub returns-clause-says : goal.returns-clause-says

@@ -1,5 +1,5 @@
--- One pid more is the one that is asked for, or can't go on; those in between wait in no call; and no process is above the
--- last one.
+-- One pid more is the one that is asked for, or can't go on; those in between wait in no call; and no process is above
+-- the last one.
 use Rattle.std.proofs.Common.{◌≡◌, ℕ, ◌+◌, ◌-◌, false, ⊎_elim, sym, subst, ◌∙◌, arith}
 use Rattle.std.proofs.lemmas.Bool.{cases_lt}
 use Rattle.pf_tables.specs.Queries.{GoesOn}
@@ -41,5 +41,6 @@ loop-i-preserved g c = record {
 
 pub returns : goal.returns
 returns g c f sound owns q above =
-    ⊎_elim (λ past. sym (above_all _ _ _ _ _ c.self.invariant.kept _ c.self.view_is q (omega (arith, c.loop-i-test.false, past)) f sound owns))
+    ⊎_elim (λ past. sym (above_all _ _ _ _ _ c.self.invariant.kept _ c.self.view_is q
+    (omega (arith, c.loop-i-test.false, past)) f sound owns))
     (λ within. sym (c.loop-i.invariant.none q above within f sound owns)) (cases_lt c.loop-i.i q)

@@ -1,5 +1,4 @@
-use Rattle.std.proofs.Common.{◌∙◌, ap, subst, sym, rules}
-use Rattle.pf_machine.specs.Opens.{access_of}
+use Rattle.std.proofs.Common.{◌∙◌, subst, sym, rules}
 use Rattle.pf_tables.specs.Opened.{access_seen}
 use Rattle.pf_tables.specs.Tables.{Says}
 use Rattle.pf_tables.proofs.OpensNew.{none_is, unpiped}

@@ -1,4 +1,4 @@
-use Rattle.std.proofs.Common.{Ok, ◌∙◌, ap, subst, sym}
+use Rattle.std.proofs.Common.{◌∙◌, ap, subst, sym}
 use Rattle.pf_fds.specs.Descriptions.{Descriptions}
 use Rattle.pf_machine.specs.Numbered.{put_at}
 use Rattle.pf_tables.specs.Opened.{access_seen, opening}

@@ -9,5 +9,8 @@ use Rattle.pf_tables.proofs.tables.Tables.resume_bound.Goals as goal
 pub returns-in-Some-Read-clause-covers : goal.returns-in-Some-Read-clause-covers
 returns-in-Some-Read-clause-covers g c =
     subst (λ (m : ℕ). Covers c.args.self.now (Resume c.args.pid) m) (sym c.min.ensures)
-    (lemmas.resumes _ _ _ _ _ c.self.view_is (omega (arith, c.reserve-most.ensures.most, c.reserve-most.ensures.value, ap (λ (l : Limits). l.reserve) c.config.ensures)) c.args.pid
-    (Some (Read c.in-Some-Read.field-0-0 c.in-Some-Read.n)) (ap Some (sym c.in-Some-Read.field-0-is) ∙ c.in-Some-Read.ensures))
+    (lemmas.resumes _ _ _ _ _ c.self.view_is (omega
+    (arith, c.reserve-most.ensures.most, c.reserve-most.ensures.value, ap (λ (l : Limits). l.reserve) c.config.ensures))
+    c.args.pid
+    (Some (Read c.in-Some-Read.field-0-0 c.in-Some-Read.n))
+    (ap Some (sym c.in-Some-Read.field-0-is) ∙ c.in-Some-Read.ensures))

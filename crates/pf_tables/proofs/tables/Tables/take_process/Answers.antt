@@ -1,4 +1,4 @@
-use Rattle.std.proofs.Common.{ap, refl}
+use Rattle.std.proofs.Common.{ap}
 use Rattle.pf_tables.specs.Meaning.{Namespace}
 use Rattle.pf_tables.proofs.DescriptorsDrop.{vacated-kept, vacated-shown}
 use Rattle.pf_tables.proofs.tables.Tables.take_process.Goals as goal
