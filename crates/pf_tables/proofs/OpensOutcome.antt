@@ -1,7 +1,7 @@
 -- What an open of a FIFO that has a pipe leaves, as the machine says it.
 
 use Rattle.std.proofs.Common.{◌≡◌, ℕ, ◌+◌, ◌-◌, Bool, true, false, [], ◌∷◌, ◌++◌, length, set, Option, Some, None}
-use Rattle.std.proofs.Common.{Result, Ok, nat_le, if◌then◌else◌, refl, sym, ap, ◌∙◌, arith}
+use Rattle.std.proofs.Common.{Result, Ok, Err, nat_le, if◌then◌else◌, refl, sym, ap, ◌∙◌, arith}
 use Rattle.std.specs.Option.{option_map}
 use Rattle.std.proofs.lemmas.List.{map-set, map_push, length-map}
 use Rattle.pf_machine.specs.Refusals.{◌>>=◌, ◌>>◌, refuse_if}
@@ -50,6 +50,31 @@ goes c s pid p a file lives may =
     by_tests false true z rest h = absurd (cc)
     by_tests false false true rest h = absurd (cc)
     by_tests false false false rest h = refl
+
+-- or something does
+pub stops : (c : Limits) (s : State Window ℕ) (pid : ℕ) (a : Access) (file : ℕ) (e : Errno)
+    → may_open s pid a file ≡ Err e → opening c s pid a file ≡ Err e
+stops c s pid a file e refused = by_caller (ready s pid) refused
+  where
+    told_so : (x : Errno) → ◌≡◌ {A = Result (Unit {0}) Errno} (Err x) (Err e) → x ≡ e
+    told_so x h = cc
+
+    by_tests : (x y z : Bool) (rest : Result (Outcome Window ℕ) Errno)
+        → (refuse_if x EMFILE >> (refuse_if y ENXIO >> refuse_if z ENFILE)) ≡ Err e
+        → (refuse_if x EMFILE >> (refuse_if y ENXIO >> (refuse_if z ENFILE >> rest))) ≡ Err e
+    by_tests true y z rest h = ap Err (told_so EMFILE h)
+    by_tests false true z rest h = ap Err (told_so ENXIO h)
+    by_tests false false true rest h = ap Err (told_so ENFILE h)
+    by_tests false false false rest h = absurd (cc)
+
+    by_caller : (r : Result (machine.Process ℕ) Errno)
+        → (r >>= (λ q. refuse_if (nat_le MAX_DESCRIPTORS (first_free q.descriptors)) EMFILE
+        >> (refuse_if (lacks_readers s a file) ENXIO >> refuse_if (is_spent s.descriptions 1) ENFILE))) ≡ Err e
+        → (r >>= (λ q. opens.open_fifo itself (length s.descriptions) itself c s pid q a file)) ≡ Err e
+    by_caller (Ok q) h =
+        by_tests (nat_le MAX_DESCRIPTORS (first_free q.descriptors)) (lacks_readers s a file)
+        (is_spent s.descriptions 1) _ h
+    by_caller (Err x) h = ap Err (told_so x h)
 
 module _ (files : Files) (files_made : ℕ) (a : Stored) (k : Key) (p : Pipe) (ps : ProcessRows) (ds : DescriptionRows)
     (pipes : PipeRows) (stands : at pipes k.serial ≡ Some (k.slot, p))

@@ -29,7 +29,7 @@ use Rattle.pf_tables.proofs.TablesShown.{shown}
 
 -- Who lives for the machine lives in the tables
 
-module _ {limits : Limits} {ps : ProcessRows} {ds : DescriptionRows} {pipes : PipeRows} {files : Files} {files_made : ℕ}
+module _ {limits : Limits} (ps : ProcessRows) (ds : DescriptionRows) (pipes : PipeRows) {files : Files} {files_made : ℕ}
     {n : Namespace} (view : record { limits = limits; state = state_of ps ds pipes files files_made } ≡ n)
         (pid : ℕ) where
   pub who : IsOk (living n.state pid) → (p : Process) × (process_in ps pid ≡ Ok p)
@@ -94,7 +94,7 @@ module _ {charges : UserPages} {limits : Limits} {ps : ProcessRows} {ds : Descri
     (lives : IsOk (living n.state pid)) (spare : (p : Process) → process_in ps pid ≡ Ok p → IsSpare p)
     {qs : ProcessRows} (are : qs ≡ change_at rows.woken ps (pid - 1)) where
   w : (p : Process) × (process_in ps pid ≡ Ok p)
-  w = who view pid lives
+  w = who ps ds pipes view pid lives
 
   stands : at ps (pid - 1) ≡ Some w.0
   stands = place_of ps pid w.0 w.1
@@ -155,7 +155,7 @@ module _ {charges : UserPages} {limits : Limits} {ps : ProcessRows} {ds : Descri
       (subst (λ r. IsOk r) (ready_shown ps pid)
       (subst (λ (m : Namespace). IsOk (ready m.state pid)) (sym view) is_ready))
 
-  module _ {call : Call Key} (moving : made_by (Some call) ≡ None) {qs : ProcessRows}
+  module _ (call : Call Key) (moving : made_by (Some call) ≡ None) {qs : ProcessRows}
       (are : qs ≡ change_at (rows.with_call (Some call)) ps (pid - 1)) where
     abbrev q : Process
     q = rows.with_call (Some call) ready_row.0

@@ -6,4 +6,4 @@ mod file_tree;
 mod process_table;
 pub mod tables;
 
-pub use tables::{Access, Tables};
+pub use tables::Tables;

@@ -8,6 +8,7 @@ ghost use Rattle.pf_machine.specs.Descriptors.{dup, set_nonblock};
 ghost use Rattle.pf_machine.specs.Machine.{call, call_of};
 ghost use Rattle.pf_machine.specs.Numbered.{at, one_if};
 ghost use Rattle.pf_machine.specs.State.{itself, of_ready};
+ghost use Rattle.pf_machine.specs.Sweep.{sweep};
 ghost use Rattle.pf_fds.specs.Registry.{find};
 ghost use Rattle.pf_tables.specs.Meaning.{meaning};
 ghost use Rattle.pf_tables.specs.Owns.{Owns};

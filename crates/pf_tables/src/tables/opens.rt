@@ -297,8 +297,8 @@ impl<A: Allocator> Tables<A> {
         Ok(describe(processes, descriptions, pid, access.end(key), kept))
     }
 
-    /// Opens the FIFO at a path for a process (open(2), fifo(7)): its lowest free descriptor names the description, or the
-    /// process waits for the other side.
+    /// Opens the FIFO at a path for a process (open(2), fifo(7)): its lowest free descriptor names the description, or
+    /// the process waits for the other side.
     pub fn open(&mut self, alloc: Global, pid: u32, path: &[u8], flags: OpenFlags) -> Result<Reply, Fault>
         ensures says { let s = self.old.state in Says self.old self.new result
             (of_ready s pid (λ p. open_path itself (length s.descriptions) itself self.old.limits s pid p path.now
@@ -339,8 +339,8 @@ impl<A: Allocator> Tables<A> {
         Reply::Num(fd as u64)
     }
 
-    // Whether the open in which a process waits is over: the other side was opened since, also where it was closed again
-    // (fifo(7)).
+    // Whether the open in which a process waits is over: the other side was opened since, also where it was closed
+    // again (fifo(7)).
     fn open_is_over(&self, pid: u32) -> bool
         requires { waits_in_open self.now.state pid ≡ Ok true }
         ensures { IsOver self.now.state pid result }

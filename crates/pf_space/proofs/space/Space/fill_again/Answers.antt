@@ -10,7 +10,7 @@ use Rattle.pf_base.specs.declared.step.Step.TheVariants.{Resume}
 use Rattle.pf_tables.specs.Buffers.{Replied}
 use Rattle.pf_tables.specs.Meaning.{Namespace, meaning}
 use Rattle.pf_tables.specs.Owns.{Owns}
-use Rattle.pf_tables.proofs.MeaningLaws.{settled-meaning}
+use Rattle.pf_tables.proofs.MeaningLaws.{settled-meaning, woken-left}
 use Rattle.pf_space.proofs.ParkedInto as lemmas
 use Rattle.pf_space.proofs.space.Space.fill_again.Goals as goal
 
@@ -21,6 +21,14 @@ wake-requires g c =
     subst (λ (o : Namespace). call_of (meaning f o.state) c.args.pid ≡ Some (Moving (Reading c.args.fd c.args.n)))
     (sym c.self.view_is) c.requires.waits in
     record { lives = lemmas.lives_there (meaning f c.self.inside.tables.state) c.args.pid c.args.fd c.args.n waits }
+
+pub read_truncated-requires-clause-owns : goal.read_truncated-requires-clause-owns
+read_truncated-requires-clause-owns g c =
+    let f = g.F.Frames.live c.args.door.now in
+    let woken =
+    woken-left f _ _ c.args.pid c.wake.ensures.namespace c.wake.ensures.swept
+    (subst (Owns f) (sym c.self.view_is) c.requires.owns) in
+    woken.owns
 
 pub returns-in_err-number-clause-answers : goal.returns-in_err-number-clause-answers
 returns-in_err-number-clause-answers g c =

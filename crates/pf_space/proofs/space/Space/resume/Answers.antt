@@ -1,5 +1,5 @@
 -- It chains three changes: the call is taken from its process, the attempt is made as a first one would be, and want
--- of memory puts the call back.
+-- of memory puts the call back. An open's is one call of the tables.
 
 use Rattle.std.proofs.Common.{Some, Ok, Err, refl, sym, ap, subst, ◌∙◌}
 use Rattle.pf_machine.specs.Calls.{Reading, Writing, Bringing, Moving}
@@ -9,7 +9,7 @@ use Rattle.pf_machine.proofs.NaturalCalls.{resume-call}
 use Rattle.pf_base.specs.declared.step.Step.TheVariants.{Resume}
 use Rattle.pf_tables.specs.Rows.{call_of}
 use Rattle.pf_tables.specs.Meaning.{Namespace, meaning}
-use Rattle.pf_tables.proofs.MeaningLaws.{settled-meaning}
+use Rattle.pf_tables.proofs.MeaningLaws.{settled-meaning, woken-left}
 use Rattle.pf_base.specs.declared.step.Reply.TheVariants.{Err as Refused}
 use Rattle.pf_tables.specs.Owns.{Owns}
 use Rattle.pf_tables.specs.Told.{Told, waits_in, ended}
@@ -17,12 +17,36 @@ use Rattle.pf_space.proofs.Books.{booked}
 use Rattle.pf_space.proofs.ParkedResume as lemmas
 use Rattle.pf_space.proofs.space.Space.resume.Goals as goal
 
-pub returns-then-waits_in_open-clause-told : goal.returns-then-waits_in_open-clause-told
-returns-then-waits_in_open-clause-told g c =
+pub returns-then-branch-clause-told : goal.returns-then-branch-clause-told
+returns-then-branch-clause-told g c =
     let again = c.resume_open.ensures in
-    booked c.self.view_is c.requires.owns refl _ again.makes tt
+    booked c.self.view_is c.requires.owns {step = Resume c.args.pid} refl _ again.makes tt
     (λ shows. resume-call shows itself c.self.inside.tables.limits c.self.inside.tables.state c.args.pid again.n
     again.before again.waits)
+
+pub read_on-requires-clause-owns : goal.read_on-requires-clause-owns
+read_on-requires-clause-owns g c =
+    let f = g.F.Frames.live c.args.door.now in
+    let woken =
+    woken-left f _ _ c.args.pid c.wake.ensures.namespace c.wake.ensures.swept
+    (subst (Owns f) (sym c.self.view_is) c.requires.owns) in
+    woken.owns
+
+pub write_on-requires-clause-owns : goal.write_on-requires-clause-owns
+write_on-requires-clause-owns g c =
+    let f = g.F.Frames.live c.args.door.now in
+    let woken =
+    woken-left f _ _ c.args.pid c.wake.ensures.namespace c.wake.ensures.swept
+    (subst (Owns f) (sym c.self.view_is) c.requires.owns) in
+    woken.owns
+
+pub cross-requires-clause-owns : goal.cross-requires-clause-owns
+cross-requires-clause-owns g c =
+    let f = g.F.Frames.live c.args.door.now in
+    let woken =
+    woken-left f _ _ c.args.pid c.wake.ensures.namespace c.wake.ensures.swept
+    (subst (Owns f) (sym c.self.view_is) c.requires.owns) in
+    woken.owns
 
 pub returns-in-Some-Write-clause-told : goal.returns-in-Some-Write-clause-told
 returns-in-Some-Write-clause-told g c =

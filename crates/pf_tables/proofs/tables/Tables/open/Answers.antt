@@ -2,6 +2,7 @@ use Rattle.std.proofs.Common.{◌∙◌, subst, sym, rules}
 use Rattle.pf_tables.specs.Opened.{access_seen}
 use Rattle.pf_tables.specs.Tables.{Says}
 use Rattle.pf_tables.proofs.OpensNew.{none_is, unpiped}
+use Rattle.pf_tables.proofs.OpensOutcome.{stops}
 use Rattle.pf_tables.proofs.OpensResolve.{not_named, goes_on}
 use Rattle.pf_tables.proofs.tables.Tables.open.Goals as goal
 
@@ -16,9 +17,11 @@ returns-in_err-file-clause-says g c =
 pub returns-in_err-may_open-clause-says : goal.returns-in_err-may_open-clause-says
 returns-in_err-may_open-clause-says g c =
     let old = c.args.self.now in
-    let named =
+    let refused =
     goes_on old.limits old.state c.args.pid c.args.path.now c.new-access.ensures c.in_ok-file.file
-    c.in_ok-file.ensures.told in
+    c.in_ok-file.ensures.told
+    ∙ stops old.limits old.state c.args.pid (access_seen c.new-access.result) c.in_ok-file.file
+    c.in_err-may_open.field-0.0 (sym c.may_open.ensures ∙ c.in_err-may_open.was) in
     search rules
 
 pub returns-in_err-slots-clause-says : goal.returns-in_err-slots-clause-says

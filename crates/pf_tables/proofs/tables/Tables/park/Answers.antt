@@ -5,11 +5,12 @@ pub invariant_of-self : goal.invariant_of-self
 invariant_of-self g c =
     record {
       kept =
-          parked-kept c.self.invariant.kept c.self.view_is c.args.pid c.requires.ready c.requires.moving
+          parked-kept c.self.invariant.kept c.self.view_is c.args.pid c.requires.ready c.args.call c.requires.moving
           c.park.ensures;
       filed = c.self.invariant.filed;
     }
 
 pub returns : goal.returns
 returns g c =
-    parked-namespace c.self.invariant.kept c.self.view_is c.args.pid c.requires.ready c.requires.moving c.park.ensures
+    parked-namespace c.self.invariant.kept c.self.view_is c.args.pid c.requires.ready c.args.call c.requires.moving
+    c.park.ensures
