@@ -164,22 +164,34 @@ module _ (f g : Live) (old new : Namespace) (pid : ℕ) (told : Result (Option �
       → told ≡ number_told reply → Told_so
   others_told quiet reply here says =
       let s = meaning f old.state in
-      let is : record { state =
-      meaning g new.state; reply = reply } ≡ step_of old.limits s (steps.Resume pid) = made_step old.limits s
+      let is : record {
+        state = meaning g new.state;
+        reply = reply;
+      } ≡ step_of old.limits s (steps.Resume pid) = made_step old.limits s
       (meaning g new.state) (steps.Resume pid) reply here.says in
       let short : reply_length (step_of old.limits s (steps.Resume pid)).reply ≤ 0 =
       few s 0 (call old.limits s (steps.Resume pid))
-          (resume-few s 0 old.limits pid (λ p fd n e waits found. let gap : true ≡ false =
-          sym (ap hands_out waits) ∙ quiet in absurd (cc))) in
+      (resume-few s 0 old.limits pid (λ p fd n e waits found. let gap : true ≡ false =
+      sym (ap hands_out waits) ∙ quiet in absurd (cc))) in
       let silent : bytes_told reply ≡ [] =
       no_bytes reply (subst (λ (r : Reply). reply_length r ≤ 0) (sym (ap (λ (o : Outcome Segment ℕ). o.reply) is))
       short) in
-      record { reply = reply; is = is; told_is = says; bytes_lie = no_byte_lies buffer
-          ∙ ap (λ (xs : List ℕ). laid xs buffer) (sym silent) }
+      record {
+        reply = reply;
+        is = is;
+        told_is = says;
+        bytes_lie = no_byte_lies buffer
+            ∙ ap (λ (xs : List ℕ). laid xs buffer) (sym silent);
+      }
 
   pub others_refused : (e : Errno) → Told f g old new (Err (faults.Errno e))
       (call old.limits (meaning f old.state) (steps.Resume pid))
       → meaning f old.state ≡ sweep itself (meaning f old.state) → told ≡ Err e → Told_so
   others_refused e here still says =
-      record { reply = replies.Err e; is = refused_step old.limits (meaning f old.state) (meaning g new.state)
-          (steps.Resume pid) e here.says.0 here.says.1 still; told_is = says; bytes_lie = no_byte_lies buffer }
+      record {
+        reply = replies.Err e;
+        is = refused_step old.limits (meaning f old.state) (meaning g new.state)
+            (steps.Resume pid) e here.says.0 here.says.1 still;
+        told_is = says;
+        bytes_lie = no_byte_lies buffer;
+      }

@@ -46,17 +46,24 @@ module _ {X : Type 0} (s : State X ℕ) (pid : ℕ) (p : Process ℕ) (stands : 
       ap (λ o. weight h (option_map (waiting c) o)) stands
       ∙ ap (λ o. weight (λ m. one_if (nat_eq m n)) o + sum_of (λ m. one_if (nat_eq m n)) p.descriptors)
       (moving ∙ sym bare) in
-      omega (arith, sum_of-set h s.processes (pid - 1) y (at_within s.processes (pid - 1) p stands), new, ap (weight h)
-      stands)
+      omega (
+        arith,
+        sum_of-set h s.processes (pid - 1) y (at_within s.processes (pid - 1) p stands),
+        new,
+        ap (weight h)
+            stands,
+      )
 
   pub sweep-waiting : sweep itself (change_process (waiting c) s pid) ≡ change_process (waiting c) (sweep itself s) pid
   sweep-waiting =
       let live : live_descriptions itself (change_process (waiting c) s pid).processes s.descriptions
       ≡ live_descriptions itself s.processes s.descriptions =
       λ i. keep (λ n. nat_lt 0 (same_names n i)) s.descriptions in
-      λ i. record s { processes =
-          change_at (waiting c) s.processes (pid - 1); descriptions = live i; pipes = live_pipes itself (live i) s.pipes
-          }
+      λ i. record s {
+        processes = change_at (waiting c) s.processes (pid - 1);
+        descriptions = live i;
+        pipes = live_pipes itself (live i) s.pipes;
+      }
 
 -- What was tried
 
@@ -275,9 +282,9 @@ pub stays_waiting : (r : Tried) (fd : ℕ) (write rest : UnfinishedWrite) → re
 stays_waiting r fd write rest is blocked =
     elim blocked [
       | inl none ↦ ap (transfer_told (Writing fd write.bytes write.written) r) none
-      ∙ ap (λ (w : UnfinishedWrite). Ok (Waits r.state (Moving (Writing fd w.bytes w.written)))) (sym is)
+          ∙ ap (λ (w : UnfinishedWrite). Ok (Waits r.state (Moving (Writing fd w.bytes w.written)))) (sym is)
       | inr none ↦ ap (transfer_told (Writing fd write.bytes write.written) r) none
-      ∙ ap (λ (w : UnfinishedWrite). Ok (Waits r.state (Moving (Writing fd w.bytes w.written)))) (sym is)
+          ∙ ap (λ (w : UnfinishedWrite). Ok (Waits r.state (Moving (Writing fd w.bytes w.written)))) (sym is)
     ]
 
 -- in other words

@@ -13,8 +13,10 @@ use Rattle.pf_space.specs.contracts.space.Space.TheInside as in_space
 module _ (A : RattleType) (g : Allocator.Ghosts A.Denot) (s : IsSend A) (f : Frees g g.dealloc_token) where
   in_space_send : IsSend (in_space.the_row A g)
   in_space_send =
-      declared_send (in_space.the_type A g) (search (sendable, crosses) depth 20,
-      (as_row_send (Tables.the_field A g) (tables_send A g s f), tt))
+      declared_send (in_space.the_type A g) (
+        search (sendable, crosses) depth 20,
+        (as_row_send (Tables.the_field A g) (tables_send A g s f), tt),
+      )
 
   pub space_send : IsSend (Space.the_row A g)
   space_send = view_send (in_space.the_row A g) _ _ _ _ in_space_send

@@ -51,7 +51,13 @@ module _ (q : Queue) (writers number : ℕ) (before after : List ℕ)
   lies = record {
     fits = omega (arith, few);
     as_long =
-        omega (arith, ap length lie, length-append (taken q number) (drop number before), length-drop number before,
-        as_many, few);
+        omega (
+          arith,
+          ap length lie,
+          length-append (taken q number) (drop number before),
+          length-drop number before,
+          as_many,
+          few,
+        );
     behind = ap (drop number) lie ∙ drop_at (taken q number) (drop number before) number as_many;
   }

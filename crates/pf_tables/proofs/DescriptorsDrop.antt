@@ -70,8 +70,13 @@ module _ {files : Files} {files_made : ℕ} (f : Live) (limits : Limits) (charge
         owns = own;
         limits = refl;
         state =
-            ap (λ xs. record { processes = processes_of ps'; descriptions = descriptions_of ds'; pipes = xs; files =
-            files; files_made = files_made }) same ∙ ap (meaning f) (l.state files files_made)
+            ap (λ xs. record {
+              processes = processes_of ps';
+              descriptions = descriptions_of ds';
+              pipes = xs;
+              files = files;
+              files_made = files_made;
+            }) same ∙ ap (meaning f) (l.state files files_made)
             ∙ sym (sweep-meaning f (emptied (state_of ps ds pipes files files_made) i fd));
       })
 
@@ -79,8 +84,10 @@ module _ {files : Files} {files_made : ℕ} (f : Live) (limits : Limits) (charge
   module _ (same : pipes_of pipes' ≡ pipes_of pipes) where
     pub pipes_stay : Becomes f f n new (emptied (meaning f n.state) i fd)
     pipes_stay =
-        away f (record { joined = subst (λ xs. Joined f (map ring_or xs)) (sym same) owned.joined; reserve =
-        owned.reserve }) refl
+        away f (record {
+          joined = subst (λ xs. Joined f (map ring_or xs)) (sym same) owned.joined;
+          reserve = owned.reserve;
+        }) refl
 
   -- A pipe went, and its ring was cleared
   module _ (m : ℕ) (p : rows.Pipe) (there : at (pipes_of pipes) m ≡ Some (pipe_of (0, p)))
@@ -91,8 +98,13 @@ module _ {files : Files} {files_made : ℕ} (f : Live) (limits : Limits) (charge
     -- its pages are among its owner's
     pub gone_covered : (owner pages : ℕ) → owner ≡ p.owner → pages ≡ p.ring.capacity → pages ≤ charged_to charges owner
     gone_covered owner pages o e =
-        omega (arith, covers (λ (q : machine.Pipe Window). q.owner) (λ (q : machine.Pipe Window). q.queue.capacity)
-        charges (pipes_of pipes) m _ k.charged there, e, ap (charged_to charges) o)
+        omega (
+          arith,
+          covers (λ (q : machine.Pipe Window). q.owner) (λ (q : machine.Pipe Window). q.queue.capacity)
+              charges (pipes_of pipes) m _ k.charged there,
+          e,
+          ap (charged_to charges) o,
+        )
 
     pub gone_kept : (charges' : UserPages) (owner pages : ℕ) → owner ≡ p.owner → pages ≡ p.ring.capacity
         → Charges charges' charges owner pages → Kept charges' ps' ds' pipes'
@@ -114,9 +126,11 @@ module _ {files : Files} {files_made : ℕ} (f : Live) (limits : Limits) (charge
           ≡ map (option_map (pipe_meaning f)) (clear_at (pipes_of pipes) m)
       same_meaning =
           pipes-without f g (pipes_of pipes) m (others_written f g (state_of ps ds pipes files files_made) m _
-              (record { capacity =
-              p.ring.capacity; segments = [] }) [] (no_source (rings_of (state_of ps ds pipes files files_made)))
-              owned.joined there keeps)
+          (record {
+            capacity = p.ring.capacity;
+            segments = [];
+          }) [] (no_source (rings_of (state_of ps ds pipes files files_made)))
+          owned.joined there keeps)
           ∙ sym (map-set (option_map (pipe_meaning f)) (pipes_of pipes) m None)
 
       pub gone_becomes : Becomes f g n new (emptied (meaning f n.state) i fd)

@@ -83,8 +83,12 @@ module _ (K : List Key) (E : List Description) (ps : ProcessRows) (ds : Descript
     pub named_again : TiedWith K E ps ds pipes → TiedWith (k ∷ K) E ps
         (put_at ds k.serial (k.slot, record d { names = d.names + 1 })) pipes
     named_again t =
-        redescribed K E ps ds pipes t k.serial (k.slot, d) stands (Some (k.slot, record d { names =
-            d.names + 1 })) (k ∷ K) E
+        redescribed K E ps ds pipes t k.serial (k.slot, d) stands (Some (
+          k.slot,
+          record d {
+            names = d.names + 1;
+          },
+        )) (k ∷ K) E
         (place_and_end K E ps ds pipes k d stands t (d.names + 1)) (found ds k d stands, t.in_hand)
         (λ n ne. omega (arith, names_none n k (λ e. ne (sym e))))
         (let r = names_row K E ps ds pipes k d stands t in let one = names_one k in

@@ -36,8 +36,12 @@ module _ (K : List Key) (E : List Description) (ps : ProcessRows) (ds : Descript
     unnamed : TiedWith (k ∷ K) E ps ds pipes → d.names ≢ 1
         → TiedWith K E ps (put_at ds k.serial (k.slot, record d { names = d.names - 1 })) pipes
     unnamed t more =
-        redescribed (k ∷ K) E ps ds pipes t k.serial (k.slot, d) stands (Some (k.slot, record d { names =
-            d.names - 1 })) K E
+        redescribed (k ∷ K) E ps ds pipes t k.serial (k.slot, d) stands (Some (
+          k.slot,
+          record d {
+            names = d.names - 1;
+          },
+        )) K E
         (place_and_end K E ps ds pipes k d stands t (d.names - 1)) t.in_hand.1
         (λ n ne. omega (arith, names_none n k (λ e. ne (sym e))))
         (let r = names_row K E ps ds pipes k d stands t in let one = names_one k in
@@ -75,16 +79,21 @@ module _ (K : List Key) (E : List Description) (ps : ProcessRows) (ds : Descript
             repiped K (d ∷ E) ps ds pipes t d.pipe.serial (d.pipe.slot, p) stands (Some (d.pipe.slot, with_fewer d p)) E
             (same_place K E ps ds pipes d.pipe p stands (with_fewer d p)) t.ends_in_hand.1 others
             (let c = pipe_row K E ps ds pipes d.pipe p stands t in let l = ltb-true 0
-            ((p.readers - one_if d.reads) + (p.writers - one_if d.writes)) u in
-            (omega (arith, c.0, (sides d).0), omega (arith, c.1, (sides d).1), omega
-            (arith, l, c.0, c.1, (sides d).0, (sides d).1)))
+            ((p.readers - one_if d.reads) + (p.writers - one_if d.writes)) u in (
+              omega (arith, c.0, (sides d).0),
+              omega (arith, c.1, (sides d).1),
+              omega
+                  (arith, l, c.0, c.1, (sides d).0, (sides d).1),
+            ))
         by_used false u =
             repiped K (d ∷ E) ps ds pipes t d.pipe.serial (d.pipe.slot, p) stands None E (λ e h. absurd (cc))
             t.ends_in_hand.1 others
             (let c = pipe_row K E ps ds pipes d.pipe p stands t in let l = ltb-false 0
-            ((p.readers - one_if d.reads) + (p.writers - one_if d.writes)) u in
-            (omega (arith, l, c.0, c.1, (sides d).0, (sides d).1), omega
-            (arith, l, c.0, c.1, (sides d).0, (sides d).1)))
+            ((p.readers - one_if d.reads) + (p.writers - one_if d.writes)) u in (
+              omega (arith, l, c.0, c.1, (sides d).0, (sides d).1),
+              omega
+                  (arith, l, c.0, c.1, (sides d).0, (sides d).1),
+            ))
 
   -- a key leaves a descriptor for the hand
   module _ (i fd : ℕ) (p : Process) (stands : at ps i ≡ Some p) (fd_in : fd < MAX_DESCRIPTORS) where
@@ -181,8 +190,12 @@ module _ (ps : ProcessRows) (ds : DescriptionRows) (pipes : PipeRows) (t : Tied 
     pub still_named : (ds' : DescriptionRows) → 1 < names_of (find ds key.slot key.serial)
         → ds' ≡ change_at one_less ds key.serial → Left ps ds pipes ps' ds' pipes i fd
     still_named ds' more less =
-        let at_row : ds' ≡ put_at ds key.serial (key.slot, record row.0 { names =
-        row.0.names - 1 }) = less ∙ ap (λ (o : Option (ℕ × Named Description)). set ds key.serial
+        let at_row : ds' ≡ put_at ds key.serial (
+          key.slot,
+          record row.0 {
+            names = row.0.names - 1;
+          },
+        ) = less ∙ ap (λ (o : Option (ℕ × Named Description)). set ds key.serial
         (option_map one_less o)) row.1 in
         let several : 1 < row.0.names = subst (λ (o : Option (Named Description)). 1 < names_of o) row_found more in
         subst (λ x. Left ps ds pipes ps' x pipes i fd) (sym at_row)
@@ -252,8 +265,8 @@ module _ (ps : ProcessRows) (ds : DescriptionRows) (pipes : PipeRows) (t : Tied 
               d.pipe.serial,
               shown pipe_of pipes d.pipe.serial (d.pipe.slot, pipe.0) pipe.1,
               ap pipes_of (items_are ∙ ap (λ b. set pipes d.pipe.serial
-              (if b then Some (d.pipe.slot, with_fewer d pipe.0) else None)) u)
-              ∙ map-set (option_map pipe_of) pipes d.pipe.serial None,
+                  (if b then Some (d.pipe.slot, with_fewer d pipe.0) else None)) u)
+                  ∙ map-set (option_map pipe_of) pipes d.pipe.serial None,
             )
 
         -- and its opens with it
@@ -275,6 +288,6 @@ module _ (ps : ProcessRows) (ds : DescriptionRows) (pipes : PipeRows) (t : Tied 
               d.pipe.slot,
               shown opens_at pipes d.pipe.serial (d.pipe.slot, pipe.0) pipe.1,
               ap opens_of (items_are ∙ ap (λ b. set pipes d.pipe.serial
-              (if b then Some (d.pipe.slot, with_fewer d pipe.0) else None)) u)
-              ∙ map-set (option_map opens_at) pipes d.pipe.serial None,
+                  (if b then Some (d.pipe.slot, with_fewer d pipe.0) else None)) u)
+                  ∙ map-set (option_map opens_at) pipes d.pipe.serial None,
             )

@@ -159,8 +159,13 @@ module _ {X : Type 0} (f : Sight X) (side : Option Side) (ps : ProcessRows) (ds 
   -- and finds what they find
   pub found : (d : Description) → end_in side ps ds pid fd ≡ Ok d → Found f side ps ds pipes files files_made pid fd d
   found d h =
-      let w = both_find (Ok d) h in record { pipe = w.0; stands = w.1; is = w.2; caller = by_row (ready_in ps pid) refl
-      h }
+      let w = both_find (Ok d) h in record {
+        pipe = w.0;
+        stands = w.1;
+        is = w.2;
+        caller = by_row (ready_in ps pid) refl
+            h;
+      }
     where
       by_row : (r : Result Process Errno) → ready_in ps pid ≡ r → (r >>= (λ p. of_key (at p.descriptors fd))) ≡ Ok d
           → IsOk (ready_in ps pid)
@@ -171,9 +176,11 @@ module _ {X : Type 0} (f : Sight X) (side : Option Side) (ps : ProcessRows) (ds 
   pub counted : (n place : ℕ) (r : Pipe) → at pipes n ≡ Some (place, r)
       → (readers itself s n ≡ r.readers) × (writers itself s n ≡ r.writers)
   counted n place r h =
-      let row = subst (UsedRow (read_by ds n + 0) (written_by ds n + 0)) h (t.uses n) in
-      (omega (arith, row.0, readers_shown ps ds pipes files files_made n), omega
-      (arith, row.1, writers_shown ps ds pipes files files_made n))
+      let row = subst (UsedRow (read_by ds n + 0) (written_by ds n + 0)) h (t.uses n) in (
+        omega (arith, row.0, readers_shown ps ds pipes files files_made n),
+        omega
+            (arith, row.1, writers_shown ps ds pipes files files_made n),
+      )
 
 -- Pipes with their rings are seen as they are
 

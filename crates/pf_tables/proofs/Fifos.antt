@@ -43,8 +43,12 @@ no_fifos es pipes drawn none no_pipe =
 pub fifos-same : (es : List (ℕ × Key)) {drawn more : ℕ} {opens after : List (Option (ℕ × Opens))} → drawn ≤ more
     → after ≡ opens → AreFifos es drawn opens → AreFifos es more after
 fifos-same es {drawn} {more} {opens} {after} le same a =
-    subst (AreFifos es more) (sym same) (record { finds = a.finds; there = a.there; few = λ n o h. let few = a.few n o
-    h in (omega (arith, few.0, le), omega (arith, few.1, le)) })
+    subst (AreFifos es more) (sym same) (record {
+      finds = a.finds;
+      there = a.there;
+      few = λ n o h. let few = a.few n o
+          h in (omega (arith, few.0, le), omega (arith, few.1, le));
+    })
 
 -- a pipe's opens stay
 pub opens_stay : (pipes : PipeRows) (n place : ℕ) (p w : Pipe) → at pipes n ≡ Some (place, p) → w.opens ≡ p.opens
@@ -87,8 +91,12 @@ pub fifos-pushed : (es : List (ℕ × Key)) {drawn more : ℕ} (opens : List (Op
 fifos-pushed es {drawn} {more} opens place o le none few a =
     let b : AreFifos es more opens = fifos-same es le refl a in record {
       finds =
-          λ file k h. let w = b.finds file k h in (w.0, at-push_old opens (Some (place, o)) k.serial
-          (at_within opens k.serial (k.slot, w.0) w.1) ∙ w.1, w.2);
+          λ file k h. let w = b.finds file k h in (
+            w.0,
+            at-push_old opens (Some (place, o)) k.serial
+                (at_within opens k.serial (k.slot, w.0) w.1) ∙ w.1,
+            w.2,
+          );
       there =
           λ k x file. by_push (λ j y. y ≡ Some x → x.1.file ≡ Some file
           → lookup (nat_eq file) es ≡ Some (record { slot = x.0; serial = j })) opens (Some (place, o))
@@ -127,8 +135,12 @@ module _ (es fs : List (ℕ × Key)) (drawn : ℕ) (opens : List (Option (ℕ ×
   pub fifos-stay : o.file ≡ None → AreFifos es drawn (clear_at opens n)
   fifos-stay none = record {
     finds =
-        λ file k h. let w = a.finds file k h in (w.0, at-put_other opens n k.serial None (other file k w.0 w.1 w.2)
-        ∙ w.1, w.2);
+        λ file k h. let w = a.finds file k h in (
+          w.0,
+          at-put_other opens n k.serial None (other file k w.0 w.1 w.2)
+              ∙ w.1,
+          w.2,
+        );
     there =
         λ k x file. by_set (λ j y. y ≡ Some x → x.1.file ≡ Some file
         → lookup (nat_eq file) es ≡ Some (record { slot = x.0; serial = j })) opens n None within (λ h g. absurd (cc))
@@ -166,11 +178,14 @@ module _ (es fs : List (ℕ × Key)) (drawn : ℕ) (opens : List (Option (ℕ ×
           elim (cases_eq f file) [
             | inl same ↦ let none = ap (λ q. lookup (nat_eq q) fs) same ∙ gone in absurd (cc)
             | inr ne ↦
-                let w = a.finds f k (sym (apart f ne) ∙ h) in
-                (w.0, at-put_other opens n k.serial None
-                (λ e. let both : ◌≡◌ {A = Option ℕ} (Some f) (Some file) = sym w.2
-                ∙ same_file (sym w.1 ∙ ap (at opens) e ∙ stands) ∙ is in let same : f ≡ file = cc in ne same)
-                ∙ w.1, w.2)
+                let w = a.finds f k (sym (apart f ne) ∙ h) in (
+                  w.0,
+                  at-put_other opens n k.serial None
+                      (λ e. let both : ◌≡◌ {A = Option ℕ} (Some f) (Some file) = sym w.2
+                      ∙ same_file (sym w.1 ∙ ap (at opens) e ∙ stands) ∙ is in let same : f ≡ file = cc in ne same)
+                      ∙ w.1,
+                  w.2,
+                )
           ]
 
       still : (j : ℕ) → j ≢ n → (x : ℕ × Opens) (f : ℕ) → at opens j ≡ Some x → x.1.file ≡ Some f

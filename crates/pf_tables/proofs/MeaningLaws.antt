@@ -109,15 +109,22 @@ module _ (f g : Live) where
           → option_map (pipe_meaning g) o ≡ option_map (pipe_meaning f) o
       stays None e = refl
       stays (Some p) e =
-          λ i. Some (record { queue = e i; owner = p.owner; file = p.file; read_opens = p.read_opens; write_opens =
-          p.write_opens })
+          λ i. Some (record {
+            queue = e i;
+            owner = p.owner;
+            file = p.file;
+            read_opens = p.read_opens;
+            write_opens = p.write_opens;
+          })
 
   pub others_stay : (pipes : List (Option (Pipe Window))) (n : ℕ)
       → ((k : ℕ) → k ≢ n → queue_of g (slice_index_or (map ring_or pipes) k no_ring)
       ≡ queue_of f (slice_index_or (map ring_or pipes) k no_ring)) → Others pipes n
   others_stay pipes n h =
-      record { stay = λ k ne. pipe_stays pipes k (subst (λ (r : Ring). queue_of g r ≡ queue_of f r)
-      (ring_at-rings pipes k) (h k ne)) }
+      record {
+        stay = λ k ne. pipe_stays pipes k (subst (λ (r : Ring). queue_of g r ≡ queue_of f r)
+            (ring_at-rings pipes k) (h k ne));
+      }
 
   -- a pipe's ring changes
   pipes-with_queue : (pipes : List (Option (Pipe Window))) (n : ℕ) (r : Ring) → Others pipes n
@@ -136,8 +143,13 @@ module _ (f g : Live) where
   pub meaning-with_queue : (s : State Window ℕ) (n : ℕ) (r : Ring) → Others s.pipes n
       → meaning g (with_queue s n r) ≡ with_queue (meaning f s) n (queue_of g r)
   meaning-with_queue s n r o =
-      λ i. record { processes = s.processes; descriptions = s.descriptions; pipes = pipes-with_queue s.pipes n r o i;
-      files = s.files; files_made = s.files_made }
+      λ i. record {
+        processes = s.processes;
+        descriptions = s.descriptions;
+        pipes = pipes-with_queue s.pipes n r o i;
+        files = s.files;
+        files_made = s.files_made;
+      }
 
   -- a pipe goes
   pub pipes-without : (pipes : List (Option (Pipe Window))) (n : ℕ) → Others pipes n

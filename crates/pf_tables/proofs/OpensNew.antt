@@ -97,14 +97,20 @@ fifos-founded es fs {drawn} opens k file k_is none keys a = record {
         × (o.file ≡ Some f)
     by_file f j h (inl same) =
         let both : ◌≡◌ {A = Option Key} (Some k) (Some j) = sym mine ∙ ap (λ q. lookup (nat_eq q) fs) (sym same) ∙ h in
-        let it : k ≡ j = cc in
-        (unopened (Some file), ap (at (opens ++ Some (k.slot, unopened (Some file)) ∷ []))
-        (ap (λ (x : Key). x.serial) (sym it) ∙ k_is) ∙ at-push_new opens (Some (k.slot, unopened (Some file)))
-        ∙ ap (λ (x : Key). Some (x.slot, unopened (Some file))) it, ap Some (sym same))
+        let it : k ≡ j = cc in (
+          unopened (Some file),
+          ap (at (opens ++ Some (k.slot, unopened (Some file)) ∷ []))
+              (ap (λ (x : Key). x.serial) (sym it) ∙ k_is) ∙ at-push_new opens (Some (k.slot, unopened (Some file)))
+              ∙ ap (λ (x : Key). Some (x.slot, unopened (Some file))) it,
+          ap Some (sym same),
+        )
     by_file f j h (inr ne) =
-        let w = a.finds f j (sym (others f ne) ∙ h) in
-        (w.0, at-push_old opens (Some (k.slot, unopened (Some file))) j.serial
-        (at_within opens j.serial (j.slot, w.0) w.1) ∙ w.1, w.2)
+        let w = a.finds f j (sym (others f ne) ∙ h) in (
+          w.0,
+          at-push_old opens (Some (k.slot, unopened (Some file))) j.serial
+              (at_within opens j.serial (j.slot, w.0) w.1) ∙ w.1,
+          w.2,
+        )
 
     new : (o : ℕ × Opens) (f : ℕ) → ◌≡◌ {A = Option (ℕ × Opens)} (Some (k.slot, unopened (Some file))) (Some o)
         → o.1.file ≡ Some f → lookup (nat_eq f) fs ≡ Some (record { slot = o.0; serial = length opens })
@@ -210,8 +216,13 @@ module _ {files : Files} {files_made : ℕ} {limits : Limits} {charges : UserPag
     -- the pipe as it is made
     abbrev pub fresh : Pipe
     fresh =
-        record { ring = record { capacity = slots; segments = [] }; owner = q.cred.uid; readers = 0; writers = 0;
-        opens = unopened (Some file) }
+        record {
+          ring = record { capacity = slots; segments = [] };
+          owner = q.cred.uid;
+          readers = 0;
+          writers = 0;
+          opens = unopened (Some file);
+        }
 
     module _ (k : Key) (k_is : k.serial ≡ length pipes) where
       abbrev with_fresh : PipeRows
@@ -315,8 +326,7 @@ module _ {files : Files} {files_made : ℕ} {limits : Limits} {charges : UserPag
               let number : length s.pipes ≡ k.serial = length-map pipes (option_map pipe_of) ∙ sym k_is in
               λ i. record {
                 state = record s {
-                  pipes =
-                      (ap (λ u. s.pipes ++ Some (new_pipe (empty slots) u (Some file)) ∷ []) uid ∙ sym pushed) i;
+                  pipes = (ap (λ u. s.pipes ++ Some (new_pipe (empty slots) u (Some file)) ∷ []) uid ∙ sym pushed) i;
                 };
                 pipe = number i;
               }

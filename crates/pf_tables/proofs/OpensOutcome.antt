@@ -85,9 +85,10 @@ module _ (files : Files) (files_made : ℕ) (a : Stored) (k : Key) (p : Pipe) (p
   -- its pipe is counted, and its description made
   abbrev pub made : State Window ℕ
   made =
-      change_pipe (opens.counted (access_seen a)) (record s
-      { descriptions = s.descriptions ++ Some (record
-      { pipe = k.serial; reads = a.reads; writes = a.writes; nonblocking = a.nonblock }) ∷ [] }) k.serial
+      change_pipe (opens.counted (access_seen a)) (record s {
+        descriptions = s.descriptions ++ Some (record
+            { pipe = k.serial; reads = a.reads; writes = a.writes; nonblocking = a.nonblock }) ∷ [];
+      }) k.serial
 
   abbrev pub outcome : Option ℕ → State Window ℕ
   outcome None =
@@ -122,8 +123,12 @@ module _ (files : Files) (files_made : ℕ) (a : Stored) (k : Key) (p : Pipe) (p
   taken_shown =
       ap (λ xs. record { cred = q.cred; descriptors = xs; parked = option_map call_of q.parked })
       (map-set (option_map (λ (x : Key). x.serial)) q.descriptors (first_free q.descriptors) (Some j))
-      ∙ (λ i. record { cred = q.cred; descriptors = put_at (process_of q).descriptors
-      (sym (first_free-map (λ (x : Key). x.serial) q.descriptors) i) (drawn i); parked = option_map call_of q.parked })
+      ∙ (λ i. record {
+        cred = q.cred;
+        descriptors = put_at (process_of q).descriptors
+            (sym (first_free-map (λ (x : Key). x.serial) q.descriptors) i) (drawn i);
+        parked = option_map call_of q.parked;
+      })
 
   processes_shown : (before : Option ℕ) → processes_of (put_at ps (pid - 1) (taking before j q))
       ≡ (outcome before).processes
@@ -140,11 +145,23 @@ module _ (files : Files) (files_made : ℕ) (a : Stored) (k : Key) (p : Pipe) (p
       → state_of (put_at ps (pid - 1) (taking before j q)) (ds ++ Some (j.slot, once (end_of a k)) ∷ [])
       (put_at pipes k.serial (k.slot, counted a p)) files files_made ≡ outcome before
   entered-shown None =
-      λ i. record { processes = processes_shown None i; descriptions = map_push (option_map description_of) ds
-      (Some (j.slot, once (end_of a k))) i; pipes = pipes_shown i; files = files; files_made = files_made }
+      λ i. record {
+        processes = processes_shown None i;
+        descriptions = map_push (option_map description_of) ds
+            (Some (j.slot, once (end_of a k))) i;
+        pipes = pipes_shown i;
+        files = files;
+        files_made = files_made;
+      }
   entered-shown (Some n) =
-      λ i. record { processes = processes_shown (Some n) i; descriptions = map_push (option_map description_of) ds
-      (Some (j.slot, once (end_of a k))) i; pipes = pipes_shown i; files = files; files_made = files_made }
+      λ i. record {
+        processes = processes_shown (Some n) i;
+        descriptions = map_push (option_map description_of) ds
+            (Some (j.slot, once (end_of a k))) i;
+        pipes = pipes_shown i;
+        files = files;
+        files_made = files_made;
+      }
 
   -- what the machine's open comes to, by whether it waits
   abbrev pub reply : Option ℕ → Reply

@@ -75,7 +75,9 @@ module _ (f g : Live) (s : State Window ℕ) (n : ℕ) (p : Pipe Window) (r : Ri
   joined_gone cleared =
       let after : Joined g (set (rings_of s) n r) =
       joined_after f g (rings_of s) n r src within joined bound keeps_at
-      (ap slots_of (cleared ∙ (λ i. record { capacity = (sym (ring_at-pipe s.pipes n p there) i).capacity; segments = []
+      (ap slots_of (cleared ∙ (λ i. record {
+        capacity = (sym (ring_at-pipe s.pipes n p there) i).capacity;
+        segments = [];
       }))) (subst (λ (x : Ring). length x.segments ≤ x.capacity) (sym cleared) (omega arith)) in
       let bare : (ring_at (set (rings_of s) n r) n).segments ≡ [] =
       ap (λ (x : Ring). x.segments) (get_or-set_same (rings_of s) n r no_ring within ∙ cleared) in
@@ -124,12 +126,25 @@ recharged old new s n p r there re is =
     record {
       users = λ u.
           let h : Pipe Window → ℕ = λ (x : Pipe Window). if nat_eq x.owner u then x.queue.capacity else 0 in
-          omega (arith, re.users u, is.users u, sum_of-set h s.pipes n q (at_within s.pipes n p there), ap (weight h)
-          there, ap (weight h) after);
+          omega (
+            arith,
+            re.users u,
+            is.users u,
+            sum_of-set h s.pipes n q (at_within s.pipes n p there),
+            ap (weight h)
+                there,
+            ap (weight h) after,
+          );
       total =
           let h : Pipe Window → ℕ = λ (x : Pipe Window). x.queue.capacity in
-          omega (arith, re.total, is.total, sum_of-set h s.pipes n q (at_within s.pipes n p there), ap (weight h) there,
-          ap (weight h) after);
+          omega (
+            arith,
+            re.total,
+            is.total,
+            sum_of-set h s.pipes n q (at_within s.pipes n p there),
+            ap (weight h) there,
+            ap (weight h) after,
+          );
     }
 
 -- nobody is charged otherwise

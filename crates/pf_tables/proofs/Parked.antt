@@ -31,7 +31,7 @@ use Rattle.pf_tables.proofs.TablesShown.{shown}
 
 module _ {limits : Limits} (ps : ProcessRows) (ds : DescriptionRows) (pipes : PipeRows) {files : Files} {files_made : ℕ}
     {n : Namespace} (view : record { limits = limits; state = state_of ps ds pipes files files_made } ≡ n)
-        (pid : ℕ) where
+    (pid : ℕ) where
   pub who : IsOk (living n.state pid) → (p : Process) × (process_in ps pid ≡ Ok p)
   who lives =
       found_in (process_in ps pid)
@@ -60,8 +60,12 @@ woken_shown p = by_call p.parked
     by_call (Some (Open key kept)) =
         ap (λ xs. record { cred = p.cred; descriptors = xs; parked = None })
         (map-set (option_map (λ (k : Key). k.serial)) p.descriptors (first_free p.descriptors) (Some key))
-        ∙ ap (λ m. record { cred = p.cred; descriptors = put_at (map (option_map (λ (k : Key). k.serial)) p.descriptors)
-        m key.serial; parked = None }) (sym (first_free-map (λ (k : Key). k.serial) p.descriptors))
+        ∙ ap (λ m. record {
+          cred = p.cred;
+          descriptors = put_at (map (option_map (λ (k : Key). k.serial)) p.descriptors)
+              m key.serial;
+          parked = None;
+        }) (sym (first_free-map (λ (k : Key). k.serial) p.descriptors))
 
 module _ (ps : ProcessRows) (ds : DescriptionRows) (pipes : PipeRows) (t : Tied ps ds pipes) (i : ℕ) (p : Process)
     (stands : at ps i ≡ Some p) where

@@ -20,8 +20,11 @@ use Rattle.pf_tables.proofs.TablesTied.{reseated}
 pub vacant_at : {X : Type 0} (n k : ℕ) → at {X = X} (vacant n) k ≡ None
 unfolding vacant
 vacant_at {X} n k =
-    elim (cases_lt k n) [ inl l ↦ get_or-replicate n k None None l | inr past ↦ at_past {X = X} (replicate n None) k
-    (omega (arith, length-replicate {A = Option X} n None)) ]
+    elim (cases_lt k n) [
+      | inl l ↦ get_or-replicate n k None None l
+      | inr past ↦ at_past {X = X} (replicate n None) k
+          (omega (arith, length-replicate {A = Option X} n None))
+    ]
 
 pub length-vacant : (X : Type 0) (n : ℕ) → length (vacant {X = X} n) ≡ n
 unfolding vacant
@@ -30,7 +33,7 @@ length-vacant X n = length-replicate {A = Option X} n None
 pub map-vacant : {X Y : Type 0} (f : X → Y) (n : ℕ) → map (option_map f) (vacant n) ≡ vacant n
 map-vacant {X} {Y} f n =
     same_at (map (option_map f) (vacant n)) (vacant n) (length-map (vacant {X =
-        X} n) (option_map f) ∙ length-vacant X n ∙ sym (length-vacant Y n))
+    X} n) (option_map f) ∙ length-vacant X n ∙ sym (length-vacant Y n))
     (λ k. at-map f (vacant n) k ∙ ap (option_map f) (vacant_at n k) ∙ sym (vacant_at n k))
 
 -- no key in any of its places
@@ -46,7 +49,7 @@ module _ (ps : ProcessRows) (ds : DescriptionRows) (pipes : PipeRows) (t : Tied 
       → Tied (put_at ps i p) ds pipes
   made none p bare wide =
       reseated [] [] ps ds pipes t i (omega (arith, t.places, l)) (Some p) [] (λ q e. let it : p ≡ q =
-          cc in ap (λ (x : Process). length x.descriptors) (sym it) ∙ wide)
+      cc in ap (λ (x : Process). length x.descriptors) (sym it) ∙ wide)
       (λ m q k e g. let it : p ≡ q = cc in let gap = sym (ap (λ (x : Process). at (keys_of x) m) it)
       ∙ bare m in absurd (cc)) tt (λ n. omega (arith, bare_weight n p bare, ap (weight (keys_to n)) none))
 
@@ -71,8 +74,11 @@ module _ (ps : ProcessRows) (ds : DescriptionRows) (pipes : PipeRows) (bare : ps
         finds = λ i m p k h g. let gap = vacant_at {X = Process} MAX_PROCESSES i in absurd (cc);
         in_hand = tt;
         names =
-            λ n. omega (arith, sum_of-none (keys_to n) (vacant MAX_PROCESSES)
-            (λ i p h. let gap = vacant_at {X = Process} MAX_PROCESSES i in absurd (cc)));
+            λ n. omega (
+              arith,
+              sum_of-none (keys_to n) (vacant MAX_PROCESSES)
+                  (λ i p h. let gap = vacant_at {X = Process} MAX_PROCESSES i in absurd (cc)),
+            );
         is_end = λ n e h. absurd (cc);
         ends_in_hand = tt;
         uses = λ n. (refl, refl);

@@ -117,8 +117,12 @@ module _ (ks : List (Option Key)) (ds : DescriptionRows) (all : AllFind ks ds) (
       by_key (Some k) g so_far =
           let r = finds (with_first_names n ks ds) k (still_finds n ks ds k (all n k g)) in
           λ m e h. by_set (λ _ x. x ≡ Some e → e.1.names ≤ 65792 + suc n) (with_first_names n ks ds) k.serial
-              (Some (k.slot, record r.0 { names =
-              r.0.names + 1 })) (at_within (with_first_names n ks ds) k.serial (k.slot, r.0) r.1)
+          (Some (
+            k.slot,
+            record r.0 {
+              names = r.0.names + 1;
+            },
+          )) (at_within (with_first_names n ks ds) k.serial (k.slot, r.0) r.1)
           (λ i. let it : ◌≡◌ {A = Row} (k.slot, record r.0 { names = r.0.names + 1 }) e = cc in
           omega (arith, ap (λ (x : Row). x.1.names) it, so_far k.serial (k.slot, r.0) r.1))
           (λ j _ i. omega (arith, so_far j e i)) m (sym
@@ -148,8 +152,13 @@ held_first : (h : Key → ℕ) (n : ℕ) (x : Option Key) (ks : List (Option Key
     → held h (hand (suc n) (x ∷ ks)) ≡ weight h x + held h (hand n ks)
 held_first h zero x ks = held-holding h x []
 held_first h (suc n) x ks =
-    omega (arith, held-holding h (at ks n) (hand (suc n) (x ∷ ks)), held-holding h (at ks n) (hand n ks), held_first h n
-    x ks)
+    omega (
+      arith,
+      held-holding h (at ks n) (hand (suc n) (x ∷ ks)),
+      held-holding h (at ks n) (hand n ks),
+      held_first h n
+          x ks,
+    )
 
 held_all : (h : Key → ℕ) (ks : List (Option Key)) → held h (hand (length ks) ks) ≡ sum_of h ks
 held_all h [] = refl
@@ -180,8 +189,13 @@ module _ (ps : ProcessRows) (ds : DescriptionRows) (pipes : PipeRows) (t : Tied 
         (omega (arith, t.places, j_in)) (Some p) []
         (λ q e. let it : p ≡ q = cc in ap (λ (x : Process). length x.descriptors) (sym it) ∙ t.wide i p there)
         (λ m q k e g. let it : p ≡ q = cc in u.finds i m p k there (ap (λ (x : Process). at (keys_of x) m) it ∙ g)) tt
-        (λ n. omega (arith, ap (weight (keys_to n)) free, ap (λ o. weight (names_it n) (made_by o)) asleep, held_all
-        (names_it n) p.descriptors))
+        (λ n. omega (
+          arith,
+          ap (weight (keys_to n)) free,
+          ap (λ o. weight (names_it n) (made_by o)) asleep,
+          held_all
+              (names_it n) p.descriptors,
+        ))
 
 -- What the machine says, and what is left
 

@@ -372,9 +372,18 @@ module _ {files : Files} {files_made : ℕ} (limits : Limits) (charges : UserPag
           (find_was pipes d.pipe.slot d.pipe.serial r (sym handed)) in
           let stands : Stands f r.ring.segments =
           transfers.stands_in f limits charges ps ds pipes k n view owns d r (sym handed) in
-          subst (λ (m : Namespace). Ok (record { bytes = bytes; room = room; has_reader = nat_lt 0 reading; has_writer =
-          nat_lt 0 writing }) ≡ readiness (meaning f m.state) pid fd) view
-          ((λ i. Ok (record { bytes = bytes_is f sound stands i; room = room_is f i; has_reader = nat_lt 0
-          ((reading_is ∙ sym c.0) i); has_writer = nat_lt 0 ((writing_is ∙ sym c.1) i) }))
+          subst (λ (m : Namespace). Ok (record {
+            bytes = bytes;
+            room = room;
+            has_reader = nat_lt 0 reading;
+            has_writer = nat_lt 0 writing;
+          }) ≡ readiness (meaning f m.state) pid fd) view
+          ((λ i. Ok (record {
+            bytes = bytes_is f sound stands i;
+            room = room_is f i;
+            has_reader = nat_lt 0
+                ((reading_is ∙ sym c.0) i);
+            has_writer = nat_lt 0 ((writing_is ∙ sym c.1) i);
+          }))
           ∙ sym (from_end (shows f) (Ok (end_of_rows (pipe_meaning f) d r))
           (e.is ∙ ap (λ (q : Pipe). Ok (end_of_rows (pipe_meaning f) d q)) same)))

@@ -43,9 +43,22 @@ module _ (A : RattleType) (g : Allocator.Ghosts A.Denot) (s : IsSend A) (f : Fre
       (of_descriptions.the_send Description.the_row description_send) in
       let pipes = as_row_send (Registry.the_field Pipe.the_row) (registry.the_send Pipe.the_row pipe.the_send) in
       let files = as_row_send (FileTree.the_field A g) file_tree_send in
-      declared_send (in_tables.the_type A g) (pages,
-      (processes, (descriptions, (pipes, (search (sendable, as_row_send, crosses, maps.crosses) depth 40,
-      (files, (search sendable, tt)))))))
+      declared_send (in_tables.the_type A g) (
+        pages,
+        (
+          processes,
+          (
+            descriptions,
+            (
+              pipes,
+              (
+                search (sendable, as_row_send, crosses, maps.crosses) depth 40,
+                (files, (search sendable, tt)),
+              ),
+            ),
+          ),
+        ),
+      )
 
   pub tables_send : IsSend (Tables.the_row A g)
   tables_send = view_send (in_tables.the_row A g) _ _ _ _ in_tables_send

@@ -48,8 +48,13 @@ pub names_shown : (ps : ProcessRows) (n : ℕ) → names itself (processes_of ps
 names_shown [] n = refl
 names_shown (None ∷ ps) n = omega (arith, names_shown ps n)
 names_shown (Some p ∷ ps) n =
-    omega (arith, names_shown ps n, ap (weight (λ m. one_if (nat_eq m n))) (made_shown p.parked), sum_of-map
-    (λ (k : Key). k.serial) (λ m. one_if (nat_eq m n)) (keys_of p))
+    omega (
+      arith,
+      names_shown ps n,
+      ap (weight (λ m. one_if (nat_eq m n))) (made_shown p.parked),
+      sum_of-map
+          (λ (k : Key). k.serial) (λ m. one_if (nat_eq m n)) (keys_of p),
+    )
 
 module _ (ps : ProcessRows) (ds : DescriptionRows) (pipes : PipeRows) (files : Files) (files_made : ℕ) where
   pub readers_shown : (n : ℕ) → readers itself (state_of ps ds pipes files files_made) n ≡ read_by ds n
@@ -79,8 +84,15 @@ module _ (ps : ProcessRows) (ds : DescriptionRows) (pipes : PipeRows) (files : F
       ends-le-sides itself (state_of ps ds pipes files files_made) n
       (λ m d a. let x = was description_of ds m d a in subst
       (λ (y : machine.Description ℕ). 0 < one_if y.reads + one_if y.writes) x.2 (t.is_end m x.0 x.1).1) in
-      absurd (omega (arith, none.0, none.1, sides, readers_shown ps ds pipes files files_made n, writers_shown ps ds
-      pipes files files_made n))
+      absurd (omega (
+        arith,
+        none.0,
+        none.1,
+        sides,
+        readers_shown ps ds pipes files files_made n,
+        writers_shown ps ds
+            pipes files files_made n,
+      ))
   used_stands n (Some e) h l = (e, h)
 
   pub changed-swept : (s : State Window ℕ) → Within (descriptions_of ds) s.descriptions
@@ -96,9 +108,16 @@ module _ (ps : ProcessRows) (ds : DescriptionRows) (pipes : PipeRows) (files : F
       ∙ sym (p.stood n (pipe_of e.0) here))
       (λ n x h. let e = was pipe_of pipes n x h in let c = subst (UsedRow (read_by ds n + 0) (written_by ds n + 0)) e.1
       (t.uses n) in
-      omega (arith, c.2, readers-le-ends itself (state_of ps ds pipes files files_made) n, writers-le-ends itself
-      (state_of ps ds pipes files files_made) n, readers_shown ps ds pipes files files_made n, writers_shown ps ds pipes
-      files files_made n))
+      omega (
+        arith,
+        c.2,
+        readers-le-ends itself (state_of ps ds pipes files files_made) n,
+        writers-le-ends itself
+            (state_of ps ds pipes files files_made) n,
+        readers_shown ps ds pipes files files_made n,
+        writers_shown ps ds pipes
+            files files_made n,
+      ))
 
   pub settled : state_of ps ds pipes files files_made ≡ sweep itself (state_of ps ds pipes files files_made)
   settled =

@@ -29,7 +29,7 @@ pub by_push : {X : Type 0} (P : ℕ → Option X → Type 0) (xs : List (Option 
 by_push P xs y new old k =
     elim (cases_eq k (length xs)) [
       | inl same ↦ subst (λ m. P m (at (xs ++ y ∷ []) m)) (sym same)
-      (subst (P (length xs)) (sym (at-push_new xs y)) new)
+          (subst (P (length xs)) (sym (at-push_new xs y)) new)
       | inr other ↦ subst (P k) (sym (stays other)) (old k other)
     ]
   where
@@ -90,8 +90,15 @@ names_none n k e = ap one_if (ne_eqb k.serial n e)
 counts : (ps : ProcessRows) (i m : ℕ) (p : Process) (k : Key) → at ps i ≡ Some p → at (keys_of p) m ≡ Some k
     → 0 < named ps k.serial
 counts ps i m p k h g =
-    omega (arith, ap (weight (keys_to k.serial)) h, ap (weight (names_it k.serial)) g, names_one k, weight-le-sum_of
-    (keys_to k.serial) ps i, weight-le-sum_of (names_it k.serial) (keys_of p) m)
+    omega (
+      arith,
+      ap (weight (keys_to k.serial)) h,
+      ap (weight (names_it k.serial)) g,
+      names_one k,
+      weight-le-sum_of
+          (keys_to k.serial) ps i,
+      weight-le-sum_of (names_it k.serial) (keys_of p) m,
+    )
 
 pub sides : (d : Description) → (reads_it d.pipe.serial d ≡ one_if d.reads)
     × (writes_it d.pipe.serial d ≡ one_if d.writes)
@@ -101,9 +108,11 @@ each-map : {X : Type 0} (f g : ℕ → X → ℕ) (P Q : X → Type 0) (xs : Lis
     → ((x : X) → ((n : ℕ) → f n x ≤ held (f n) xs) → ((n : ℕ) → g n x ≤ held (g n) xs) → P x → Q x) → Each P xs
     → Each Q xs
 each-map f g P Q [] h e = e
-each-map f g P Q (x ∷ xs) h e =
-    (h x (λ n. omega arith) (λ n. omega arith) e.0, each-map f g P Q xs
-    (λ y a b. h y (λ n. omega (arith, a n)) (λ n. omega (arith, b n))) e.1)
+each-map f g P Q (x ∷ xs) h e = (
+  h x (λ n. omega arith) (λ n. omega arith) e.0,
+  each-map f g P Q xs
+      (λ y a b. h y (λ n. omega (arith, a n)) (λ n. omega (arith, b n))) e.1,
+)
 
 pub held-holding : {X : Type 0} (h : X → ℕ) (o : Option X) (xs : List X)
     → held h (holding o xs) ≡ weight h o + held h xs
@@ -222,10 +231,20 @@ module _ (K : List Key) (E : List Description) (ps : ProcessRows) (ds : Descript
           (λ m _. t.is_end m e) n;
       ends_in_hand = ends_in_hand;
       uses = λ n. used_as (at pipes n) _ _ _ _ (t.uses n)
-          (omega (arith, sum_of-set (λ (e : ℕ × Named Description). reads_it n e.1.value) ds s y row_within, ap
-          (weight (λ (e : ℕ × Named Description). reads_it n e.1.value)) stands, reads n))
-          (omega (arith, sum_of-set (λ (e : ℕ × Named Description). writes_it n e.1.value) ds s y row_within, ap
-          (weight (λ (e : ℕ × Named Description). writes_it n e.1.value)) stands, writes n));
+          (omega (
+            arith,
+            sum_of-set (λ (e : ℕ × Named Description). reads_it n e.1.value) ds s y row_within,
+            ap
+                (weight (λ (e : ℕ × Named Description). reads_it n e.1.value)) stands,
+            reads n,
+          ))
+          (omega (
+            arith,
+            sum_of-set (λ (e : ℕ × Named Description). writes_it n e.1.value) ds s y row_within,
+            ap
+                (weight (λ (e : ℕ × Named Description). writes_it n e.1.value)) stands,
+            writes n,
+          ));
     }
 
   -- 3. A pipe changes or goes
@@ -264,10 +283,18 @@ module _ (K : List Key) (E : List Description) (ps : ProcessRows) (ds : Descript
       in_hand = t.in_hand;
       names = t.names;
       is_end = λ n e h. still_end e.1.value
-          (omega (arith, weight-le-sum_of (λ (x : ℕ × Named Description). reads_it e.1.value.pipe.serial x.1.value) ds
-          n, ap (weight (λ (x : ℕ × Named Description). reads_it e.1.value.pipe.serial x.1.value)) h))
-          (omega (arith, weight-le-sum_of (λ (x : ℕ × Named Description). writes_it e.1.value.pipe.serial x.1.value) ds
-          n, ap (weight (λ (x : ℕ × Named Description). writes_it e.1.value.pipe.serial x.1.value)) h))
+          (omega (
+            arith,
+            weight-le-sum_of (λ (x : ℕ × Named Description). reads_it e.1.value.pipe.serial x.1.value) ds
+                n,
+            ap (weight (λ (x : ℕ × Named Description). reads_it e.1.value.pipe.serial x.1.value)) h,
+          ))
+          (omega (
+            arith,
+            weight-le-sum_of (λ (x : ℕ × Named Description). writes_it e.1.value.pipe.serial x.1.value) ds
+                n,
+            ap (weight (λ (x : ℕ × Named Description). writes_it e.1.value.pipe.serial x.1.value)) h,
+          ))
           (t.is_end n e h);
       ends_in_hand =
           each-map reads_it writes_it (IsEnd pipes) (IsEnd (set pipes s y)) E'
@@ -289,9 +316,11 @@ module _ (K : List Key) (E : List Description) (ps : ProcessRows) (ds : Descript
         places = t.places;
         wide = t.wide;
         finds = λ i fd p j h g. finds-push ds (Some (k.slot, once d)) j (t.finds i fd p j h g);
-        in_hand =
-            (finds-new ds (once d) k k_is, each-map names_it names_it (Finds ds)
-            (Finds (ds ++ Some (k.slot, once d) ∷ [])) K (λ j _ _. finds-push ds (Some (k.slot, once d)) j) t.in_hand);
+        in_hand = (
+          finds-new ds (once d) k k_is,
+          each-map names_it names_it (Finds ds)
+              (Finds (ds ++ Some (k.slot, once d) ∷ [])) K (λ j _ _. finds-push ds (Some (k.slot, once d)) j) t.in_hand,
+        );
         names = by_push (λ n x. NamedRow (named ps n + held (names_it n) (k ∷ K)) x) ds (Some (k.slot, once d))
             (let mine = names_one k in let at_it = ap (λ n. names_it n k) k_is in
             (omega (arith, none, mine, at_it), omega (arith, none, mine, at_it)))
@@ -303,10 +332,16 @@ module _ (K : List Key) (E : List Description) (ps : ProcessRows) (ds : Descript
             (λ (x : ℕ × Named Description). IsEnd pipes x.1.value) it t.ends_in_hand.0) (λ m _. t.is_end m e) n;
         ends_in_hand = t.ends_in_hand.1;
         uses = λ n. used_as (at pipes n) _ _ _ _ (t.uses n)
-            (omega (arith, sum_of-push (λ (e : ℕ × Named Description). reads_it n e.1.value) ds
-            (Some (k.slot, once d))))
-            (omega (arith, sum_of-push (λ (e : ℕ × Named Description). writes_it n e.1.value) ds
-            (Some (k.slot, once d))));
+            (omega (
+              arith,
+              sum_of-push (λ (e : ℕ × Named Description). reads_it n e.1.value) ds
+                  (Some (k.slot, once d)),
+            ))
+            (omega (
+              arith,
+              sum_of-push (λ (e : ℕ × Named Description). writes_it n e.1.value) ds
+                  (Some (k.slot, once d)),
+            ));
       }
 
   -- 5. A pipe is made, and its ends are in the hand
@@ -332,8 +367,12 @@ module _ (K : List Key) (E : List Description) (ps : ProcessRows) (ds : Descript
             by_push (λ n x. UsedRow (read_by ds n + held (reads_it n) E') (written_by ds n + held (writes_it n) E') x)
             pipes (Some (r.slot, p))
             (subst (λ n. UsedRow (read_by ds n + held (reads_it n) E') (written_by ds n + held (writes_it n) E')
-            (Some (r.slot, p))) r_is (omega (arith, none.0, readers), omega (arith, none.1, writers), omega
-            (arith, none.0, none.1, readers, writers, some)))
+            (Some (r.slot, p))) r_is (
+              omega (arith, none.0, readers),
+              omega (arith, none.1, writers),
+              omega
+                  (arith, none.0, none.1, readers, writers, some),
+            ))
             (λ n ne. let o = others n (λ e. ne (e ∙ r_is)) in used_as (at pipes n) _ _ _ _ (t.uses n)
             (ap (λ c. read_by ds n + c) o.0) (ap (λ c. written_by ds n + c) o.1));
       }
@@ -346,9 +385,11 @@ module _ (K : List Key) (E : List Description) (ps : ProcessRows) (ds : Descript
         → ◌≡◌ {A = Option (ℕ × Named Description)} (Some (k.slot, record d { names = m })) (Some e)
         → (e.0 ≡ k.slot) × IsEnd pipes e.1.value
     place_and_end t m e h =
-        let it : ◌≡◌ {A = ℕ × Named Description} (k.slot, record d { names = m }) e = cc in
-        (ap (λ (x : ℕ × Named Description). x.0) (sym it), subst (λ (x : ℕ × Named Description). IsEnd pipes x.1.value)
-        it (t.is_end k.serial (k.slot, d) stands))
+        let it : ◌≡◌ {A = ℕ × Named Description} (k.slot, record d { names = m }) e = cc in (
+          ap (λ (x : ℕ × Named Description). x.0) (sym it),
+          subst (λ (x : ℕ × Named Description). IsEnd pipes x.1.value)
+              it (t.is_end k.serial (k.slot, d) stands),
+        )
 
     pub names_row : {K' : List Key} → TiedWith K' E ps ds pipes
         → (d.names ≡ named ps k.serial + held (names_it k.serial) K')

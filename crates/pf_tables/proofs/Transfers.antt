@@ -90,8 +90,11 @@ module _ {files : Files} {files_made : ℕ} (f : Live) (limits : Limits) (charge
     pub same_kept : (r' : Pipe) → r' ≡ r → Kept charges ps ds (put_at pipes d.pipe.serial (d.pipe.slot, r'))
     same_kept r' e = subst (Kept charges ps ds) (sym (same_pipes r' e)) k
 
-    pub same_view : (r' : Pipe) → r' ≡ r → record { limits = limits; state = state_of ps ds
-        (put_at pipes d.pipe.serial (d.pipe.slot, r')) files files_made } ≡ n
+    pub same_view : (r' : Pipe) → r' ≡ r → record {
+      limits = limits;
+      state = state_of ps ds
+          (put_at pipes d.pipe.serial (d.pipe.slot, r')) files files_made;
+    } ≡ n
     same_view r' e =
         ap (λ x. record { limits = limits; state = state_of ps ds x files files_made }) (same_pipes r' e) ∙ view
 
@@ -109,8 +112,13 @@ module _ {files : Files} {files_made : ℕ} (f : Live) (limits : Limits) (charge
       shows : state_of ps ds pipes' files files_made
           ≡ with_queue (state_of ps ds pipes files files_made) d.pipe.serial r'.ring
       shows =
-          ap (λ xs. record { processes = processes_of ps; descriptions = descriptions_of ds; pipes = xs; files = files;
-          files_made = files_made })
+          ap (λ xs. record {
+            processes = processes_of ps;
+            descriptions = descriptions_of ds;
+            pipes = xs;
+            files = files;
+            files_made = files_made;
+          })
           (map-set (option_map pipe_of) pipes d.pipe.serial (Some (d.pipe.slot, r'))
           ∙ (λ i. set (pipes_of pipes) d.pipe.serial (Some (pipe_with r'.ring (passes.owner i) (passes.opens i))))
           ∙ ap (λ o. set (pipes_of pipes) d.pipe.serial (option_map (holding r'.ring) o)) (sym there))
@@ -220,8 +228,11 @@ module _ {files : Files} {files_made : ℕ} (f : Live) (limits : Limits) (charge
 
         abbrev after : Namespace
         after =
-            record { limits = limits; state = state_of ps ds (put_at pipes d.pipe.serial (d.pipe.slot, r')) files
-            files_made }
+            record {
+              limits = limits;
+              state = state_of ps ds (put_at pipes d.pipe.serial (d.pipe.slot, r')) files
+                  files_made;
+            }
 
         pub wrote : (x : List ℕ) (written : ℕ) (whole : Bool) → end_in (Some sides.Write) ps ds pid fd ≡ Ok d
             → length x ≤ MAX_WRITE → whole ≡ nat_le (length x) PIPE_BUF
@@ -278,9 +289,11 @@ module _ {files : Files} {files_made : ℕ} (f : Live) (limits : Limits) (charge
             let is : moved (read_now (queue_of f r.ring) r.writers (length before)).progress ≡ moved progress =
             ap (λ (p : Passed). moved p.progress) passes.told in
             let front : take (moved progress) bytes ≡ taken (queue_of f r.ring) (moved progress) =
-            buffers.front (queue_of f r.ring) r.writers (moved progress) before bytes is lie in
-            (was_read (length before) (take (moved progress) bytes) h front passes, buffers.lies (queue_of f r.ring)
-            r.writers (moved progress) before bytes is lie)
+            buffers.front (queue_of f r.ring) r.writers (moved progress) before bytes is lie in (
+              was_read (length before) (take (moved progress) bytes) h front passes,
+              buffers.lies (queue_of f r.ring)
+                  r.writers (moved progress) before bytes is lie,
+            )
 
         -- and where they are more than it has room for
         pub was_truncated : (m : ℕ) (before bytes : List ℕ) → end_in (Some sides.Read) ps ds pid fd ≡ Ok d

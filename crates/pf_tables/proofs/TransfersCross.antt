@@ -158,8 +158,13 @@ module _ {files : Files} {files_made : ℕ} (f : Live) (limits : Limits) (charge
               → state_of ps ds (put_at rows d.pipe.serial (d.pipe.slot, p')) files files_made
               ≡ with_queue (state_of ps ds rows files files_made) d.pipe.serial p'.ring
           rewritten rows d p p' is same =
-              ap (λ xs. record { processes = processes_of ps; descriptions = descriptions_of ds; pipes = xs; files =
-              files; files_made = files_made })
+              ap (λ xs. record {
+                processes = processes_of ps;
+                descriptions = descriptions_of ds;
+                pipes = xs;
+                files = files;
+                files_made = files_made;
+              })
               (map-set (option_map pipe_of) rows d.pipe.serial (Some (d.pipe.slot, p'))
               ∙ (λ i. set (pipes_of rows) d.pipe.serial (Some (pipe_with p'.ring (same.owner i) (same.opens i))))
               ∙ ap (λ x. set (pipes_of rows) d.pipe.serial (option_map (holding p'.ring) x)) (sym is))
@@ -298,8 +303,15 @@ module _ {files : Files} {files_made : ℕ} (f : Live) (limits : Limits) (charge
       pages_at (pipes_of pipes) o.pipe.serial (pipe_of (o.pipe.slot, s))
       (there f limits charges ps ds pipes k n view owns o s to) in
       let all : sum_by slots_used (rings_of st) ≡ occupied st = used-rings (pipes_of pipes) in
-      omega (arith, own.joined.total, all, one, most, occupied_pages f (record { limits = limits; state = st }) own,
-      pages_within f (record { limits = limits; state = st }) own)
+      omega (
+        arith,
+        own.joined.total,
+        all,
+        one,
+        most,
+        occupied_pages f (record { limits = limits; state = st }) own,
+        pages_within f (record { limits = limits; state = st }) own,
+      )
     where
       pages_at : (xs : List (Option (machine.Pipe Window))) (j : ℕ) (p : machine.Pipe Window) → at xs j ≡ Some p
           → p.queue.capacity ≤ sum_of (λ (q : machine.Pipe Window). q.queue.capacity) xs
@@ -357,14 +369,17 @@ module _ {files : Files} {files_made : ℕ} (f : Live) (limits : Limits) (charge
 
         two_found : (b : Bool) → nat_eq i.pipe.serial o.pipe.serial ≡ b
             → (ready s pid >>= (λ p. two_ends s p source sink))
-            ≡ (refuse_if b EINVAL >> Ok (record { source = end_of_rows (pipe_meaning f) i at_source.pipe; sink =
-            end_of_rows (pipe_meaning f) o at_sink.pipe }))
+            ≡ (refuse_if b EINVAL >> Ok (record {
+              source = end_of_rows (pipe_meaning f) i at_source.pipe;
+              sink = end_of_rows (pipe_meaning f) o at_sink.pipe;
+            }))
         two_found b h =
             both_ok (λ p. reading_end itself s p source) (λ p. writing_end itself s p sink) test (ready s pid)
             (end_of_rows (pipe_meaning f) i at_source.pipe) (end_of_rows (pipe_meaning f) o at_sink.pipe) at_source.is
             at_sink.is
-            ∙ ap (λ x. refuse_if x EINVAL >> Ok (record
-            { source = end_of_rows (pipe_meaning f) i at_source.pipe; sink = end_of_rows (pipe_meaning f) o at_sink.pipe
+            ∙ ap (λ x. refuse_if x EINVAL >> Ok (record {
+              source = end_of_rows (pipe_meaning f) i at_source.pipe;
+              sink = end_of_rows (pipe_meaning f) o at_sink.pipe;
             })) h
 
         pub one_pipe : i.pipe.serial ≡ o.pipe.serial
@@ -391,9 +406,12 @@ module _ {files : Files} {files_made : ℕ} (f : Live) (limits : Limits) (charge
           is_tried : attempted (meaning f n.state) pid (Bringing c source sink m) ≡ Ok (try_cross c s ends m)
           is_tried =
               in_view _ (goes_on _ (two_found false (ne_eqb i.pipe.serial o.pipe.serial differ))
-              ∙ (λ j. Ok (try_cross c s (record { source = end_of_rows (pipe_meaning f) i
-              (same_row i at_source.pipe r at_source.stands from j); sink = end_of_rows (pipe_meaning f) o
-              (same_row o at_sink.pipe t at_sink.stands to j) }) m)))
+              ∙ (λ j. Ok (try_cross c s (record {
+                source = end_of_rows (pipe_meaning f) i
+                    (same_row i at_source.pipe r at_source.stands from j);
+                sink = end_of_rows (pipe_meaning f) o
+                    (same_row o at_sink.pipe t at_sink.stands to j);
+              }) m)))
 
           source_counts : (readers itself s i.pipe.serial ≡ r.readers) × (writers itself s i.pipe.serial ≡ r.writers)
           source_counts =

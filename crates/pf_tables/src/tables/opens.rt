@@ -299,7 +299,13 @@ impl<A: Allocator> Tables<A> {
 
     /// Opens the FIFO at a path for a process (open(2), fifo(7)): its lowest free descriptor names the description, or
     /// the process waits for the other side.
-    pub fn open(&mut self, alloc: Global, pid: u32, path: &[u8], flags: OpenFlags) -> Result<Reply, Fault>
+    pub fn open(
+        &mut self,
+        alloc: Global,
+        pid: u32,
+        path: &[u8],
+        flags: OpenFlags,
+    ) -> Result<Reply, Fault>
         ensures says { let s = self.old.state in Says self.old self.new result
             (of_ready s pid (λ p. open_path itself (length s.descriptions) itself self.old.limits s pid p path.now
             (access_of flags.0))) }

@@ -32,7 +32,7 @@ returns-clause-told g c =
           ((λ j. is_nonblocking_at (meaning (g.F.Frames.live (sym same.1 j)) (sym same.0 j).state) c.args.pid c.args.fd)
           ∙ sym w.is_nonblocking.ensures ∙ w.if-is_nonblocking.false)
       | else-not-again-via-else-not-again w ↦ nothing_asked
-      (is_nonblocking_at (meaning f c.self.inside.tables.state) c.args.pid c.args.fd) (ap not w.if-not-again.false)
+          (is_nonblocking_at (meaning f c.self.inside.tables.state) c.args.pid c.args.fd) (ap not w.if-not-again.false)
     ] in
     subst (λ (o : Namespace). Told f after o c.park.new.self (Ok replies.Parked)
     (tried_call (meaning f o.state) c.args.pid (not c.args.again && is_nonblocking_at (meaning f o.state) c.args.pid

@@ -88,9 +88,11 @@ returns-in-Err-NoMemory-clause-unchanged g c _ =
     lemmas.restored old.limits f (g.F.Frames.live c.read_on.new.door) old c.wake.new.self c.park.new.self c.args.pid
     (Reading c.in-Some-Read.fd c.in-Some-Read.n) (sym c.in-Some-Read.ensures.call
     ∙ ap (λ x. Some (call_of x)) c.in-Some-Read.field-0-is) c.wake.ensures.namespace
-    (settled-meaning f old.state c.settled.ensures) in
-    (c.park.ensures ∙ ap (λ (n : Namespace). waits_in (Some (Moving (Reading c.in-Some-Read.fd c.in-Some-Read.n))) n
-    c.args.pid) (c.self-in-Some-Read.view_is ∙ same.0) ∙ back ∙ c.self.view_is, same.1)
+    (settled-meaning f old.state c.settled.ensures) in (
+      c.park.ensures ∙ ap (λ (n : Namespace). waits_in (Some (Moving (Reading c.in-Some-Read.fd c.in-Some-Read.n))) n
+          c.args.pid) (c.self-in-Some-Read.view_is ∙ same.0) ∙ back ∙ c.self.view_is,
+      same.1,
+    )
 
 pub returns-in-Err-NoMemory-clause-told : goal.returns-in-Err-NoMemory-clause-told
 returns-in-Err-NoMemory-clause-told g c =

@@ -26,10 +26,10 @@ returns-clause-told g c =
     ≡ Ok (Waits came.tried.state (Moving (Writing c.args.fd rest.bytes rest.written))) =
     elim c.match-branch-2.branch [
       | in-Moved+else-written-n w ↦ goes_on came.tried c.args.fd x c.args.write.written w.in-Moved.n rest
-      (λ e. w.if-written-n.false (ap (λ m. m + w.in-Moved.n) c.written-written.ensures.written ∙ e
-      ∙ sym w.total.ensures)) (w.write-is ∙ w.advance.ensures) (came.progress_is ∙ w.in-Moved.is)
+          (λ e. w.if-written-n.false (ap (λ m. m + w.in-Moved.n) c.written-written.ensures.written ∙ e
+          ∙ sym w.total.ensures)) (w.write-is ∙ w.advance.ensures) (came.progress_is ∙ w.in-Moved.is)
       | in-WouldBlock w ↦ stays_waiting came.tried c.args.fd c.args.write rest w.write-is
-      (blocked_as came.progress_is w.in-WouldBlock.is)
+          (blocked_as came.progress_is w.in-WouldBlock.is)
     ] in
     let told =
     parks f after c.self.inside.tables c.write_now.new.self c.park.new.self c.args.pid t came.tried is

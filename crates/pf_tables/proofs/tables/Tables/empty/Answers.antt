@@ -44,8 +44,11 @@ pub returns-in-Some-clause-emptied : goal.returns-in-Some-clause-emptied
 returns-in-Some-clause-emptied g c =
     let w = rw c.in-Some.is at c.let_go-was_open.ensures.pipe in
     subst (λ (l : Limits). Becomes (g.F.Frames.live c.args.door.now) (g.F.Frames.live c.clear.new.door) c.args.self.now
-    (record { limits = l; state = state_of c.let_go-was_open.new.processes c.let_go-was_open.new.descriptions.items
-    c.let_go-was_open.new.pipes.items c.self.inside.files c.self.inside.files_made })
+    (record {
+      limits = l;
+      state = state_of c.let_go-was_open.new.processes c.let_go-was_open.new.descriptions.items
+          c.let_go-was_open.new.pipes.items c.self.inside.files c.self.inside.files_made;
+    })
     (emptied (meaning (g.F.Frames.live c.args.door.now) c.args.self.now.state) c.args.i c.args.fd))
     c.refund.ensures.limits
     (lemmas.gone_becomes (g.F.Frames.live c.args.door.now) c.self.inside.pages.limits _ _ _ _ c.self.invariant.kept

@@ -17,5 +17,8 @@ invariant_of-result g c = record {
 
 pub returns : goal.returns
 returns g c =
-    λ j. record { limits = (ap (λ (u : UserPages). u.limits) c.new-2.ensures) j; state =
-    (nothing_shown _ _ _ c.in_ok-processes.ensures c.new-3.ensures.items c.new-4.ensures.items c.new-6.ensures) j }
+    λ j. record {
+      limits = (ap (λ (u : UserPages). u.limits) c.new-2.ensures) j;
+      state =
+          (nothing_shown _ _ _ c.in_ok-processes.ensures c.new-3.ensures.items c.new-4.ensures.items c.new-6.ensures) j;
+    }

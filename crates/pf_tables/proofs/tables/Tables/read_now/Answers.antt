@@ -39,8 +39,11 @@ invariant_of-self g c =
 pub returns-in_err-progress-clause-owns : goal.returns-in_err-progress-clause-owns
 returns-in_err-progress-clause-owns g c =
     let same = c.in_err-progress.ensures.refused in
-    rw (lemmas.same_view (g.F.Frames.live c.args.door.now) _ _ _ _ _ c.self.invariant.kept _ c.self.view_is
-    c.requires.owns c.in_ok-end.end _ c.value_mut-pipe.ensures.value _ same.0, ap g.F.Frames.live same.1)
+    rw (
+      lemmas.same_view (g.F.Frames.live c.args.door.now) _ _ _ _ _ c.self.invariant.kept _ c.self.view_is
+          c.requires.owns c.in_ok-end.end _ c.value_mut-pipe.ensures.value _ same.0,
+      ap g.F.Frames.live same.1,
+    )
     c.requires.owns
 
 pub returns-in_err-progress-clause-refused : goal.returns-in_err-progress-clause-refused
@@ -75,6 +78,8 @@ returns-clause-read g c =
 
 pub returns-clause-untouched : goal.returns-clause-untouched
 returns-clause-untouched g c none =
-    let u = c.in_ok-progress.ensures.untouched none in
-    (lemmas.same_view (g.F.Frames.live c.args.door.now) _ _ _ _ _ c.self.invariant.kept _ c.self.view_is c.requires.owns
-    c.in_ok-end.end _ c.value_mut-pipe.ensures.value _ u.0, u.1)
+    let u = c.in_ok-progress.ensures.untouched none in (
+      lemmas.same_view (g.F.Frames.live c.args.door.now) _ _ _ _ _ c.self.invariant.kept _ c.self.view_is
+          c.requires.owns c.in_ok-end.end _ c.value_mut-pipe.ensures.value _ u.0,
+      u.1,
+    )

@@ -49,6 +49,8 @@ returns-clause-read g c =
 
 pub returns-clause-untouched : goal.returns-clause-untouched
 returns-clause-untouched g c none =
-    let u = c.read_truncated.ensures.untouched none in
-    (lemmas.same_view (g.F.Frames.live c.args.door.now) _ _ _ _ _ c.self.invariant.kept _ c.self.view_is c.requires.owns
-    c.in_ok-source.source _ c.value_mut-pipe.ensures.value _ u.0, u.1)
+    let u = c.read_truncated.ensures.untouched none in (
+      lemmas.same_view (g.F.Frames.live c.args.door.now) _ _ _ _ _ c.self.invariant.kept _ c.self.view_is
+          c.requires.owns c.in_ok-source.source _ c.value_mut-pipe.ensures.value _ u.0,
+      u.1,
+    )

@@ -54,9 +54,11 @@ returns-then-room-bytes-clause-written g c =
     (subst (λ k. k < length c.args.bytes.now) (c.room.ensures (g.F.Frames.live c.args.door.now)) c.if-room-bytes.true)
 
 pub returns-then-room-bytes-clause-waits : goal.returns-then-room-bytes-clause-waits
-returns-then-room-bytes-clause-waits g c nothing =
-    (lemmas.same_view (g.F.Frames.live c.args.door.now) _ _ _ _ _ c.self.invariant.kept _ c.self.view_is c.requires.owns
-    c.in_ok-end.end _ c.value_mut-pipe.ensures.value _ refl, refl)
+returns-then-room-bytes-clause-waits g c nothing = (
+  lemmas.same_view (g.F.Frames.live c.args.door.now) _ _ _ _ _ c.self.invariant.kept _ c.self.view_is c.requires.owns
+      c.in_ok-end.end _ c.value_mut-pipe.ensures.value _ refl,
+  refl,
+)
 
 pub write_now-requires-clause-stands : goal.write_now-requires-clause-stands
 write_now-requires-clause-stands g c =
@@ -89,21 +91,23 @@ fits : (g : Over) (c : goal.After-self-2-1 g) → 0 < c.value_mut-pipe.result.no
     → length c.args.bytes.now ≤ room_of (queue_of (g.F.Frames.live c.args.door.now) c.value_mut-pipe.result.now.ring)
 fits g c some = elim c.else-readers-gt0.branch [
   | else-readers-gt0-via-then-readers-gt0+else-room-bytes w ↦ subst (λ k. length c.args.bytes.now ≤ k)
-  (w.room.ensures (g.F.Frames.live c.args.door.now)) w.if-room-bytes.false
+      (w.room.ensures (g.F.Frames.live c.args.door.now)) w.if-room-bytes.false
   | else-readers-gt0-via-else-readers-gt0 w ↦ absurd (omega (arith, some, c.readers.ensures, w.if-readers-gt0.false))
 ]
 
 pub returns-clause-written : goal.returns-clause-written
 returns-clause-written g c = (
   lemmas.wrote (g.F.Frames.live c.args.door.now) _ _ _ _ _ c.self.invariant.kept _ c.self.view_is c.requires.owns
-  c.args.pid c.args.fd c.in_ok-end.end _ c.value_mut-pipe.ensures.value _ _ _ c.args.bytes.now 0 _
-  (sym c.in_ok-end.ensures) c.if-bytes-gt-MAX_WRITE.false refl c.write_now.ensures.passes,
+      c.args.pid c.args.fd c.in_ok-end.end _ c.value_mut-pipe.ensures.value _ _ _ c.args.bytes.now 0 _
+      (sym c.in_ok-end.ensures) c.if-bytes-gt-MAX_WRITE.false refl c.write_now.ensures.passes,
   subst (λ (m : Passed). IsDone m.progress (length c.args.bytes.now)) c.write_now.ensures.passes.told
-  (ends _ _ c.args.bytes.now _ (fits g c)),
+      (ends _ _ c.args.bytes.now _ (fits g c)),
 )
 
 pub returns-clause-untouched : goal.returns-clause-untouched
 returns-clause-untouched g c none =
-    let u = c.write_now.ensures.untouched none in
-    (lemmas.same_view (g.F.Frames.live c.args.door.now) _ _ _ _ _ c.self.invariant.kept _ c.self.view_is c.requires.owns
-    c.in_ok-end.end _ c.value_mut-pipe.ensures.value _ u.0, u.1)
+    let u = c.write_now.ensures.untouched none in (
+      lemmas.same_view (g.F.Frames.live c.args.door.now) _ _ _ _ _ c.self.invariant.kept _ c.self.view_is
+          c.requires.owns c.in_ok-end.end _ c.value_mut-pipe.ensures.value _ u.0,
+      u.1,
+    )

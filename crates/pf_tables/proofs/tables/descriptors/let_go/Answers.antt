@@ -10,8 +10,10 @@ returns-in_default-clause-left c =
 
 pub unname-requires : goal.unname-requires
 unname-requires c =
-    record { named = lemmas.has_names _ _ _ c.requires _ _ _ c.take_key.ensures.rows c.in-Some.key
-    (sym c.take_key.ensures.key ∙ c.in-Some.is) }
+    record {
+      named = lemmas.has_names _ _ _ c.requires _ _ _ c.take_key.ensures.rows c.in-Some.key
+          (sym c.take_key.ensures.key ∙ c.in-Some.is);
+    }
 
 pub returns-in_default-unname-clause-left : goal.returns-in_default-unname-clause-left
 returns-in_default-unname-clause-left c =

@@ -42,8 +42,12 @@ name-requires-clause-below c =
     let few =
     lemmas.below c.args.descriptors.now c.args.descriptions.now.items c.requires.stand c.requires.few c.loop-fd.fd
     c.in-Some.key (sym c.get.ensures ∙ c.in-Some.is) (omega (arith, c.loop-fd-test.true)) in
-    omega (arith, few, ap (λ (rows : DescriptionRows). names_of (find rows c.in-Some.key.slot c.in-Some.key.serial))
-    c.loop-fd.invariant.named)
+    omega (
+      arith,
+      few,
+      ap (λ (rows : DescriptionRows). names_of (find rows c.in-Some.key.slot c.in-Some.key.serial))
+          c.loop-fd.invariant.named,
+    )
 
 pub returns : goal.returns
 returns c =
