@@ -31,8 +31,9 @@ mod queries;
 
 /// A namespace of a service: its number, what lies behind its lock, and who waits there for its next event.
 ///
-/// A contract sees the number: what lies behind the lock is known while it is held. No other module gets at the lock: so
-/// an event reaches what lies there by `call` and `call_waiting` alone, which want a seat of this number.
+/// A contract sees the number: what lies behind the lock is known while it is held. This module and its `queries` alone
+/// get at the lock: so an event reaches what lies there by `call` and `call_waiting` alone, which want a seat of this
+/// number.
 #[derive(Drop)]
 pub(crate) struct Place<A: Allocator, C: Ledger, H: Ledger> {
     ns: u32,
