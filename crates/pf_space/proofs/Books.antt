@@ -47,18 +47,19 @@ meaning-as f s =
       descriptions = each-same (description_as itself) (λ d. refl) s.descriptions i;
     }
 
--- A call that was made, or refused. step: the kind that it is of; natural: what the machine's call of that kind is
--- where a window shows a segment
-pub booked : {f : Live} {tables old new : Namespace} → tables ≡ old → Owns f old → {result : Result Reply Fault}
-    {step asked : Step} → asked ≡ step → (own : Result (Outcome Window ℕ) Errno) → Says tables new result own
-    → OnErr result (new ≡ tables)
+-- A call that was made, or refused. told: what is handed on of what the tables told; step: the kind that it is of;
+-- natural: what the machine's call of that kind is where a window shows a segment
+pub booked : {f : Live} {tables old new : Namespace} → tables ≡ old → Owns f old → {told result : Result Reply Fault}
+    → told ≡ result → {step asked : Step} → asked ≡ step → (own : Result (Outcome Window ℕ) Errno)
+    → Says tables new result own → OnErr result (new ≡ tables)
     → ((shows : Window → Segment) → call tables.limits (state_as shows itself tables.state) step
     ≡ if_ok (outcome_as shows itself) own)
-    → Told f f old new result (call old.limits (meaning f old.state) asked)
-booked {f} {tables} {old} {new} view owns {result} {step} {asked} is own says refused natural =
-    subst (λ (n : Namespace). Told f f n new result (call n.limits (meaning f n.state) asked)) view
-    (subst (λ (x : Step). Told f f tables new result (call tables.limits (meaning f tables.state) x)) (sym is)
-    (by_result result says refused))
+    → Told f f old new told (call old.limits (meaning f old.state) asked)
+booked {f} {tables} {old} {new} view owns {told} {result} moved {step} {asked} is own says refused natural =
+    subst (λ (n : Namespace). Told f f n new told (call n.limits (meaning f n.state) asked)) view
+    (subst (λ (x : Step). Told f f tables new told (call tables.limits (meaning f tables.state) x)) (sym is)
+    (subst (λ (r : Result Reply Fault). Told f f tables new r (call tables.limits (meaning f tables.state) step))
+    (sym moved) (by_result result says refused)))
   where
     owned : Owns f tables
     owned = subst (Owns f) (sym view) owns
@@ -91,14 +92,15 @@ booked {f} {tables} {old} {new} view owns {result} {step} {asked} is own says re
     }
 
 -- a call that only looks something up
-pub looked_up : {f : Live} {tables old : Namespace} → tables ≡ old → Owns f old → {result : Result Reply Fault}
-    {step asked : Step} → asked ≡ step → (own : Result (Outcome Window ℕ) Errno) → Says tables tables result own
+pub looked_up : {f : Live} {tables old : Namespace} → tables ≡ old → Owns f old → {told result : Result Reply Fault}
+    → told ≡ result → {step asked : Step} → asked ≡ step → (own : Result (Outcome Window ℕ) Errno)
+    → Says tables tables result own
     → ((shows : Window → Segment) → call tables.limits (state_as shows itself tables.state) step
     ≡ if_ok (outcome_as shows itself) own)
-    → Told f f old old result (call old.limits (meaning f old.state) asked)
-looked_up {f} {tables} {old} view owns {result} {step} {asked} is own says natural =
-    subst (λ (n : Namespace). Told f f old n result (call old.limits (meaning f old.state) asked)) view
-    (booked view owns is own says (on_err result) natural)
+    → Told f f old old told (call old.limits (meaning f old.state) asked)
+looked_up {f} {tables} {old} view owns {told} {result} moved {step} {asked} is own says natural =
+    subst (λ (n : Namespace). Told f f old n told (call old.limits (meaning f old.state) asked)) view
+    (booked view owns moved is own says (on_err result) natural)
   where
     on_err : (r : Result Reply Fault) → OnErr r (tables ≡ tables)
     on_err (Ok reply) = tt

@@ -30,6 +30,18 @@ impl<A: Allocator> Model for Space<A> {
     ghost view = { λ s. s.tables };
 }
 
+// What the tables told of a call. It is moved once, into the step's answer: where a call puts it there itself, the compiler
+// keeps that answer in memory for a write and a read too.
+#[inline(always)]
+fn handed(told: Result<Reply, Fault>) -> Result<Reply, Fault>
+    ensures { result ≡ told }
+{
+    match told {
+        Ok(reply) => Ok(reply),
+        Err(fault) => Err(fault),
+    }
+}
+
 impl<A: Allocator + Clone> Space<A> {
     ghost use Rattle.std.specs.Prelude.{◌≡◌, ◌≢◌, ◌≤◌, Err, IfOk, false};
     ghost use Rattle.pf_machine.specs.State.{opening};
@@ -101,21 +113,23 @@ impl<A: Allocator + Clone> Space<A> {
                 gid,
                 umask,
                 groups,
-            } => self.tables.spawn(self.alloc, *uid, *gid, *umask, groups),
-            Step::Exit { pid } => self.tables.drop_process(door, *pid),
-            Step::Pipe { pid, nonblock } => self.tables.pipe(self.alloc, *pid, *nonblock),
-            Step::Close { pid, fd } => self.tables.drop_descriptor(door, *pid, *fd),
+            } => handed(self.tables.spawn(self.alloc, *uid, *gid, *umask, groups)),
+            Step::Exit { pid } => handed(self.tables.drop_process(door, *pid)),
+            Step::Pipe { pid, nonblock } => handed(self.tables.pipe(self.alloc, *pid, *nonblock)),
+            Step::Close { pid, fd } => handed(self.tables.drop_descriptor(door, *pid, *fd)),
             Step::Read { pid, fd, n } => self.read(door, *pid, *fd, *n),
             Step::Write { pid, fd, payload } => {
                 self.write(door, *pid, *fd, payload.as_slice(), Some(payload))
             }
             Step::SetSize { pid, fd, bytes } => {
-                self.tables.set_size(self.alloc, *pid, *fd, *bytes)
+                handed(self.tables.set_size(self.alloc, *pid, *fd, *bytes))
             }
-            Step::GetSize { pid, fd } => self.tables.size(*pid, *fd),
-            Step::Fork { pid } => self.tables.fork(self.alloc, *pid),
-            Step::Dup { pid, fd } => self.tables.dup(*pid, *fd),
-            Step::SetNonblock { pid, fd, on } => self.tables.set_nonblocking(*pid, *fd, *on),
+            Step::GetSize { pid, fd } => handed(self.tables.size(*pid, *fd)),
+            Step::Fork { pid } => handed(self.tables.fork(self.alloc, *pid)),
+            Step::Dup { pid, fd } => handed(self.tables.dup(*pid, *fd)),
+            Step::SetNonblock { pid, fd, on } => handed(
+                self.tables.set_nonblocking(*pid, *fd, *on),
+            ),
             Step::Tee {
                 pid,
                 source,
@@ -148,22 +162,31 @@ impl<A: Allocator + Clone> Space<A> {
                 *nonblock,
                 false,
             ),
-            Step::Mkdir { pid, path, mode } => self
-                .tables
-                .make_file(self.alloc, *pid, Kind::Directory, path.as_slice(), *mode),
+            Step::Mkdir { pid, path, mode } => {
+                handed(
+                    self.tables
+                        .make_file(self.alloc, *pid, Kind::Directory, path.as_slice(), *mode),
+                )
+            }
             Step::Mkfifo { pid, path, mode } => {
-                self.tables
-                    .make_file(self.alloc, *pid, Kind::Fifo, path.as_slice(), *mode)
+                handed(
+                    self.tables
+                        .make_file(self.alloc, *pid, Kind::Fifo, path.as_slice(), *mode),
+                )
             }
-            Step::Unlink { pid, path } => self.tables.unlink(self.alloc, *pid, path.as_slice()),
-            Step::Rmdir { pid, path } => self.tables.rmdir(self.alloc, *pid, path.as_slice()),
+            Step::Unlink { pid, path } => handed(
+                self.tables.unlink(self.alloc, *pid, path.as_slice()),
+            ),
+            Step::Rmdir { pid, path } => handed(
+                self.tables.rmdir(self.alloc, *pid, path.as_slice()),
+            ),
             Step::Chmod { pid, path, mode } => {
-                self.tables.chmod(self.alloc, *pid, path.as_slice(), *mode)
+                handed(self.tables.chmod(self.alloc, *pid, path.as_slice(), *mode))
             }
-            Step::Stat { pid, path } => self.tables.stat(self.alloc, *pid, path.as_slice()),
-            Step::List { pid, path } => self.tables.list(self.alloc, *pid, path.as_slice()),
+            Step::Stat { pid, path } => handed(self.tables.stat(self.alloc, *pid, path.as_slice())),
+            Step::List { pid, path } => handed(self.tables.list(self.alloc, *pid, path.as_slice())),
             Step::Open { pid, path, flags } => {
-                self.tables.open(self.alloc, *pid, path.as_slice(), *flags)
+                handed(self.tables.open(self.alloc, *pid, path.as_slice(), *flags))
             }
             Step::Resume { pid } => self.resume(door, *pid),
         }

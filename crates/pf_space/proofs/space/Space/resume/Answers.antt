@@ -20,7 +20,7 @@ use Rattle.pf_space.proofs.space.Space.resume.Goals as goal
 pub returns-then-branch-clause-told : goal.returns-then-branch-clause-told
 returns-then-branch-clause-told g c =
     let again = c.resume_open.ensures in
-    booked c.self.view_is c.requires.owns {step = Resume c.args.pid} refl _ again.makes tt
+    booked c.self.view_is c.requires.owns refl {step = Resume c.args.pid} refl _ again.makes tt
     (λ shows. resume-call shows itself c.self.inside.tables.limits c.self.inside.tables.state c.args.pid again.n
     again.before again.waits)
 
