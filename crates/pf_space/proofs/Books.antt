@@ -4,6 +4,7 @@
 use Rattle.std.proofs.Common.{◌≡◌, ℕ, List, [], ◌∷◌, Option, Some, None, Result, Ok, Err, OnErr, refl, sym, ap, subst}
 use Rattle.std.proofs.Common.{◌∙◌}
 use Rattle.std.specs.Option.{option_map}
+use Rattle.pf_base.specs.Limits.{Limits}
 use Rattle.pf_base.specs.declared.errno.Errno.{Errno}
 use Rattle.pf_base.specs.declared.fault.Fault.{Fault}
 use Rattle.pf_base.specs.declared.fault.Fault.TheVariants as faults
@@ -13,7 +14,7 @@ use Rattle.pf_machine.specs.Calls.{Call, Opening, Moving}
 use Rattle.pf_machine.specs.Machine.{call}
 use Rattle.pf_machine.specs.Maps.{if_ok, each, call_as, process_as, description_as, state_as, outcome_as}
 use Rattle.pf_machine.specs.Queue.{Segment}
-use Rattle.pf_machine.specs.State.{itself, State, Process, Outcome}
+use Rattle.pf_machine.specs.State.{itself, State, Process, Outcome, told}
 use Rattle.pf_frame.specs.Live.{Live}
 use Rattle.pf_ring.specs.Ring.{segment_of}
 use Rattle.pf_ring.specs.declared.ring.Window.{Window}
@@ -47,25 +48,38 @@ meaning-as f s =
       descriptions = each-same (description_as itself) (λ d. refl) s.descriptions i;
     }
 
--- A call that was made, or refused. told: what is handed on of what the tables told; step: the kind that it is of;
+-- What the machine's call is at the meaning of a state. step: the kind that it is of; natural: what it is where a window
+-- shows a segment
+module _ (f : Live) (limits : Limits) (s : State Window ℕ) (step : Step) (own : Result (Outcome Window ℕ) Errno)
+    (natural : (shows : Window → Segment) → call limits (state_as shows itself s) step
+    ≡ if_ok (outcome_as shows itself) own) where
+  machine : call limits (meaning f s) step ≡ if_ok (outcome_as (segment_of f) itself) own
+  machine = ap (λ x. call limits x step) (sym (meaning-as f s)) ∙ natural (segment_of f)
+
+  pub made-as : {t : State Window ℕ} {reply : Reply} → own ≡ Ok (told t reply)
+      → call limits (meaning f s) step ≡ Ok (told (meaning f t) reply)
+  made-as {t} {reply} is =
+      machine ∙ ap (if_ok (outcome_as (segment_of f) itself)) is ∙ ap (λ x. Ok (told x reply)) (meaning-as f t)
+
+  pub refused-as : {e : Errno} → own ≡ Err e → call limits (meaning f s) step ≡ Err e
+  refused-as is = machine ∙ ap (if_ok (outcome_as (segment_of f) itself)) is
+
+-- A call that was made, or refused. given: what is handed on of what the tables told; step: the kind that it is of;
 -- natural: what the machine's call of that kind is where a window shows a segment
-pub booked : {f : Live} {tables old new : Namespace} → tables ≡ old → Owns f old → {told result : Result Reply Fault}
-    → told ≡ result → {step asked : Step} → asked ≡ step → (own : Result (Outcome Window ℕ) Errno)
+pub booked : {f : Live} {tables old new : Namespace} → tables ≡ old → Owns f old → {given result : Result Reply Fault}
+    → given ≡ result → {step asked : Step} → asked ≡ step → (own : Result (Outcome Window ℕ) Errno)
     → Says tables new result own → OnErr result (new ≡ tables)
     → ((shows : Window → Segment) → call tables.limits (state_as shows itself tables.state) step
     ≡ if_ok (outcome_as shows itself) own)
-    → Told f f old new told (call old.limits (meaning f old.state) asked)
-booked {f} {tables} {old} {new} view owns {told} {result} moved {step} {asked} is own says refused natural =
-    subst (λ (n : Namespace). Told f f n new told (call n.limits (meaning f n.state) asked)) view
-    (subst (λ (x : Step). Told f f tables new told (call tables.limits (meaning f tables.state) x)) (sym is)
+    → Told f f old new given (call old.limits (meaning f old.state) asked)
+booked {f} {tables} {old} {new} view owns {given} {result} moved {step} {asked} is own says refused natural =
+    subst (λ (n : Namespace). Told f f n new given (call n.limits (meaning f n.state) asked)) view
+    (subst (λ (x : Step). Told f f tables new given (call tables.limits (meaning f tables.state) x)) (sym is)
     (subst (λ (r : Result Reply Fault). Told f f tables new r (call tables.limits (meaning f tables.state) step))
     (sym moved) (by_result result says refused)))
   where
     owned : Owns f tables
     owned = subst (Owns f) (sym view) owns
-
-    machine : call tables.limits (meaning f tables.state) step ≡ if_ok (outcome_as (segment_of f) itself) own
-    machine = ap (λ s. call tables.limits s step) (sym (meaning-as f tables.state)) ∙ natural (segment_of f)
 
     by_result : (r : Result Reply Fault) → Says tables new r own → OnErr r (new ≡ tables)
         → Told f f tables new r (call tables.limits (meaning f tables.state) step)
@@ -73,15 +87,14 @@ booked {f} {tables} {old} {new} view owns {told} {result} moved {step} {asked} i
       owns = made.owned f owned;
       limits = made.limits;
       says =
-          ap settled (machine ∙ ap (if_ok (outcome_as (segment_of f) itself)) made.is)
-          ∙ (λ i. settled (Ok (record { state = meaning-as f new.state i; reply = reply })))
+          ap settled (made-as f tables.limits tables.state step own natural made.is)
           ∙ (λ i. Ok (record { state = sym (settled-meaning f new.state made.swept) i; reply = reply }));
     }
     by_result (Err (faults.Errno e)) refusal same = record {
       owns = subst (Owns f) (sym same) owned;
       limits = ap (λ (n : Namespace). n.limits) same;
       says = (
-        machine ∙ ap (if_ok (outcome_as (segment_of f) itself)) refusal,
+        refused-as f tables.limits tables.state step own natural refusal,
         ap (λ (n : Namespace). meaning f n.state) same,
       );
     }
@@ -91,15 +104,23 @@ booked {f} {tables} {old} {new} view owns {told} {result} moved {step} {asked} i
       says = (same, refl);
     }
 
+-- a call that is refused
+pub booked_not : {f : Live} {tables old new : Namespace} → tables ≡ old → Owns f old → (step : Step)
+    (own : Result (Outcome Window ℕ) Errno) {e : Errno} → own ≡ Err e → new ≡ tables
+    → ((shows : Window → Segment) → call tables.limits (state_as shows itself tables.state) step
+    ≡ if_ok (outcome_as shows itself) own)
+    → Told f f old new (Err (faults.Errno e)) (call old.limits (meaning f old.state) step)
+booked_not view owns step own is same natural = booked view owns refl {step = step} refl own is same natural
+
 -- a call that only looks something up
-pub looked_up : {f : Live} {tables old : Namespace} → tables ≡ old → Owns f old → {told result : Result Reply Fault}
-    → told ≡ result → {step asked : Step} → asked ≡ step → (own : Result (Outcome Window ℕ) Errno)
+pub looked_up : {f : Live} {tables old : Namespace} → tables ≡ old → Owns f old → {given result : Result Reply Fault}
+    → given ≡ result → {step asked : Step} → asked ≡ step → (own : Result (Outcome Window ℕ) Errno)
     → Says tables tables result own
     → ((shows : Window → Segment) → call tables.limits (state_as shows itself tables.state) step
     ≡ if_ok (outcome_as shows itself) own)
-    → Told f f old old told (call old.limits (meaning f old.state) asked)
-looked_up {f} {tables} {old} view owns {told} {result} moved {step} {asked} is own says natural =
-    subst (λ (n : Namespace). Told f f old n told (call old.limits (meaning f old.state) asked)) view
+    → Told f f old old given (call old.limits (meaning f old.state) asked)
+looked_up {f} {tables} {old} view owns {given} {result} moved {step} {asked} is own says natural =
+    subst (λ (n : Namespace). Told f f old n given (call old.limits (meaning f old.state) asked)) view
     (booked view owns moved is own says (on_err result) natural)
   where
     on_err : (r : Result Reply Fault) → OnErr r (tables ≡ tables)

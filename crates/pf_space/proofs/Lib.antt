@@ -1,4 +1,5 @@
 mod Books
+mod Closes
 mod ParkedResume
 pub mod Sendable
 mod Steps

@@ -8,6 +8,7 @@ use std::alloc::{AllocError, Allocator, Global};
 use std::marker::Model;
 
 mod bounds;
+mod closes;
 mod parked;
 mod queries;
 mod transfers;
@@ -114,9 +115,9 @@ impl<A: Allocator + Clone> Space<A> {
                 umask,
                 groups,
             } => handed(self.tables.spawn(self.alloc, *uid, *gid, *umask, groups)),
-            Step::Exit { pid } => handed(self.tables.drop_process(door, *pid)),
+            Step::Exit { pid } => self.exit(door, *pid),
             Step::Pipe { pid, nonblock } => handed(self.tables.pipe(self.alloc, *pid, *nonblock)),
-            Step::Close { pid, fd } => handed(self.tables.drop_descriptor(door, *pid, *fd)),
+            Step::Close { pid, fd } => self.close(door, *pid, *fd),
             Step::Read { pid, fd, n } => self.read(door, *pid, *fd, *n),
             Step::Write { pid, fd, payload } => {
                 self.write(door, *pid, *fd, payload.as_slice(), Some(payload))

@@ -19,7 +19,7 @@ use Rattle.pf_ring.specs.Ring.{Ring, queue_of, no_ring, segment_of}
 use Rattle.pf_ring.specs.Table.{Joined}
 use Rattle.pf_tables.specs.Meaning.{Namespace, meaning, pipe_meaning, ring_or, occupied, AreEmpty}
 use Rattle.pf_tables.specs.Owns.{Owns}
-use Rattle.pf_tables.specs.Tables.{awoken, without_place}
+use Rattle.pf_tables.specs.Tables.{awoken}
 use Rattle.pf_tables.specs.Told.{Becomes}
 
 module _ (f : Live) where
@@ -63,7 +63,7 @@ module _ (f : Live) where
   settled-meaning s e = ap (meaning f) e ∙ sym (sweep-meaning s)
 
   -- a change that leaves the pipes
-  pipes-left : (old new : Namespace) (s : State Window ℕ) → new.limits ≡ old.limits
+  pub pipes-left : (old new : Namespace) (s : State Window ℕ) → new.limits ≡ old.limits
       → new.state.pipes ≡ old.state.pipes → new.state ≡ sweep itself s → Owns f old → Becomes f f old new (meaning f s)
   pipes-left old new s limits pipes is owns = record {
     owns = record {
@@ -73,11 +73,6 @@ module _ (f : Live) where
     limits = limits;
     state = ap (meaning f) is ∙ sym (sweep-meaning s);
   }
-
-  pub vacated-left : (old new : Namespace) (i : ℕ) → new.limits ≡ old.limits → new.state.pipes ≡ old.state.pipes
-      → new.state ≡ sweep itself (without_place old.state i) → Owns f old
-      → Becomes f f old new (without_place (meaning f old.state) i)
-  vacated-left old new i limits pipes is owns = pipes-left old new (without_place old.state i) limits pipes is owns
 
   pub woken-left : (old new : Namespace) (pid : ℕ) → new ≡ record old { state = awoken old.state pid }
       → new.state ≡ sweep itself new.state → Owns f old → Becomes f f old new (awoken (meaning f old.state) pid)

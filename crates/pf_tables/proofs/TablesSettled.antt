@@ -2,7 +2,7 @@
 -- a change the rest is as the sweep leaves it.
 
 use Rattle.std.proofs.Common.{◌≡◌, ℕ, ◌+◌, ◌<◌, ◌&&◌, List, [], ◌∷◌, length, map, set, length-set, Option, Some, None}
-use Rattle.std.proofs.Common.{Result, Ok, Err, refl, sym, ap, subst, ◌∙◌, arith, nat_eq}
+use Rattle.std.proofs.Common.{Result, Ok, refl, sym, ap, subst, ◌∙◌, arith, nat_eq}
 use Rattle.std.proofs.lemmas.List.{length-map}
 use Rattle.std.specs.Option.{option_map}
 use Rattle.pf_machine.specs.Calls as calls
@@ -10,9 +10,7 @@ use Rattle.pf_ring.specs.declared.ring.Window.{Window}
 use Rattle.pf_machine.specs.FileMap.{Files}
 use Rattle.pf_base.specs.Limits.{Limits}
 use Rattle.pf_base.specs.declared.errno.Errno.{Errno}
-use Rattle.pf_base.specs.declared.fault.Fault.TheVariants as faults
 use Rattle.pf_base.specs.declared.step.Reply.{Reply}
-use Rattle.pf_base.specs.declared.step.Reply.TheVariants.{Num}
 use Rattle.pf_parked.specs.declared.call.Call.TheVariants.{Open, Read, Write, Cross}
 use Rattle.pf_machine.specs.Numbered.{at, weight, one_if}
 use Rattle.pf_machine.proofs.NumberedLaws.{at_within, sum_of-map}
@@ -24,14 +22,9 @@ use Rattle.pf_machine.proofs.SweepLaws.{with_processes, swept, ends-le-sides, re
 use Rattle.pf_tables.specs.Rows.{ProcessRows, DescriptionRows, PipeRows, Key, Named, Description, Pipe, Call, call_of}
 use Rattle.pf_tables.specs.Rows.{made_by, keys_of, named, read_by, written_by, NamedRow, UsedRow, Tied, description_of}
 use Rattle.pf_tables.specs.Rows.{pipe_of, processes_of, descriptions_of, pipes_of, state_of}
-use Rattle.pf_machine.specs.Queue.{Segment}
-use Rattle.pf_frame.specs.Live.{Live}
 use Rattle.pf_ring.specs.Table.{Joined}
-use Rattle.pf_tables.specs.Meaning.{Namespace, meaning, ring_or}
-use Rattle.pf_tables.specs.Owns.{Owns}
+use Rattle.pf_tables.specs.Meaning.{Namespace, ring_or}
 use Rattle.pf_tables.specs.Tables.{Makes}
-use Rattle.pf_tables.specs.Told.{Becomes, Told, settled as all_settled}
-use Rattle.pf_tables.proofs.MeaningLaws.{settled-meaning}
 use Rattle.pf_tables.proofs.TablesShown.{was, shown}
 use Rattle.pf_tables.proofs.TablesTied.{by_set}
 
@@ -136,26 +129,6 @@ within_row f xs n x y h same = record {
 
 pub within_same : {X : Type 0} (xs : List (Option X)) → Within xs xs
 within_same xs = record { numbers = refl; stood = λ n x h. h }
-
--- a change that leaves nothing that nobody can reach
-pub becomes : (f g : Live) (old new : Namespace) (s : machine.State Segment ℕ) → Owns g new → new.limits ≡ old.limits
-    → meaning g new.state ≡ s → new.state ≡ sweep itself new.state → Becomes f g old new s
-becomes f g old new s owns limits is still =
-    record { owns = owns; limits = limits; state = settled-meaning g new.state still ∙ ap (sweep itself) is }
-
--- a call that lets things go was made, or is refused
-pub leaves : {f g : Live} {old new : Namespace} {s : machine.State Segment ℕ}
-    {call : Result (Outcome Segment ℕ) Errno} → Becomes f g old new s → call ≡ Ok (machine.done s 0)
-    → Told f g old new (Ok (Num 0)) call
-leaves b is = record {
-  owns = b.owns;
-  limits = b.limits;
-  says = ap all_settled is ∙ (λ i. Ok (record { state = sym b.state i; reply = Num 0 }));
-}
-
-pub leaves_not : {f : Live} {old : Namespace} {call : Result (Outcome Segment ℕ) Errno} {e : Errno} → Owns f old
-    → call ≡ Err e → Told f f old old (Err (faults.Errno e)) call
-leaves_not owns is = record { owns = owns; limits = refl; says = (is, refl) }
 
 -- a call that leaves the pipes as they were, by what it leaves at the rows
 pub makes : {qs : ProcessRows} {es : DescriptionRows} {pipes : PipeRows} → Tied qs es pipes → (files : Files)

@@ -1,6 +1,6 @@
 -- What the calls of the tables do, in terms of the lone machine's state.
 
-use Rattle.std.specs.Prelude.{◌≡◌, ℕ, ◌≤◌, ⊤, length, nat_lt, if◌then◌else◌, Bool, true, false, List, Option, Some}
+use Rattle.std.specs.Prelude.{◌≡◌, ℕ, ◌-◌, ◌<◌, ◌≤◌, ⊤, length, nat_lt, if◌then◌else◌, Bool, true, false, List, Option, Some}
 use Rattle.std.specs.Prelude.{None, Result, Ok, Err, nat_le, nat_eq}
 use Rattle.std.specs.Map.{lookup}
 use Rattle.std.specs.Option.{option_and_then}
@@ -8,9 +8,10 @@ use Rattle.pf_machine.specs.Refusals.{◌>>=◌, ◌>>◌, refuse_if, or_refuse}
 use Rattle.pf_machine.specs.FileMap.{Files}
 use Rattle.pf_machine.specs.Numbered.{at, clear_at, change_at, first_free}
 use Rattle.pf_machine.specs.Calls.{Call, Opening, Moving}
-use Rattle.pf_machine.specs.State.{itself, State, Process, Pipe, Outcome, living, told, change_process, with_descriptor}
-use Rattle.pf_machine.specs.State.{waiting}
+use Rattle.pf_machine.specs.State.{itself, State, Process, Pipe, Outcome, living, of_living, told, done, change_process}
+use Rattle.pf_machine.specs.State.{waiting, with_descriptor}
 use Rattle.pf_machine.specs.Descriptors.{without_descriptor}
+use Rattle.pf_machine.specs.Processes.{exit}
 use Rattle.pf_machine.specs.Sweep.{sweep}
 use Rattle.pf_machine.specs.Pipes.{second_free}
 use Rattle.pf_base.specs.Capacities.{may_grow, told_as}
@@ -38,10 +39,6 @@ module _ {X : Type 0} where
   -- the process in place i has no descriptor fd
   abbrev pub emptied : State X ℕ → ℕ → ℕ → State X ℕ
   emptied s i fd = record s { processes = change_at (without_descriptor fd) s.processes i }
-
-  -- no process is in place i
-  abbrev pub without_place : State X ℕ → ℕ → State X ℕ
-  without_place s i = record s { processes = clear_at s.processes i }
 
 -- a process whose call is over: the description that an open made gets the lowest free descriptor
 abbrev pub over : Option (Call ℕ) → Process ℕ → Process ℕ
@@ -95,6 +92,44 @@ abbrev pub made_reply : Result (Unit {0}) Fault → Result Reply Fault
 made_reply (Ok done) = Ok (Num 0)
 made_reply (Err fault) = Err fault
 
+-- which pipe went, if one did
+abbrev pub LetsGo : List (Option (Pipe Window)) → List (Option (Pipe Window)) → Option rows.Pipe → Type 0
+LetsGo old new None = new ≡ old
+LetsGo old new (Some pipe) = (n : ℕ) × (at old n ≡ Some (rows.pipe_shown pipe)) × (new ≡ clear_at old n)
+
+-- A call that lets something go was made: it leaves this state, without what nobody can reach any more. The pipe that
+-- went with it, if one did, is handed out, and its slots still have their frames
+pub record Leaves (old new : Namespace) (s : State Window ℕ) (pipe : Option rows.Pipe) : Type 0 where
+  pub limits : new.limits ≡ old.limits
+  pub state : new.state ≡ sweep itself s
+  pub gone : LetsGo old.state.pipes new.state.pipes pipe
+
+-- the same of a close; or its refusal is the call's
+abbrev pub Closes : Namespace → Namespace → Result (Option rows.Pipe) Errno → Result (Outcome Window ℕ) Errno → Type 0
+Closes old new (Ok gone) call = (s : State Window ℕ) × (call ≡ Ok (done s 0)) × Leaves old new s gone
+Closes old new (Err e) call = call ≡ Err e
+
+-- the process in a place waits in no call, and has none of its first descriptors
+pub record IsBare (s : State Window ℕ) (i n : ℕ) : Type 0 where
+  pub p : Process ℕ
+  pub stands : at s.processes i ≡ Some p
+  pub awake : p.parked ≡ None
+  pub bare : (fd : ℕ) → fd < n → at p.descriptors fd ≡ None
+
+-- an exit began: who exits waits in no call any more
+pub record Begun (old new : Namespace) (pid : ℕ) : Type 0 where
+  pub some : 0 < pid
+  pub p : Process ℕ
+  pub lives : living old.state pid ≡ Ok p
+  pub namespace : new ≡ record old { state = awoken old.state pid }
+  pub swept : new.state ≡ sweep itself new.state
+  pub bare : IsBare new.state (pid - 1) 0
+
+-- or its refusal is the call's
+abbrev pub Begins : Namespace → Namespace → ℕ → Result (Unit {0}) Errno → Type 0
+Begins old new pid (Ok begun) = Begun old new pid
+Begins old new pid (Err e) = of_living old.state pid (λ p. exit old.state pid) ≡ Err e
+
 -- whether a pipe of an owner with so many pages may have so many slots
 abbrev pub verdict : UserPages → Bool → rows.Pipe → ℕ → Result (Unit {0}) Errno
 verdict u privileged p to =
@@ -124,11 +159,6 @@ pub record Left (ps : ProcessRows) (ds : DescriptionRows) (pipes : PipeRows) (ps
   pub tied : Tied ps' ds' pipes'
   pub state : (files : Files) (files_made : ℕ)
       → state_of ps' ds' pipes' files files_made ≡ sweep itself (emptied (state_of ps ds pipes files files_made) i fd)
-
--- which pipe went, if one did
-abbrev pub LetsGo : List (Option (Pipe Window)) → List (Option (Pipe Window)) → Option rows.Pipe → Type 0
-LetsGo old new None = new ≡ old
-LetsGo old new (Some pipe) = (n : ℕ) × (at old n ≡ Some (rows.pipe_shown pipe)) × (new ≡ clear_at old n)
 
 -- and what it was open with
 abbrev pub LetsGoOpens : List (Option (ℕ × rows.Opens)) → List (Option (ℕ × rows.Opens)) → Option rows.Pipe → Type 0

@@ -1,27 +1,21 @@
 //! Descriptors: what gives a description one name more, what sets its flag, and what drops a name. Where a
-//! description's last name goes, so does its end of the pipe; where a pipe's last end goes, so does the pipe: its slots
-//! are released, and its pages are charged no more.
+//! description's last name goes, so does its end of the pipe; where a pipe's last end goes, so does the pipe: its pages
+//! are charged no more, and it is handed out, since its slots still have frames.
 
-ghost use Rattle.std.specs.Prelude.{◌≡◌, ◌≢◌, ℕ, ◌+◌, ◌<◌, ◌≤◌, Err, None, IsSome, IfSome, OnErr, is_some, length, slice_set};
-ghost use Rattle.pf_base.specs.declared.TheConstants.{MAX_DESCRIPTORS, MAX_PROCESSES};
-ghost use Rattle.pf_machine.specs.Descriptors.{dup, set_nonblock};
-ghost use Rattle.pf_machine.specs.Machine.{call, call_of};
+ghost use Rattle.std.specs.Prelude.{◌≡◌, ◌≢◌, ℕ, ◌-◌, ◌<◌, ◌≤◌, Err, None, IsSome, IfSome, OnErr, is_some, length, slice_set};
+ghost use Rattle.pf_base.specs.declared.TheConstants.{MAX_DESCRIPTORS};
+ghost use Rattle.pf_machine.specs.Descriptors.{close, dup, set_nonblock};
 ghost use Rattle.pf_machine.specs.Numbered.{at, one_if};
 ghost use Rattle.pf_machine.specs.State.{itself, of_ready};
-ghost use Rattle.pf_machine.specs.Sweep.{sweep};
 ghost use Rattle.pf_fds.specs.Registry.{find};
-ghost use Rattle.pf_tables.specs.Meaning.{meaning};
-ghost use Rattle.pf_tables.specs.Owns.{Owns};
-ghost use Rattle.pf_tables.specs.Rows.{key_at, with_fewer, left, gone, opens_of, pipes_of, state_of, Tied};
-ghost use Rattle.pf_tables.specs.Tables.{descriptor, emptied, without_place};
-ghost use Rattle.pf_tables.specs.Tables.{Forgets, Left, LetsGo, LetsGoOpens, Says};
-ghost use Rattle.pf_tables.specs.Told.{Becomes, Told};
+ghost use Rattle.pf_tables.specs.Rows.{key_at, with_fewer, left, gone, opens_of, pipes_of, Tied};
+ghost use Rattle.pf_tables.specs.Tables.{descriptor, emptied};
+ghost use Rattle.pf_tables.specs.Tables.{Closes, Forgets, Leaves, Left, LetsGo, LetsGoOpens, Says};
 
 use super::{Description, Tables, key_of};
 use crate::process_table::ProcessTable;
-use pf_base::{Errno, Fault, MAX_DESCRIPTORS, Reply, Side, Step};
+use pf_base::{Errno, Fault, MAX_DESCRIPTORS, Reply, Side};
 use pf_fds::{Descriptions, Key, Registry};
-use pf_frame::Frames;
 use pf_pipe::Pipe;
 use std::alloc::Allocator;
 use std::collections::HashMap;
@@ -57,11 +51,13 @@ fn drop_end(pipes: &mut Registry<Pipe>, end: Description) -> Option<Pipe>
     Some(pipes.remove(end.pipe))
 }
 
-// Whether there was a descriptor, and the pipe that went with it.
+/// What an exit lets go with one number.
 #[derive(Drop)]
-struct LetGo {
-    was_open: bool,
-    pipe: Option<Pipe>,
+pub struct LetGo {
+    /// Whether there was a descriptor.
+    pub was_open: bool,
+    /// The pipe that went with it: its slots still have their frames.
+    pub pipe: Option<Pipe>,
 }
 
 // Drops a descriptor of the process in a place, if there is one, and what nobody can reach any more. It tells whether
@@ -112,32 +108,26 @@ fn forget(fifos: &mut HashMap<u64, Key>, file: Option<u64>)
 }
 
 impl<A: Allocator> Tables<A> {
-    // Drops a descriptor of the process in a place, if there is one, and what nobody can reach any more, and tells
-    // whether there was one.
+    /// Drops a descriptor of a process, if there is one, and what nobody can reach any more: a part of Exit.
     #[inline(always)]
-    pub(super) fn empty<F: Frames>(&mut self, door: &mut F, i: usize, fd: usize) -> bool
-        requires fact { F.fact door.old }
-        requires owns { Owns (F.live door.old) self.old }
-        ensures fact { F.fact door.new }
-        ensures rest { F.rest door.new ≡ F.rest door.old }
-        ensures emptied { Becomes (F.live door.old) (F.live door.new) self.old self.new
-            (emptied (meaning (F.live door.old) self.old.state) i fd) }
-        ensures was_open { result ≡ is_some (descriptor self.old.state i fd) }
+    pub fn empty(&mut self, pid: u32, fd: usize) -> LetGo
+        requires some { 0 < pid }
+        ensures leaves { Leaves self.old self.new (emptied self.old.state (pid - 1) fd) result.pipe }
+        ensures was_open { result.was_open ≡ is_some (descriptor self.old.state (pid - 1) fd) }
     {
         let _ = &self.pages;
-        let LetGo { was_open, pipe } = let_go(
+        let gone = let_go(
             &mut self.processes,
             &mut self.descriptions,
             &mut self.pipes,
-            i,
+            pid as usize - 1,
             fd,
         );
-        if let Some(mut pipe) = pipe {
+        if let Some(pipe) = &gone.pipe {
             self.pages.refund(pipe.owner(), pipe.slots() as u32);
             forget(&mut self.fifos, pipe.file());
-            pipe.clear(door);
         }
-        was_open
+        gone
     }
 
     /// Gives the description that a process's descriptor names one name more, the lowest free descriptor (dup(2)).
@@ -171,45 +161,27 @@ impl<A: Allocator> Tables<A> {
         Ok(Reply::Num(0))
     }
 
-    /// Drops a process's descriptor (close(2)), and what nobody can reach any more.
-    pub fn drop_descriptor<F: Frames>(
-        &mut self,
-        door: &mut F,
-        pid: u32,
-        fd: u32,
-    ) -> Result<Reply, Fault>
-        requires fact { F.fact door.old }
-        requires owns { Owns (F.live door.old) self.old }
-        ensures fact { F.fact door.new }
-        ensures rest { F.rest door.new ≡ F.rest door.old }
-        ensures told { Told (F.live door.old) (F.live door.new) self.old self.new result
-            (call self.old.limits (meaning (F.live door.old) self.old.state) (Step.Close pid fd)) }
-        ensures succeeds { result ≢ Err Fault.NoMemory }
+    /// Drops a process's descriptor (close(2)), and what nobody can reach any more. A pipe that goes is handed out: its
+    /// slots still have their frames.
+    #[inline(always)]
+    pub fn close(&mut self, pid: u32, fd: u32) -> Result<Option<Pipe>, Errno>
+        ensures closes { Closes self.old self.new result
+            (of_ready self.old.state pid (λ p. close self.old.state pid p fd)) }
+        ensures refused { OnErr result (self.new ≡ self.old) }
     {
         key_of(&self.processes, pid, fd)?;
-        self.empty(door, pid as usize - 1, fd as usize);
-        Ok(Reply::Num(0))
+        let LetGo { was_open: _, pipe } = self.empty(pid, fd as usize);
+        Ok(pipe)
     }
 
-    // The least descriptor from this one on that the process in a place has, MAX_DESCRIPTORS where it has none.
-    pub(super) fn next_descriptor(&self, i: usize, from: usize) -> usize
+    /// The least descriptor from this one on that a process has, MAX_DESCRIPTORS where it has none.
+    pub fn next_descriptor(&self, pid: u32, from: usize) -> usize
+        requires some { 0 < pid }
         ensures most { result ≤ MAX_DESCRIPTORS }
-        ensures above { result < MAX_DESCRIPTORS → from ≤ result }
-        ensures stands { result < MAX_DESCRIPTORS → IsSome (descriptor self.now.state i result) }
-        ensures between { (fd : ℕ) → from ≤ fd → fd < result → descriptor self.now.state i fd ≡ None }
+        ensures above { from ≤ MAX_DESCRIPTORS → from ≤ result }
+        ensures stands { result < MAX_DESCRIPTORS → IsSome (descriptor self.now.state (pid - 1) result) }
+        ensures between { (fd : ℕ) → from ≤ fd → fd < result → descriptor self.now.state (pid - 1) fd ≡ None }
     {
-        self.processes.next_key(i, from)
-    }
-
-    // Takes a process away that has no descriptors, and waits in no call.
-    pub(super) fn take_process(&mut self, i: usize)
-        requires i_in { i < MAX_PROCESSES }
-        requires bare { (fd : ℕ) → descriptor self.old.state i fd ≡ None }
-        requires awake { call_of self.old.state (i + 1) ≡ None }
-        ensures limits { self.new.limits ≡ self.old.limits }
-        ensures pipes { self.new.state.pipes ≡ self.old.state.pipes }
-        ensures gone { self.new.state ≡ sweep itself (without_place self.old.state i) }
-    {
-        self.processes.take(i);
+        self.processes.next_key(pid as usize - 1, from)
     }
 }

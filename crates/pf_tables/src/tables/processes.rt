@@ -1,22 +1,17 @@
 //! Processes: what makes one, and what lets one go.
 
-ghost use Rattle.std.specs.Prelude.{◌≡◌, ◌≢◌, Err, IsOk, OnErr, length};
-ghost use Rattle.pf_machine.specs.Machine.{call};
-ghost use Rattle.pf_machine.specs.Processes.{alive, fork, spawn};
+ghost use Rattle.std.specs.Prelude.{◌≡◌, ◌-◌, ◌<◌, Err, IsOk, OnErr, length};
+ghost use Rattle.pf_machine.specs.Processes.{alive, exit, fork, spawn};
 ghost use Rattle.pf_machine.specs.State.{of_ready, ready};
 ghost use Rattle.pf_base.specs.declared.TheConstants.{MAX_DESCRIPTORS};
 ghost use Rattle.pf_tables.specs.Held.{HoldsNone};
-ghost use Rattle.pf_tables.specs.Meaning.{meaning};
-ghost use Rattle.pf_tables.specs.Owns.{Owns};
 ghost use Rattle.pf_tables.specs.Rows.{AllFind, AreFew, named_once_more};
-ghost use Rattle.pf_tables.specs.Tables.{Says};
-ghost use Rattle.pf_tables.specs.Told.{Told};
+ghost use Rattle.pf_tables.specs.Tables.{Begins, IsBare, Makes, Says};
 
 use super::{Description, Tables};
 use crate::process_table::Process;
-use pf_base::{Cred, Errno, Fault, Groups, MAX_DESCRIPTORS, MAX_PROCESSES, Reply, Step};
+use pf_base::{Cred, Errno, Fault, Groups, MAX_DESCRIPTORS, MAX_PROCESSES, Reply};
 use pf_fds::{Descriptions, FdTable};
-use pf_frame::Frames;
 use std::alloc::{Allocator, Global};
 
 // Gives each description that descriptors name one name more for each of them. The names can be counted: so far there
@@ -111,29 +106,23 @@ impl<A: Allocator> Tables<A> {
         Ok(Reply::Pid(i as u32 + 1))
     }
 
-    /// Takes a process away, with its descriptors. What nobody can reach any more goes.
-    pub fn drop_process<F: Frames>(&mut self, door: &mut F, pid: u32) -> Result<Reply, Fault>
-        requires fact { F.fact door.old }
-        requires owns { Owns (F.live door.old) self.old }
-        ensures fact { F.fact door.new }
-        ensures rest { F.rest door.new ≡ F.rest door.old }
-        ensures told { Told (F.live door.old) (F.live door.new) self.old self.new result
-            (call self.old.limits (meaning (F.live door.old) self.old.state) (Step.Exit pid)) }
-        ensures succeeds { result ≢ Err Fault.NoMemory }
+    /// An exit begins: its process waits in no call any more. Its descriptors go one by one, by `empty`, and then it does
+    /// itself.
+    pub fn begin_exit(&mut self, pid: u32) -> Result<(), Errno>
+        ensures begins { Begins self.old self.new pid result }
+        ensures refused { OnErr result (self.new ≡ self.old) }
     {
         self.processes.living(pid)?;
         self.wake(pid);
-        let i = pid as usize - 1;
-        // It costs what is open: only from a number without a descriptor the next one is looked for.
-        let mut fd = self.next_descriptor(i, 0);
-        while fd < MAX_DESCRIPTORS {
-            if self.empty(door, i, fd) {
-                fd += 1;
-            } else {
-                fd = self.next_descriptor(i, fd + 1);
-            }
-        }
-        self.take_process(i);
-        Ok(Reply::Num(0))
+        Ok(())
+    }
+
+    /// Takes a process away that has no descriptor, and waits in no call: the end of an exit.
+    pub fn end_exit(&mut self, pid: u32)
+        requires some { 0 < pid }
+        requires bare { IsBare self.old.state (pid - 1) MAX_DESCRIPTORS }
+        ensures { Makes self.old self.new (exit self.old.state pid) (Reply.Num 0) }
+    {
+        self.processes.take(pid as usize - 1);
     }
 }
