@@ -63,7 +63,8 @@ impl<A: Allocator + Clone> Space<A> {
 
     /// One step: its answer and the state that it leaves are the lone machine's, or it is `NoMemory` and nothing has
     /// changed. The frames that it takes and gives back are those of its door.
-    // It and `call` are inlined, so that a reply is put into the answer where it is made.
+    // It and `call` are inlined, so that what a transfer replies is put into the answer where it is made. What the tables
+    // tell is moved there (`handed`).
     #[inline(always)]
     pub fn step<F: Frames>(&mut self, door: &mut F, step: &Step) -> Answer
         requires fact { F.fact door.old }

@@ -213,6 +213,11 @@ module _ {files : Files} {files_made : ℕ} {charges : UserPages} {ps : ProcessR
           (new_capacity charges.limits (is_privileged p.cred) (sym (kept.charged.users p.cred.uid) i)
           (sym kept.charged.total i))
 
+  -- nothing stands against it
+  pub goes : {free : ℕ × ℕ} {slots : ℕ} → Ok free ≡ two_free p.descriptors
+      → false ≡ (is_spent ds 2 || is_spent pipes 1) → Ok slots ≡ capacity → IsOk (calls n)
+  goes two left room = subst IsOk (sym (by_finds two left room)) refl
+
   pub is_ready : IsOk (ready n.state pid)
   is_ready = subst (λ (m : Namespace). IsOk (ready m.state pid)) view (subst IsOk (sym (readies ps pid p is)) refl)
 

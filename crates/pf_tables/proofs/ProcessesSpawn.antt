@@ -1,7 +1,7 @@
 -- A process with no descriptors, under the lowest free pid.
 
 use Rattle.std.proofs.Common.{◌≡◌, ℕ, zero, suc, ◌+◌, ◌-◌, ◌<◌, ◌≤◌, Bool, true, false, not, nat_le, Some, None, Result}
-use Rattle.std.proofs.Common.{Ok, Err, refl, sym, ap, subst, ◌∙◌, arith}
+use Rattle.std.proofs.Common.{Ok, Err, IsOk, refl, sym, ap, subst, ◌∙◌, arith}
 use Rattle.std.specs.Option.{option_map}
 use Rattle.std.proofs.lemmas.Bool.Decides.{nat_tests}
 use Rattle.std.proofs.lemmas.List.{map-set}
@@ -59,6 +59,12 @@ module _ {ps : ProcessRows} {ds : DescriptionRows} {pipes : PipeRows} (t : Tied 
     no_pid past =
         let full : nat_le MAX_PROCESSES i ≡ true = grind (arith, nat_tests) in
         subst (λ (m : Namespace). spawn m.state cred ≡ Err EAGAIN) view (call_is ∙ ap (λ b. tested b i) full)
+
+    pub some_pid : i < MAX_PROCESSES → IsOk (spawn n.state cred)
+    some_pid within =
+        let room : nat_le MAX_PROCESSES i ≡ false = grind (arith, nat_tests) in
+        subst (λ (m : Namespace). IsOk (spawn m.state cred)) view
+        (subst IsOk (sym (call_is ∙ ap (λ b. tested b i) room)) refl)
 
     module _ (i_in : i < MAX_PROCESSES) {p : Process} (same : p ≡ spawned cred) {qs : ProcessRows}
         (put : qs ≡ put_at ps i p) where

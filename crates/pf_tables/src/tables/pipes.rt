@@ -133,8 +133,11 @@ impl<A: Allocator> Tables<A> {
         ensures says { let s = self.old.state in Says self.old self.new result
             (of_ready s pid (λ p. pipe (length s.descriptions) (length s.descriptions + 1) (length s.pipes)
             self.old.limits s pid p nonblocking)) }
-        // Memory is wanted for a process that lives and waits in no call.
+        // Memory is wanted for a process that lives and waits in no call, and where nothing else stands against it.
         ensures ready { result ≡ Err Fault.NoMemory → IsOk (ready self.old.state pid) }
+        ensures wanted { let s = self.old.state in result ≡ Err Fault.NoMemory
+            → IsOk (of_ready s pid (λ p. pipe (length s.descriptions) (length s.descriptions + 1) (length s.pipes)
+            self.old.limits s pid p nonblocking)) }
         ensures refused { OnErr result (self.new ≡ self.old) }
     {
         let process = self.processes.ready(pid)?;

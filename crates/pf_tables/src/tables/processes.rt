@@ -55,6 +55,9 @@ impl<A: Allocator> Tables<A> {
     ) -> Result<Reply, Fault>
         ensures says { Says self.old self.new result
             (spawn self.old.state (record { uid = uid; gid = gid; groups = groups.now; umask = umask })) }
+        // Memory is wanted where nothing else stands against it.
+        ensures wanted { result ≡ Err Fault.NoMemory
+            → IsOk (spawn self.old.state (record { uid = uid; gid = gid; groups = groups.now; umask = umask })) }
         ensures refused { OnErr result (self.new ≡ self.old) }
     {
         if !Cred::may_have(groups, umask) {

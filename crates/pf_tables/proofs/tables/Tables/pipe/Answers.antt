@@ -1,6 +1,6 @@
 use Rattle.std.proofs.Common.{◌∙◌, length, Some, refl, ap, sym, rules}
 use Rattle.pf_tables.proofs.Fifos as lemmas
-use Rattle.pf_tables.proofs.PipesOpen.{Puts, pushed, by_finds, is_ready, opened-kept, makes_pipe}
+use Rattle.pf_tables.proofs.PipesOpen.{Puts, pushed, by_finds, goes, is_ready, opened-kept, makes_pipe}
 use Rattle.pf_tables.proofs.tables.Tables.pipe.Given.{Over}
 use Rattle.pf_tables.proofs.tables.Tables.pipe.Goals.{After-give_keys}
 use Rattle.pf_tables.proofs.tables.Tables.pipe.Goals as goal
@@ -59,6 +59,26 @@ returns-in_err-reserve-2-clause-ready g c =
 pub returns-in_err-charge-clause-ready : goal.returns-in_err-charge-clause-ready
 returns-in_err-charge-clause-ready g c =
     λ _. is_ready c.self.invariant.kept c.self.view_is c.args.pid c.args.nonblocking c.in_ok-process.ensures
+
+pub returns-in_err-pipe-clause-wanted : goal.returns-in_err-pipe-clause-wanted
+returns-in_err-pipe-clause-wanted g c =
+    λ _. goes c.self.invariant.kept c.self.view_is c.args.pid c.args.nonblocking c.in_ok-process.ensures
+    c.in_ok-free.ensures.found (sym c.if-is_spent.false ∙ c.is_spent.ensures) c.in_ok-slots.ensures.found
+
+pub returns-in_err-reserve-clause-wanted : goal.returns-in_err-reserve-clause-wanted
+returns-in_err-reserve-clause-wanted g c =
+    λ _. goes c.self.invariant.kept c.self.view_is c.args.pid c.args.nonblocking c.in_ok-process.ensures
+    c.in_ok-free.ensures.found (sym c.if-is_spent.false ∙ c.is_spent.ensures) c.in_ok-slots.ensures.found
+
+pub returns-in_err-reserve-2-clause-wanted : goal.returns-in_err-reserve-2-clause-wanted
+returns-in_err-reserve-2-clause-wanted g c =
+    λ _. goes c.self.invariant.kept c.self.view_is c.args.pid c.args.nonblocking c.in_ok-process.ensures
+    c.in_ok-free.ensures.found (sym c.if-is_spent.false ∙ c.is_spent.ensures) c.in_ok-slots.ensures.found
+
+pub returns-in_err-charge-clause-wanted : goal.returns-in_err-charge-clause-wanted
+returns-in_err-charge-clause-wanted g c =
+    λ _. goes c.self.invariant.kept c.self.view_is c.args.pid c.args.nonblocking c.in_ok-process.ensures
+    c.in_ok-free.ensures.found (sym c.if-is_spent.false ∙ c.is_spent.ensures) c.in_ok-slots.ensures.found
 
 pub invariant_of-self-2 : goal.invariant_of-self-2
 invariant_of-self-2 g c =

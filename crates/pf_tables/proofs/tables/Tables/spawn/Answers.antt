@@ -4,7 +4,7 @@ use Rattle.pf_base.specs.declared.cred.Cred.{Cred}
 use Rattle.pf_machine.specs.Numbered.{at}
 use Rattle.pf_machine.proofs.NumberedLaws.{at-first_free}
 use Rattle.pf_tables.specs.Rows.{Process}
-use Rattle.pf_tables.proofs.ProcessesSpawn.{spawned, spawned-tied, spawns, no_pid}
+use Rattle.pf_tables.proofs.ProcessesSpawn.{spawned, spawned-tied, spawns, no_pid, some_pid}
 use Rattle.pf_tables.proofs.tables.Tables.spawn.Given.{Over}
 use Rattle.pf_tables.proofs.tables.Tables.spawn.Goals.{After-put}
 use Rattle.pf_tables.proofs.tables.Tables.spawn.Goals as goal
@@ -32,6 +32,22 @@ returns-then-i-ge-MAX_PROCESSES-clause-says g c =
     no_pid c.self.invariant.kept.tied c.lowest-i.ensures.lowest cred c.self.view_is valid
     c.if-i-ge-MAX_PROCESSES.true in
     search rules
+
+pub returns-in_err-groups-clause-wanted : goal.returns-in_err-groups-clause-wanted
+returns-in_err-groups-clause-wanted g c =
+    let cred : Cred =
+    record { uid = c.args.uid; gid = c.args.gid; groups = c.args.groups.now; umask = c.args.umask } in
+    let valid : is_valid cred ≡ true = search rules in
+    λ _. some_pid c.self.invariant.kept.tied c.lowest-i.ensures.lowest cred c.self.view_is valid
+    c.if-i-ge-MAX_PROCESSES.false
+
+pub returns-in_err-descriptors-clause-wanted : goal.returns-in_err-descriptors-clause-wanted
+returns-in_err-descriptors-clause-wanted g c =
+    let cred : Cred =
+    record { uid = c.args.uid; gid = c.args.gid; groups = c.args.groups.now; umask = c.args.umask } in
+    let valid : is_valid cred ≡ true = search rules in
+    λ _. some_pid c.self.invariant.kept.tied c.lowest-i.ensures.lowest cred c.self.view_is valid
+    c.if-i-ge-MAX_PROCESSES.false
 
 pub put-requires-clause-free : goal.put-requires-clause-free
 put-requires-clause-free g c =
