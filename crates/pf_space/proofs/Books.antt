@@ -10,11 +10,13 @@ use Rattle.pf_base.specs.declared.fault.Fault.{Fault}
 use Rattle.pf_base.specs.declared.fault.Fault.TheVariants as faults
 use Rattle.pf_base.specs.declared.step.Reply.{Reply}
 use Rattle.pf_base.specs.declared.step.Step.{Step}
+use Rattle.pf_machine.specs.Attempts.{has_nonblock, is_nonblocking}
 use Rattle.pf_machine.specs.Calls.{Call, Opening, Moving}
 use Rattle.pf_machine.specs.Machine.{call}
 use Rattle.pf_machine.specs.Maps.{if_ok, each, call_as, process_as, description_as, state_as, outcome_as}
 use Rattle.pf_machine.specs.Queue.{Segment}
 use Rattle.pf_machine.specs.State.{itself, State, Process, Outcome, told}
+use Rattle.pf_machine.proofs.NaturalWaits.{has_nonblock-as}
 use Rattle.pf_frame.specs.Live.{Live}
 use Rattle.pf_ring.specs.Ring.{segment_of}
 use Rattle.pf_ring.specs.declared.ring.Window.{Window}
@@ -47,6 +49,13 @@ meaning-as f s =
       processes = each-same (process_as itself) process-same s.processes i;
       descriptions = each-same (description_as itself) (λ d. refl) s.descriptions i;
     }
+
+-- and so is a description's flag
+pub flag-meaning : (f : Live) (s : State Window ℕ) (p : Process ℕ) (fd : ℕ)
+    → is_nonblocking (meaning f s) p fd ≡ has_nonblock itself s p fd
+flag-meaning f s p fd =
+    (λ i. has_nonblock itself (sym (meaning-as f s) i) (sym (process-same p) i) fd)
+    ∙ has_nonblock-as (segment_of f) itself itself itself (λ n. refl) s p fd
 
 -- What the machine's call is at the meaning of a state. step: the kind that it is of; natural: what it is where a window
 -- shows a segment

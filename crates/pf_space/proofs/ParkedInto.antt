@@ -138,7 +138,7 @@ module _ (f g : Live) (old mid new : Namespace) (pid fd n : ℕ)
       → new.limits ≡ mid.limits → meaning g new.state ≡ meaning f mid.state → told ≡ Err e → after ≡ before → Resumed
   is_refused e is owns limits same says lie =
       answered (replies.Err e) (Err (faults.Errno e)) refl (λ x. absurd (cc))
-      (refuses f g mid new pid (Reading fd n) e is owns limits same) says (lie ∙ no_byte_lies before)
+      (refuses f g mid new pid (Reading fd n) false e is owns limits same) says (lie ∙ no_byte_lies before)
 
 -- Another call
 

@@ -16,7 +16,7 @@ use Rattle.pf_machine.specs.State.{itself, State, Process, End, process, ready, 
 use Rattle.pf_machine.specs.State.{change_process, waiting}
 use Rattle.pf_machine.specs.Sweep.{sweep, live_descriptions, live_pipes}
 use Rattle.pf_machine.specs.Transfers.{Tried, Ends, tried, two_ends, try_read, try_write, try_cross}
-use Rattle.pf_machine.specs.Attempts.{Finished, Waits, transfer_told, attempt, first, is_nonblocking, transfer}
+use Rattle.pf_machine.specs.Attempts.{Finished, Waits, transfer_told, attempt, first, is_nonblocking, nonblocking, transfer}
 use Rattle.pf_base.specs.declared.TheConstants.{MAX_WRITE}
 use Rattle.pf_base.specs.declared.errno.Errno.{Errno}
 use Rattle.pf_base.specs.declared.errno.Errno.TheVariants.{ESRCH, EBUSY, EINVAL}
@@ -29,10 +29,12 @@ use Rattle.pf_base.specs.declared.step.Reply.{Reply}
 use Rattle.pf_base.specs.declared.step.Reply.TheVariants as replies
 use Rattle.pf_frame.specs.Live.{Live}
 use Rattle.pf_parked.specs.UnfinishedWrite.{UnfinishedWrite}
+use Rattle.pf_ring.specs.declared.ring.Window.{Window}
 use Rattle.pf_tables.specs.Meaning.{Namespace, meaning}
 use Rattle.pf_tables.specs.Owns.{Owns}
 use Rattle.pf_tables.specs.Told.{Told, attempted, tried_call, flag_of, is_nonblocking_at, transferred, waits_in}
 use Rattle.pf_tables.specs.Told.{settled}
+use Rattle.pf_space.proofs.Books.{flag-meaning}
 
 -- Another call of a process, which is no open: nothing that was swept comes back
 
@@ -198,63 +200,61 @@ finishes f g old new pid t r is owns limits state reply finished = record {
 }
 
 -- or refused
-pub refuses : (f g : Live) (old new : Namespace) (pid : ℕ) (t : Transfer) (e : Errno)
+pub refuses : (f g : Live) (old new : Namespace) (pid : ℕ) (t : Transfer) (b : Bool) (e : Errno)
     → attempted (meaning f old.state) pid t ≡ Err e → Owns g new → new.limits ≡ old.limits
     → meaning g new.state ≡ meaning f old.state
-    → Told f g old new (Err (faults.Errno e)) (tried_call (meaning f old.state) pid false t)
-refuses f g old new pid t e is owns limits same =
-    record { owns = owns; limits = limits; says = (not_called (meaning f old.state) pid false t e is, same) }
+    → Told f g old new (Err (faults.Errno e)) (tried_call (meaning f old.state) pid b t)
+refuses f g old new pid t b e is owns limits same =
+    record { owns = owns; limits = limits; says = (not_called (meaning f old.state) pid b t e is, same) }
 
 -- It doesn't wait
 
--- the descriptions say so
-pub flagged : (s : State Segment ℕ) (pid fd : ℕ) (p : Process ℕ) → ready s pid ≡ Ok p
-    → is_nonblocking_at s pid fd ≡ is_nonblocking s p fd
-flagged s pid fd p h = ap (flag_of s fd) h
+-- the descriptions say so: the tables', and those of what they mean
+flagged : (f : Live) (s : State Window ℕ) (pid fd : ℕ) (p : Process ℕ) → ready s pid ≡ Ok p
+    → is_nonblocking_at s pid fd ≡ is_nonblocking (meaning f s) p fd
+flagged f s pid fd p h = ap (flag_of s fd) h ∙ sym (flag-meaning f s p fd)
 
-pub read_flag : (s : State Segment ℕ) (pid fd n : ℕ)
-    → tried_call s pid (is_nonblocking_at s pid fd) (Reading fd n) ≡ transferred s pid false (Reading fd n)
-read_flag s pid fd n = by_caller (ready s pid) refl
+pub flag-at : (f : Live) (s : State Window ℕ) (pid fd : ℕ)
+    → is_nonblocking_at (meaning f s) pid fd ≡ is_nonblocking_at s pid fd
+flag-at f s pid fd = by_caller (ready s pid)
+  where
+    by_caller : (q : Result (Process ℕ) Errno) → flag_of (meaning f s) fd q ≡ flag_of s fd q
+    by_caller (Ok p) = flag-meaning f s p fd
+    by_caller (Err e) = refl
+
+-- so a first call that is tried, where it is known whether it may wait, is the machine's
+tried_first : (s : State Segment ℕ) (pid : ℕ) (flag b : Bool) (t : Transfer)
+    → ((p : Process ℕ) → ready s pid ≡ Ok p → b ≡ (flag || nonblocking s p t))
+    → tried_call s pid b t ≡ transferred s pid flag t
+tried_first s pid flag b t is = by_caller (ready s pid) refl
   where
     by_caller : (q : Result (Process ℕ) Errno) → ready s pid ≡ q
-        → (q >>= (λ p. attempt s pid p (Moving (Reading fd n)) >>= first pid (is_nonblocking_at s pid fd)))
-        ≡ (q >>= (λ p. transfer s pid p false (Reading fd n)))
-    by_caller (Ok p) h = ap (λ b. attempt s pid p (Moving (Reading fd n)) >>= first pid b) (flagged s pid fd p h)
+        → (q >>= (λ p. attempt s pid p (Moving t) >>= first pid b)) ≡ (q >>= (λ p. transfer s pid p flag t))
+    by_caller (Ok p) h = ap (λ c. attempt s pid p (Moving t) >>= first pid c) (is p h)
     by_caller (Err e) h = refl
 
-pub write_flag : (s : State Segment ℕ) (pid fd : ℕ) (x : List ℕ)
-    → tried_call s pid (is_nonblocking_at s pid fd) (Writing fd x 0) ≡ transferred s pid false (Writing fd x 0)
-write_flag s pid fd x = by_caller (ready s pid) refl
-  where
-    by_caller : (q : Result (Process ℕ) Errno) → ready s pid ≡ q
-        → (q >>= (λ p. attempt s pid p (Moving (Writing fd x 0)) >>= first pid (is_nonblocking_at s pid fd)))
-        ≡ (q >>= (λ p. transfer s pid p false (Writing fd x 0)))
-    by_caller (Ok p) h = ap (λ b. attempt s pid p (Moving (Writing fd x 0)) >>= first pid b) (flagged s pid fd p h)
-    by_caller (Err e) h = refl
+pub read_flag : (f : Live) (s : State Window ℕ) (pid fd n : ℕ)
+    → tried_call (meaning f s) pid (is_nonblocking_at s pid fd) (Reading fd n)
+    ≡ transferred (meaning f s) pid false (Reading fd n)
+read_flag f s pid fd n =
+    tried_first (meaning f s) pid false (is_nonblocking_at s pid fd) (Reading fd n) (λ p h. flagged f s pid fd p h)
 
-pub cross_flag : (s : State Segment ℕ) (pid : ℕ) (flag : Bool) (c : Crossing) (source sink n : ℕ)
-    → tried_call s pid (flag || (is_nonblocking_at s pid source || is_nonblocking_at s pid sink))
-    (Bringing c source sink n) ≡ transferred s pid flag (Bringing c source sink n)
-cross_flag s pid flag c source sink n = by_caller (ready s pid) refl
-  where
-    by_caller : (q : Result (Process ℕ) Errno) → ready s pid ≡ q
-        → (q >>= (λ p. attempt s pid p (Moving (Bringing c source sink n))
-        >>= first pid (flag || (is_nonblocking_at s pid source || is_nonblocking_at s pid sink))))
-        ≡ (q >>= (λ p. transfer s pid p flag (Bringing c source sink n)))
-    by_caller (Ok p) h =
-        λ i. attempt s pid p (Moving (Bringing c source sink n))
-        >>= first pid (flag || (flagged s pid source p h i || flagged s pid sink p h i))
-    by_caller (Err e) h = refl
+pub write_as : (f : Live) (s : State Window ℕ) (pid fd : ℕ) (x : List ℕ) (b : Bool) → is_nonblocking_at s pid fd ≡ b
+    → tried_call (meaning f s) pid b (Writing fd x 0) ≡ transferred (meaning f s) pid false (Writing fd x 0)
+write_as f s pid fd x b is =
+    tried_first (meaning f s) pid false b (Writing fd x 0) (λ p h. sym is ∙ flagged f s pid fd p h)
 
--- so a first tee, or a first splice, is told what the machine's is
+-- a tee, or a splice
 pub crossed_first : (f g : Live) (old new : Namespace) (result : Result Reply Fault) (pid : ℕ) (flag : Bool)
     (c : Crossing) (source sink n : ℕ)
     → Told f g old new result (tried_call (meaning f old.state) pid
-    (flag || (is_nonblocking_at (meaning f old.state) pid source || is_nonblocking_at (meaning f old.state) pid sink))
+    (flag || (is_nonblocking_at old.state pid source || is_nonblocking_at old.state pid sink))
     (Bringing c source sink n))
     → Told f g old new result (transferred (meaning f old.state) pid flag (Bringing c source sink n))
 crossed_first f g old new result pid flag c source sink n =
-    subst (Told f g old new result) (cross_flag (meaning f old.state) pid flag c source sink n)
+    subst (Told f g old new result)
+    (tried_first (meaning f old.state) pid flag _ (Bringing c source sink n)
+    (λ p h i. flag || (flagged f old.state pid source p h i || flagged f old.state pid sink p h i)))
 
 -- nobody asked for it
 pub not_asked : (b : Bool) {x : Bool} → x ≡ false → (b && x) ≡ false
@@ -290,11 +290,6 @@ stays_waiting r fd write rest is blocked =
 -- in other words
 pub blocked_as : {p q : Progress} → p ≡ q → (q ≡ WouldBlock) ⊎ (q ≡ EndOfFile) → (p ≡ WouldBlock) ⊎ (p ≡ EndOfFile)
 blocked_as e h = subst (λ p. (p ≡ WouldBlock) ⊎ (p ≡ EndOfFile)) (sym e) h
-
--- a first write, where it is known whether it waits
-pub write_as : (s : State Segment ℕ) (pid fd : ℕ) (x : List ℕ) (b : Bool) → is_nonblocking_at s pid fd ≡ b
-    → tried_call s pid b (Writing fd x 0) ≡ transferred s pid false (Writing fd x 0)
-write_as s pid fd x b is = ap (λ c. tried_call s pid c (Writing fd x 0)) (sym is) ∙ write_flag s pid fd x
 
 pub none_of : {X : Type 0} (o : Option X) → ((x : X) → o ≡ Some x → ⊥) → o ≡ None
 none_of None none = refl

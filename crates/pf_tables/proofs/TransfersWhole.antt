@@ -21,11 +21,13 @@ use Rattle.pf_base.specs.declared.progress.Side.TheVariants.{Write}
 use Rattle.pf_fds.specs.Registry.{find}
 use Rattle.pf_frame.specs.Live.{Live}
 use Rattle.pf_ring.specs.Ring.{queue_of}
+use Rattle.pf_ring.specs.declared.ring.Window.{Window}
 use Rattle.pf_limits.specs.UserPages.{UserPages}
 use Rattle.pf_tables.specs.Meaning.{Namespace, meaning, pipe_meaning}
-use Rattle.pf_tables.specs.Rows.{ProcessRows, DescriptionRows, PipeRows, Description, Pipe, state_of, end_in, Kept}
+use Rattle.pf_tables.specs.Rows.{ProcessRows, DescriptionRows, PipeRows, Description, Pipe, state_of, end_in, Tied}
+use Rattle.pf_tables.specs.Rows.{Kept}
 use Rattle.pf_tables.specs.Told.{attempted, flag_of, is_nonblocking_at, IsDone, IsShort, Stops}
-use Rattle.pf_tables.proofs.Ends.{end_of_rows, refused, found, counted}
+use Rattle.pf_tables.proofs.Ends.{end_of_rows, state_seen, as_kept, seen_as_kept, refused, found, counted}
 use Rattle.pf_tables.proofs.TablesShown.{find_was}
 use Rattle.pf_tables.proofs.Transfers.{bind-bind}
 
@@ -85,14 +87,35 @@ module _ (q : Queue) (whole : Bool) (x : List ℕ) where
 -- What the machine does
 
 -- whether an end has O_NONBLOCK; none where there is no end
-abbrev flagged : Result (End Segment ℕ) Errno → Bool
+abbrev flagged : {X : Type 0} → Result (End X ℕ) Errno → Bool
 flagged (Ok e) = e.description.nonblocking
 flagged (Err e) = false
 
-flag_found : (s : State Segment ℕ) (fd : ℕ) (r : Result (Process ℕ) Errno)
+flag_found : (s : State Window ℕ) (fd : ℕ) (r : Result (Process ℕ) Errno)
     → flag_of s fd r ≡ flagged (r >>= (λ p. end_of itself s p fd))
 flag_found s fd (Ok p) = refl
 flag_found s fd (Err e) = refl
+
+-- the flag that the tables find is the machine's
+module _ {ps : ProcessRows} {ds : DescriptionRows} {pipes : PipeRows} (tied : Tied ps ds pipes) {limits : Limits}
+    {files : Files} {files_made : ℕ} {n : Namespace}
+    (view : record { limits = limits; state = state_of ps ds pipes files files_made } ≡ n) (pid fd : ℕ) where
+  found_flag : {r : Result (End Window ℕ) Errno}
+      → (ready (state_seen as_kept ps ds pipes files files_made) pid
+      >>= (λ p. end_of itself (state_seen as_kept ps ds pipes files files_made) p fd)) ≡ r
+      → flagged r ≡ is_nonblocking_at n.state pid fd
+  found_flag {r} is =
+      sym (ap (λ (m : Namespace). is_nonblocking_at m.state pid fd) (sym view)
+      ∙ ap (λ s. is_nonblocking_at s pid fd) (sym (seen_as_kept ps ds pipes files files_made))
+      ∙ flag_found (state_seen as_kept ps ds pipes files files_made) fd (ready (state_seen as_kept ps ds pipes files
+      files_made) pid) ∙ ap flagged is)
+
+  pub flag_told : (d : Description) → end_in None ps ds pid fd ≡ Ok d
+      → d.nonblocking ≡ is_nonblocking_at n.state pid fd
+  flag_told d h = found_flag (found as_kept None ps ds pipes files files_made tied pid fd d h).is
+
+  pub no_flag : (e : Errno) → end_in None ps ds pid fd ≡ Err e → false ≡ is_nonblocking_at n.state pid fd
+  no_flag e h = found_flag (refused as_kept None ps ds pipes files files_made tied pid fd e h)
 
 module _ {files : Files} {files_made : ℕ} (f : Live) (limits : Limits) (charges : UserPages) (ps : ProcessRows)
     (ds : DescriptionRows) (pipes : PipeRows) (kept : Kept charges ps ds pipes)
@@ -100,20 +123,6 @@ module _ {files : Files} {files_made : ℕ} (f : Live) (limits : Limits) (charge
     (pid fd : ℕ) where
   abbrev s : State Segment ℕ
   s = meaning f (state_of ps ds pipes files files_made)
-
-  -- the flag that the tables find is the machine's
-  pub flag_told : (d : Description) → end_in None ps ds pid fd ≡ Ok d
-      → d.nonblocking ≡ is_nonblocking_at (meaning f n.state) pid fd
-  flag_told d h =
-      subst (λ (v : Namespace). d.nonblocking ≡ is_nonblocking_at (meaning f v.state) pid fd) view
-      (sym (flag_found s fd (ready s pid) ∙ ap flagged
-      (found (pipe_meaning f) None ps ds pipes files files_made kept.tied pid fd d h).is))
-
-  pub no_flag : (e : Errno) → end_in None ps ds pid fd ≡ Err e → false ≡ is_nonblocking_at (meaning f n.state) pid fd
-  no_flag e h =
-      subst (λ (v : Namespace). false ≡ is_nonblocking_at (meaning f v.state) pid fd) view
-      (sym (flag_found s fd (ready s pid) ∙ ap flagged
-      (refused (pipe_meaning f) None ps ds pipes files files_made kept.tied pid fd e h)))
 
   -- a write into a pipe that was found, which has readers and no room for all bytes, stops short of its end
   pub stops_at : (d : Description) (r : Pipe) (x : List ℕ) → end_in (Some Write) ps ds pid fd ≡ Ok d

@@ -7,7 +7,7 @@ use Rattle.pf_machine.specs.Progress.{moved}
 use Rattle.pf_machine.specs.Calls.{Transfer, Call, Moving}
 use Rattle.pf_machine.specs.State.{itself, State, Process, Outcome, told, ready, change_process, waiting}
 use Rattle.pf_machine.specs.Transfers.{Tried, tried}
-use Rattle.pf_machine.specs.Attempts.{attempt, first, is_nonblocking, transfer}
+use Rattle.pf_machine.specs.Attempts.{attempt, first, has_nonblock, transfer}
 use Rattle.pf_machine.specs.Machine.{swept}
 use Rattle.pf_machine.specs.Sweep.{sweep}
 use Rattle.pf_base.specs.declared.errno.Errno.{Errno}
@@ -43,11 +43,11 @@ abbrev pub tried_call : State Segment ℕ → ℕ → Bool → Transfer → Resu
 tried_call s pid nonblock call = ready s pid >>= (λ p. attempt s pid p (Moving call) >>= first pid nonblock)
 
 -- whether the description at a descriptor of a process has O_NONBLOCK
-abbrev pub flag_of : State Segment ℕ → ℕ → Result (Process ℕ) Errno → Bool
-flag_of s fd (Ok p) = is_nonblocking s p fd
+abbrev pub flag_of : {X : Type 0} → State X ℕ → ℕ → Result (Process ℕ) Errno → Bool
+flag_of s fd (Ok p) = has_nonblock itself s p fd
 flag_of s fd (Err e) = false
 
-abbrev pub is_nonblocking_at : State Segment ℕ → ℕ → ℕ → Bool
+abbrev pub is_nonblocking_at : {X : Type 0} → State X ℕ → ℕ → ℕ → Bool
 is_nonblocking_at s pid fd = flag_of s fd (ready s pid)
 
 -- and its call whole, where this is the step's own flag

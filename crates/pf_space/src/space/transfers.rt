@@ -130,7 +130,7 @@ impl<A: Allocator + Clone> Space<A> {
         ensures rest { F.rest door.new ≡ F.rest door.old }
         ensures told { let s = meaning (F.live door.old) self.old.state in
             Told (F.live door.old) (F.live door.new) self.old self.new (told_in buffer.new result)
-            (tried_call s pid (is_nonblocking_at s pid fd) (Reading fd (length buffer.old))) }
+            (tried_call s pid (is_nonblocking_at self.old.state pid fd) (Reading fd (length buffer.old))) }
         ensures lies { Lies (number_in result) buffer.old buffer.new }
     {
         let n = buffer.len() as u64;
@@ -139,7 +139,7 @@ impl<A: Allocator + Clone> Space<A> {
             Progress::EndOfFile | Progress::NoReader => return Ok(Some(0)),
             Progress::WouldBlock => {}
         }
-        if self.tables.is_nonblocking(door, pid, fd) {
+        if self.tables.is_nonblocking(pid, fd) {
             return Err(Errno::EAGAIN);
         }
         self.tables.park(pid, Call::Read { fd, n });
@@ -172,7 +172,7 @@ impl<A: Allocator + Clone> Space<A> {
         if let Some(progress) = self.tables.write_whole(door, pid, fd, bytes)? {
             return write_ended(progress);
         }
-        if self.tables.is_nonblocking(door, pid, fd) {
+        if self.tables.is_nonblocking(pid, fd) {
             return self.write_some(door, pid, fd, bytes);
         }
         // What may be refused comes first.
@@ -282,7 +282,7 @@ impl<A: Allocator + Clone> Space<A> {
         ensures rest { F.rest door.new ≡ F.rest door.old }
         ensures told { let s = meaning (F.live door.old) self.old.state in
             Told (F.live door.old) (F.live door.new) self.old self.new result
-            (tried_call s pid (not again && is_nonblocking_at s pid fd) (Reading fd n)) }
+            (tried_call s pid (not again && is_nonblocking_at self.old.state pid fd) (Reading fd n)) }
         // Memory is wanted for a process that lives and waits in no call, and then nothing has changed.
         ensures unchanged { result ≡ Err Fault.NoMemory → (self.new ≡ self.old) × (door.new ≡ door.old) }
         ensures ready { result ≡ Err Fault.NoMemory
@@ -293,7 +293,7 @@ impl<A: Allocator + Clone> Space<A> {
             Progress::WouldBlock => {}
             _ => return Ok(Reply::Bytes(taken.bytes)),
         }
-        if !again && self.tables.is_nonblocking(door, pid, fd) {
+        if !again && self.tables.is_nonblocking(pid, fd) {
             return Err(Errno::EAGAIN.into());
         }
         self.tables.park(pid, Call::Read { fd, n });
@@ -301,24 +301,15 @@ impl<A: Allocator + Clone> Space<A> {
     }
 
     // Whether a tee or splice that would wait is told EAGAIN.
-    fn mustnt_wait<F: Frames>(
-        &self,
-        door: &F,
-        pid: u32,
-        source: u32,
-        sink: u32,
-        flag: bool,
-        again: bool,
-    ) -> bool
-        ensures { let s = meaning (F.live door.now) self.now.state in
+    fn mustnt_wait(&self, pid: u32, source: u32, sink: u32, flag: bool, again: bool) -> bool
+        ensures { let s = self.now.state in
             let asked = flag || (is_nonblocking_at s pid source || is_nonblocking_at s pid sink) in
             result ≡ (not again && asked) }
     {
         if again {
             return false;
         }
-        flag || self.tables.is_nonblocking(door, pid, source)
-            || self.tables.is_nonblocking(door, pid, sink)
+        flag || self.tables.is_nonblocking(pid, source) || self.tables.is_nonblocking(pid, sink)
     }
 
     /// Brings at most n bytes from the pipe that one descriptor of a process names to the pipe that another one names: a copy
@@ -340,10 +331,10 @@ impl<A: Allocator + Clone> Space<A> {
         requires owns { Owns (F.live door.old) self.old }
         ensures fact { F.fact door.new }
         ensures rest { F.rest door.new ≡ F.rest door.old }
-        ensures told { let s = meaning (F.live door.old) self.old.state in
-            let asked = flag || (is_nonblocking_at s pid source || is_nonblocking_at s pid sink) in
+        ensures told { let kept = self.old.state in
+            let asked = flag || (is_nonblocking_at kept pid source || is_nonblocking_at kept pid sink) in
             Told (F.live door.old) (F.live door.new) self.old self.new result
-            (tried_call s pid (not again && asked) (Bringing crossing source sink n)) }
+            (tried_call (meaning (F.live door.old) kept) pid (not again && asked) (Bringing crossing source sink n)) }
         ensures succeeds { result ≢ Err Fault.NoMemory }
     {
         match self.tables.cross_now(door, crossing, pid, source, sink, n)? {
@@ -352,7 +343,7 @@ impl<A: Allocator + Clone> Space<A> {
             Progress::NoReader => return Err(Errno::EPIPE.into()),
             Progress::WouldBlock => {}
         }
-        if self.mustnt_wait(door, pid, source, sink, flag, again) {
+        if self.mustnt_wait(pid, source, sink, flag, again) {
             return Err(Errno::EAGAIN.into());
         }
         let call = Call::Cross {

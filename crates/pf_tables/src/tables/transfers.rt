@@ -26,10 +26,9 @@ pub struct Taken {
 
 impl<A: Allocator> Tables<A> {
     /// Whether the description that a process's descriptor names has O_NONBLOCK; false where it names none.
-    pub fn is_nonblocking<F: Frames>(&self, door: &F, pid: u32, fd: u32) -> bool
-        ensures { result ≡ is_nonblocking_at (meaning (F.live door.now) self.now.state) pid fd }
+    pub fn is_nonblocking(&self, pid: u32, fd: u32) -> bool
+        ensures { result ≡ is_nonblocking_at self.now.state pid fd }
     {
-        let _door = door;
         match end(&self.processes, &self.descriptions, pid, fd, None) {
             Ok(end) => end.nonblocking,
             Err(_) => false,

@@ -22,11 +22,11 @@ returns-clause-told g c =
     parks f after c.self.inside.tables c.read_into.new.self c.park.new.self c.args.pid t came.tried came.is
     c.in_ok-number.ensures.owns c.in_ok-number.ensures.limits came.state (Moving t) refl
     (ap (transfer_told t came.tried) (came.progress_is ∙ c.in-WouldBlock.is)) c.park.ensures in
-    let flag : is_nonblocking_at (meaning f c.self.inside.tables.state) c.args.pid c.args.fd ≡ false =
-    (λ j. is_nonblocking_at (meaning (g.F.Frames.live (sym same.1 j)) (sym same.0 j).state) c.args.pid c.args.fd)
+    let flag : is_nonblocking_at c.self.inside.tables.state c.args.pid c.args.fd ≡ false =
+    ap (λ (o : Namespace). is_nonblocking_at o.state c.args.pid c.args.fd) (sym same.0)
     ∙ sym c.is_nonblocking.ensures ∙ c.if-is_nonblocking.false in
     subst (λ (o : Namespace). Told f after o c.park.new.self (Ok replies.Parked)
-    (tried_call (meaning f o.state) c.args.pid (is_nonblocking_at (meaning f o.state) c.args.pid c.args.fd) t))
+    (tried_call (meaning f o.state) c.args.pid (is_nonblocking_at o.state c.args.pid c.args.fd) t))
     c.self.view_is
     (subst (λ b. Told f after c.self.inside.tables c.park.new.self (Ok replies.Parked)
     (tried_call (meaning f c.self.inside.tables.state) c.args.pid b t)) (sym flag) told)

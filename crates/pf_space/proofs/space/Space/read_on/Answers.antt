@@ -24,18 +24,17 @@ returns-clause-told g c =
     parks f after c.self.inside.tables c.read_now.new.self c.park.new.self c.args.pid t came.tried came.is
     c.in_ok-taken.ensures.owns c.in_ok-taken.ensures.limits came.state (Moving t) refl
     (ap (transfer_told t came.tried) (came.progress_is ∙ c.in-WouldBlock.is)) c.park.ensures in
-    let flag : (not c.args.again && is_nonblocking_at (meaning f c.self.inside.tables.state) c.args.pid c.args.fd)
-    ≡ false =
+    let flag : (not c.args.again && is_nonblocking_at c.self.inside.tables.state c.args.pid c.args.fd) ≡ false =
     elim c.else-not-again.branch [
       | else-not-again-via-then-not-again+else-is_nonblocking w ↦
           not_asked (not c.args.again)
-          ((λ j. is_nonblocking_at (meaning (g.F.Frames.live (sym same.1 j)) (sym same.0 j).state) c.args.pid c.args.fd)
+          (ap (λ (o : Namespace). is_nonblocking_at o.state c.args.pid c.args.fd) (sym same.0)
           ∙ sym w.is_nonblocking.ensures ∙ w.if-is_nonblocking.false)
       | else-not-again-via-else-not-again w ↦ nothing_asked
-          (is_nonblocking_at (meaning f c.self.inside.tables.state) c.args.pid c.args.fd) (ap not w.if-not-again.false)
+          (is_nonblocking_at c.self.inside.tables.state c.args.pid c.args.fd) (ap not w.if-not-again.false)
     ] in
     subst (λ (o : Namespace). Told f after o c.park.new.self (Ok replies.Parked)
-    (tried_call (meaning f o.state) c.args.pid (not c.args.again && is_nonblocking_at (meaning f o.state) c.args.pid
+    (tried_call (meaning f o.state) c.args.pid (not c.args.again && is_nonblocking_at o.state c.args.pid
     c.args.fd) t)) c.self.view_is
     (subst (λ b. Told f after c.self.inside.tables c.park.new.self (Ok replies.Parked)
     (tried_call (meaning f c.self.inside.tables.state) c.args.pid b t)) (sym flag) told)

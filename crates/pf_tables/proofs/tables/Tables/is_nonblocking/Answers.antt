@@ -4,10 +4,8 @@ use Rattle.pf_tables.proofs.tables.Tables.is_nonblocking.Goals as goal
 
 pub returns-in-Ok : goal.returns-in-Ok
 returns-in-Ok g c =
-    lemmas.flag_told (g.F.Frames.live c.args.door.now) _ _ _ _ _ c.self.invariant.kept _ c.self.view_is c.args.pid
-    c.args.fd _ (sym c.end.ensures ∙ c.in-Ok.is)
+    lemmas.flag_told c.self.invariant.kept.tied c.self.view_is c.args.pid c.args.fd _ (sym c.end.ensures ∙ c.in-Ok.is)
 
 pub returns-in-Err : goal.returns-in-Err
 returns-in-Err g c =
-    lemmas.no_flag (g.F.Frames.live c.args.door.now) _ _ _ _ _ c.self.invariant.kept _ c.self.view_is c.args.pid
-    c.args.fd _ (sym c.end.ensures ∙ c.in-Err.is)
+    lemmas.no_flag c.self.invariant.kept.tied c.self.view_is c.args.pid c.args.fd _ (sym c.end.ensures ∙ c.in-Err.is)
