@@ -68,11 +68,10 @@ none : (xs : List ℕ) → length xs ≡ 0 → xs ≡ []
 none [] e = refl
 none (x ∷ xs) e = absurd (omega (arith, e))
 
-module _ (f g : Live) (old mid new : Namespace) (pid fd n : ℕ)
+module _ (f g : Live) {tables old mid : Namespace} (new : Namespace) (view : tables ≡ old) (pid fd n : ℕ)
     (waits : call_of (meaning f old.state) pid ≡ Some (Moving (Reading fd n)))
-    (mid_is : mid ≡ record old { state = awoken old.state pid })
-    (still : meaning f old.state ≡ sweep itself (meaning f old.state)) (told : Result (Option ℕ) Errno)
-    (before after : List ℕ) where
+    (mid_is : mid ≡ record tables { state = awoken tables.state pid })
+    (still : tables.state ≡ sweep itself tables.state) (told : Result (Option ℕ) Errno) (before after : List ℕ) where
   abbrev Resumed : Type 0
   Resumed =
       Replied (λ (reply : Reply). Answers old.limits (Done reply) (meaning f old.state) (steps.Resume pid)
@@ -87,9 +86,9 @@ module _ (f g : Live) (old mid new : Namespace) (pid fd n : ℕ)
       → after ≡ laid (bytes_told reply) before → Resumed
   answered reply result is ample tried told_is lie =
       let here : Told f g old new (Ok reply) (call old.limits (meaning f old.state) (steps.Resume pid)) =
-      subst (λ (r : Result Reply Fault). Told f g old new r (call old.limits (meaning f old.state) (steps.Resume pid)))
-      is
-      (resumed old.limits f g old mid new pid (Reading fd n) waits mid_is still result tried ample) in
+      resumed f view pid (Reading fd n)
+      (subst (λ (o : Namespace). call_of o.state pid ≡ Some (Moving (Reading fd n))) (sym view) waits) mid_is still
+      tried ample (sym is) in
       record {
         reply = reply;
         is = made_step old.limits (meaning f old.state) (meaning g new.state) (steps.Resume pid) reply here.says;

@@ -2,7 +2,8 @@
 -- where it has to.
 
 use Rattle.std.proofs.Common.{◌≡◌, ℕ, zero, suc, ◌+◌, ◌-◌, Bool, true, false, List, length, set, Option, Some, None}
-use Rattle.std.proofs.Common.{is_some, Result, Ok, Err, refl, sym, ap, ◌∙◌, arith, nat_eq, nat_lt, if◌then◌else◌}
+use Rattle.std.proofs.Common.{is_some, Result, Ok, Err, refl, sym, ap, subst, ◌∙◌, arith, nat_eq, nat_lt}
+use Rattle.std.proofs.Common.{if◌then◌else◌}
 use Rattle.std.specs.Option.{option_map, option_and_then}
 use Rattle.std.proofs.lemmas.List.{set-set}
 use Rattle.pf_machine.specs.Calls.{Transfer, Reading, Writing, Bringing, Call, Moving, made_by}
@@ -29,9 +30,11 @@ use Rattle.pf_base.specs.declared.step.Reply.TheVariants as replies
 use Rattle.pf_base.specs.declared.step.Step.TheVariants as steps
 use Rattle.pf_frame.specs.Live.{Live}
 use Rattle.pf_tables.specs.Meaning.{Namespace, meaning}
+use Rattle.pf_tables.specs.Owns.{Owns}
 use Rattle.pf_tables.specs.Tables.{over, woken, awoken}
 use Rattle.pf_tables.specs.Told.{Told, Says, tried_call, waits_in, settled, ended}
 use Rattle.pf_machine.proofs.ExitLaws.{change-change}
+use Rattle.pf_tables.proofs.MeaningLaws.{settled-meaning, woken-left}
 use Rattle.pf_tables.proofs.TablesShown.{set_same}
 use Rattle.pf_space.proofs.ParkedTransfers.{sweep-waiting}
 
@@ -200,45 +203,54 @@ module _ (s : State Segment ℕ) (pid : ℕ) (t : Transfer) (w : WaitsIn s pid t
       by_attempt (Err x) h =
           let same : x ≡ e = cc in λ i. Ok (record { state = still_awake still i; reply = replies.Err (same i) })
 
-module _ (c : Limits) (f g : Live) (old mid new : Namespace) (pid : ℕ) (t : Transfer)
-    (waits : call_of (meaning f old.state) pid ≡ Some (Moving t))
-    (mid_is : mid ≡ record old { state = awoken old.state pid })
-    (still : meaning f old.state ≡ sweep itself (meaning f old.state)) where
-  w : WaitsIn (meaning f old.state) pid t
-  w = waiter (meaning f old.state) pid t waits
+-- A call is taken from its process, and tried as a first one would be. tables: the namespace as its own code has it
+module _ (f : Live) {tables old mid : Namespace} (view : tables ≡ old) (pid : ℕ) (t : Transfer)
+    (waits : call_of tables.state pid ≡ Some (Moving t))
+    (mid_is : mid ≡ record tables { state = awoken tables.state pid }) where
+  abbrev s : State Segment ℕ
+  s = meaning f tables.state
 
-  mid_state : meaning f mid.state ≡ awake pid (meaning f old.state)
-  mid_state = ap (λ (n : Namespace). meaning f n.state) mid_is ∙ awake_is (meaning f old.state) pid t w
+  w : WaitsIn s pid t
+  w = waiter s pid t waits
+
+  mid_state : meaning f mid.state ≡ awake pid s
+  mid_state = ap (λ (n : Namespace). meaning f n.state) mid_is ∙ awake_is s pid t w
 
   -- whatever the transfer is told, the resumed one is
-  pub resumed : (result : Result Reply Fault) → Told f g mid new result (tried_call (meaning f mid.state) pid false t)
-      → (result ≡ Err faults.NoMemory → ⊥) → Told f g old new (ended result)
-      (call c (meaning f old.state) (steps.Resume pid))
-  resumed result told ample = record {
-    owns = told.owns;
-    limits = told.limits ∙ ap (λ (n : Namespace). n.limits) mid_is;
-    says = by_result result told.says ample;
-  }
+  pub resumed : {g : Live} {new : Namespace} → tables.state ≡ sweep itself tables.state → {result : Result Reply Fault}
+      → Told f g mid new result (tried_call (meaning f mid.state) pid false t)
+      → (result ≡ Err faults.NoMemory → ⊥) → {reply : Result Reply Fault} → reply ≡ ended result
+      → Told f g old new reply (call old.limits (meaning f old.state) (steps.Resume pid))
+  resumed {g} {new} kept {result} told ample {reply} is =
+      subst (λ (n : Namespace). Told f g n new reply (call n.limits (meaning f n.state) (steps.Resume pid))) view
+      (record {
+        owns = told.owns;
+        limits = told.limits ∙ ap (λ (n : Namespace). n.limits) mid_is;
+        says =
+            subst (λ r. Says f g tables new r (call tables.limits s (steps.Resume pid))) (sym is)
+            (by_result result told.says ample);
+      })
     where
-      machine : tried_call (meaning f mid.state) pid false t
-          ≡ (lifted_told pid (came (meaning f old.state) pid t w) >>= first pid false)
-      machine = ap (λ z. tried_call z pid false t) mid_state ∙ tried_is (meaning f old.state) pid t w
+      still : s ≡ sweep itself s
+      still = settled-meaning f tables.state kept
+
+      machine : tried_call (meaning f mid.state) pid false t ≡ (lifted_told pid (came s pid t w) >>= first pid false)
+      machine = ap (λ z. tried_call z pid false t) mid_state ∙ tried_is s pid t w
 
       by_result : (r : Result Reply Fault) → Says f g mid new r (tried_call (meaning f mid.state) pid false t)
-          → (r ≡ Err faults.NoMemory → ⊥) → Says f g old new (ended r) (call c (meaning f old.state) (steps.Resume pid))
+          → (r ≡ Err faults.NoMemory → ⊥)
+          → Says f g tables new (ended r) (call tables.limits s (steps.Resume pid))
       by_result (Ok reply) says ample =
-          ap settled (machine_is (meaning f old.state) pid t w c)
-          ∙ replied (meaning f old.state) pid t w _ (ap settled (sym machine) ∙ says)
+          ap settled (machine_is s pid t w tables.limits) ∙ replied s pid t w _ (ap settled (sym machine) ∙ says)
       by_result (Err (faults.Errno e)) says ample =
-          ap settled (machine_is (meaning f old.state) pid t w c)
-          ∙ refused (meaning f old.state) pid t w e still (sym machine ∙ says.0)
+          ap settled (machine_is s pid t w tables.limits) ∙ refused s pid t w e still (sym machine ∙ says.0)
           ∙ ap (λ (z : State Segment ℕ). Ok (record { state = z; reply = replies.Err e })) (sym mid_state ∙ sym says.1)
       by_result (Err faults.NoMemory) says ample = absurd (ample refl)
 
   -- a process that waits again as before has not changed
   pub restored : waits_in (Some (Moving t)) mid pid ≡ old
   restored =
-      let ps = old.state.processes in
+      let ps = tables.state.processes in
       let call : Option (Call ℕ) = Some (Moving t) in
       let here : ◌≡◌ {A =
       Option (Process ℕ)} (option_map (waiting call) (at (change_at woken ps (pid - 1)) (pid - 1))) (Some w.p) =
@@ -246,7 +258,13 @@ module _ (c : Limits) (f g : Live) (old mid new : Namespace) (pid : ℕ) (t : Tr
       (at_within ps (pid - 1) w.p w.stands) ∙ ap (option_map woken) w.stands ∙ ap (λ o. Some (over o w.p)) w.waits)
       ∙ ap (λ o. Some (record w.p { parked = o })) (sym w.waits) in
       ap (λ (n : Namespace). waits_in call n pid) mid_is
-      ∙ ap (λ (xs : List (Option (Process ℕ))). record old { state = record old.state { processes = xs } })
+      ∙ ap (λ (xs : List (Option (Process ℕ))). record tables { state = record tables.state { processes = xs } })
       (ap (set (change_at woken ps (pid - 1)) (pid - 1)) here
       ∙ set-set ps (pid - 1) (option_map woken (at ps (pid - 1))) (Some w.p)
-      ∙ set_same ps (pid - 1) (Some w.p) (sym w.stands))
+      ∙ set_same ps (pid - 1) (Some w.p) (sym w.stands)) ∙ view
+
+-- the frames are the namespace's own when its process is woken
+pub woken_owns : (f : Live) {tables old mid : Namespace} → tables ≡ old → Owns f old → (pid : ℕ)
+    → mid ≡ record tables { state = awoken tables.state pid } → mid.state ≡ sweep itself mid.state → Owns f mid
+woken_owns f {tables} {old} {mid} view owns pid is still =
+    let woken = woken-left f tables mid pid is still (subst (Owns f) (sym view) owns) in woken.owns

@@ -3,15 +3,11 @@
 
 use Rattle.std.proofs.Common.{◌≡◌, Some, None, Ok, Err, refl, sym, ap, subst, rules, ◌∙◌}
 use Rattle.pf_machine.specs.Calls.{Reading, Moving}
-use Rattle.pf_machine.specs.Machine.{Answers, call_of}
-use Rattle.pf_base.specs.declared.step.Answer.TheVariants.{Done}
-use Rattle.pf_base.specs.declared.step.Reply.{Reply}
-use Rattle.pf_base.specs.declared.step.Step.TheVariants.{Resume}
-use Rattle.pf_tables.specs.Buffers.{Replied}
+use Rattle.pf_machine.specs.Machine.{call_of}
 use Rattle.pf_tables.specs.Meaning.{Namespace, meaning}
 use Rattle.pf_tables.specs.Owns.{Owns}
-use Rattle.pf_tables.proofs.MeaningLaws.{settled-meaning, woken-left}
 use Rattle.pf_space.proofs.ParkedInto as lemmas
+use Rattle.pf_space.proofs.ParkedResume.{woken_owns}
 use Rattle.pf_space.proofs.space.Space.fill_again.Goals as goal
 
 pub wake-requires : goal.wake-requires
@@ -24,89 +20,44 @@ wake-requires g c =
 
 pub read_truncated-requires-clause-owns : goal.read_truncated-requires-clause-owns
 read_truncated-requires-clause-owns g c =
-    let f = g.F.Frames.live c.args.door.now in
-    let woken =
-    woken-left f _ _ c.args.pid c.wake.ensures.namespace c.wake.ensures.swept
-    (subst (Owns f) (sym c.self.view_is) c.requires.owns) in
-    woken.owns
+    woken_owns _ c.self.view_is c.requires.owns c.args.pid c.wake.ensures.namespace c.wake.ensures.swept
 
 pub returns-in_err-number-clause-answers : goal.returns-in_err-number-clause-answers
 returns-in_err-number-clause-answers g c =
-    let f = g.F.Frames.live c.args.door.now in
-    let after = g.F.Frames.live c.read_truncated.new.door in
-    let old = c.self.inside.tables in
-    let mid = c.wake.new.self in
-    let new = c.read_truncated.new.self in
-    let waits =
-    subst (λ (o : Namespace). call_of (meaning f o.state) c.args.pid ≡ Some (Moving (Reading c.args.fd c.args.n)))
-    (sym c.self.view_is) c.requires.waits in
     let same = c.in_err-number.ensures.refused in
     let told =
-    subst (λ (o : Namespace). Replied (λ (reply : Reply). Answers o.limits (Done reply) (meaning f o.state)
-    (Resume c.args.pid) (meaning after new.state)) (Err c.in_err-number.field-0.0) c.args.buffer.now
-    c.read_truncated.new.buffer) c.self.view_is
-    (lemmas.is_refused f after old mid new c.args.pid c.args.fd c.args.n waits c.wake.ensures.namespace
-    (settled-meaning f old.state c.settled.ensures) (Err c.in_err-number.field-0.0) c.args.buffer.now
-    c.read_truncated.new.buffer
-    c.in_err-number.field-0.0 c.in_err-number.ensures.read.0 c.in_err-number.ensures.owns c.in_err-number.ensures.limits
-    (λ i. meaning (g.F.Frames.live (same.1 i)) (same.0 i).state) refl c.in_err-number.ensures.read.1) in
+    lemmas.is_refused (g.F.Frames.live c.args.door.now) (g.F.Frames.live c.read_truncated.new.door) c.read_truncated.new.self
+    c.self.view_is
+    c.args.pid c.args.fd c.args.n c.requires.waits c.wake.ensures.namespace c.settled.ensures
+    (Err c.in_err-number.field-0.0) c.args.buffer.now c.read_truncated.new.buffer c.in_err-number.field-0.0
+    c.in_err-number.ensures.read.0 c.in_err-number.ensures.owns c.in_err-number.ensures.limits
+    (λ i. meaning (g.F.Frames.live (same.1 i)) (same.0 i).state) refl c.in_err-number.ensures.read.1 in
     search rules
 
 pub returns-in-Moved-clause-answers : goal.returns-in-Moved-clause-answers
 returns-in-Moved-clause-answers g c =
-    let f = g.F.Frames.live c.args.door.now in
-    let after = g.F.Frames.live c.read_truncated.new.door in
-    let old = c.self.inside.tables in
-    let mid = c.wake.new.self in
-    let new = c.read_truncated.new.self in
-    let waits =
-    subst (λ (o : Namespace). call_of (meaning f o.state) c.args.pid ≡ Some (Moving (Reading c.args.fd c.args.n)))
-    (sym c.self.view_is) c.requires.waits in
     let made = c.in_ok-number.ensures in
-    subst (λ (o : Namespace). Replied (λ (reply : Reply). Answers o.limits (Done reply) (meaning f o.state)
-    (Resume c.args.pid) (meaning after new.state)) (Ok (Some c.in-Moved.number)) c.args.buffer.now
-    c.read_truncated.new.buffer) c.self.view_is
-    (lemmas.comes f after old mid new c.args.pid c.args.fd c.args.n waits c.wake.ensures.namespace
-    (settled-meaning f old.state c.settled.ensures) (Ok (Some c.in-Moved.number)) c.args.buffer.now
-    c.read_truncated.new.buffer
-    _ made.read made.owns made.limits c.in-Moved.number c.in-Moved.is refl)
+    lemmas.comes (g.F.Frames.live c.args.door.now) (g.F.Frames.live c.read_truncated.new.door) c.read_truncated.new.self
+    c.self.view_is c.args.pid
+    c.args.fd c.args.n c.requires.waits c.wake.ensures.namespace c.settled.ensures (Ok (Some c.in-Moved.number))
+    c.args.buffer.now c.read_truncated.new.buffer _ made.read made.owns made.limits c.in-Moved.number c.in-Moved.is refl
 
 pub returns-in-EndOfFile-clause-answers : goal.returns-in-EndOfFile-clause-answers
 returns-in-EndOfFile-clause-answers g c =
-    let f = g.F.Frames.live c.args.door.now in
-    let after = g.F.Frames.live c.read_truncated.new.door in
-    let old = c.self.inside.tables in
-    let mid = c.wake.new.self in
-    let new = c.read_truncated.new.self in
-    let waits =
-    subst (λ (o : Namespace). call_of (meaning f o.state) c.args.pid ≡ Some (Moving (Reading c.args.fd c.args.n)))
-    (sym c.self.view_is) c.requires.waits in
     let made = c.in_ok-number.ensures in
-    subst (λ (o : Namespace). Replied (λ (reply : Reply). Answers o.limits (Done reply) (meaning f o.state)
-    (Resume c.args.pid) (meaning after new.state)) (Ok (Some 0)) c.args.buffer.now c.read_truncated.new.buffer)
-    c.self.view_is
-    (lemmas.ends f after old mid new c.args.pid c.args.fd c.args.n waits c.wake.ensures.namespace
-    (settled-meaning f old.state c.settled.ensures) (Ok (Some 0)) c.args.buffer.now c.read_truncated.new.buffer
-    _ made.read made.owns made.limits c.in-EndOfFile.is refl)
+    lemmas.ends (g.F.Frames.live c.args.door.now) (g.F.Frames.live c.read_truncated.new.door) c.read_truncated.new.self
+    c.self.view_is c.args.pid
+    c.args.fd c.args.n c.requires.waits c.wake.ensures.namespace c.settled.ensures (Ok (Some 0)) c.args.buffer.now
+    c.read_truncated.new.buffer _ made.read made.owns made.limits c.in-EndOfFile.is refl
 
 pub returns-clause-answers : goal.returns-clause-answers
 returns-clause-answers g c =
-    let f = g.F.Frames.live c.args.door.now in
-    let after = g.F.Frames.live c.read_truncated.new.door in
-    let old = c.self.inside.tables in
-    let mid = c.wake.new.self in
-    let between = c.read_truncated.new.self in
-    let new = c.park.new.self in
-    let waits =
-    subst (λ (o : Namespace). call_of (meaning f o.state) c.args.pid ≡ Some (Moving (Reading c.args.fd c.args.n)))
-    (sym c.self.view_is) c.requires.waits in
     let made = c.in_ok-number.ensures in
-    subst (λ (o : Namespace). Replied (λ (reply : Reply). Answers o.limits (Done reply) (meaning f o.state)
-    (Resume c.args.pid) (meaning after new.state)) (Ok None) c.args.buffer.now c.read_truncated.new.buffer)
+    lemmas.waits_on (g.F.Frames.live c.args.door.now) (g.F.Frames.live c.read_truncated.new.door) c.park.new.self
     c.self.view_is
-    (lemmas.waits_on f after old mid new c.args.pid c.args.fd c.args.n waits c.wake.ensures.namespace
-    (settled-meaning f old.state c.settled.ensures) (Ok None) c.args.buffer.now c.read_truncated.new.buffer
-    between _ made.read made.owns made.limits c.in-WouldBlock.is c.park.ensures refl)
+    c.args.pid c.args.fd c.args.n c.requires.waits c.wake.ensures.namespace c.settled.ensures (Ok None)
+    c.args.buffer.now c.read_truncated.new.buffer c.read_truncated.new.self _ made.read made.owns made.limits
+    c.in-WouldBlock.is c.park.ensures refl
 
 pub returns-clause-owns : goal.returns-clause-owns
 returns-clause-owns g c =
