@@ -1,8 +1,9 @@
 """What the gate does in lanes: the wrong bodies of crates, side by side, in copies of the tree.
 
 A lane is a copy, in which one command runs at a time, since the commands of the kit wait for each other in one tree. A
-crate's untouched text is checked first, when all that it stands on is. What that check leaves in the crate's folder
-out/ is copied to the other lanes, as not every kit keeps it elsewhere. Then its wrong bodies can be tried, in any lane.
+crate's untouched text is checked first, when all that it stands on is, and where others stand on it that is done as its
+library is built. What that leaves in the crate's folder out/ is copied to the other lanes, as not every kit keeps it
+elsewhere. Then its wrong bodies can be tried, in any lane.
 
 What was seen refused is kept in the user's cache folder, where the untouched text checked again behind it: by checksums
 of the edit, of all files of the repository that the check reads, and of wrong_bodies.py, which judges; and by the kit's
@@ -26,7 +27,7 @@ import wrong_bodies
 from wrong_bodies import Trial, bytes_of, check, edits_of, groups_of, is_proved, read, run, say
 
 DEAREST = 25  # how many wrong bodies are named at the end, with what each took
-CHECKS = 3  # how many checks of a crate with wrong bodies one lane makes, where another lane can take the others
+CHECKS = 4  # how many checks of a crate with wrong bodies one lane makes, where another lane can take the others
 LANE_BYTES = 4 << 30  # what a check may take of memory
 DAYS = 30  # how long what was seen is kept where no run asks for it
 
@@ -182,6 +183,11 @@ def try_all(root, names, words, besides=()):
         return WrongBodies(trees, names, words).play(besides)
 
 
+def library(folder):
+    """Builds a crate's library, for which it is proved."""
+    return run(["rt", "lib", "--jobs", "1"], folder)
+
+
 def parts_of(groups):
     """Groups shared out for lanes, in each the small ones first: so the large ones, with many functions, come last."""
     number = -(-len(groups) // CHECKS)
@@ -240,16 +246,14 @@ class WrongBodies:
         return [Task(it, self.crates[it], work(it)) for it in sorted(needed, key=lambda it: (-above[it], it))]
 
     def proof(self, tree, crate, is_stood_on):
-        """Checks a crate as it stands, in one lane, and hands on what that leaves to the others, as not every kit keeps
-        it elsewhere. Where others stand on the crate, its library is built too, once for all lanes."""
+        """Proves a crate as it stands, in one lane, and hands on what that leaves to the others, as not every kit keeps
+        it elsewhere. Where others stand on the crate, that is how its library is built, once for all lanes: the kit
+        proves what it builds, and a check before it would read all of it once more."""
         when, folder = "as it stands, so its wrong bodies and what stands on it aren't tried", f"crates/{crate}"
-        works = [(lambda: check(f"{tree}/{folder}"), when)]
-        works += [(lambda: run(["rt", "lib"], f"{tree}/{folder}"), "as a library")] if is_stood_on else []
-        for work, how in works:
-            ran = work()
-            self.proved[crate] += ran.seconds
-            if not is_proved(ran, crate, how):
-                return False
+        ran = (library if is_stood_on else check)(f"{tree}/{folder}")
+        self.proved[crate] += ran.seconds
+        if not is_proved(ran, crate, when):
+            return False
         for other in self.trees if os.path.isdir(f"{tree}/{folder}/out") else []:
             if other != tree:  # under another name first, so that no command there sees the half of it
                 shutil.copytree(f"{tree}/{folder}/out", f"{other}/{folder}/out.new", symlinks=True)
