@@ -7,8 +7,8 @@ ghost use Rattle.std.specs.Prelude.{◌≡◌, ◌≤◌};
 ghost use Rattle.pf_base.specs.declared.TheConstants.{MAX_NAMESPACES};
 
 use crate::services::{
-    BLUE, Callers, Closed, RED, blank, closed, make, namespaces, serve, service_of, steps_of_blue,
-    steps_of_red,
+    BLUE, Callers, Closed, RED, blank, both, closed, make, namespaces, seat_if, serve, service_of,
+    steps_of_blue, steps_of_red,
 };
 use pf_base::Step;
 use pf_service::{Gate, Seat, Service};
@@ -105,7 +105,36 @@ fn comes(signal: &AtomicU64) -> bool {
     false
 }
 
-// Makes the steps in turn, each of which the gate is told of once.
+// The place of a step that isn't refused.
+fn place_of<R: Wait, C: Ledger, H: Ledger>(
+    rt: &R,
+    service: &Service<Global, Recorder<'_>, C, H>,
+    seat: &mut Seat,
+    step: &Step,
+) -> Option<u64> {
+    Some(service.call(rt, seat, step).ok()?.place)
+}
+
+// Makes the steps in turn; whether the gate is told of each of them once.
+fn are_told<R: Wait, C: Ledger, H: Ledger>(
+    rt: &R,
+    service: &Service<Global, Recorder<'_>, C, H>,
+    seat: &mut Seat,
+    steps: &[Step],
+    told: &Told,
+) -> bool {
+    for step in steps {
+        let Some(place) = place_of(rt, service, seat, step) else {
+            return false;
+        };
+        if !told.is(place.wrapping_add(1)) {
+            return false;
+        }
+    }
+    true
+}
+
+// The same with a seat that comes back where it is.
 fn make_told<R: Wait, C: Ledger, H: Ledger>(
     rt: &R,
     service: &Service<Global, Recorder<'_>, C, H>,
@@ -113,13 +142,8 @@ fn make_told<R: Wait, C: Ledger, H: Ledger>(
     steps: &[Step],
     told: &Told,
 ) -> Option<Seat> {
-    for step in steps {
-        let receipt = service.call(rt, &mut seat, step).ok()?;
-        if !told.is(receipt.place.wrapping_add(1)) {
-            return None;
-        }
-    }
-    Some(seat)
+    let all = are_told(rt, service, &mut seat, steps, told);
+    seat_if(all, seat)
 }
 
 // Two tenants in turn, of whom the gate is told.
@@ -269,21 +293,30 @@ fn one_after_the_other<C: Ledger + Send + Sync, H: Ledger + Send + Sync, R: Thre
     rt: &R,
     alloc: Global,
     service: &Service<Global, Recorder<'_>, C, H>,
+    first: Seat,
+    second: Seat,
+    steps: &[Step],
     held: &AtomicU64,
     coming: &AtomicU64,
 ) -> Result<Vec<Seat>, Fail> {
-    let (first, second) = (service.seat(rt, RED)?, service.seat(rt, RED)?);
-    let owned = steps_of_blue(alloc)?;
-    let steps = owned.as_slice();
     let (first, second) = join(
         rt,
         move || make(rt, service, first, steps),
         move || make_behind(rt, service, second, steps, held, coming),
     );
-    let mut seats = Vec::with_capacity(alloc, 2)?;
-    seats.push(first.ok_or("refused")?)?;
-    seats.push(second.ok_or("refused")?)?;
-    Ok(seats)
+    both(alloc, first, second)
+}
+
+fn first_and_second<C: Ledger + Send + Sync, H: Ledger + Send + Sync, R: Threads + Wait + Sync>(
+    rt: &R,
+    alloc: Global,
+    service: &Service<Global, Recorder<'_>, C, H>,
+    held: &AtomicU64,
+    coming: &AtomicU64,
+) -> Result<Vec<Seat>, Fail> {
+    let steps = steps_of_blue(alloc)?;
+    let (first, second) = (service.seat(rt, RED)?, service.seat(rt, RED)?);
+    one_after_the_other(rt, alloc, service, first, second, &steps, held, coming)
 }
 
 fn two_callers_named<C: Ledger + Send + Sync, H: Ledger + Send + Sync, R: Threads + Wait + Sync>(
@@ -306,7 +339,7 @@ fn two_callers_named<C: Ledger + Send + Sync, H: Ledger + Send + Sync, R: Thread
         coming: second_comes,
     };
     let service = service_of::<_, C, H>(alloc, namespaces(1), gate, credits, held)?;
-    let seats = one_after_the_other(rt, alloc, &service, first_in, second_comes);
+    let seats = first_and_second(rt, alloc, &service, first_in, second_comes);
     closed(service, seats)
 }
 

@@ -4,8 +4,8 @@ ghost use Rattle.std.specs.Prelude.{◌≡◌, ◌≤◌};
 ghost use Rattle.pf_base.specs.declared.TheConstants.{MAX_NAMESPACES};
 
 use crate::services::{
-    Callers, Closed, Plain, RED, Size, blank, closed, config_of, make, replies_are, serve,
-    service_of, spawn, steps_of_blue, steps_of_red,
+    Callers, Closed, Plain, RED, Size, all_of_parts, blank, both, closed, config_of, make, makes,
+    replies_are, serve, service_of, spawn, steps_of_blue, steps_of_red,
 };
 use pf_base::{AdmitFault, ByteString, Config, Reply, RetireFault, Step};
 use pf_service::{NoGate, Seat, ServiceFault};
@@ -124,10 +124,7 @@ impl Callers<NoGate> for FramesOfOneWhoWent {
         service.retire(rt, RED)?;
         let ns = service.admit(rt, config_of(16).ok_or("limits")?, alloc)?;
         let blue = make(rt, service, service.seat(rt, ns)?, &steps_of_blue(alloc)?);
-        let mut seats = Vec::new(alloc);
-        seats.push(red.ok_or("red")?)?;
-        seats.push(blue.ok_or("blue")?)?;
-        Ok(seats)
+        both(alloc, red, blue)
     }
 }
 
@@ -183,7 +180,9 @@ fn come<C: Ledger, H: Ledger, R: Wait>(
 
 // The process of a seat's namespace exits, and the namespace goes.
 fn go<C: Ledger, H: Ledger, R: Wait>(rt: &R, service: &Plain<C, H>, seat: &mut Seat) -> Option<()> {
-    service.call(rt, seat, &Step::Exit { pid: 1 }).ok()?;
+    if !makes(rt, service, seat, &Step::Exit { pid: 1 }) {
+        return None;
+    }
     service.retire(rt, seat.ns()).ok()
 }
 
@@ -257,15 +256,39 @@ fn come_and_go<C: Ledger, H: Ledger, R: Wait>(
 ) -> Option<Vec<Seat>> {
     let mut seats = Vec::new(job.alloc);
     for _ in 0..times {
-        let mut seat = come(rt, job.alloc, service, job.config, job.steps)?;
-        go(rt, service, &mut seat)?;
-        seats.push(seat).ok()?;
+        seats.push(come_and_go_once(rt, service, job)?).ok()?;
     }
     Some(seats)
 }
 
+// One comes and goes, and leaves its seat.
+fn come_and_go_once<C: Ledger, H: Ledger, R: Wait>(
+    rt: &R,
+    service: &Plain<C, H>,
+    job: &Job<'_>,
+) -> Option<Seat> {
+    let mut seat = come(rt, job.alloc, service, job.config, job.steps)?;
+    go(rt, service, &mut seat)?;
+    Some(seat)
+}
+
 // Four threads on which 50 namespaces each come, work and go.
 fn on_four_threads<C: Ledger + Send + Sync, H: Ledger + Send + Sync, R: Threads + Wait + Sync>(
+    rt: &R,
+    alloc: Global,
+    service: &Plain<C, H>,
+    job: &Job<'_>,
+) -> Result<Vec<Seat>, Fail> {
+    let times = Vec::from_elem(alloc, 50u32, 4)?;
+    let back = thread::map_vec(
+        rt,
+        times,
+        &|times: u32| come_and_go(rt, service, job, times),
+    )?;
+    all_of_parts(alloc, back)
+}
+
+fn two_hundred<C: Ledger + Send + Sync, H: Ledger + Send + Sync, R: Threads + Wait + Sync>(
     rt: &R,
     alloc: Global,
     service: &Plain<C, H>,
@@ -276,19 +299,7 @@ fn on_four_threads<C: Ledger + Send + Sync, H: Ledger + Send + Sync, R: Threads 
         config: config_of(2).ok_or("two")?,
         steps: &steps,
     };
-    let times = Vec::from_elem(alloc, 50u32, 4)?;
-    let back = thread::map_vec(
-        rt,
-        times,
-        &|times: u32| come_and_go(rt, service, &job, times),
-    )?;
-    let mut seats = Vec::new(alloc);
-    for own in back {
-        for seat in own.ok_or("refused")? {
-            seats.push(seat)?;
-        }
-    }
-    Ok(seats)
+    on_four_threads(rt, alloc, service, &job)
 }
 
 fn four_threads_named<C: Ledger + Send + Sync, H: Ledger + Send + Sync, R: Threads + Wait + Sync>(
@@ -302,7 +313,7 @@ fn four_threads_named<C: Ledger + Send + Sync, H: Ledger + Send + Sync, R: Threa
     requires parts { (MAX_NAMESPACES ≤ credits.parts) × (MAX_NAMESPACES ≤ held.parts) }
 {
     let service = service_of::<_, C, H>(alloc, roomy(0, 8), NoGate, credits, held)?;
-    let seats = on_four_threads(rt, alloc, &service);
+    let seats = two_hundred(rt, alloc, &service);
     closed(service, seats)
 }
 

@@ -6,7 +6,7 @@ ghost use Rattle.std.specs.Prelude.{◌≡◌, ◌≤◌};
 ghost use Rattle.pf_base.specs.declared.TheConstants.{MAX_NAMESPACES};
 
 use crate::services::{
-    BLUE, Closed, RED, blank, closed, make, namespaces, service_of, spawn, write,
+    BLUE, Closed, RED, blank, both, closed, make, namespaces, service_of, spawn, with, write,
 };
 use pf_base::{ByteString, Reply, Step};
 use pf_service::{Gate, Seat, Service};
@@ -126,36 +126,52 @@ fn make_beside<R: Wait, C: Ledger, H: Ledger>(
     seat
 }
 
+// A process reads the first of what it wrote.
+fn reading(alloc: Global) -> Result<Vec<Step>, AllocError> {
+    let mut steps = Vec::with_capacity(alloc, 1)?;
+    steps.push(Step::Read {
+        pid: 1,
+        fd: 0,
+        n: 9,
+    })?;
+    Ok(steps)
+}
+
 // Both namespaces write so many bytes on a thread each, and then another thread reads the first of what the first wrote.
 fn beside<C: Ledger + Send + Sync, H: Ledger + Send + Sync, R: Threads + Wait + Sync>(
     rt: &R,
     alloc: Global,
     service: &Service<Global, Holder<'_>, C, H>,
     signals: &Signals,
-    count: usize,
+    ours: Seat,
+    theirs: Seat,
+    reader: Seat,
+    steps: &[Step],
+    last: &[Step],
 ) -> Result<Vec<Seat>, Fail> {
-    let (ours, theirs) = (service.seat(rt, RED)?, service.seat(rt, BLUE)?);
-    let reader = service.seat(rt, RED)?;
-    let owned = writing(alloc, count)?;
-    let steps = owned.as_slice();
     let (ours, theirs) = join(
         rt,
         move || make(rt, service, ours, steps),
         move || make_beside(rt, service, theirs, steps, signals),
     );
-    let mut read = Vec::with_capacity(alloc, 1)?;
-    read.push(Step::Read {
-        pid: 1,
-        fd: 0,
-        n: 9,
-    })?;
-    let last = read.as_slice();
     let (reader, ()) = join(rt, move || make(rt, service, reader, last), || ());
-    let mut seats = Vec::with_capacity(alloc, 3)?;
-    seats.push(ours.ok_or("refused")?)?;
-    seats.push(theirs.ok_or("refused")?)?;
-    seats.push(reader.ok_or("refused")?)?;
-    Ok(seats)
+    with(both(alloc, ours, theirs)?, reader)
+}
+
+// The same at a service of nobody yet.
+fn writers_and_reader<C: Ledger + Send + Sync, H: Ledger + Send + Sync, R: Threads + Wait + Sync>(
+    rt: &R,
+    alloc: Global,
+    service: &Service<Global, Holder<'_>, C, H>,
+    signals: &Signals,
+    count: usize,
+) -> Result<Vec<Seat>, Fail> {
+    let (steps, last) = (writing(alloc, count)?, reading(alloc)?);
+    let (ours, theirs) = (service.seat(rt, RED)?, service.seat(rt, BLUE)?);
+    let reader = service.seat(rt, RED)?;
+    beside(
+        rt, alloc, service, signals, ours, theirs, reader, &steps, &last,
+    )
 }
 
 fn both_beside_named<C: Ledger + Send + Sync, H: Ledger + Send + Sync, R: Threads + Wait + Sync>(
@@ -178,7 +194,7 @@ fn both_beside_named<C: Ledger + Send + Sync, H: Ledger + Send + Sync, R: Thread
         credits,
         held,
     )?;
-    let seats = beside(rt, alloc, &service, signals, count);
+    let seats = writers_and_reader(rt, alloc, &service, signals, count);
     closed(service, seats)
 }
 

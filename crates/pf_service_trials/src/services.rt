@@ -278,6 +278,39 @@ pub(crate) fn steps_of_blue(alloc: Global) -> Result<Vec<Step>, AllocError> {
     Ok(steps)
 }
 
+// A receipt or a seat is dear to prove where it is let go at several ways out, or in a loop. So loops have a seat lent, and
+// what is let go is handed to a function with one way out.
+
+// Whether a step isn't refused.
+pub(crate) fn makes<R: Wait, G: Gate, C: Ledger, H: Ledger>(
+    rt: &R,
+    service: &Service<Global, G, C, H>,
+    seat: &mut Seat,
+    step: &Step,
+) -> bool {
+    service.call(rt, seat, step).is_ok()
+}
+
+// Makes the steps in turn, until one is refused; whether none is.
+fn makes_all<R: Wait, G: Gate, C: Ledger, H: Ledger>(
+    rt: &R,
+    service: &Service<Global, G, C, H>,
+    seat: &mut Seat,
+    steps: &[Step],
+) -> bool {
+    for step in steps {
+        if !makes(rt, service, seat, step) {
+            return false;
+        }
+    }
+    true
+}
+
+// The seat, where something holds.
+pub(crate) fn seat_if(holds: bool, seat: Seat) -> Option<Seat> {
+    if holds { Some(seat) } else { None }
+}
+
 // Makes the steps in turn. No seat comes back where one was refused.
 pub(crate) fn make<R: Wait, G: Gate, C: Ledger, H: Ledger>(
     rt: &R,
@@ -285,13 +318,27 @@ pub(crate) fn make<R: Wait, G: Gate, C: Ledger, H: Ledger>(
     mut seat: Seat,
     steps: &[Step],
 ) -> Option<Seat> {
-    for step in steps {
-        service.call(rt, &mut seat, step).ok()?;
-    }
-    Some(seat)
+    let all = makes_all(rt, service, &mut seat, steps);
+    seat_if(all, seat)
 }
 
-// Makes the steps in turn, many times.
+// Makes the steps in turn, many times, until one is refused; whether none is.
+pub(crate) fn repeats<R: Wait, C: Ledger, H: Ledger>(
+    rt: &R,
+    service: &Plain<C, H>,
+    seat: &mut Seat,
+    steps: &[Step],
+    times: u32,
+) -> bool {
+    for _ in 0..times {
+        if !makes_all(rt, service, seat, steps) {
+            return false;
+        }
+    }
+    true
+}
+
+// Makes the steps in turn, many times. No seat comes back where one was refused.
 pub(crate) fn repeat<R: Wait, C: Ledger, H: Ledger>(
     rt: &R,
     service: &Plain<C, H>,
@@ -299,10 +346,52 @@ pub(crate) fn repeat<R: Wait, C: Ledger, H: Ledger>(
     steps: &[Step],
     times: u32,
 ) -> Option<Seat> {
-    for _ in 0..times {
-        seat = make(rt, service, seat, steps)?;
+    let all = repeats(rt, service, &mut seat, steps, times);
+    seat_if(all, seat)
+}
+
+// The seats that came back, where all did.
+pub(crate) fn all_of(alloc: Global, back: Vec<Option<Seat>>) -> Result<Vec<Seat>, Fail> {
+    let mut seats = Vec::with_capacity(alloc, back.len())?;
+    for seat in back {
+        seats.push(seat.ok_or("no seat")?)?;
     }
-    Some(seat)
+    Ok(seats)
+}
+
+// The same of two.
+pub(crate) fn both(
+    alloc: Global,
+    first: Option<Seat>,
+    second: Option<Seat>,
+) -> Result<Vec<Seat>, Fail> {
+    let mut seats = Vec::with_capacity(alloc, 4)?;
+    seats.push(first.ok_or("no seat")?)?;
+    seats.push(second.ok_or("no seat")?)?;
+    Ok(seats)
+}
+
+// These seats and another, where it came back.
+pub(crate) fn with(mut seats: Vec<Seat>, another: Option<Seat>) -> Result<Vec<Seat>, Fail> {
+    seats.push(another.ok_or("no seat")?)?;
+    Ok(seats)
+}
+
+// Seats behind others.
+fn append(seats: &mut Vec<Seat>, others: Vec<Seat>) -> Result<(), AllocError> {
+    for seat in others {
+        seats.push(seat)?;
+    }
+    Ok(())
+}
+
+// All seats that came back in parts, where all did.
+pub(crate) fn all_of_parts(alloc: Global, back: Vec<Option<Vec<Seat>>>) -> Result<Vec<Seat>, Fail> {
+    let mut seats = Vec::new(alloc);
+    for own in back {
+        append(&mut seats, own.ok_or("no seats")?)?;
+    }
+    Ok(seats)
 }
 
 pub(crate) fn replies_are<R: Abort>(rt: &R, transcript: &Transcript, replies: &[Reply]) {

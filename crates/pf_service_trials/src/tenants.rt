@@ -1,7 +1,8 @@
 //! Two tenants are told what each is told alone, also where memory is refused.
 
 use crate::services::{
-    BLUE, Callers, Plain, RED, make, namespaces, serve, steps_of_blue, steps_of_red, told_alone,
+    BLUE, Callers, Plain, RED, both, make, namespaces, seat_if, serve, steps_of_blue, steps_of_red,
+    told_alone,
 };
 use pf_base::Step;
 use pf_service::{CloseFault, NoGate, Seat, ServiceFault};
@@ -21,14 +22,11 @@ impl Callers<NoGate> for InTurn {
         alloc: Global,
         service: &Plain<C, H>,
     ) -> Result<Vec<Seat>, Fail> {
-        let red = service.seat(rt, RED)?;
-        let blue = service.seat(rt, BLUE)?;
-        let red = make(rt, service, red, &steps_of_red(alloc)?).ok_or("refused")?;
-        let blue = make(rt, service, blue, &steps_of_blue(alloc)?).ok_or("refused")?;
-        let mut seats = Vec::with_capacity(alloc, 2)?;
-        seats.push(blue)?;
-        seats.push(red)?;
-        Ok(seats)
+        let (ours, theirs) = (steps_of_red(alloc)?, steps_of_blue(alloc)?);
+        let (red, blue) = (service.seat(rt, RED)?, service.seat(rt, BLUE)?);
+        let red = make(rt, service, red, &ours);
+        let blue = make(rt, service, blue, &theirs);
+        both(alloc, blue, red)
     }
 }
 
@@ -39,24 +37,46 @@ fn two_tenants_are_told_what_they_are_told_alone(rt: HostRuntime) -> Result<(), 
     told_alone(&rt, alloc, &transcripts)
 }
 
-// Makes the steps in turn. Where a growth is refused the step is made once more: it is to find all as it was.
+// Whether a step isn't refused. Where a growth is, it is made once more: it is to find all as it was.
+fn makes_again<R: Wait, C: Ledger, H: Ledger>(
+    rt: &R,
+    service: &Plain<C, H>,
+    seat: &mut Seat,
+    step: &Step,
+) -> bool {
+    let kept = seat.events().len();
+    match service.call(rt, seat, step) {
+        Err(ServiceFault::NoMemory) if seat.events().len() == kept => {
+            service.call(rt, seat, step).is_ok()
+        }
+        told => told.is_ok(),
+    }
+}
+
+// Whether none of the steps, in turn, is.
+fn makes_all_again<R: Wait, C: Ledger, H: Ledger>(
+    rt: &R,
+    service: &Plain<C, H>,
+    seat: &mut Seat,
+    steps: &[Step],
+) -> bool {
+    for step in steps {
+        if !makes_again(rt, service, seat, step) {
+            return false;
+        }
+    }
+    true
+}
+
+// Makes the steps so. No seat comes back where one was refused.
 fn make_again<R: Wait, C: Ledger, H: Ledger>(
     rt: &R,
     service: &Plain<C, H>,
     mut seat: Seat,
     steps: &[Step],
 ) -> Option<Seat> {
-    for step in steps {
-        let kept = seat.events().len();
-        let receipt = match service.call(rt, &mut seat, step) {
-            Err(ServiceFault::NoMemory) if seat.events().len() == kept => {
-                service.call(rt, &mut seat, step)
-            }
-            told => told,
-        };
-        receipt.ok()?;
-    }
-    Some(seat)
+    let all = makes_all_again(rt, service, &mut seat, steps);
+    seat_if(all, seat)
 }
 
 // The same, where a growth may be refused.
@@ -69,14 +89,11 @@ impl Callers<NoGate> for InTurnAgain {
         alloc: Global,
         service: &Plain<C, H>,
     ) -> Result<Vec<Seat>, Fail> {
-        let red = service.seat(rt, RED)?;
-        let blue = service.seat(rt, BLUE)?;
-        let red = make_again(rt, service, red, &steps_of_red(alloc)?).ok_or("changed")?;
-        let blue = make_again(rt, service, blue, &steps_of_blue(alloc)?).ok_or("changed")?;
-        let mut seats = Vec::with_capacity(alloc, 2)?;
-        seats.push(red)?;
-        seats.push(blue)?;
-        Ok(seats)
+        let (ours, theirs) = (steps_of_red(alloc)?, steps_of_blue(alloc)?);
+        let (red, blue) = (service.seat(rt, RED)?, service.seat(rt, BLUE)?);
+        let red = make_again(rt, service, red, &ours);
+        let blue = make_again(rt, service, blue, &theirs);
+        both(alloc, red, blue)
     }
 }
 

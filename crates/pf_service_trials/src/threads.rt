@@ -4,12 +4,12 @@ ghost use Rattle.std.specs.Prelude.{◌≡◌, ◌≤◌, ◌<◌};
 ghost use Rattle.pf_base.specs.declared.TheConstants.{MAX_NAMESPACES};
 
 use crate::services::{
-    BLUE, Closed, Plain, RED, blank, closed, make, namespaces, repeat, service_of, steps_of_blue,
-    steps_of_red, told_alone,
+    BLUE, Closed, Plain, RED, all_of, all_of_parts, blank, both, closed, make, namespaces, repeat,
+    repeats, service_of, steps_of_blue, steps_of_red, told_alone,
 };
 use pf_base::Step;
 use pf_service::{NoGate, Seat};
-use std::alloc::Global;
+use std::alloc::{AllocError, Global};
 use std::marker::Brand;
 use std::sync::Wait;
 use std::sync::ledger::{Blank, Ledger};
@@ -22,19 +22,27 @@ fn on_two_threads<C: Ledger + Send + Sync, H: Ledger + Send + Sync, R: Threads +
     rt: &R,
     alloc: Global,
     service: &Plain<C, H>,
+    red: Seat,
+    blue: Seat,
+    first: &[Step],
+    second: &[Step],
 ) -> Result<Vec<Seat>, Fail> {
-    let (red, blue) = (service.seat(rt, RED)?, service.seat(rt, BLUE)?);
-    let (ours, theirs) = (steps_of_red(alloc)?, steps_of_blue(alloc)?);
-    let (first, second) = (ours.as_slice(), theirs.as_slice());
     let (red, blue) = join(
         rt,
         move || make(rt, service, red, first),
         move || make(rt, service, blue, second),
     );
-    let mut seats = Vec::with_capacity(alloc, 2)?;
-    seats.push(blue.ok_or("refused")?)?;
-    seats.push(red.ok_or("refused")?)?;
-    Ok(seats)
+    both(alloc, blue, red)
+}
+
+fn red_and_blue<C: Ledger + Send + Sync, H: Ledger + Send + Sync, R: Threads + Wait + Sync>(
+    rt: &R,
+    alloc: Global,
+    service: &Plain<C, H>,
+) -> Result<Vec<Seat>, Fail> {
+    let (ours, theirs) = (steps_of_red(alloc)?, steps_of_blue(alloc)?);
+    let (red, blue) = (service.seat(rt, RED)?, service.seat(rt, BLUE)?);
+    on_two_threads(rt, alloc, service, red, blue, &ours, &theirs)
 }
 
 fn two_threads_named<C: Ledger + Send + Sync, H: Ledger + Send + Sync, R: Threads + Wait + Sync>(
@@ -48,7 +56,7 @@ fn two_threads_named<C: Ledger + Send + Sync, H: Ledger + Send + Sync, R: Thread
     requires parts { (MAX_NAMESPACES ≤ credits.parts) × (MAX_NAMESPACES ≤ held.parts) }
 {
     let service = service_of::<_, C, H>(alloc, namespaces(2), NoGate, credits, held)?;
-    let seats = on_two_threads(rt, alloc, &service);
+    let seats = red_and_blue(rt, alloc, &service);
     closed(service, seats)
 }
 
@@ -65,8 +73,8 @@ fn two_tenants_on_two_threads_are_told_what_they_are_told_alone(
     told_alone(&rt, alloc, &transcripts)
 }
 
-// Eight threads of 10,000 calls each, two at each of four namespaces.
-fn on_eight_threads<C: Ledger + Send + Sync, H: Ledger + Send + Sync, R: Threads + Wait + Sync>(
+// Two seats at each of four namespaces.
+fn two_each<R: Wait, C: Ledger, H: Ledger>(
     rt: &R,
     alloc: Global,
     service: &Plain<C, H>,
@@ -75,18 +83,33 @@ fn on_eight_threads<C: Ledger + Send + Sync, H: Ledger + Send + Sync, R: Threads
     for n in 0..8u32 {
         seats.push(service.seat(rt, n / 2)?)?;
     }
-    let owned = steps_of_blue(alloc)?;
-    let steps = owned.as_slice();
+    Ok(seats)
+}
+
+// Eight threads of 10,000 calls each, two at each of four namespaces.
+fn on_eight_threads<C: Ledger + Send + Sync, H: Ledger + Send + Sync, R: Threads + Wait + Sync>(
+    rt: &R,
+    alloc: Global,
+    service: &Plain<C, H>,
+    seats: Vec<Seat>,
+    steps: &[Step],
+) -> Result<Vec<Seat>, Fail> {
     let back = thread::map_vec(
         rt,
         seats,
         &|seat: Seat| repeat(rt, service, seat, steps, 2_500),
     )?;
-    let mut seats = Vec::with_capacity(alloc, 8)?;
-    for seat in back {
-        seats.push(seat.ok_or("refused")?)?;
-    }
-    Ok(seats)
+    all_of(alloc, back)
+}
+
+fn eight_callers<C: Ledger + Send + Sync, H: Ledger + Send + Sync, R: Threads + Wait + Sync>(
+    rt: &R,
+    alloc: Global,
+    service: &Plain<C, H>,
+) -> Result<Vec<Seat>, Fail> {
+    let steps = steps_of_blue(alloc)?;
+    let seats = two_each(rt, alloc, service)?;
+    on_eight_threads(rt, alloc, service, seats, &steps)
 }
 
 fn eight_threads_named<C: Ledger + Send + Sync, H: Ledger + Send + Sync, R: Threads + Wait + Sync>(
@@ -100,7 +123,7 @@ fn eight_threads_named<C: Ledger + Send + Sync, H: Ledger + Send + Sync, R: Thre
     requires parts { (MAX_NAMESPACES ≤ credits.parts) × (MAX_NAMESPACES ≤ held.parts) }
 {
     let service = service_of::<_, C, H>(alloc, namespaces(4), NoGate, credits, held)?;
-    let seats = on_eight_threads(rt, alloc, &service);
+    let seats = eight_callers(rt, alloc, &service);
     closed(service, seats)
 }
 
@@ -118,21 +141,33 @@ fn eight_threads_agree_with_four_transcripts(rt: HostRuntime) -> Result<(), Fail
     Ok(())
 }
 
-// Makes the steps in turn with each of these seats, many times.
+// Makes the steps in turn with each of these seats, many times, until one is refused; whether none is.
+fn repeats_all<R: Wait, C: Ledger, H: Ledger>(
+    rt: &R,
+    service: &Plain<C, H>,
+    seats: &mut [Seat],
+    steps: &[Step],
+) -> bool {
+    for seat in seats {
+        if !repeats(rt, service, seat, steps, 250) {
+            return false;
+        }
+    }
+    true
+}
+
+// The same with seats that come back where none is.
 fn repeat_all<R: Wait, C: Ledger, H: Ledger>(
     rt: &R,
     service: &Plain<C, H>,
     mut seats: Vec<Seat>,
     steps: &[Step],
 ) -> Option<Vec<Seat>> {
-    for seat in &mut seats {
-        for _ in 0..250 {
-            for step in steps {
-                service.call(rt, seat, step).ok()?;
-            }
-        }
+    if repeats_all(rt, service, &mut seats, steps) {
+        Some(seats)
+    } else {
+        None
     }
-    Some(seats)
 }
 
 // A seat at each of eight namespaces, from this one on.
@@ -141,14 +176,33 @@ fn eight_seats<R: Wait, C: Ledger, H: Ledger>(
     alloc: Global,
     service: &Plain<C, H>,
     first: u32,
-) -> Option<Vec<Seat>>
+) -> Result<Vec<Seat>, Fail>
     requires { first < 64 }
 {
-    let mut seats = Vec::with_capacity(alloc, 8).ok()?;
+    let mut seats = Vec::with_capacity(alloc, 8)?;
     for ns in first..first + 8 {
-        seats.push(service.seat(rt, ns).ok()?).ok()?;
+        seats.push(service.seat(rt, ns)?)?;
     }
-    Some(seats)
+    Ok(seats)
+}
+
+// The seats of 64 namespaces, eight at a time.
+fn eight_times_eight_seats<R: Wait, C: Ledger, H: Ledger>(
+    rt: &R,
+    alloc: Global,
+    service: &Plain<C, H>,
+) -> Result<Vec<Vec<Seat>>, Fail> {
+    let mut jobs = Vec::with_capacity(alloc, 8)?;
+    for n in 0..8u32 {
+        jobs.push(eight_seats(rt, alloc, service, 8 * n)?)?;
+    }
+    Ok(jobs)
+}
+
+fn steps_to_the_end(alloc: Global) -> Result<Vec<Step>, AllocError> {
+    let mut steps = steps_of_blue(alloc)?;
+    steps.push(Step::Exit { pid: 1 })?;
+    Ok(steps)
 }
 
 // Eight threads of 10,000 calls each, at eight namespaces of their own each.
@@ -156,26 +210,25 @@ fn at_64_namespaces<C: Ledger + Send + Sync, H: Ledger + Send + Sync, R: Threads
     rt: &R,
     alloc: Global,
     service: &Plain<C, H>,
+    jobs: Vec<Vec<Seat>>,
+    steps: &[Step],
 ) -> Result<Vec<Seat>, Fail> {
-    let mut jobs = Vec::with_capacity(alloc, 8)?;
-    for n in 0..8u32 {
-        jobs.push(eight_seats(rt, alloc, service, 8 * n).ok_or("refused")?)?;
-    }
-    let mut owned = steps_of_blue(alloc)?;
-    owned.push(Step::Exit { pid: 1 })?;
-    let steps = owned.as_slice();
     let back = thread::map_vec(
         rt,
         jobs,
         &|seats: Vec<Seat>| repeat_all(rt, service, seats, steps),
     )?;
-    let mut seats = Vec::with_capacity(alloc, 64)?;
-    for own in back {
-        for seat in own.ok_or("refused")? {
-            seats.push(seat)?;
-        }
-    }
-    Ok(seats)
+    all_of_parts(alloc, back)
+}
+
+fn sixty_four_callers<C: Ledger + Send + Sync, H: Ledger + Send + Sync, R: Threads + Wait + Sync>(
+    rt: &R,
+    alloc: Global,
+    service: &Plain<C, H>,
+) -> Result<Vec<Seat>, Fail> {
+    let steps = steps_to_the_end(alloc)?;
+    let jobs = eight_times_eight_seats(rt, alloc, service)?;
+    at_64_namespaces(rt, alloc, service, jobs, &steps)
 }
 
 fn eight_times_eight_named<
@@ -188,7 +241,7 @@ fn eight_times_eight_named<
     requires parts { (MAX_NAMESPACES ≤ credits.parts) × (MAX_NAMESPACES ≤ held.parts) }
 {
     let service = service_of::<_, C, H>(alloc, namespaces(64), NoGate, credits, held)?;
-    let seats = at_64_namespaces(rt, alloc, &service);
+    let seats = sixty_four_callers(rt, alloc, &service);
     closed(service, seats)
 }
 

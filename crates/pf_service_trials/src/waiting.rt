@@ -3,7 +3,9 @@
 ghost use Rattle.std.specs.Prelude.{◌≡◌, ◌≤◌};
 ghost use Rattle.pf_base.specs.declared.TheConstants.{MAX_NAMESPACES};
 
-use crate::services::{Closed, RED, blank, closed, make, namespaces, service_of, spawn, write_by};
+use crate::services::{
+    Closed, RED, blank, both, closed, make, namespaces, seat_if, service_of, spawn, with, write_by,
+};
 use pf_base::{ByteString, Reply, Step};
 use pf_service::{Gate, Receipt, Seat, Service, ServiceFault};
 use std::alloc::{AllocError, Global};
@@ -103,6 +105,17 @@ fn opening(alloc: Global, others: usize) -> Result<Vec<Step>, AllocError> {
     Ok(steps)
 }
 
+// The seat of who makes a process with a pipe, and so many that share it.
+fn opened<R: Wait, C: Ledger, H: Ledger>(
+    rt: &R,
+    alloc: Global,
+    service: &Service<Global, Counter<'_>, C, H>,
+    others: usize,
+) -> Result<Option<Seat>, Fail> {
+    let steps = opening(alloc, others)?;
+    Ok(make(rt, service, service.seat(rt, RED)?, &steps))
+}
+
 // The bytes that a process is told, which may wait for them. Where a growth was refused it goes on from there.
 fn read_all<R: Wait, C: Ledger, H: Ledger>(
     rt: &R,
@@ -123,11 +136,29 @@ fn read_all<R: Wait, C: Ledger, H: Ledger>(
         };
         told = service.call_waiting(rt, seat, &step, &mut receipts);
     }
-    told.ok()?;
-    if receipts.len() != seat.events().len() {
+    last_of(
+        told.is_ok() && receipts.len() == seat.events().len(),
+        receipts,
+    )
+}
+
+// The last reply, where something holds.
+fn last_of(holds: bool, mut receipts: Vec<Receipt>) -> Option<Reply> {
+    if !holds {
         return None;
     }
     Some(receipts.pop()?.reply)
+}
+
+// So many bytes 61.
+fn bytes(alloc: Global, n: u64) -> Option<Reply> {
+    let bytes = Vec::from_elem(alloc, 0x61, n as usize).ok()?;
+    Some(Reply::Bytes(ByteString::new(alloc, bytes).ok()?))
+}
+
+// Whether both are there, and are one.
+fn are_one(told: Option<Reply>, wanted: Option<Reply>) -> bool {
+    told.is_some() && told == wanted
 }
 
 // A reader's thread: its seat comes back where it was told as many bytes 61 as it asked for.
@@ -142,11 +173,7 @@ fn reader<R: Wait, C: Ledger, H: Ledger>(
 ) -> Option<Seat> {
     let told = read_all(rt, alloc, service, &mut seat, pid, n);
     done.add();
-    let bytes = Vec::from_elem(alloc, 0x61, n as usize).ok()?;
-    if told? != Reply::Bytes(ByteString::new(alloc, bytes).ok()?) {
-        return None;
-    }
-    Some(seat)
+    seat_if(are_one(told, bytes(alloc, n)), seat)
 }
 
 // One write, of so many bytes 61.
@@ -154,6 +181,34 @@ fn writing(alloc: Global, pid: u32, count: usize) -> Result<Vec<Step>, AllocErro
     let mut steps = Vec::with_capacity(alloc, 1)?;
     steps.push(write_by(alloc, pid, 0x61, count)?)?;
     Ok(steps)
+}
+
+// Whether a step isn't refused, but for a growth, and then not twice.
+fn makes_again<R: Wait, C: Ledger, H: Ledger>(
+    rt: &R,
+    service: &Service<Global, Counter<'_>, C, H>,
+    seat: &mut Seat,
+    step: &Step,
+) -> bool {
+    match service.call(rt, seat, step) {
+        Err(ServiceFault::NoMemory) => service.call(rt, seat, step).is_ok(),
+        told => told.is_ok(),
+    }
+}
+
+// Whether none of the steps, in turn, is.
+fn makes_all_again<R: Wait, C: Ledger, H: Ledger>(
+    rt: &R,
+    service: &Service<Global, Counter<'_>, C, H>,
+    seat: &mut Seat,
+    steps: &[Step],
+) -> bool {
+    for step in steps {
+        if !makes_again(rt, service, seat, step) {
+            return false;
+        }
+    }
+    true
 }
 
 // The writer's thread: it makes its steps once so many events were told.
@@ -166,14 +221,8 @@ fn writer<R: Wait, C: Ledger, H: Ledger>(
     count: &Count,
 ) -> Option<Seat> {
     let_them_wait(count, number);
-    for step in steps {
-        let told = match service.call(rt, &mut seat, step) {
-            Err(ServiceFault::NoMemory) => service.call(rt, &mut seat, step),
-            told => told,
-        };
-        told.ok()?;
-    }
-    Some(seat)
+    let all = makes_all_again(rt, service, &mut seat, steps);
+    seat_if(all, seat)
 }
 
 // A process waits for five bytes, and another writes them on a thread of its own.
@@ -185,14 +234,12 @@ fn across_a_pipe<
     rt: &R,
     alloc: Global,
     service: &Service<Global, Counter<'_>, C, H>,
+    ours: Seat,
+    theirs: Seat,
+    steps: &[Step],
+    done: &Count,
     count: &Count,
 ) -> Result<Vec<Seat>, Fail> {
-    let first = make(rt, service, service.seat(rt, RED)?, &opening(alloc, 1)?);
-    let (ours, theirs) = (service.seat(rt, RED)?, service.seat(rt, RED)?);
-    let owned = writing(alloc, 2, 5)?;
-    let steps = owned.as_slice();
-    let readers = Count::new();
-    let done = &readers;
     let (ours, theirs) = join(
         rt,
         move || reader(rt, alloc, service, ours, 1, 5, done),
@@ -202,11 +249,24 @@ fn across_a_pipe<
             theirs
         },
     );
-    let mut seats = Vec::with_capacity(alloc, 3)?;
-    seats.push(first.ok_or("refused")?)?;
-    seats.push(ours.ok_or("told otherwise")?)?;
-    seats.push(theirs.ok_or("refused")?)?;
-    Ok(seats)
+    both(alloc, ours, theirs)
+}
+
+// The same at a service of nobody yet.
+fn one_reader<C: Ledger + Send + Sync, H: Ledger + Send + Sync, R: Threads + Wait + Abort + Sync>(
+    rt: &R,
+    alloc: Global,
+    service: &Service<Global, Counter<'_>, C, H>,
+    count: &Count,
+) -> Result<Vec<Seat>, Fail> {
+    let first = opened(rt, alloc, service, 1)?;
+    let steps = writing(alloc, 2, 5)?;
+    let (ours, theirs) = (service.seat(rt, RED)?, service.seat(rt, RED)?);
+    let done = Count::new();
+    with(
+        across_a_pipe(rt, alloc, service, ours, theirs, &steps, &done, count)?,
+        first,
+    )
 }
 
 fn pipe_between_two_named<
@@ -219,7 +279,7 @@ fn pipe_between_two_named<
     requires parts { (MAX_NAMESPACES ≤ credits.parts) × (MAX_NAMESPACES ≤ held.parts) }
 {
     let service = service_of::<_, C, H>(alloc, namespaces(1), Counter { count }, credits, held)?;
-    let seats = across_a_pipe(rt, alloc, &service, count);
+    let seats = one_reader(rt, alloc, &service, count);
     closed(service, seats)
 }
 
@@ -243,15 +303,13 @@ fn two_readers<C: Ledger + Send + Sync, H: Ledger + Send + Sync, R: Threads + Wa
     rt: &R,
     alloc: Global,
     service: &Service<Global, Counter<'_>, C, H>,
+    ours: Seat,
+    theirs: Seat,
+    third: Seat,
+    steps: &[Step],
+    done: &Count,
     count: &Count,
 ) -> Result<Vec<Seat>, Fail> {
-    let first = make(rt, service, service.seat(rt, RED)?, &opening(alloc, 2)?);
-    let (ours, theirs) = (service.seat(rt, RED)?, service.seat(rt, RED)?);
-    let third = service.seat(rt, RED)?;
-    let owned = writing(alloc, 3, 2)?;
-    let steps = owned.as_slice();
-    let readers = Count::new();
-    let done = &readers;
     let (ours, (theirs, third)) = join(
         rt,
         move || reader(rt, alloc, service, ours, 1, 1, done),
@@ -267,12 +325,31 @@ fn two_readers<C: Ledger + Send + Sync, H: Ledger + Send + Sync, R: Threads + Wa
             )
         },
     );
-    let mut seats = Vec::with_capacity(alloc, 4)?;
-    seats.push(first.ok_or("refused")?)?;
-    seats.push(ours.ok_or("told otherwise")?)?;
-    seats.push(theirs.ok_or("told otherwise")?)?;
-    seats.push(third.ok_or("refused")?)?;
-    Ok(seats)
+    with(both(alloc, ours, theirs)?, third)
+}
+
+// The same at a service of nobody yet.
+fn readers_and_writer<
+    C: Ledger + Send + Sync,
+    H: Ledger + Send + Sync,
+    R: Threads + Wait + Abort + Sync,
+>(
+    rt: &R,
+    alloc: Global,
+    service: &Service<Global, Counter<'_>, C, H>,
+    count: &Count,
+) -> Result<Vec<Seat>, Fail> {
+    let first = opened(rt, alloc, service, 2)?;
+    let steps = writing(alloc, 3, 2)?;
+    let (ours, theirs) = (service.seat(rt, RED)?, service.seat(rt, RED)?);
+    let third = service.seat(rt, RED)?;
+    let done = Count::new();
+    with(
+        two_readers(
+            rt, alloc, service, ours, theirs, third, &steps, &done, count,
+        )?,
+        first,
+    )
 }
 
 fn pipe_among_three_named<
@@ -285,7 +362,7 @@ fn pipe_among_three_named<
     requires parts { (MAX_NAMESPACES ≤ credits.parts) × (MAX_NAMESPACES ≤ held.parts) }
 {
     let service = service_of::<_, C, H>(alloc, namespaces(1), Counter { count }, credits, held)?;
-    let seats = two_readers(rt, alloc, &service, count);
+    let seats = readers_and_writer(rt, alloc, &service, count);
     closed(service, seats)
 }
 

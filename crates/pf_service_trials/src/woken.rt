@@ -4,7 +4,9 @@
 ghost use Rattle.std.specs.Prelude.{◌≡◌, ◌≤◌};
 ghost use Rattle.pf_base.specs.declared.TheConstants.{MAX_NAMESPACES};
 
-use crate::services::{RED, blank, closed, make, namespaces, service_of, spawn, write_by};
+use crate::services::{
+    RED, blank, both, closed, make, namespaces, service_of, spawn, with, write_by,
+};
 use pf_base::{ByteString, Errno, Reply, Step};
 use pf_service::{Gate, Seat, Service};
 use std::alloc::{AllocError, Global};
@@ -81,6 +83,29 @@ struct Caller<'a> {
     number: u64,
 }
 
+// Whether a host is told who can go on, and what an end is ready for.
+fn is_told<R: Wait, C: Ledger, H: Ledger>(
+    rt: &R,
+    service: &Service<Global, Counter<'_>, C, H>,
+) -> bool {
+    service.can_go_on(rt, RED, 1).is_ok()
+        && service.next_to_go_on(rt, RED, 0).is_ok()
+        && service.readiness(rt, RED, 1, 0).is_ok()
+}
+
+// The last reply to a step that may wait.
+fn last_reply<R: Wait, C: Ledger, H: Ledger>(
+    rt: &R,
+    alloc: Global,
+    service: &Service<Global, Counter<'_>, C, H>,
+    seat: &mut Seat,
+    last: &Step,
+) -> Option<Reply> {
+    let mut receipts = Vec::new(alloc);
+    service.call_waiting(rt, seat, last, &mut receipts).ok()?;
+    Some(receipts.pop()?.reply)
+}
+
 // A thread's part: its steps, once so many events were told. Its seat comes back with the last reply.
 fn call_last<R: Wait, C: Ledger, H: Ledger>(
     rt: &R,
@@ -97,15 +122,12 @@ fn call_last<R: Wait, C: Ledger, H: Ledger>(
     } = caller;
     wait_for(events, number, TURNS);
     // whoever waits by now is woken all the same behind what a host asks
-    service.can_go_on(rt, RED, 1).ok()?;
-    service.next_to_go_on(rt, RED, 0).ok()?;
-    let _asked = service.readiness(rt, RED, 1, 0).ok()?;
+    if !is_told(rt, service) {
+        return None;
+    }
     let mut seat = make(rt, service, seat, steps)?;
-    let mut receipts = Vec::new(alloc);
-    service
-        .call_waiting(rt, &mut seat, last, &mut receipts)
-        .ok()?;
-    Some((seat, receipts.pop()?.reply))
+    let reply = last_reply(rt, alloc, service, &mut seat, last)?;
+    Some((seat, reply))
 }
 
 // What two threads do. The first makes a step that waits; the second, once that waits, steps that don't, and one that may.
@@ -118,15 +140,61 @@ struct Steps<'a> {
     events: u64,
 }
 
-// The seats, and the last reply of each thread.
+// What both threads came to, where both did.
+fn ends(
+    alloc: Global,
+    ours: Option<(Seat, Reply)>,
+    theirs: Option<(Seat, Reply)>,
+) -> Result<(Vec<Seat>, Reply, Reply), Fail> {
+    let (ours, first) = ours.ok_or("refused")?;
+    let (theirs, last) = theirs.ok_or("refused")?;
+    let seats = both(alloc, Some(ours), Some(theirs))?;
+    Ok((seats, first, last))
+}
+
+// The seats of both threads, and the last reply of each.
 fn two_threads<C: Ledger + Send + Sync, H: Ledger + Send + Sync, R: Threads + Wait + Abort + Sync>(
+    rt: &R,
+    alloc: Global,
+    service: &Service<Global, Counter<'_>, C, H>,
+    events: &AtomicU64,
+    ours: Caller<'_>,
+    theirs: Caller<'_>,
+    number: u64,
+) -> Result<(Vec<Seat>, Reply, Reply), Fail> {
+    let (ours, (theirs, ())) = join(
+        rt,
+        move || call_last(rt, service, ours),
+        move || {
+            join(
+                rt,
+                move || call_last(rt, service, theirs),
+                move || watch(rt, events, number),
+            )
+        },
+    );
+    ends(alloc, ours, theirs)
+}
+
+// The seat of who makes a process with a pipe, and one that shares it.
+fn opened<R: Wait, C: Ledger, H: Ledger>(
+    rt: &R,
+    alloc: Global,
+    service: &Service<Global, Counter<'_>, C, H>,
+) -> Result<Option<Seat>, Fail> {
+    let steps = opening(alloc)?;
+    Ok(make(rt, service, service.seat(rt, RED)?, &steps))
+}
+
+// All seats, and the last reply of each thread.
+fn played<C: Ledger + Send + Sync, H: Ledger + Send + Sync, R: Threads + Wait + Abort + Sync>(
     rt: &R,
     alloc: Global,
     service: &Service<Global, Counter<'_>, C, H>,
     events: &AtomicU64,
     steps: Steps<'_>,
 ) -> Result<(Vec<Seat>, Reply, Reply), Fail> {
-    let opened = make(rt, service, service.seat(rt, RED)?, &opening(alloc)?);
+    let opened = opened(rt, alloc, service)?;
     let ours = Caller {
         alloc,
         seat: service.seat(rt, RED)?,
@@ -143,25 +211,8 @@ fn two_threads<C: Ledger + Send + Sync, H: Ledger + Send + Sync, R: Threads + Wa
         events,
         number: 4,
     };
-    let number = steps.events;
-    let (ours, (theirs, ())) = join(
-        rt,
-        move || call_last(rt, service, ours),
-        move || {
-            join(
-                rt,
-                move || call_last(rt, service, theirs),
-                move || watch(rt, events, number),
-            )
-        },
-    );
-    let (ours, first) = ours.ok_or("refused")?;
-    let (theirs, last) = theirs.ok_or("refused")?;
-    let mut seats = Vec::with_capacity(alloc, 3)?;
-    seats.push(opened.ok_or("refused")?)?;
-    seats.push(ours)?;
-    seats.push(theirs)?;
-    Ok((seats, first, last))
+    let (seats, first, last) = two_threads(rt, alloc, service, events, ours, theirs, steps.events)?;
+    Ok((with(seats, opened)?, first, last))
 }
 
 fn last_replies_named<
@@ -181,7 +232,7 @@ fn last_replies_named<
     requires parts { (MAX_NAMESPACES ≤ credits.parts) × (MAX_NAMESPACES ≤ held.parts) }
 {
     let service = service_of::<_, C, H>(alloc, namespaces(1), Counter { events }, credits, held)?;
-    let (seats, replies) = match two_threads(rt, alloc, &service, events, steps) {
+    let (seats, replies) = match played(rt, alloc, &service, events, steps) {
         Ok((seats, first, last)) => (Ok(seats), Some((first, last))),
         Err(fail) => (Err(fail), None),
     };
