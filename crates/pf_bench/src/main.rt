@@ -273,16 +273,37 @@ fn take<H: Host>(host: &mut H, read: &Step, number: usize) -> Option<ByteString>
     Some(bytes)
 }
 
+// What may hold memory and is let go under a condition is dear to prove where it stands in a loop or beside other ways
+// out. So these two take it, once for all.
+
+/// The number that an answer counts.
+#[inline(always)]
+fn number_of(answer: Answer) -> Option<u64> {
+    match answer {
+        Answer::Done(Reply::Num(number)) => Some(number),
+        _ => None,
+    }
+}
+
+/// Whether there are bytes.
+#[inline(always)]
+fn is_some(bytes: Option<ByteString>) -> bool {
+    bytes.is_some()
+}
+
 /// What a pair reads, if both its answers count as many bytes as it wrote.
 fn play<H: Host>(host: &mut H, pair: &Pair) -> Option<ByteString> {
     let size = pair.payload.len();
-    let Answer::Done(Reply::Num(written)) = host.step(&pair.write) else {
-        return None;
-    };
-    if written != size as u64 {
+    if number_of(host.step(&pair.write))? != size as u64 {
         return None;
     }
     take(host, &pair.read, size)
+}
+
+/// Whether a pair is answered right.
+#[inline(always)]
+fn plays<H: Host>(host: &mut H, pair: &Pair) -> bool {
+    is_some(play(host, pair))
 }
 
 /// Whether a tee or a splice brings each byte to where it is to be, and the reads leave nothing.
@@ -412,7 +433,36 @@ fn play_fixed<R: Wait>(rt: &R, alloc: Global) -> Result<bool, AllocError> {
     )
 }
 
-/// How many nanoseconds a pair takes, if each answer was right.
+/// Whether a batch of pairs is answered right.
+#[inline(always)]
+fn plays_batch<H: Host>(host: &mut H, pair: &Pair) -> bool {
+    for _ in 0..BATCH {
+        if !plays(host, pair) {
+            return false;
+        }
+    }
+    true
+}
+
+/// How many nanoseconds this pair takes, if each answer was right.
+fn time_this<H: Host>(
+    rt: &HostRuntime,
+    host: &mut H,
+    pair: &Pair,
+    pairs: u32,
+) -> io::Result<Option<u128>> {
+    let mut least = u128::MAX;
+    for _ in 0..(pairs / BATCH).max(1) {
+        let start = Instant::now(rt)?;
+        if !plays_batch(host, pair) {
+            return Ok(None);
+        }
+        least = least.min(start.elapsed(rt)?.as_nanos());
+    }
+    Ok(Some(least / u128::from(BATCH)))
+}
+
+/// How many nanoseconds a pair of this size takes, if each answer was right.
 fn time_pair<H: Host>(
     rt: &HostRuntime,
     host: &mut H,
@@ -420,17 +470,7 @@ fn time_pair<H: Host>(
     pairs: u32,
 ) -> io::Result<Option<u128>> {
     let pair = Pair::new(rt.alloc(), size)?;
-    let mut least = u128::MAX;
-    for _ in 0..(pairs / BATCH).max(1) {
-        let start = Instant::now(rt)?;
-        for _ in 0..BATCH {
-            if play(host, &pair).is_none() {
-                return Ok(None);
-            }
-        }
-        least = least.min(start.elapsed(rt)?.as_nanos());
-    }
-    Ok(Some(least / u128::from(BATCH)))
+    time_this(rt, host, &pair, pairs)
 }
 
 /// How many nanoseconds some calls took, and as many readings of the clock.
@@ -489,7 +529,7 @@ fn time_batch<H: Host>(
             return Ok(None);
         }
         for read in &passage.reads {
-            if take(host, read, size).is_none() {
+            if !is_some(take(host, read, size)) {
                 return Ok(None);
             }
         }
@@ -534,10 +574,11 @@ fn time_waits<H: Host>(
         }
         let start = Instant::now(rt)?;
         let taken = take(host, &waiting.resume, size);
-        resumes.add(rt, start)?;
-        if taken.is_none() {
+        let added = resumes.add(rt, start);
+        if !is_some(taken) {
             return Ok(None);
         }
+        added?;
     }
     Ok(Some((reads, resumes)))
 }

@@ -45,6 +45,17 @@ pub(crate) fn play_loads(alloc: Global, hub: &mut Hub<Global>) -> Result<bool, A
     Ok(true)
 }
 
+/// Whether a batch of pairs counts as many bytes.
+#[inline(always)]
+fn plays_batch(hub: &mut Hub<Global>, bytes: &[u8], buffer: &mut [u8]) -> bool {
+    for _ in 0..BATCH {
+        if !play(hub, bytes, buffer) {
+            return false;
+        }
+    }
+    true
+}
+
 /// How many nanoseconds a pair takes, if each answer was right.
 fn time_slices(
     rt: &HostRuntime,
@@ -56,10 +67,8 @@ fn time_slices(
     let mut least = u128::MAX;
     for _ in 0..(pairs / BATCH).max(1) {
         let start = Instant::now(rt)?;
-        for _ in 0..BATCH {
-            if !play(hub, bytes, buffer) {
-                return Ok(None);
-            }
+        if !plays_batch(hub, bytes, buffer) {
+            return Ok(None);
         }
         least = least.min(start.elapsed(rt)?.as_nanos());
     }
@@ -114,7 +123,7 @@ fn time_size(
     let Some(copies) = time_copies(rt, &bytes, &mut between, &mut buffer, pairs)? else {
         return Ok(None);
     };
-    // The copies are looked at, so that none can be left out of the program.
+    // The last copies are looked at, so that these can't be left out of the program.
     if between.as_slice() != bytes.as_slice() || buffer.as_slice() != bytes.as_slice() {
         return Ok(None);
     }

@@ -35,6 +35,11 @@ impl<R: Wait, C: Ledger, H: Ledger> Host for Worked<'_, R, C, H> {
     }
 }
 
+/// The first of these.
+fn first_of<C: Ledger, H: Ledger>(workers: Vec<Tenant<C, H>>) -> Option<Tenant<C, H>> {
+    workers.into_iter().next()
+}
+
 /// A depot of this shape, and namespace 0's worker.
 fn opened<C: Ledger, H: Ledger>(
     alloc: Global,
@@ -49,7 +54,7 @@ fn opened<C: Ledger, H: Ledger>(
     let frames = shape.frames(alloc).ok()?;
     let configs = shape.configs(alloc).ok()?;
     let (book, workers) = open(alloc, frames, configs, credits, held).ok()?;
-    let worker = workers.into_iter().next()?;
+    let worker = first_of(workers)?;
     Some((book, worker))
 }
 

@@ -6,5 +6,5 @@ use Rattle.pf_service.proofs.Sendable.{plain_sync}
 use Rattle.pf_bench.proofs.Pair.TheSendSync as pair
 use Rattle.pf_bench.proofs.served.play_at_once.Goals as goal
 
-pub map_vec-requires-sync-F : goal.map_vec-requires-sync-F
-map_vec-requires-sync-F g c κs within = search (plain_sync, pair.the_sync, step.the_sync, step.the_field_sync, sendable, crosses) depth 60 fits 200000
+pub map_vec-back-requires-sync-F : goal.map_vec-back-requires-sync-F
+map_vec-back-requires-sync-F g c κs within = search (plain_sync, pair.the_sync, step.the_sync, step.the_field_sync, sendable, crosses) depth 60 fits 200000

@@ -1,7 +1,7 @@
 use Rattle.pf_bench.proofs.served.play_fixed.Given as goal
 
-abbrev pub ghosts-plays-C-Ledger : goal.ghosts-plays-C-Ledger
-ghosts-plays-C-Ledger g a = record { name = a.credits.name; parts = a.credits.parts }
+abbrev pub ghosts-all_agree-C-Ledger : goal.ghosts-all_agree-C-Ledger
+ghosts-all_agree-C-Ledger g a = record { name = a.credits.name; parts = a.credits.parts }
 
-abbrev pub ghosts-plays-H-Ledger : goal.ghosts-plays-H-Ledger
-ghosts-plays-H-Ledger g a = record { name = a.held.name; parts = a.held.parts }
+abbrev pub ghosts-all_agree-H-Ledger : goal.ghosts-all_agree-H-Ledger
+ghosts-all_agree-H-Ledger g a = record { name = a.held.name; parts = a.held.parts }
