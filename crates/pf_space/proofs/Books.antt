@@ -57,8 +57,8 @@ flag-meaning f s p fd =
     (λ i. has_nonblock itself (sym (meaning-as f s) i) (sym (process-same p) i) fd)
     ∙ has_nonblock-as (segment_of f) itself itself itself (λ n. refl) s p fd
 
--- What the machine's call is at the meaning of a state. step: the kind that it is of; natural: what it is where a window
--- shows a segment
+-- What the machine's call is at the meaning of a state. step: the kind that it is of; natural: what it is where a
+-- window shows a segment
 module _ (f : Live) (limits : Limits) (s : State Window ℕ) (step : Step) (own : Result (Outcome Window ℕ) Errno)
     (natural : (shows : Window → Segment) → call limits (state_as shows itself s) step
     ≡ if_ok (outcome_as shows itself) own) where

@@ -1,7 +1,8 @@
 -- Close and Exit over the door: what the tables let go at their own state is let go of what that means, where the
 -- frames of a pipe that went are given back; and an exit on its way.
 
-use Rattle.std.proofs.Common.{◌≡◌, ℕ, ◌+◌, ◌-◌, ◌<◌, ◌≤◌, List, [], map, length, length-set, Option, Some, None, Result, Ok}
+use Rattle.std.proofs.Common.{◌≡◌, ℕ, ◌+◌, ◌-◌, ◌<◌, ◌≤◌, List, [], map, length, length-set, Option, Some, None, Result}
+use Rattle.std.proofs.Common.{Ok}
 use Rattle.std.proofs.Common.{IfSome, refl, sym, ap, subst, ◌∙◌, inl, inr, arith}
 use Rattle.std.specs.Option.{option_map, option_and_then}
 use Rattle.std.proofs.lemmas.Bool.{cases_eq, cases_lt}
@@ -46,7 +47,7 @@ module _ {f : Live} {old new : Namespace} {s : State Window ℕ} (owns : Owns f 
   -- the slots of a pipe that went stand in the frames
   pub gone_stands : (gone : Option Pipe) → Leaves old new s gone → IfSome gone (λ p. Stands f p.ring.segments)
   gone_stands None l = tt
-  gone_stands (Some p) l = stands_at f old.state l.gone.0 (pipe_shown p) owns.joined l.gone.1
+  gone_stands (Some p) l = stands_at f old.state l.gone.0 (pipe_shown p) owns.joined l.gone.2
 
   -- and when they are given back, the pipes that are left mean what they meant
   pub cleared : {g : Live} (gone : Option Pipe) → Leaves old new s gone
@@ -60,16 +61,16 @@ module _ {f : Live} {old new : Namespace} {s : State Window ℕ} (owns : Owns f 
       record {
         owns = record {
           joined =
-              subst (λ xs. Joined g (map ring_or xs)) (sym l.gone.2)
-              (joined_gone f g old.state l.gone.0 (pipe_shown p) bare [] none owns.joined l.gone.1 keeps refl);
+              subst (λ xs. Joined g (map ring_or xs)) (sym l.gone.3)
+              (joined_gone f g old.state l.gone.0 (pipe_shown p) bare [] none owns.joined l.gone.2 keeps refl);
           reserve = ap (λ (x : Limits). x.reserve) l.limits ∙ owns.reserve ∙ sym keeps.reservation;
         };
         limits = l.limits;
         state =
             ap (λ xs. record (meaning f new.state) { pipes = xs })
-            (subst (λ xs. map (option_map (pipe_meaning g)) xs ≡ map (option_map (pipe_meaning f)) xs) (sym l.gone.2)
+            (subst (λ xs. map (option_map (pipe_meaning g)) xs ≡ map (option_map (pipe_meaning f)) xs) (sym l.gone.3)
             (pipes-without f g old.state.pipes l.gone.0 (others_written f g old.state l.gone.0 (pipe_shown p) bare []
-            none owns.joined l.gone.1 keeps)
+            none owns.joined l.gone.2 keeps)
             ∙ sym (map-set (option_map (pipe_meaning f)) old.state.pipes l.gone.0 None)))
             ∙ ap (meaning f) l.state ∙ sym (sweep-meaning f s);
       }
@@ -166,7 +167,8 @@ module _ (f : Live) (old : Namespace) (pid : ℕ) where
       }
 
   module _ {fd : ℕ} {g : Live} {m : Namespace} (x : Exits fd g m) where
-    pub one_more : {h : Live} {o : Namespace} → Becomes g h m o (emptied (meaning g m.state) (pid - 1) fd) → Exits (fd + 1) h o
+    pub one_more : {h : Live} {o : Namespace} → Becomes g h m o (emptied (meaning g m.state) (pid - 1) fd)
+        → Exits (fd + 1) h o
     one_more {h} {o} b = record {
       owns = b.owns;
       limits = b.limits ∙ x.limits;
@@ -200,7 +202,8 @@ module _ (f : Live) (old : Namespace) (pid : ℕ) where
           owns = made.owned g x.owns;
           limits = made.limits ∙ x.limits;
           state =
-              settled-meaning g o.state made.swept ∙ ap (λ (x : Outcome Window ℕ). sweep itself (meaning g x.state)) (sym is)
+              settled-meaning g o.state made.swept ∙ ap (λ (x : Outcome Window ℕ). sweep itself (meaning g x.state))
+              (sym is)
               ∙ x.ends;
         })
         (ap (λ r. r >>= (λ p. exit (meaning f old.state) pid)) b.lives)

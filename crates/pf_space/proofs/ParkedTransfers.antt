@@ -16,7 +16,8 @@ use Rattle.pf_machine.specs.State.{itself, State, Process, End, process, ready, 
 use Rattle.pf_machine.specs.State.{change_process, waiting}
 use Rattle.pf_machine.specs.Sweep.{sweep, live_descriptions, live_pipes}
 use Rattle.pf_machine.specs.Transfers.{Tried, Ends, tried, two_ends, try_read, try_write, try_cross}
-use Rattle.pf_machine.specs.Attempts.{Finished, Waits, transfer_told, attempt, first, is_nonblocking, nonblocking, transfer}
+use Rattle.pf_machine.specs.Attempts.{Finished, Waits, transfer_told, attempt, first, is_nonblocking, nonblocking}
+use Rattle.pf_machine.specs.Attempts.{transfer}
 use Rattle.pf_base.specs.declared.TheConstants.{MAX_WRITE}
 use Rattle.pf_base.specs.declared.errno.Errno.{Errno}
 use Rattle.pf_base.specs.declared.errno.Errno.TheVariants.{ESRCH, EBUSY, EINVAL}

@@ -1,6 +1,6 @@
 -- How much a reply hands out, as the tables know it.
 
-use Rattle.std.proofs.Common.{◌≡◌, ℕ, zero, suc, ◌≤◌, not, List, length, Option, Some, None, Result, Ok, Err, refl, sym}
+use Rattle.std.proofs.Common.{◌≡◌, ℕ, ◌≤◌, not, List, length, Option, Some, None, Result, Ok, Err, refl, sym}
 use Rattle.std.proofs.Common.{ap, subst, ◌∙◌, arith}
 use Rattle.std.specs.Prelude.{min}
 use Rattle.std.specs.Option.{option_map, option_and_then}
@@ -14,7 +14,7 @@ use Rattle.pf_machine.specs.Refusals.{refuse_if, or_refuse}
 use Rattle.pf_machine.specs.Queue.{Segment, IsQueue, bytes_of}
 use Rattle.pf_machine.proofs.QueueLaws.{length-joined-le}
 use Rattle.pf_machine.specs.Numbered.{at, weight}
-use Rattle.pf_machine.proofs.NumberedLaws.{at-map, weight-le-sum_of}
+use Rattle.pf_machine.proofs.NumberedLaws.{weight-le-sum_of}
 use Rattle.pf_machine.proofs.HoldsLaws.{Holds, goes, carries, passes}
 use Rattle.pf_machine.specs.Calls as calls
 use Rattle.pf_machine.specs.State as machine
@@ -29,7 +29,6 @@ use Rattle.pf_base.specs.declared.step.Step.TheVariants as steps
 use Rattle.pf_fds.specs.Registry.{find}
 use Rattle.pf_frame.specs.Live.{Live, IsSound}
 use Rattle.pf_limits.specs.UserPages.{UserPages}
-use Rattle.pf_parked.specs.declared.call.Call.TheVariants.{Open, Read, Write, Cross}
 use Rattle.pf_ring.specs.Ring.{Ring, queue_of}
 use Rattle.pf_ring.specs.Windows.{Stands}
 use Rattle.pf_ring.specs.Table.{slots_used, slots_of}
@@ -39,8 +38,8 @@ use Rattle.pf_machine.specs.Replies.{reply_length}
 use Rattle.pf_tables.specs.Meaning.{Namespace, meaning, pipe_meaning, pages}
 use Rattle.pf_tables.specs.Owns.{Owns}
 use Rattle.pf_tables.proofs.OwnsLaws.{ring_at-pipe, stands_at, pages_within}
-use Rattle.pf_tables.specs.Rows.{ProcessRows, DescriptionRows, PipeRows, Key, Call, Process, Description, Pipe, call_of}
-use Rattle.pf_tables.specs.Rows.{call_in, process_of, state_of, end_in, Kept}
+use Rattle.pf_tables.specs.Rows.{ProcessRows, DescriptionRows, PipeRows, Description, Pipe}
+use Rattle.pf_tables.specs.Rows.{state_of, end_in, Kept}
 use Rattle.pf_machine.proofs.ReplyLaws.{read_bytes, read-few, resume-few, list-few, quiet, few}
 use Rattle.pf_tables.proofs.Ends.{end_of_rows, refused, found}
 use Rattle.pf_tables.proofs.TablesShown.{find_at, was}
@@ -73,9 +72,9 @@ module _ (f : Live) (n : Namespace) (sound : IsSound f) (owns : Owns f n) (most 
 
 -- A read
 
-module _ {files : Files} {files_made : ℕ} (limits : Limits) (charges : UserPages) (ps : ProcessRows)
-    (ds : DescriptionRows) (pipes : PipeRows) (k : Kept charges ps ds pipes)
-    (n : Namespace) (view : record { limits = limits; state = state_of ps ds pipes files files_made } ≡ n)
+module _ {files : Files} {files_made : ℕ} {limits : Limits} {charges : UserPages} {ps : ProcessRows}
+    {ds : DescriptionRows} {pipes : PipeRows} (k : Kept charges ps ds pipes) {n : Namespace}
+    (view : record { limits = limits; state = state_of ps ds pipes files files_made } ≡ n)
     (pid fd count : ℕ) where
   abbrev shows : Live → State Segment ℕ
   shows f = meaning f (state_of ps ds pipes files files_made)
@@ -115,7 +114,7 @@ module _ {files : Files} {files_made : ℕ} (limits : Limits) (charges : UserPag
         Option Pipe} (Some e.pipe) (Some r) = sym (find_at pipes d.pipe.slot d.pipe.serial e.pipe e.stands) ∙ handed in
         let same : e.pipe ≡ r = cc in
         let stands : Stands f r.ring.segments =
-        transfers.stands_in f limits charges ps ds pipes k n view owns d r handed in
+        transfers.stands_in k view owns d r handed in
         let number : held ≡ length (bytes_of (queue_of f r.ring)) = holds f sound stands in
         subst (AtMost f (steps.Read pid fd count) (min held count)) view
         (few (shows f) (min held count) (call limits (shows f) (steps.Read pid fd count))
@@ -184,57 +183,21 @@ reading_there : (s : State Segment ℕ) (p : machine.Process ℕ) (fd : ℕ) (e 
     → reading_end itself s p fd ≡ Ok e → Standing s e
 reading_there s p fd e is = subst (Holds (Standing s)) is (reading_end-stands s p fd)
 
--- the machine's call is the one that the tables keep
-call_shown : (f : Live) (ps : ProcessRows) (ds : DescriptionRows) (pipes : PipeRows) (files : Files)
-    (files_made pid : ℕ) → machine_call_of (meaning f (state_of ps ds pipes files files_made)) pid
-    ≡ option_map call_of (call_in ps pid)
-call_shown f ps ds pipes files files_made pid = by_pid pid
-  where
-    by_row : (x : Option Process) → option_and_then (λ (p : machine.Process ℕ). p.parked) (option_map process_of x)
-        ≡ option_map call_of (option_and_then (λ (p : Process). p.parked) x)
-    by_row None = refl
-    by_row (Some p) = refl
-
-    by_pid : (m : ℕ) → machine_call_of (meaning f (state_of ps ds pipes files files_made)) m
-        ≡ option_map call_of (call_in ps m)
-    by_pid zero = refl
-    by_pid (suc i) =
-        ap (option_and_then (λ (p : machine.Process ℕ). p.parked)) (at-map process_of ps i) ∙ by_row (at ps i)
-
 -- what a call asks for, as far as it hands anything out
-abbrev pub asked : Option (Call Key) → ℕ
-asked (Some (Read fd count)) = count
+abbrev pub asked : Option (calls.Call ℕ) → ℕ
+asked (Some (calls.Moving (calls.Reading fd count))) = count
 asked _ = 0
 
-module _ {files : Files} {files_made : ℕ} (limits : Limits) (ps : ProcessRows) (ds : DescriptionRows) (pipes : PipeRows)
-    (n : Namespace) (view : record { limits = limits; state = state_of ps ds pipes files files_made } ≡ n)
-    (most : limits.reserve ≤ MAX_RESERVE) (pid : ℕ) where
-  pub resumes : (o : Option (Call Key)) → o ≡ call_in ps pid → Covers n (steps.Resume pid) (min 268435456 (asked o))
-  resumes o is f sound owns =
-      subst (AtMost f (steps.Resume pid) (min 268435456 (asked o))) view
-      (few s (min 268435456 (asked o)) (call limits s (steps.Resume pid))
-      (resume-few s (min 268435456 (asked o)) limits pid
-      (λ p fd count e waits reads.
-      let all =
-      all_bytes f m sound (subst (Owns f) (sym view) owns) most e.description.pipe e.pipe
-      (reading_there s p fd e reads) in
-      let asks : asked o ≡ count =
-      by_call o fd count (ap (option_map call_of) is ∙ sym (call_shown f ps ds pipes files files_made pid) ∙ waits) in
-      omega (arith, read_bytes s e count, all, asks))))
-    where
-      m : Namespace
-      m = record { limits = limits; state = state_of ps ds pipes files files_made }
-
-      s : State Segment ℕ
-      s = meaning f (state_of ps ds pipes files files_made)
-
-      by_call : (x : Option (Call Key)) (fd count : ℕ)
-          → option_map call_of x ≡ Some (calls.Moving (calls.Reading fd count)) → asked x ≡ count
-      by_call None fd count e = absurd (cc)
-      by_call (Some (Open key kept)) fd count e = absurd (cc)
-      by_call (Some (Read fd' count')) fd count e = cc
-      by_call (Some (Write fd' write)) fd count e = absurd (cc)
-      by_call (Some (Cross crossing source sink c)) fd count e = absurd (cc)
+pub resumes : (n : Namespace) → n.limits.reserve ≤ MAX_RESERVE → (pid : ℕ) (o : Option (calls.Call ℕ))
+    → o ≡ machine_call_of n.state pid → Covers n (steps.Resume pid) (min 268435456 (asked o))
+resumes n most pid o is f sound owns =
+    let s = meaning f n.state in
+    few s (min 268435456 (asked o)) (call n.limits s (steps.Resume pid))
+    (resume-few s (min 268435456 (asked o)) n.limits pid
+    (λ p fd count e waits reads.
+    let all = all_bytes f n sound owns most e.description.pipe e.pipe (reading_there s p fd e reads) in
+    let asks : asked o ≡ count = ap asked (is ∙ waits) in
+    omega (arith, read_bytes s e count, all, asks)))
 
 -- Any other step
 

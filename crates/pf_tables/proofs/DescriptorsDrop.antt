@@ -1,6 +1,7 @@
 -- What goes, at the state that the tables keep: a descriptor with whatever nobody can reach any more, and a process.
 
-use Rattle.std.proofs.Common.{◌≡◌, ℕ, zero, suc, ◌-◌, ◌<◌, ◌≤◌, List, set, Option, Some, None, Result, Ok, Err, refl, ap}
+use Rattle.std.proofs.Common.{◌≡◌, ℕ, zero, suc, ◌-◌, ◌<◌, ◌≤◌, List, set, Option, Some, None, Result, Ok, Err, refl}
+use Rattle.std.proofs.Common.{ap}
 use Rattle.std.proofs.Common.{sym, ◌∙◌, subst, arith, inl, inr}
 use Rattle.std.specs.Option.{option_map}
 use Rattle.std.proofs.lemmas.Bool.{cases_lt}
@@ -69,7 +70,7 @@ module _ {limits : Limits} (ps : ProcessRows) (ds : DescriptionRows) (pipes : Pi
     (view : record { limits = limits; state = state_of ps ds pipes files files_made } ≡ n) where
   pub left_off : {i fd : ℕ} {ps' : ProcessRows} {ds' : DescriptionRows} {pipes' : PipeRows}
       → Left ps ds pipes ps' ds' pipes' i fd → (pipe : Option rows.Pipe)
-      → LetsGo (pipes_of pipes) (pipes_of pipes') pipe → {after : Limits} → limits ≡ after
+      → LetsGo pipe_of (pipes_of pipes) (pipes_of pipes') pipe → {after : Limits} → limits ≡ after
       → Leaves n (record { limits = after; state = state_of ps' ds' pipes' files files_made }) (emptied n.state i fd)
       pipe
   left_off {i} {fd} {ps'} {ds'} {pipes'} l pipe lets {after} same =

@@ -1,7 +1,8 @@
 -- A descriptor goes: a name is lost, and where it was the last its description, and perhaps the description's pipe.
 -- Each step of the code moves something into the hand or out of it.
 
-use Rattle.std.proofs.Common.{◌≡◌, ◌≢◌, ℕ, suc, ◌+◌, ◌-◌, ◌<◌, ◌≤◌, Bool, true, false, List, [], ◌∷◌, set, Option, Some}
+use Rattle.std.proofs.Common.{◌≡◌, ◌≢◌, ℕ, suc, ◌+◌, ◌-◌, ◌<◌, ◌≤◌, Bool, true, false, List, [], ◌∷◌, map, set, Option}
+use Rattle.std.proofs.Common.{Some}
 use Rattle.std.proofs.Common.{None, IsSome, is_some, IfSome, refl, sym, ap, subst, ◌∙◌, arith, if◌then◌else◌}
 use Rattle.std.specs.Option.{option_map, option_and_then}
 use Rattle.std.proofs.lemmas.Bool.{ltb-true, ltb-false}
@@ -20,11 +21,10 @@ use Rattle.pf_fds.specs.Descriptions.{names_of, one_less}
 use Rattle.pf_tables.specs.Rows.{ProcessRows, DescriptionRows, PipeRows, Key, Named, Process, Description, Pipe}
 use Rattle.pf_tables.specs.Rows.{call_of, key_at, without_key, with_fewer, is_used, left, gone, process_of}
 use Rattle.pf_tables.specs.Rows.{description_of, pipe_of, processes_of, descriptions_of, pipes_of, state_of, reads_it}
-use Rattle.pf_tables.specs.Rows.{writes_it, held, holding, TiedWith, Tied, opens_at, opens_of}
-use Rattle.pf_tables.specs.Tables.{descriptor, Left, LetsGo, LetsGoOpens}
+use Rattle.pf_tables.specs.Rows.{writes_it, held, holding, TiedWith, Tied}
+use Rattle.pf_tables.specs.Tables.{descriptor, Left, LetsGo}
 use Rattle.pf_tables.proofs.TablesTied.{finds, miss, names_one, names_none, sides, once, moved, redescribed, repiped}
 use Rattle.pf_tables.proofs.TablesTied.{place_and_end, names_row, pipe_row, same_place}
-use Rattle.pf_tables.proofs.Fifos.{opens_stay}
 use Rattle.pf_tables.proofs.TablesShown.{shown, find_at, set_same}
 use Rattle.pf_tables.proofs.TablesSettled.{Within, within_row, within_same, changed-swept}
 
@@ -245,49 +245,33 @@ module _ (ps : ProcessRows) (ds : DescriptionRows) (pipes : PipeRows) (t : Tied 
             same true z h = let it : ◌≡◌ {A = ℕ × Pipe} (d.pipe.slot, with_fewer d pipe.0) z = cc in ap pipe_of (sym it)
             same false z h = absurd (cc)
 
-        -- the pipe goes where nobody uses it any more
-        pub went : (r : Option Pipe) → IfSome (find pipes d.pipe.slot d.pipe.serial) (λ p. r ≡ gone d p)
-            → LetsGo (pipes_of pipes) (pipes_of pipes') r
-        went r is_gone =
-            subst (LetsGo (pipes_of pipes) (pipes_of pipes'))
+        -- the pipe goes where nobody uses it any more, with whatever is shown of it but its counts
+        pub went : {A : Type 0} (show : ℕ × Pipe → A)
+            → ((place : ℕ) (p : Pipe) → show (place, with_fewer d p) ≡ show (place, p)) → (r : Option Pipe)
+            → IfSome (find pipes d.pipe.slot d.pipe.serial) (λ p. r ≡ gone d p)
+            → LetsGo show (map (option_map show) pipes) (map (option_map show) pipes') r
+        went show same r is_gone =
+            subst (LetsGo show (map (option_map show) pipes) (map (option_map show) pipes'))
             (sym (subst (λ o. IfSome o (λ (p : Pipe). r ≡ gone d p)) pipe_found is_gone))
             (by_use (is_used (with_fewer d pipe.0)) refl)
           where
-            by_use : (b : Bool) → is_used (with_fewer d pipe.0) ≡ b
-                → LetsGo (pipes_of pipes) (pipes_of pipes') (if b then None else Some (with_fewer d pipe.0))
-            by_use true u =
-                ap pipes_of (items_are ∙ ap (λ b. set pipes d.pipe.serial
-                (if b then Some (d.pipe.slot, with_fewer d pipe.0) else None)) u)
-                ∙ map-set (option_map pipe_of) pipes d.pipe.serial (Some (d.pipe.slot, with_fewer d pipe.0))
-                ∙ set_same (pipes_of pipes) d.pipe.serial (Some (pipe_of (d.pipe.slot, with_fewer d pipe.0)))
-                (sym (shown pipe_of pipes d.pipe.serial (d.pipe.slot, pipe.0) pipe.1))
-            by_use false u = (
-              d.pipe.serial,
-              shown pipe_of pipes d.pipe.serial (d.pipe.slot, pipe.0) pipe.1,
-              ap pipes_of (items_are ∙ ap (λ b. set pipes d.pipe.serial
-                  (if b then Some (d.pipe.slot, with_fewer d pipe.0) else None)) u)
-                  ∙ map-set (option_map pipe_of) pipes d.pipe.serial None,
-            )
+            set_to : (b : Bool) → is_used (with_fewer d pipe.0) ≡ b
+                → pipes' ≡ set pipes d.pipe.serial (if b then Some (d.pipe.slot, with_fewer d pipe.0) else None)
+            set_to b u =
+                items_are ∙ ap (λ b. set pipes d.pipe.serial
+                (if b then Some (d.pipe.slot, with_fewer d pipe.0) else None)) u
 
-        -- and its opens with it
-        pub went_opens : (r : Option Pipe) → IfSome (find pipes d.pipe.slot d.pipe.serial) (λ p. r ≡ gone d p)
-            → LetsGoOpens (opens_of pipes) (opens_of pipes') r
-        went_opens r is_gone =
-            subst (LetsGoOpens (opens_of pipes) (opens_of pipes'))
-            (sym (subst (λ o. IfSome o (λ (p : Pipe). r ≡ gone d p)) pipe_found is_gone))
-            (by_use (is_used (with_fewer d pipe.0)) refl)
-          where
             by_use : (b : Bool) → is_used (with_fewer d pipe.0) ≡ b
-                → LetsGoOpens (opens_of pipes) (opens_of pipes') (if b then None else Some (with_fewer d pipe.0))
+                → LetsGo show (map (option_map show) pipes) (map (option_map show) pipes')
+                (if b then None else Some (with_fewer d pipe.0))
             by_use true u =
-                ap opens_of (items_are ∙ ap (λ b. set pipes d.pipe.serial
-                (if b then Some (d.pipe.slot, with_fewer d pipe.0) else None)) u)
-                ∙ opens_stay pipes d.pipe.serial d.pipe.slot pipe.0 (with_fewer d pipe.0) pipe.1 refl
+                ap (map (option_map show)) (set_to true u)
+                ∙ map-set (option_map show) pipes d.pipe.serial (Some (d.pipe.slot, with_fewer d pipe.0))
+                ∙ set_same (map (option_map show) pipes) d.pipe.serial (Some (show (d.pipe.slot, with_fewer d pipe.0)))
+                (ap Some (same d.pipe.slot pipe.0) ∙ sym (shown show pipes d.pipe.serial (d.pipe.slot, pipe.0) pipe.1))
             by_use false u = (
               d.pipe.serial,
               d.pipe.slot,
-              shown opens_at pipes d.pipe.serial (d.pipe.slot, pipe.0) pipe.1,
-              ap opens_of (items_are ∙ ap (λ b. set pipes d.pipe.serial
-                  (if b then Some (d.pipe.slot, with_fewer d pipe.0) else None)) u)
-                  ∙ map-set (option_map opens_at) pipes d.pipe.serial None,
+              shown show pipes d.pipe.serial (d.pipe.slot, pipe.0) pipe.1 ∙ ap Some (sym (same d.pipe.slot pipe.0)),
+              ap (map (option_map show)) (set_to false u) ∙ map-set (option_map show) pipes d.pipe.serial None,
             )

@@ -12,7 +12,7 @@ use Rattle.pf_fds.specs.Registry.{find}
 use Rattle.pf_pipe.specs.Pipe.{unopened}
 use Rattle.pf_tables.specs.Rows.{ProcessRows, DescriptionRows, PipeRows, Key, Pipe, Opens, opens_at, opens_of, NoMore}
 use Rattle.pf_tables.specs.Rows.{AreFifos}
-use Rattle.pf_tables.specs.Tables.{LetsGoOpens, Forgets}
+use Rattle.pf_tables.specs.Tables.{LetsGo, Forgets}
 use Rattle.pf_tables.proofs.TransfersCross.{set_around}
 use Rattle.pf_tables.proofs.TablesTied.{by_set, by_push, once}
 use Rattle.pf_tables.proofs.PipesOpen.{Puts, reading, writing, two_ended}
@@ -195,7 +195,7 @@ module _ (es fs : List (ℕ × Key)) (drawn : ℕ) (opens : List (Option (ℕ ×
           ∙ a.there n (place, o) file stands is))) ∙ a.there j x f h g
 
 pub fifos-gone : (es fs : List (ℕ × Key)) {drawn more : ℕ} {opens after : List (Option (ℕ × Opens))} (p : Pipe)
-    → more ≡ drawn → LetsGoOpens opens after (Some p) → Forgets p.opens.file es fs → AreFifos es drawn opens
+    → more ≡ drawn → LetsGo opens_at opens after (Some p) → Forgets p.opens.file es fs → AreFifos es drawn opens
     → AreFifos fs more after
 fifos-gone es fs {drawn} {more} {opens} {after} p same g forgets a =
     subst (λ (m : ℕ). AreFifos fs m after) (sym same)

@@ -1,7 +1,7 @@
 -- Calls on files, as the tables make them and as the machine does: only the files change, and nobody sees them but the
 -- calls.
 
-use Rattle.std.proofs.Common.{◌≡◌, ℕ, Result, Ok, Err, refl, ap, subst, ◌∙◌}
+use Rattle.std.proofs.Common.{◌≡◌, ℕ, Result, Ok, Err, refl, sym, ap, subst, ◌∙◌}
 use Rattle.pf_machine.specs.FileMap.{Files}
 use Rattle.pf_base.specs.Limits.{Limits}
 use Rattle.pf_machine.specs.Refusals.{◌>>=◌}
@@ -51,21 +51,28 @@ module _ {limits : Limits} {ps : ProcessRows} {ds : DescriptionRows} {pipes : Pi
   refused : (e : Errno) → step s (process_of p) ≡ Err e → call n.state ≡ Err e
   refused e said = caller_told tied view pid is step (Err e) said
 
-  -- a change of the files, where the machine's call goes by the same change
-  module _ (answer : Result Files Errno) (stops : (e : Errno) → answer ≡ Err e → step s (process_of p) ≡ Err e) where
-    pub unchanged : (m : Namespace) (files' : Files) (fault : Fault) → Changed (Err fault) files files' answer
-        → Says n m (Err fault) (call n.state)
-    unchanged m files' (faults.Errno e) c = refused e (stops e c.0)
-    unchanged m files' faults.NoMemory c = tt
+  -- a change of the files, where the machine's call goes by the same change. after: what it leaves of the state
+  module _ (answer : Result Files Errno) (after : State Window ℕ → Files → State Window ℕ)
+      (goes : step s (process_of p) ≡ (answer >>= (λ fs. Ok (done (after s fs) 0)))) where
+    gone_on : {r : Result Files Errno} → answer ≡ r → step s (process_of p) ≡ (r >>= (λ fs. Ok (done (after s fs) 0)))
+    gone_on is = goes ∙ ap (λ r. r >>= (λ fs. Ok (done (after s fs) 0))) is
 
-    pub changed : (files' : Files) (made' : ℕ) (result : Result (Unit {0}) Fault) → Changed result files files' answer
-        → (answer ≡ Ok files' → step s (process_of p) ≡ Ok (done (record s { files = files'; files_made = made' }) 0))
-        → Says n (record { limits = limits; state = state_of ps ds pipes files' made' }) (made_reply result)
-        (call n.state)
-    changed files' made' (Ok x) c goes =
-        makes tied files' made' view refl call (Num 0) (called _ (goes c))
-    changed files' made' (Err fault) c goes =
-        unchanged (record { limits = limits; state = state_of ps ds pipes files' made' }) files' fault c
+    pub unchanged : (m : Namespace) (files' : Files) (fault : Fault) → Changed (Err fault) files files' answer
+        → {reply : Result Reply Fault} → reply ≡ Err fault → Says n m reply (call n.state)
+    unchanged m files' (faults.Errno e) c said =
+        subst (λ r. Says n m r (call n.state)) (sym said) (refused e (gone_on c.0))
+    unchanged m files' faults.NoMemory c said = subst (λ r. Says n m r (call n.state)) (sym said) tt
+
+    pub changed : (files' : Files) (made' : ℕ) → after s files' ≡ record s { files = files'; files_made = made' }
+        → (result : Result (Unit {0}) Fault) → Changed result files files' answer
+        → {reply : Result Reply Fault} → reply ≡ made_reply result
+        → Says n (record { limits = limits; state = state_of ps ds pipes files' made' }) reply (call n.state)
+    changed files' made' shape (Ok x) c said =
+        subst (λ r. Says n (record { limits = limits; state = state_of ps ds pipes files' made' }) r (call n.state))
+        (sym said)
+        (makes tied files' made' view refl call (Num 0) (called _ (gone_on c ∙ ap (λ t. Ok (done t 0)) shape)))
+    changed files' made' shape (Err fault) c said =
+        unchanged (record { limits = limits; state = state_of ps ds pipes files' made' }) files' fault c said
 
   -- a call that changes nothing tells what it found
   module _ {X Z : Type 0} (shows : Z → X) (answer : Result X Errno) (reply : X → Reply)

@@ -48,6 +48,23 @@ module _ {limits : Limits} (ps : ProcessRows) (ds : DescriptionRows) (pipes : Pi
       sym (first_free-map (λ (k : Key). k.serial) p.descriptors)
       ∙ ap (λ (x : machine.Process ℕ). first_free x.descriptors) same
 
+  -- what the machine sees of the call
+  pub call-shown : {o : Option (Call Key)} → o ≡ rows.call_in ps pid
+      → option_map call_of o ≡ machine_call_of n.state pid
+  call-shown is =
+      ap (option_map call_of) is ∙ by_pid pid ∙ ap (λ (m : Namespace). machine_call_of m.state pid) view
+    where
+      by_row : (x : Option Process) → option_map call_of (option_and_then (λ (p : Process). p.parked) x)
+          ≡ option_and_then (λ (p : machine.Process ℕ). p.parked) (option_map process_of x)
+      by_row None = refl
+      by_row (Some p) = refl
+
+      by_pid : (m : ℕ) → option_map call_of (rows.call_in ps m)
+          ≡ machine_call_of (state_of ps ds pipes files files_made) m
+      by_pid zero = refl
+      by_pid (suc i) =
+          by_row (at ps i) ∙ ap (option_and_then (λ (p : machine.Process ℕ). p.parked)) (sym (at-map process_of ps i))
+
 -- what the machine sees of a process whose call is over
 woken_shown : (p : Process) → process_of (rows.woken p) ≡ woken (process_of p)
 woken_shown p = by_call p.parked
@@ -128,23 +145,6 @@ module _ {charges : UserPages} {limits : Limits} {ps : ProcessRows} {ds : Descri
   awoken-namespace =
       ap (λ (s : State Window ℕ). record { limits = limits; state = s }) now_shown
       ∙ ap (λ (m : Namespace). record m { state = awoken m.state pid }) view
-
-  -- what the machine sees of the call
-  pub call-shown : {o : Option (Call Key)} → o ≡ rows.call_in ps pid
-      → option_map call_of o ≡ machine_call_of n.state pid
-  call-shown is =
-      ap (option_map call_of) is ∙ by_pid pid ∙ ap (λ (m : Namespace). machine_call_of m.state pid) view
-    where
-      by_row : (x : Option Process) → option_map call_of (option_and_then (λ (p : Process). p.parked) x)
-          ≡ option_and_then (λ (p : machine.Process ℕ). p.parked) (option_map process_of x)
-      by_row None = refl
-      by_row (Some p) = refl
-
-      by_pid : (m : ℕ) → option_map call_of (rows.call_in ps m)
-          ≡ machine_call_of (state_of ps ds pipes files files_made) m
-      by_pid zero = refl
-      by_pid (suc i) =
-          by_row (at ps i) ∙ ap (option_and_then (λ (p : machine.Process ℕ). p.parked)) (sym (at-map process_of ps i))
 
 -- A call that is no open's begins
 

@@ -93,14 +93,14 @@ module _ {charges : UserPages} {limits : Limits} {ps : ProcessRows} {ds : Descri
       subst (finds (Err e)) (seen_as_kept ps ds pipes files files_made)
       (refused as_kept None ps ds pipes files files_made k.tied pid fd e h)
 
-  pub no_size : (e : Errno) → end_in None ps ds pid fd ≡ Err e → gets n.state ≡ Err e
-  no_size e h =
+  pub no_size : {e : Errno} → end_in None ps ds pid fd ≡ Err e → gets n.state ≡ Err e
+  no_size {e} h =
       subst (λ (m : Namespace). gets m.state ≡ Err e) view
       (stops (λ p. end_of itself s p fd) (λ p x. Ok (done s (PAGE_SIZE * x.pipe.queue.capacity))) (ready s pid) e
       (no_end e h))
 
-  pub not_sized : (bytes : ℕ) (e : Errno) → end_in None ps ds pid fd ≡ Err e → sets bytes n ≡ Err e
-  not_sized bytes e h =
+  pub not_sized : (bytes : ℕ) {e : Errno} → end_in None ps ds pid fd ≡ Err e → sets bytes n ≡ Err e
+  not_sized bytes {e} h =
       subst (λ (m : Namespace). sets bytes m ≡ Err e) view
       (stops (λ p. end_of itself s p fd) (λ p x. refuse_if (nat_lt MAX_SIZE bytes) EINVAL
       >> (refuse_if (not (is_privileged p.cred) && nat_lt limits.max (PAGE_SIZE * pages_for bytes)) EPERM
@@ -108,7 +108,7 @@ module _ {charges : UserPages} {limits : Limits} {ps : ProcessRows} {ds : Descri
       >> Ok (done (with_queue s x.description.pipe (with_capacity (pages_for bytes) x.pipe.queue))
       (PAGE_SIZE * pages_for bytes))))) (ready s pid) e (no_end e h))
 
-  module _ (d : Description) (h : end_in None ps ds pid fd ≡ Ok d) where
+  module _ {d : Description} (h : end_in None ps ds pid fd ≡ Ok d) where
     at_end : Found as_kept None ps ds pipes files files_made pid fd d
     at_end = found as_kept None ps ds pipes files files_made k.tied pid fd d h
 
@@ -118,7 +118,7 @@ module _ {charges : UserPages} {limits : Limits} {ps : ProcessRows} {ds : Descri
     pub pipe_there : IsSome (find pipes d.pipe.slot d.pipe.serial)
     pipe_there = ap is_some stands.1
 
-    module _ (r : Pipe) (handed : find pipes d.pipe.slot d.pipe.serial ≡ Some r) where
+    module _ {r : Pipe} (handed : find pipes d.pipe.slot d.pipe.serial ≡ Some r) where
       there : at (pipes_of pipes) d.pipe.serial ≡ Some (pipe_of (d.pipe.slot, r))
       there =
           shown pipe_of pipes d.pipe.serial (d.pipe.slot, r) (find_was pipes d.pipe.slot d.pipe.serial r handed)

@@ -30,8 +30,8 @@ on_from from next within above =
 -- who exits waits in no call any more
 pub begins : {limits : Limits} (ps : ProcessRows) (ds : DescriptionRows) (pipes : PipeRows) {files : Files}
     {files_made : ℕ} {n : Namespace} → record { limits = limits; state = state_of ps ds pipes files files_made } ≡ n
-    → (pid : ℕ) {who : rows.Process} → process_in ps pid ≡ Ok who → (new : Namespace) → new ≡ record n { state = awoken n.state pid }
-    → new.state ≡ sweep itself new.state → Begun n new pid
+    → (pid : ℕ) {who : rows.Process} → process_in ps pid ≡ Ok who → (new : Namespace)
+    → new ≡ record n { state = awoken n.state pid } → new.state ≡ sweep itself new.state → Begun n new pid
 begins ps ds pipes {n = n} view pid {who} is new now still = record {
   some = counted pid is;
   p = process_of who;

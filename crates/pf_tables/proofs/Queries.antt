@@ -53,9 +53,9 @@ was_none : {A : Type 0} (e f : Errno) (o : Option A) → or_refuse e o ≡ Err f
 was_none e f None h = refl
 was_none e f (Some y) h = absurd (cc)
 
-module _ {files : Files} {files_made : ℕ} (limits : Limits) (charges : UserPages) (ps : ProcessRows)
-    (ds : DescriptionRows) (pipes : PipeRows) (k : Kept charges ps ds pipes)
-    (n : Namespace) (view : record { limits = limits; state = state_of ps ds pipes files files_made } ≡ n)
+module _ {files : Files} {files_made : ℕ} {limits : Limits} {charges : UserPages} {ps : ProcessRows}
+    {ds : DescriptionRows} {pipes : PipeRows} (k : Kept charges ps ds pipes) {n : Namespace}
+    (view : record { limits = limits; state = state_of ps ds pipes files files_made } ≡ n)
     (pid : ℕ) where
   abbrev shows : Live → State Segment ℕ
   shows f = meaning f (state_of ps ds pipes files files_made)
@@ -78,7 +78,7 @@ module _ {files : Files} {files_made : ℕ} (limits : Limits) (charges : UserPag
       by_pid zero h = refl
       by_pid (suc i) h = ap (or_refuse ESRCH) (at_past ps i (omega (arith, h, k.tied.places)))
 
-  module _ (p : Process) (here : process_in ps pid ≡ Ok p) where
+  module _ {p : Process} (here : process_in ps pid ≡ Ok p) where
     there : (f : Live) → process (shows f) pid ≡ Some (process_of p)
     there f = was_there ESRCH (process (shows f) pid) (process_of p) (lives ps pid p here)
 
@@ -131,6 +131,10 @@ module _ {files : Files} {files_made : ℕ} (limits : Limits) (charges : UserPag
           let same : an_end.0 ≡ r = cc in
           an_end.2 ∙ ap (λ (q : Pipe). Ok (end_of_rows (pipe_meaning f) d q)) same
 
+    pub has_pipe : (side : Option Side) (fd : ℕ) {d : Description} → Ok d ≡ end_of_row side p ds fd
+        → None ≡ find pipes d.pipe.slot d.pipe.serial → GoesOn n pid true
+    has_pipe side fd {d} h none f sound owns = absurd (not_lost f side fd d h none)
+
     -- the counts of a pipe that was found are the machine's
     counts : (f : Live) (d : Description) (r : Pipe) → Some r ≡ find pipes d.pipe.slot d.pipe.serial
         → (readers itself (shows f) d.pipe.serial ≡ r.readers) × (writers itself (shows f) d.pipe.serial ≡ r.writers)
@@ -140,33 +144,30 @@ module _ {files : Files} {files_made : ℕ} (limits : Limits) (charges : UserPag
 
     stands : (f : Live) → Owns f n → (d : Description) (r : Pipe) → Some r ≡ find pipes d.pipe.slot d.pipe.serial
         → Stands f r.ring.segments
-    stands f owns d r handed = transfers.stands_in f limits charges ps ds pipes k n view owns d r (sym handed)
+    stands f owns d r handed = transfers.stands_in k view owns d r (sym handed)
 
     -- A read
-    module _ (fd m : ℕ) (waits : Some (Read fd m) ≡ p.parked) where
+    module _ {fd m : ℕ} (waits : Some (Read fd m) ≡ p.parked) where
       abbrev read_test : (f : Live) → End Segment ℕ → Bool
       read_test f e = read_goes_on e.pipe.queue (writers itself (shows f) e.description.pipe) m
 
-      pub read_is_over : (e : Errno) → Err e ≡ end_of_row (Some sides.Read) p ds fd → GoesOn n pid true
-      read_is_over e h =
+      pub read_is_over : {e : Errno} → Err e ≡ end_of_row (Some sides.Read) p ds fd → GoesOn n pid true
+      read_is_over {e} h =
           answers (Read fd m) waits tt true (λ f sound owns. sym
           (ap (or_is_over (read_test f)) (no_end f (Some sides.Read) fd e h)))
 
-      module _ (d : Description) (h : Ok d ≡ end_of_row (Some sides.Read) p ds fd) where
-        pub read_has_pipe : None ≡ find pipes d.pipe.slot d.pipe.serial → GoesOn n pid true
-        read_has_pipe none f sound owns = absurd (not_lost f (Some sides.Read) fd d h none)
-
-        pub reads_on : (r : Pipe) → Some r ≡ find pipes d.pipe.slot d.pipe.serial → (b : Bool)
+      module _ {d : Description} (h : Ok d ≡ end_of_row (Some sides.Read) p ds fd) where
+        pub reads_on : {r : Pipe} → Some r ≡ find pipes d.pipe.slot d.pipe.serial → (b : Bool)
             → ((f : Live) → IsSound f → Stands f r.ring.segments → b ≡ read_goes_on (queue_of f r.ring) r.writers m)
             → GoesOn n pid b
-        reads_on r handed b told =
+        reads_on {r} handed b told =
             answers (Read fd m) waits tt b (λ f sound owns.
             told f sound (stands f owns d r handed)
             ∙ ap (λ w. read_goes_on (queue_of f r.ring) w m) (sym (counts f d r handed).1)
             ∙ sym (ap (or_is_over (read_test f)) (the_end f (Some sides.Read) fd d h r handed)))
 
     -- A write
-    module _ (fd : ℕ) (write : UnfinishedWrite) (waits : Some (Write fd write) ≡ p.parked)
+    module _ {fd : ℕ} {write : UnfinishedWrite} (waits : Some (Write fd write) ≡ p.parked)
         (cut : write.written ≤ length write.bytes) where
       abbrev write_test : (f : Live) → End Segment ℕ → Bool
       write_test f e =
@@ -174,19 +175,16 @@ module _ {files : Files} {files_made : ℕ} (limits : Limits) (charges : UserPag
           || write_goes_on e.pipe.queue (readers itself (shows f) e.description.pipe)
           (nat_le (length write.bytes) PIPE_BUF) (length (drop write.written write.bytes))
 
-      pub write_is_over : (e : Errno) → Err e ≡ end_of_row (Some sides.Write) p ds fd → GoesOn n pid true
-      write_is_over e h =
+      pub write_is_over : {e : Errno} → Err e ≡ end_of_row (Some sides.Write) p ds fd → GoesOn n pid true
+      write_is_over {e} h =
           answers (Write fd write) waits cut true (λ f sound owns. sym
           (ap (or_is_over (write_test f)) (no_end f (Some sides.Write) fd e h)))
 
-      module _ (d : Description) (h : Ok d ≡ end_of_row (Some sides.Write) p ds fd) where
-        pub write_has_pipe : None ≡ find pipes d.pipe.slot d.pipe.serial → GoesOn n pid true
-        write_has_pipe none f sound owns = absurd (not_lost f (Some sides.Write) fd d h none)
-
-        pub writes_on : (r : Pipe) → Some r ≡ find pipes d.pipe.slot d.pipe.serial → (all left : ℕ)
+      module _ {d : Description} (h : Ok d ≡ end_of_row (Some sides.Write) p ds fd) where
+        pub writes_on : {r : Pipe} → Some r ≡ find pipes d.pipe.slot d.pipe.serial → (all left : ℕ)
             → all ≡ length write.bytes → all ≤ MAX_WRITE → left + write.written ≡ length write.bytes → (b : Bool)
             → ((f : Live) → b ≡ write_goes_on (queue_of f r.ring) r.readers (nat_le all PIPE_BUF) left) → GoesOn n pid b
-        writes_on r handed all left all_is within left_is b told =
+        writes_on {r} handed all left all_is within left_is b told =
             let fits : nat_lt MAX_WRITE (length write.bytes) ≡ false = grind (arith, nat_tests) in
             let rest : left ≡ length (drop write.written write.bytes) =
             omega (arith, left_is, length-drop write.written write.bytes) in
@@ -198,7 +196,7 @@ module _ {files : Files} {files_made : ℕ} (limits : Limits) (charges : UserPag
             ∙ sym (ap (or_is_over (write_test f)) (the_end f (Some sides.Write) fd d h r handed)))
 
     -- A tee or a splice
-    module _ (c : Crossing) (source sink m : ℕ) (waits : Some (Cross c source sink m) ≡ p.parked) where
+    module _ {c : Crossing} {source sink m : ℕ} (waits : Some (Cross c source sink m) ≡ p.parked) where
       abbrev cross_test : (f : Live) → Ends → Bool
       cross_test f e =
           cross_goes_on e.source.pipe.queue e.sink.pipe.queue (writers itself (shows f) e.source.description.pipe)
@@ -211,21 +209,21 @@ module _ {files : Files} {files_made : ℕ} (limits : Limits) (charges : UserPag
           >>= (λ o. refuse_if (nat_eq i.description.pipe o.description.pipe) EINVAL >> Ok
           (record { source = i; sink = o }))))
 
-      pub source_is_over : (e : Errno) → Err e ≡ end_of_row (Some sides.Read) p ds source → GoesOn n pid true
-      source_is_over e h =
+      pub source_is_over : {e : Errno} → Err e ≡ end_of_row (Some sides.Read) p ds source → GoesOn n pid true
+      source_is_over {e} h =
           answers (Cross c source sink m) waits tt true
           (λ f sound owns. sym (ap (λ r. tested f r (machine.writing_end itself (shows f) (process_of p) sink))
           (no_end f (Some sides.Read) source e h)))
 
-      module _ (d : Description) (h : Ok d ≡ end_of_row (Some sides.Read) p ds source) where
-        pub sink_is_over : (e : Errno) → Err e ≡ end_of_row (Some sides.Write) p ds sink → GoesOn n pid true
-        sink_is_over e g =
+      module _ {d : Description} (h : Ok d ≡ end_of_row (Some sides.Read) p ds source) where
+        pub sink_is_over : {e : Errno} → Err e ≡ end_of_row (Some sides.Write) p ds sink → GoesOn n pid true
+        sink_is_over {e} g =
             answers (Cross c source sink m) waits tt true (λ f sound owns.
             let there = an_end f (Some sides.Read) source d h in
             sym (ap (λ r. tested f r (machine.writing_end itself (shows f) (process_of p) sink)) there.2
             ∙ ap (tested f (Ok (end_of_rows (pipe_meaning f) d there.0))) (no_end f (Some sides.Write) sink e g)))
 
-        module _ (d' : Description) (g : Ok d' ≡ end_of_row (Some sides.Write) p ds sink) where
+        module _ {d' : Description} (g : Ok d' ≡ end_of_row (Some sides.Write) p ds sink) where
           both_ends : (f : Live) (r r' : Pipe) → Some r ≡ find pipes d.pipe.slot d.pipe.serial
               → Some r' ≡ find pipes d'.pipe.slot d'.pipe.serial
               → tested f (Ok (end_of_rows (pipe_meaning f) d r)) (Ok (end_of_rows (pipe_meaning f) d' r'))
@@ -248,18 +246,12 @@ module _ {files : Files} {files_made : ℕ} (limits : Limits) (charges : UserPag
               ∙ both_ends f from.0 to.0 (sym (find_at pipes d.pipe.slot d.pipe.serial from.0 from.1))
               (sym (find_at pipes d'.pipe.slot d'.pipe.serial to.0 to.1)))
 
-          pub source_has_pipe : None ≡ find pipes d.pipe.slot d.pipe.serial → GoesOn n pid true
-          source_has_pipe none f sound owns = absurd (not_lost f (Some sides.Read) source d h none)
-
-          pub sink_has_pipe : None ≡ find pipes d'.pipe.slot d'.pipe.serial → GoesOn n pid true
-          sink_has_pipe none f sound owns = absurd (not_lost f (Some sides.Write) sink d' g none)
-
-          pub crosses_on : d.pipe.serial ≢ d'.pipe.serial → (r r' : Pipe)
+          pub crosses_on : d.pipe.serial ≢ d'.pipe.serial → {r r' : Pipe}
               → Some r ≡ find pipes d.pipe.slot d.pipe.serial → Some r' ≡ find pipes d'.pipe.slot d'.pipe.serial
               → (b : Bool)
               → ((f : Live) → IsSound f → Stands f r.ring.segments
               → b ≡ cross_goes_on (queue_of f r.ring) (queue_of f r'.ring) r.writers r'.readers m) → GoesOn n pid b
-          crosses_on other r r' handed handed' b told =
+          crosses_on other {r} {r'} handed handed' b told =
               answers (Cross c source sink m) waits tt b (λ f sound owns.
               let differ : nat_eq d.pipe.serial d'.pipe.serial ≡ false = grind (arith, nat_tests) in
               told f sound (stands f owns d r handed)
@@ -271,7 +263,7 @@ module _ {files : Files} {files_made : ℕ} (limits : Limits) (charges : UserPag
               ∙ both_ends f r r' handed handed')
 
     -- An open
-    module _ (j : Key) (kept : ℕ) (waits : Some (Open j kept) ≡ p.parked) where
+    module _ {j : Key} {kept : ℕ} (waits : Some (Open j kept) ≡ p.parked) where
       row : (e : Named Description) × (at ds j.serial ≡ Some (j.slot, e))
       row = finds ds j (k.tied.finds (pid - 1) 0 p j (place_of ps pid p here) (ap made_by (sym waits)))
 
@@ -286,7 +278,7 @@ module _ {files : Files} {files_made : ℕ} (limits : Limits) (charges : UserPag
           let found = row_found in let both : ◌≡◌ {A = Option Description} None (Some row.0.value) = none
           ∙ found in absurd (cc)
 
-      module _ (d : Description) (is : Some d ≡ option_map value_of (find ds j.slot j.serial)) where
+      module _ {d : Description} (is : Some d ≡ option_map value_of (find ds j.slot j.serial)) where
         same_end : row.0.value ≡ d
         same_end = let both : ◌≡◌ {A = Option Description} (Some row.0.value) (Some d) = sym row_found ∙ sym is in cc
 
@@ -300,9 +292,9 @@ module _ {files : Files} {files_made : ℕ} (limits : Limits) (charges : UserPag
             let found = pipe_found in let both : ◌≡◌ {A = Option Pipe} None (Some pipe_row.0) = none
             ∙ found in absurd (cc)
 
-        pub opens_on : (r : Pipe) → Some r ≡ find pipes d.pipe.slot d.pipe.serial → (x : ℕ) → x ≡ other_opens d.reads r
+        pub opens_on : {r : Pipe} → Some r ≡ find pipes d.pipe.slot d.pipe.serial → (x : ℕ) → x ≡ other_opens d.reads r
             → GoesOn n pid (nat_lt kept x)
-        opens_on r handed x x_is =
+        opens_on {r} handed x x_is =
             let both : ◌≡◌ {A = Option Pipe} (Some pipe_row.0) (Some r) = sym pipe_found ∙ sym handed in
             let same : pipe_row.0 ≡ r = cc in
             answers (Open j kept) waits tt (nat_lt kept x) (λ f sound owns.
@@ -328,7 +320,7 @@ module _ {files : Files} {files_made : ℕ} (limits : Limits) (charges : UserPag
 
       by_row : (o : Option Process) → at ps (pid - 1) ≡ o → waits o ≡ false → GoesOn n pid false
       by_row None e h = lives_not_on ESRCH (place_found above ∙ ap (or_refuse ESRCH) e)
-      by_row (Some p) e h = waits_not p (place_found above ∙ ap (or_refuse ESRCH) e) (by_call p.parked h)
+      by_row (Some p) e h = waits_not (place_found above ∙ ap (or_refuse ESRCH) e) (by_call p.parked h)
 
   -- What an end is ready for
 
@@ -341,13 +333,13 @@ module _ {files : Files} {files_made : ℕ} (limits : Limits) (charges : UserPag
         transfers.bind-bind (machine.ready s pid) (λ p. machine.end_of itself s p fd) (λ e. Ok (ready_for s e))
         ∙ ap (λ x. x >>= (λ e. Ok (ready_for s e))) h
 
-    pub ready_refused : (e : Errno) → end_in None ps ds pid fd ≡ Err e → (f : Live)
+    pub ready_refused : {e : Errno} → end_in None ps ds pid fd ≡ Err e → (f : Live)
         → readiness (meaning f n.state) pid fd ≡ Err e
-    ready_refused e h f =
+    ready_refused {e} h f =
         subst (λ (m : Namespace). readiness (meaning f m.state) pid fd ≡ Err e) view
         (from_end (shows f) (Err e) (refused (pipe_meaning f) None ps ds pipes files files_made k.tied pid fd e h))
 
-    module _ (d : Description) (h : end_in None ps ds pid fd ≡ Ok d) where
+    module _ {d : Description} (h : end_in None ps ds pid fd ≡ Ok d) where
       pub ready_has_pipe : None ≡ find pipes d.pipe.slot d.pipe.serial → (f : Live)
           → readiness (meaning f n.state) pid fd ≡ Err EBADF
       ready_has_pipe none f =
@@ -356,13 +348,13 @@ module _ {files : Files} {files_made : ℕ} (limits : Limits) (charges : UserPag
           Option Pipe} None (Some e.pipe) = none ∙ find_at pipes d.pipe.slot d.pipe.serial e.pipe e.stands in
           absurd (cc)
 
-      pub ready_is : (r : Pipe) → Some r ≡ find pipes d.pipe.slot d.pipe.serial → (bytes room reading writing : ℕ)
+      pub ready_is : {r : Pipe} → Some r ≡ find pipes d.pipe.slot d.pipe.serial → (bytes room reading writing : ℕ)
           → ((f : Live) → IsSound f → Stands f r.ring.segments → bytes ≡ length (bytes_of (queue_of f r.ring)))
           → ((f : Live) → room ≡ room_of (queue_of f r.ring))
           → reading ≡ r.readers → writing ≡ r.writers → (f : Live) → IsSound f → Owns f n
           → Ok (record { bytes = bytes; room = room; has_reader = nat_lt 0 reading; has_writer = nat_lt 0 writing })
           ≡ readiness (meaning f n.state) pid fd
-      ready_is r handed bytes room reading writing bytes_is room_is reading_is writing_is f sound owns =
+      ready_is {r} handed bytes room reading writing bytes_is room_is reading_is writing_is f sound owns =
           let e = found (pipe_meaning f) None ps ds pipes files files_made k.tied pid fd d h in
           let both : ◌≡◌ {A =
           Option Pipe} (Some r) (Some e.pipe) = handed ∙ find_at pipes d.pipe.slot d.pipe.serial e.pipe e.stands in
@@ -371,7 +363,7 @@ module _ {files : Files} {files_made : ℕ} (limits : Limits) (charges : UserPag
           counted (pipe_meaning f) None ps ds pipes files files_made k.tied pid fd d.pipe.serial d.pipe.slot r
           (find_was pipes d.pipe.slot d.pipe.serial r (sym handed)) in
           let stands : Stands f r.ring.segments =
-          transfers.stands_in f limits charges ps ds pipes k n view owns d r (sym handed) in
+          transfers.stands_in k view owns d r (sym handed) in
           subst (λ (m : Namespace). Ok (record {
             bytes = bytes;
             room = room;

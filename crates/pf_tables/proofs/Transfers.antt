@@ -59,9 +59,9 @@ pub rest_is : (n : ℕ) (x : List ℕ) → take (length x - n) (drop n x) ≡ dr
 rest_is n x = take_all (length x - n) (drop n x) (omega (arith, length-drop n x))
 
 -- what is known before
-module _ {files : Files} {files_made : ℕ} (f : Live) (limits : Limits) (charges : UserPages) (ps : ProcessRows)
-    (ds : DescriptionRows) (pipes : PipeRows) (k : Kept charges ps ds pipes)
-    (n : Namespace) (view : record { limits = limits; state = state_of ps ds pipes files files_made } ≡ n)
+module _ {files : Files} {files_made : ℕ} {f : Live} {limits : Limits} {charges : UserPages} {ps : ProcessRows}
+    {ds : DescriptionRows} {pipes : PipeRows} (k : Kept charges ps ds pipes) {n : Namespace}
+    (view : record { limits = limits; state = state_of ps ds pipes files files_made } ≡ n)
     (owns : Owns f n) where
   pub owned : Owns f (record { limits = limits; state = state_of ps ds pipes files files_made })
   owned = subst (Owns f) (sym view) owns

@@ -75,12 +75,12 @@ set_around (x ∷ xs) (suc i) zero a b c ne = refl
 set_around (x ∷ xs) (suc i) (suc k) a b c ne = ap (λ ys. x ∷ ys) (set_around xs i k a b c (λ e. ne (ap suc e)))
 
 -- what is known before
-module _ {files : Files} {files_made : ℕ} (f : Live) (limits : Limits) (charges : UserPages) (ps : ProcessRows)
-    (ds : DescriptionRows) (pipes : PipeRows) (k : Kept charges ps ds pipes)
-    (n : Namespace) (view : record { limits = limits; state = state_of ps ds pipes files files_made } ≡ n)
+module _ {files : Files} {files_made : ℕ} {f : Live} {limits : Limits} {charges : UserPages} {ps : ProcessRows}
+    {ds : DescriptionRows} {pipes : PipeRows} (k : Kept charges ps ds pipes) {n : Namespace}
+    (view : record { limits = limits; state = state_of ps ds pipes files files_made } ≡ n)
     (owns : Owns f n) where
   own : Owns f (record { limits = limits; state = state_of ps ds pipes files files_made })
-  own = owned f limits charges ps ds pipes k n view owns
+  own = owned k view owns
 
   -- The two pipes that were found, where one is taken out and the other handed out
   module _ (i o : Description) (differ : i.pipe.serial ≢ o.pipe.serial) where
@@ -101,10 +101,10 @@ module _ {files : Files} {files_made : ℕ} (f : Live) (limits : Limits) (charge
     module _ (r s : Pipe) (from : find pipes i.pipe.slot i.pipe.serial ≡ Some r)
         (to : find pipes o.pipe.slot o.pipe.serial ≡ Some s) where
       source_there : at (pipes_of pipes) i.pipe.serial ≡ Some (pipe_of (i.pipe.slot, r))
-      source_there = there f limits charges ps ds pipes k n view owns i r from
+      source_there = there k view owns i r from
 
       sink_there : at (pipes_of pipes) o.pipe.serial ≡ Some (pipe_of (o.pipe.slot, s))
-      sink_there = there f limits charges ps ds pipes k n view owns o s to
+      sink_there = there k view owns o s to
 
       source_ring : ring_at (rings_of (state_of ps ds pipes files files_made)) i.pipe.serial ≡ r.ring
       source_ring = ring_at-pipe (pipes_of pipes) i.pipe.serial (pipe_of (i.pipe.slot, r)) source_there
@@ -139,9 +139,9 @@ module _ {files : Files} {files_made : ℕ} (f : Live) (limits : Limits) (charge
             in_turn
             ∙ ap (λ (xs : PipeRows). put_at xs i.pipe.serial (i.pipe.slot, r'))
             (set_same pipes o.pipe.serial (Some (o.pipe.slot, s'))
-            (ap (λ x. Some (o.pipe.slot, x)) d ∙ sym (stands f limits charges ps ds pipes k n view owns o s to)))
+            (ap (λ x. Some (o.pipe.slot, x)) d ∙ sym (stands k view owns o s to)))
             ∙ set_same pipes i.pipe.serial (Some (i.pipe.slot, r'))
-            (ap (λ x. Some (i.pipe.slot, x)) e ∙ sym (stands f limits charges ps ds pipes k n view owns i r from))
+            (ap (λ x. Some (i.pipe.slot, x)) e ∙ sym (stands k view owns i r from))
 
         pub same_view : r' ≡ r → s' ≡ s → record { limits = limits; state = state_of ps ds back files files_made } ≡ n
         same_view e d =
@@ -172,7 +172,7 @@ module _ {files : Files} {files_made : ℕ} (f : Live) (limits : Limits) (charge
           source_still : at mid i.pipe.serial ≡ Some (i.pipe.slot, r)
           source_still =
               get_or-set_other pipes o.pipe.serial i.pipe.serial (Some (o.pipe.slot, s')) None differ
-              ∙ stands f limits charges ps ds pipes k n view owns i r from
+              ∙ stands k view owns i r from
 
           source_shown : at (pipes_of mid) i.pipe.serial ≡ Some (pipe_of (i.pipe.slot, r))
           source_shown = shown pipe_of mid i.pipe.serial (i.pipe.slot, r) source_still
@@ -188,7 +188,7 @@ module _ {files : Files} {files_made : ℕ} (f : Live) (limits : Limits) (charge
           crossed-tied : Tied ps ds pipes'
           crossed-tied =
               requeued [] [] ps ds mid i.pipe r source_still r' c.source_is.readers c.source_is.writers
-              (requeued [] [] ps ds pipes o.pipe s (stands f limits charges ps ds pipes k n view owns o s to) s'
+              (requeued [] [] ps ds pipes o.pipe s (stands k view owns o s to) s'
               c.sink_is.readers c.sink_is.writers k.tied)
 
           kept_in_turn : Kept charges ps ds pipes'
@@ -253,7 +253,7 @@ module _ {files : Files} {files_made : ℕ} (f : Live) (limits : Limits) (charge
               ring_at-pipe (pipes_of mid) o.pipe.serial (pipe_of (o.pipe.slot, s'))
               (shown pipe_of mid o.pipe.serial (o.pipe.slot, s')
               (put_there pipes o.pipe.serial (o.pipe.slot, s) (o.pipe.slot, s')
-              (stands f limits charges ps ds pipes k n view owns o s to)))
+              (stands k view owns o s to)))
             where
               put_there : {X : Type 0} (xs : List (Option X)) (j : ℕ) (x y : X) → at xs j ≡ Some x
                   → at (put_at xs j y) j ≡ Some y
@@ -301,7 +301,7 @@ module _ {files : Files} {files_made : ℕ} (f : Live) (limits : Limits) (charge
       let st : State Window ℕ = state_of ps ds pipes files files_made in
       let one : s.ring.capacity ≤ pages st =
       pages_at (pipes_of pipes) o.pipe.serial (pipe_of (o.pipe.slot, s))
-      (there f limits charges ps ds pipes k n view owns o s to) in
+      (there k view owns o s to) in
       let all : sum_by slots_used (rings_of st) ≡ occupied st = used-rings (pipes_of pipes) in
       omega (
         arith,

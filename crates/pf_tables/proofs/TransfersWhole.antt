@@ -117,9 +117,9 @@ module _ {ps : ProcessRows} {ds : DescriptionRows} {pipes : PipeRows} (tied : Ti
   pub no_flag : (e : Errno) → end_in None ps ds pid fd ≡ Err e → false ≡ is_nonblocking_at n.state pid fd
   no_flag e h = found_flag (refused as_kept None ps ds pipes files files_made tied pid fd e h)
 
-module _ {files : Files} {files_made : ℕ} (f : Live) (limits : Limits) (charges : UserPages) (ps : ProcessRows)
-    (ds : DescriptionRows) (pipes : PipeRows) (kept : Kept charges ps ds pipes)
-    (n : Namespace) (view : record { limits = limits; state = state_of ps ds pipes files files_made } ≡ n)
+module _ {files : Files} {files_made : ℕ} (f : Live) {limits : Limits} {charges : UserPages} {ps : ProcessRows}
+    {ds : DescriptionRows} {pipes : PipeRows} (kept : Kept charges ps ds pipes) {n : Namespace}
+    (view : record { limits = limits; state = state_of ps ds pipes files files_made } ≡ n)
     (pid fd : ℕ) where
   abbrev s : State Segment ℕ
   s = meaning f (state_of ps ds pipes files files_made)

@@ -1,14 +1,14 @@
 -- What the calls of the tables do, in terms of the lone machine's state.
 
-use Rattle.std.specs.Prelude.{◌≡◌, ℕ, ◌-◌, ◌<◌, ◌≤◌, ⊤, length, nat_lt, if◌then◌else◌, Bool, true, false, List, Option, Some}
-use Rattle.std.specs.Prelude.{None, Result, Ok, Err, nat_le, nat_eq}
+use Rattle.std.specs.Prelude.{◌≡◌, ℕ, ◌-◌, ◌<◌, ◌≤◌, ⊤, length, nat_lt, if◌then◌else◌, Bool, true, false, List}
+use Rattle.std.specs.Prelude.{Option, Some, None, Result, Ok, Err, nat_le, nat_eq}
 use Rattle.std.specs.Map.{lookup}
 use Rattle.std.specs.Option.{option_and_then}
 use Rattle.pf_machine.specs.Refusals.{◌>>=◌, ◌>>◌, refuse_if, or_refuse}
 use Rattle.pf_machine.specs.FileMap.{Files}
 use Rattle.pf_machine.specs.Numbered.{at, clear_at, change_at, first_free}
 use Rattle.pf_machine.specs.Calls.{Call, Opening, Moving}
-use Rattle.pf_machine.specs.State.{itself, State, Process, Pipe, Outcome, living, of_living, told, done, change_process}
+use Rattle.pf_machine.specs.State.{itself, State, Process, Outcome, living, of_living, told, done, change_process}
 use Rattle.pf_machine.specs.State.{waiting, with_descriptor}
 use Rattle.pf_machine.specs.Descriptors.{without_descriptor}
 use Rattle.pf_machine.specs.Processes.{exit}
@@ -72,9 +72,9 @@ two_free xs = do
   refuse_if (nat_le MAX_DESCRIPTORS (second_free xs)) EMFILE
   Ok (first_free xs, second_free xs)
 
--- A call that moves no bytes and lets nothing go was made: what it leaves and is told is what the machine's call leaves
--- and is told at the tables' own state. Whatever frames were the namespace's own still are, and nothing stands that
--- nobody can reach
+-- A call was made that moves no bytes and lets no descriptor go, as an exit's end, whose process has none any more:
+-- what it leaves and is told is what the machine's call leaves and is told at the tables' own state. Whatever frames
+-- were the namespace's own still are, and nothing stands that nobody can reach
 pub record Makes (old new : Namespace) (call : Result (Outcome Window ℕ) Errno) (reply : Reply) : Type 0 where
   pub is : call ≡ Ok (told new.state reply)
   pub limits : new.limits ≡ old.limits
@@ -92,17 +92,18 @@ abbrev pub made_reply : Result (Unit {0}) Fault → Result Reply Fault
 made_reply (Ok done) = Ok (Num 0)
 made_reply (Err fault) = Err fault
 
--- which pipe went, if one did
-abbrev pub LetsGo : List (Option (Pipe Window)) → List (Option (Pipe Window)) → Option rows.Pipe → Type 0
-LetsGo old new None = new ≡ old
-LetsGo old new (Some pipe) = (n : ℕ) × (at old n ≡ Some (rows.pipe_shown pipe)) × (new ≡ clear_at old n)
+-- which pipe went, if one did, by what is shown of each
+abbrev pub LetsGo : {A : Type 0} → (ℕ × rows.Pipe → A) → List (Option A) → List (Option A) → Option rows.Pipe → Type 0
+LetsGo show old new None = new ≡ old
+LetsGo show old new (Some pipe) =
+    (n : ℕ) × (place : ℕ) × (at old n ≡ Some (show (place, pipe))) × (new ≡ clear_at old n)
 
 -- A call that lets something go was made: it leaves this state, without what nobody can reach any more. The pipe that
 -- went with it, if one did, is handed out, and its slots still have their frames
 pub record Leaves (old new : Namespace) (s : State Window ℕ) (pipe : Option rows.Pipe) : Type 0 where
   pub limits : new.limits ≡ old.limits
   pub state : new.state ≡ sweep itself s
-  pub gone : LetsGo old.state.pipes new.state.pipes pipe
+  pub gone : LetsGo rows.pipe_of old.state.pipes new.state.pipes pipe
 
 -- the same of a close; or its refusal is the call's
 abbrev pub Closes : Namespace → Namespace → Result (Option rows.Pipe) Errno → Result (Outcome Window ℕ) Errno → Type 0
@@ -159,12 +160,6 @@ pub record Left (ps : ProcessRows) (ds : DescriptionRows) (pipes : PipeRows) (ps
   pub tied : Tied ps' ds' pipes'
   pub state : (files : Files) (files_made : ℕ)
       → state_of ps' ds' pipes' files files_made ≡ sweep itself (emptied (state_of ps ds pipes files files_made) i fd)
-
--- and what it was open with
-abbrev pub LetsGoOpens : List (Option (ℕ × rows.Opens)) → List (Option (ℕ × rows.Opens)) → Option rows.Pipe → Type 0
-LetsGoOpens old new None = new ≡ old
-LetsGoOpens old new (Some pipe) =
-    (n : ℕ) × (place : ℕ) × (at old n ≡ Some (place, pipe.opens)) × (new ≡ clear_at old n)
 
 -- a FIFO's key is there no more, and the others are
 abbrev pub Forgets : Option ℕ → List (ℕ × rows.Key) → List (ℕ × rows.Key) → Type 0

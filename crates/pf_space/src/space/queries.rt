@@ -23,7 +23,8 @@ impl<A: Allocator> Space<A> {
         self.tables.next_to_go_on(after)
     }
 
-    /// What the pipe is ready for that a process's descriptor names (poll(2)). ESRCH, EBUSY and EBADF as of `Step::GetSize`.
+    /// What the pipe is ready for that a process's descriptor names (poll(2)). It is refused as a question for the
+    /// capacity is: ESRCH, EBUSY, EBADF.
     pub fn readiness(&self, pid: u32, fd: u32) -> Result<Readiness, Errno>
         ensures { IsReadiness self.now pid fd result }
     {

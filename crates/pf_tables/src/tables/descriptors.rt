@@ -8,9 +8,9 @@ ghost use Rattle.pf_machine.specs.Descriptors.{close, dup, set_nonblock};
 ghost use Rattle.pf_machine.specs.Numbered.{at, one_if};
 ghost use Rattle.pf_machine.specs.State.{itself, of_ready};
 ghost use Rattle.pf_fds.specs.Registry.{find};
-ghost use Rattle.pf_tables.specs.Rows.{key_at, with_fewer, left, gone, opens_of, pipes_of, Tied};
+ghost use Rattle.pf_tables.specs.Rows.{key_at, with_fewer, left, gone, opens_at, opens_of, pipe_of, pipes_of, Tied};
 ghost use Rattle.pf_tables.specs.Tables.{descriptor, emptied};
-ghost use Rattle.pf_tables.specs.Tables.{Closes, Forgets, Leaves, Left, LetsGo, LetsGoOpens, Says};
+ghost use Rattle.pf_tables.specs.Tables.{Closes, Forgets, Leaves, Left, LetsGo, Says};
 
 use super::{Description, Tables, key_of};
 use crate::process_table::ProcessTable;
@@ -74,8 +74,8 @@ fn let_go(
     requires { Tied processes.old descriptions.old.items pipes.old.items }
     ensures left { Left processes.old descriptions.old.items pipes.old.items
         processes.new descriptions.new.items pipes.new.items i fd }
-    ensures pipe { LetsGo (pipes_of pipes.old.items) (pipes_of pipes.new.items) result.pipe }
-    ensures opens { LetsGoOpens (opens_of pipes.old.items) (opens_of pipes.new.items) result.pipe }
+    ensures pipe { LetsGo pipe_of (pipes_of pipes.old.items) (pipes_of pipes.new.items) result.pipe }
+    ensures opens { LetsGo opens_at (opens_of pipes.old.items) (opens_of pipes.new.items) result.pipe }
     ensures drawn { length descriptions.new.items ≡ length descriptions.old.items }
     ensures was_open { result.was_open ≡ is_some (key_at fd (at processes.old i)) }
 {
@@ -179,6 +179,7 @@ impl<A: Allocator> Tables<A> {
         requires some { 0 < pid }
         ensures most { result ≤ MAX_DESCRIPTORS }
         ensures above { from ≤ MAX_DESCRIPTORS → from ≤ result }
+        ensures found { result < MAX_DESCRIPTORS → from ≤ result }
         ensures stands { result < MAX_DESCRIPTORS → IsSome (descriptor self.now.state (pid - 1) result) }
         ensures between { (fd : ℕ) → from ≤ fd → fd < result → descriptor self.now.state (pid - 1) fd ≡ None }
     {

@@ -26,11 +26,10 @@ pub returns-in_err-number-clause-answers : goal.returns-in_err-number-clause-ans
 returns-in_err-number-clause-answers g c =
     let same = c.in_err-number.ensures.refused in
     let told =
-    lemmas.is_refused (g.F.Frames.live c.args.door.now) (g.F.Frames.live c.read_truncated.new.door) c.read_truncated.new.self
-    c.self.view_is
-    c.args.pid c.args.fd c.args.n c.requires.waits c.wake.ensures.namespace c.settled.ensures
-    (Err c.in_err-number.field-0.0) c.args.buffer.now c.read_truncated.new.buffer c.in_err-number.field-0.0
-    c.in_err-number.ensures.read.0 c.in_err-number.ensures.owns c.in_err-number.ensures.limits
+    lemmas.is_refused (g.F.Frames.live c.args.door.now) (g.F.Frames.live c.read_truncated.new.door)
+    c.read_truncated.new.self c.self.view_is c.args.pid c.args.fd c.args.n c.requires.waits c.wake.ensures.namespace
+    c.settled.ensures (Err c.in_err-number.field-0.0) c.args.buffer.now c.read_truncated.new.buffer
+    c.in_err-number.field-0.0 c.in_err-number.ensures.read.0 c.in_err-number.ensures.owns c.in_err-number.ensures.limits
     (λ i. meaning (g.F.Frames.live (same.1 i)) (same.0 i).state) refl c.in_err-number.ensures.read.1 in
     search rules
 

@@ -3,7 +3,6 @@
 
 use Rattle.std.proofs.Common.{Some, Err, refl, sym, ap, subst, ◌∙◌}
 use Rattle.pf_machine.specs.Calls.{Reading, Moving}
-use Rattle.pf_machine.specs.Machine.{call}
 use Rattle.pf_machine.specs.State.{itself}
 use Rattle.pf_machine.proofs.NaturalCalls.{resume-call}
 use Rattle.pf_base.specs.declared.step.Step.TheVariants.{Resume}

@@ -1,30 +1,19 @@
-use Rattle.std.proofs.Common.{ℕ, ap, sym, subst, Ok, ◌∙◌}
+use Rattle.std.proofs.Common.{Ok, refl, sym, ap}
 use Rattle.pf_machine.specs.FileCalls as calls
 use Rattle.pf_machine.specs.Files.{chmod, with_files}
 use Rattle.pf_machine.specs.Refusals.{◌>>=◌}
-use Rattle.pf_machine.specs.State.{State, done, of_ready}
-use Rattle.pf_ring.specs.declared.ring.Window.{Window}
-use Rattle.pf_tables.specs.Meaning.{Namespace}
+use Rattle.pf_machine.specs.State.{done}
 use Rattle.pf_tables.specs.Rows.{state_of}
-use Rattle.pf_tables.specs.Tables.{Says}
 use Rattle.pf_tables.proofs.Files.{changed}
 use Rattle.pf_tables.proofs.tables.Tables.chmod.Goals as goal
 
 pub returns-clause-says : goal.returns-clause-says
 returns-clause-says g c =
     let i = c.self.inside in
-    let s : State Window ℕ = state_of i.processes i.descriptions.items i.pipes.items i.files i.files_made in
+    let s = state_of i.processes i.descriptions.items i.pipes.items i.files i.files_made in
     let cred = c.in_ok-cred.field-0.now.cred in
-    let judged =
-    ap (λ r. r >>= (λ mode. calls.chmod i.files cred c.args.path.now mode
-    >>= (λ fs. Ok (done (with_files s fs) 0)))) (sym c.in_ok-mode.ensures) in
-    let m : Namespace = record {
-      limits = i.pages.limits;
-      state = state_of i.processes i.descriptions.items i.pipes.items c.chmod.new.self i.files_made;
-    } in
-    subst (λ r. Says c.args.self.now m r (of_ready c.args.self.now.state c.args.pid
-    (λ p. chmod c.args.self.now.state p c.args.path.now c.args.bits))) (sym c.made_reply.ensures)
-    (changed c.self.invariant.kept.tied c.self.view_is c.args.pid c.in_ok-cred.ensures
+    changed c.self.invariant.kept.tied c.self.view_is c.args.pid c.in_ok-cred.ensures
     (λ t q. chmod t q c.args.path.now c.args.bits) (calls.chmod i.files cred c.args.path.now c.in_ok-mode.mode)
-    (λ x e. judged ∙ ap (λ r. r >>= (λ fs. Ok (done (with_files s fs) 0))) e) c.chmod.new.self i.files_made
-    c.chmod.result c.chmod.ensures (λ e. judged ∙ ap (λ r. r >>= (λ fs. Ok (done (with_files s fs) 0))) e))
+    with_files (ap (λ r. r >>= (λ mode. calls.chmod i.files cred c.args.path.now mode
+    >>= (λ fs. Ok (done (with_files s fs) 0)))) (sym c.in_ok-mode.ensures)) c.chmod.new.self i.files_made refl
+    c.chmod.result c.chmod.ensures c.made_reply.ensures

@@ -10,14 +10,14 @@ use Rattle.pf_tables.proofs.tables.Tables.empty.Goals as goal
 pub refund-requires : goal.refund-requires
 refund-requires g c =
     let w = rw c.in-Some.is at c.let_go-gone.ensures.pipe in
-    gone_covered c.self.invariant.kept w.0 c.in-Some.pipe w.1 _ _ c.owner.ensures c.slots.ensures.number
+    gone_covered c.self.invariant.kept w.0 c.in-Some.pipe w.2 _ _ c.owner.ensures c.slots.ensures.number
 
 pub invariant_of-self : goal.invariant_of-self
 invariant_of-self g c =
     let w = rw c.in-Some.is at c.let_go-gone.ensures.pipe in
     record {
       kept =
-          gone_kept c.self.invariant.kept w.0 c.in-Some.pipe w.1 c.let_go-gone.ensures.left.tied w.2 _ _ _
+          gone_kept c.self.invariant.kept w.0 c.in-Some.pipe w.2 c.let_go-gone.ensures.left.tied w.3 _ _ _
           c.owner.ensures c.slots.ensures.number c.refund.ensures;
       filed =
           fifos-gone _ _ c.in-Some.pipe c.let_go-gone.ensures.drawn

@@ -10,7 +10,7 @@ pub loop-i-init : goal.loop-i-init
 loop-i-init g c = record {
   above = λ l. c.next_waiting-i.ensures.above l;
   none = λ q above within.
-      waits_nowhere _ _ _ _ _ c.self.invariant.kept _ c.self.view_is q (omega (arith, above))
+      waits_nowhere c.self.invariant.kept c.self.view_is q (omega (arith, above))
       (c.next_waiting-i.ensures.between (q - 1) (omega (arith, above)) (omega (arith, above, within)));
 }
 
@@ -33,7 +33,7 @@ loop-i-preserved g c = record {
       subst (λ (m : ℕ). GoesOn c.args.self.now m false) same
       (λ f sound owns. sym c.if-can_go_on.false ∙ c.can_go_on.ensures f sound owns))
       (λ after.
-      waits_nowhere _ _ _ _ _ c.self.invariant.kept _ c.self.view_is q (omega (arith, above))
+      waits_nowhere c.self.invariant.kept c.self.view_is q (omega (arith, above))
       (c.next_waiting-i-in-loop-i.ensures.between (q - 1) (omega (arith, after)) (omega (arith, after, within))))
       (cases_lt q (c.loop-i.i + 2)))
       (cases_lt q (c.loop-i.i + 1));
@@ -41,6 +41,6 @@ loop-i-preserved g c = record {
 
 pub returns : goal.returns
 returns g c f sound owns q above =
-    ⊎_elim (λ past. sym (above_all _ _ _ _ _ c.self.invariant.kept _ c.self.view_is q
+    ⊎_elim (λ past. sym (above_all c.self.invariant.kept c.self.view_is q
     (omega (arith, c.loop-i-test.false, past)) f sound owns))
     (λ within. sym (c.loop-i.invariant.none q above within f sound owns)) (cases_lt c.loop-i.i q)

@@ -6,16 +6,16 @@ use Rattle.pf_tables.proofs.tables.Tables.read_bound.Goals as goal
 
 pub returns-in_default-clause-covers : goal.returns-in_default-clause-covers
 returns-in_default-clause-covers g c =
-    lemmas.no_read _ _ _ _ _ c.self.invariant.kept _ c.self.view_is c.args.pid c.args.fd c.args.n
+    lemmas.no_read c.self.invariant.kept c.self.view_is c.args.pid c.args.fd c.args.n
     (λ d h. c.in_default.not-Ok d (c.reading_end.ensures ∙ h))
 
 pub returns-in_default-get-clause-covers : goal.returns-in_default-get-clause-covers
 returns-in_default-get-clause-covers g c =
-    lemmas.no_pipe _ _ _ _ _ c.self.invariant.kept _ c.self.view_is c.args.pid c.args.fd c.args.n c.in-Ok.end
+    lemmas.no_pipe c.self.invariant.kept c.self.view_is c.args.pid c.args.fd c.args.n c.in-Ok.end
     (sym c.in-Ok.ensures) (sym c.in_default-get.ensures)
 
 pub returns-clause-covers : goal.returns-clause-covers
 returns-clause-covers g c =
     subst (λ (m : ℕ). Covers c.args.self.now (Read c.args.pid c.args.fd c.args.n) m) (sym c.min.ensures)
-    (lemmas.reads _ _ _ _ _ c.self.invariant.kept _ c.self.view_is c.args.pid c.args.fd c.args.n c.in-Ok.end
+    (lemmas.reads c.self.invariant.kept c.self.view_is c.args.pid c.args.fd c.args.n c.in-Ok.end
     (sym c.in-Ok.ensures) c.in-Some.pipe.now (sym c.in-Some.ensures) _ c.len.ensures.bytes)

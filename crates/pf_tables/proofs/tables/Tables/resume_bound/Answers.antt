@@ -1,16 +1,21 @@
 use Rattle.std.proofs.Common.{ℕ, Some, sym, ap, ◌∙◌, subst, arith}
 use Rattle.pf_base.specs.Limits.{Limits}
 use Rattle.pf_base.specs.declared.step.Step.TheVariants.{Resume}
-use Rattle.pf_parked.specs.declared.call.Call.TheVariants.{Read}
 use Rattle.pf_tables.specs.Bounds.{Covers}
+use Rattle.pf_tables.specs.Meaning.{Namespace}
 use Rattle.pf_tables.proofs.Bounds as lemmas
+use Rattle.pf_tables.proofs.Parked.{call-shown}
 use Rattle.pf_tables.proofs.tables.Tables.resume_bound.Goals as goal
 
 pub returns-in-Some-Read-clause-covers : goal.returns-in-Some-Read-clause-covers
 returns-in-Some-Read-clause-covers g c =
     subst (λ (m : ℕ). Covers c.args.self.now (Resume c.args.pid) m) (sym c.min.ensures)
-    (lemmas.resumes _ _ _ _ _ c.self.view_is (omega
-    (arith, c.reserve-most.ensures.most, c.reserve-most.ensures.value, ap (λ (l : Limits). l.reserve) c.config.ensures))
-    c.args.pid
-    (Some (Read c.in-Some-Read.field-0-0 c.in-Some-Read.n))
-    (ap Some (sym c.in-Some-Read.field-0-is) ∙ c.in-Some-Read.ensures))
+    (lemmas.resumes c.args.self.now (omega (
+      arith,
+      c.reserve-most.ensures.most,
+      c.reserve-most.ensures.value,
+      ap (λ (l : Limits). l.reserve) c.config.ensures,
+      ap (λ (n : Namespace). n.limits.reserve) c.self.view_is,
+    ))
+    c.args.pid _
+    (call-shown _ _ _ c.self.view_is c.args.pid (ap Some (sym c.in-Some-Read.field-0-is) ∙ c.in-Some-Read.ensures)))

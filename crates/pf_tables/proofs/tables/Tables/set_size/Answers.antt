@@ -11,26 +11,23 @@ use Rattle.pf_tables.proofs.tables.Tables.set_size.Goals as goal
 pub returns-in_err-end-clause-says : goal.returns-in_err-end-clause-says
 returns-in_err-end-clause-says g c =
     let refused =
-    lemmas.not_sized c.self.invariant.kept c.self.view_is c.args.pid c.args.fd c.args.bytes _
-    (sym c.in_err-end.ensures) in
+    lemmas.not_sized c.self.invariant.kept c.self.view_is c.args.pid c.args.fd c.args.bytes (sym c.in_err-end.ensures)
+    in
     search rules
 
 pub returns-then-bytes-gt-MAX_SIZE-clause-says : goal.returns-then-bytes-gt-MAX_SIZE-clause-says
 returns-then-bytes-gt-MAX_SIZE-clause-says g c =
     let pipe =
-    lemmas.stands c.self.invariant.kept c.self.view_is c.args.pid c.args.fd c.in_ok-end.end
-    (sym c.in_ok-end.ensures) in
+    lemmas.stands c.self.invariant.kept c.self.view_is c.args.pid c.args.fd (sym c.in_ok-end.ensures) in
     let refused =
-    lemmas.too_many c.self.invariant.kept c.self.view_is c.args.pid c.args.fd c.in_ok-end.end
-    (sym c.in_ok-end.ensures) pipe.0 pipe.1 c.in_ok-ready.field-0.now c.in_ok-ready.ensures c.args.bytes
-    c.if-bytes-gt-MAX_SIZE.true in
+    lemmas.too_many c.self.invariant.kept c.self.view_is c.args.pid c.args.fd (sym c.in_ok-end.ensures) pipe.1
+    c.in_ok-ready.field-0.now c.in_ok-ready.ensures c.args.bytes c.if-bytes-gt-MAX_SIZE.true in
     search rules
 
 pub value_mut-pipe-requires : goal.value_mut-pipe-requires
 value_mut-pipe-requires g c = record {
   stands =
-      lemmas.pipe_there c.self.invariant.kept c.self.view_is c.args.pid c.args.fd c.in_ok-end.end
-      (sym c.in_ok-end.ensures);
+      lemmas.pipe_there c.self.invariant.kept c.self.view_is c.args.pid c.args.fd (sym c.in_ok-end.ensures);
 }
 
 pub returns-then-is_too_large-clause-says : goal.returns-then-is_too_large-clause-says
@@ -42,19 +39,18 @@ returns-then-is_too_large-clause-says g c =
     sym (c.is_too_large.ensures
     ∙ (λ j. not (c.is_privileged-privileged.ensures j) && nat_lt (c.config.ensures j).max (size j))) in
     let pipe =
-    lemmas.stands c.self.invariant.kept c.self.view_is c.args.pid c.args.fd c.in_ok-end.end
-    (sym c.in_ok-end.ensures) in
+    lemmas.stands c.self.invariant.kept c.self.view_is c.args.pid c.args.fd (sym c.in_ok-end.ensures) in
     let refused =
-    lemmas.too_large c.self.invariant.kept c.self.view_is c.args.pid c.args.fd c.in_ok-end.end
-    (sym c.in_ok-end.ensures) pipe.0 pipe.1 c.in_ok-ready.field-0.now c.in_ok-ready.ensures c.args.bytes
-    (omega (arith, c.if-bytes-gt-MAX_SIZE.false)) (over ∙ c.if-is_too_large.true) in
+    lemmas.too_large c.self.invariant.kept c.self.view_is c.args.pid c.args.fd (sym c.in_ok-end.ensures) pipe.1
+    c.in_ok-ready.field-0.now c.in_ok-ready.ensures c.args.bytes (omega (arith, c.if-bytes-gt-MAX_SIZE.false))
+    (over ∙ c.if-is_too_large.true) in
     search rules
 
 pub resize-requires : goal.resize-requires
 resize-requires g c = record {
   covered =
-      lemmas.covered c.self.invariant.kept c.self.view_is c.args.pid c.args.fd c.in_ok-end.end
-      (sym c.in_ok-end.ensures) _ c.value_mut-pipe.ensures.value;
+      lemmas.covered c.self.invariant.kept c.self.view_is c.args.pid c.args.fd (sym c.in_ok-end.ensures)
+      c.value_mut-pipe.ensures.value;
 }
 
 pub invariant_of-self : goal.invariant_of-self
@@ -63,8 +59,8 @@ invariant_of-self g c =
     lemmas.refuses _ _ _ _ _ _ _ c.in_err-resize.ensures in
     record {
       kept =
-          lemmas.same_kept c.self.invariant.kept c.self.view_is c.args.pid c.args.fd c.in_ok-end.end
-          (sym c.in_ok-end.ensures) _ c.value_mut-pipe.ensures.value _ _ z;
+          lemmas.same_kept c.self.invariant.kept c.self.view_is c.args.pid c.args.fd (sym c.in_ok-end.ensures)
+          c.value_mut-pipe.ensures.value _ _ z;
       filed =
           fifos-put _ _ c.in_ok-end.end.pipe _ _ c.value_mut-pipe.ensures.value (ap (λ (q : Pipe). q.opens) z.pipe)
           c.self.invariant.filed;
@@ -73,9 +69,8 @@ invariant_of-self g c =
 pub returns-in_err-resize-clause-refused : goal.returns-in_err-resize-clause-refused
 returns-in_err-resize-clause-refused g c =
     let same =
-    lemmas.same_view c.self.invariant.kept c.self.view_is c.args.pid c.args.fd c.in_ok-end.end
-    (sym c.in_ok-end.ensures) _ c.value_mut-pipe.ensures.value _ _
-    (lemmas.refuses _ _ _ _ _ _ _ c.in_err-resize.ensures) refl in
+    lemmas.same_view c.self.invariant.kept c.self.view_is c.args.pid c.args.fd (sym c.in_ok-end.ensures)
+    c.value_mut-pipe.ensures.value _ _ (lemmas.refuses _ _ _ _ _ _ _ c.in_err-resize.ensures) refl in
     search rules
 
 pub invariant_of-self-2 : goal.invariant_of-self-2
@@ -86,8 +81,8 @@ invariant_of-self-2 g c =
     c.pages_for-slots.result) c.is_privileged-privileged.ensures c.in_ok-resize.ensures in
     record {
       kept =
-          lemmas.resized-kept c.self.invariant.kept c.self.view_is c.args.pid c.args.fd c.in_ok-end.end
-          (sym c.in_ok-end.ensures) _ c.value_mut-pipe.ensures.value c.in_ok-ready.field-0.now _ _ _ z;
+          lemmas.resized-kept c.self.invariant.kept c.self.view_is c.args.pid c.args.fd (sym c.in_ok-end.ensures)
+          c.value_mut-pipe.ensures.value c.in_ok-ready.field-0.now _ _ _ z;
       filed =
           fifos-put _ _ c.in_ok-end.end.pipe _ _ c.value_mut-pipe.ensures.value (ap (λ (q : Pipe). q.opens) z.pipe)
           c.self.invariant.filed;
@@ -105,7 +100,7 @@ returns-clause-says g c =
     (is_privileged c.in_ok-ready.field-0.now.cred) c.pages_for-slots.result =
     subst (λ b. Resizes c.self.inside.pages c.resize.new.pages c.value_mut-pipe.result.now c.resize.new.pipe b
     c.pages_for-slots.result) c.is_privileged-privileged.ensures c.in_ok-resize.ensures in
-    lemmas.resized c.self.invariant.kept c.self.view_is c.args.pid c.args.fd c.in_ok-end.end (sym c.in_ok-end.ensures) _
+    lemmas.resized c.self.invariant.kept c.self.view_is c.args.pid c.args.fd (sym c.in_ok-end.ensures)
     c.value_mut-pipe.ensures.value c.in_ok-ready.field-0.now _ _ _ z refl c.in_ok-ready.ensures c.args.bytes _
     (omega (arith, c.if-bytes-gt-MAX_SIZE.false)) (over ∙ c.if-is_too_large.false) c.pages_for-slots.ensures.number size
 
@@ -123,7 +118,7 @@ returns-in_err-resize-clause-says g c =
     c.pages_for-slots.result (Err c.in_err-resize.field-0.0)) c.is_privileged-privileged.ensures
     c.in_err-resize.ensures in
     let gives : c.from_residual-in_err-resize.result ≡ Err c.in_err-resize.field-0.0 = search rules in
-    lemmas.told c.self.invariant.kept c.self.view_is c.args.pid c.args.fd c.in_ok-end.end (sym c.in_ok-end.ensures) _
+    lemmas.told c.self.invariant.kept c.self.view_is c.args.pid c.args.fd (sym c.in_ok-end.ensures)
     c.value_mut-pipe.ensures.value c.in_ok-ready.field-0.now c.in_ok-ready.ensures c.args.bytes
     (omega (arith, c.if-bytes-gt-MAX_SIZE.false)) (over ∙ c.if-is_too_large.false) _ c.pages_for-slots.ensures.number
     refl _ _ _ _ _ z gives

@@ -13,9 +13,7 @@ invariant_of-self g c =
 
 pub returns : goal.returns
 returns g c = record {
-  call =
-      call-shown c.self.invariant.kept c.self.view_is c.args.pid c.requires.lives c.wake.ensures.spare
-      c.wake.ensures.rows c.wake.ensures.call;
+  call = call-shown _ _ _ c.self.view_is c.args.pid c.wake.ensures.call;
   namespace =
       awoken-namespace c.self.invariant.kept c.self.view_is c.args.pid c.requires.lives c.wake.ensures.spare
       c.wake.ensures.rows;

@@ -1,4 +1,5 @@
-use Rattle.std.proofs.Common.{sym, ◌∙◌}
+use Rattle.std.proofs.Common.{refl, sym, ◌∙◌}
+use Rattle.pf_tables.specs.Rows.{opens_at, pipe_of}
 use Rattle.pf_tables.proofs.DescriptorsLetGo as lemmas
 use Rattle.pf_tables.proofs.ProcessesFork.{nothing}
 use Rattle.pf_tables.proofs.tables.descriptors.let_go.Goals as goal
@@ -42,11 +43,11 @@ pub returns-clause-pipe : goal.returns-clause-pipe
 returns-clause-pipe c =
     lemmas.went _ _ _ c.requires _ _ _ c.take_key.ensures.rows c.in-Some.key (sym c.take_key.ensures.key ∙ c.in-Some.is)
     c.in-Some-unname.end c.in-Some-unname.ensures.last _ c.in-Some-unname.ensures.gone _ c.drop_end-pipe.ensures.items
-    _ c.drop_end-pipe.ensures.pipe
+    pipe_of (λ place p. refl) _ c.drop_end-pipe.ensures.pipe
 
 pub returns-clause-opens : goal.returns-clause-opens
 returns-clause-opens c =
-    lemmas.went_opens _ _ _ c.requires _ _ _ c.take_key.ensures.rows c.in-Some.key
+    lemmas.went _ _ _ c.requires _ _ _ c.take_key.ensures.rows c.in-Some.key
     (sym c.take_key.ensures.key ∙ c.in-Some.is) c.in-Some-unname.end c.in-Some-unname.ensures.last _
     c.in-Some-unname.ensures.gone _ c.drop_end-pipe.ensures.items
-    _ c.drop_end-pipe.ensures.pipe
+    opens_at (λ place p. refl) _ c.drop_end-pipe.ensures.pipe
