@@ -1,28 +1,27 @@
 -- The first open of a FIFO: its pipe is made, and all that this keeps and tells.
 
 use Rattle.std.proofs.Common.{◌≡◌, ◌≢◌, ℕ, ◌+◌, ◌-◌, ◌^◌, ◌<◌, ◌≤◌, ◌⊎◌, Bool, true, false, List, [], ◌∷◌, ◌++◌, length}
-use Rattle.std.proofs.Common.{map, Option, Some, None, is_some, Result, Ok, Err, nat_eq, if◌then◌else◌, refl}
-use Rattle.std.proofs.Common.{sym, ap, subst, ◌∙◌, inl, inr, arith}
+use Rattle.std.proofs.Common.{map, Option, Some, None, is_some, Result, Ok, Err, nat_eq, if◌then◌else◌, refl, sym, ap}
+use Rattle.std.proofs.Common.{subst, ◌∙◌, inl, inr, arith}
 use Rattle.std.specs.Option.{option_map}
 use Rattle.std.specs.Map.{lookup}
 use Rattle.std.proofs.Math.Seq.{set-append_seam}
 use Rattle.std.proofs.lemmas.Bool.{cases_eq, eq-eqb, ne_eqb, ltb-false}
-use Rattle.std.proofs.lemmas.List.{map_push, length_push, length-map}
+use Rattle.std.proofs.lemmas.List.{map_push, length-map}
 use Rattle.pf_base.specs.Capacities.{told_as}
 use Rattle.pf_ring.specs.declared.ring.Window.{Window}
 use Rattle.pf_machine.specs.FileMap.{Files}
 use Rattle.pf_base.specs.Limits.{Limits}
 use Rattle.pf_machine.specs.Numbered.{at, put_at, first_free, sum_of}
 use Rattle.pf_machine.proofs.NumberedLaws.{at_past, at_within, at-push_old, at-push_new}
-use Rattle.pf_machine.specs.Attempts.{first}
 use Rattle.pf_machine.specs.Counts.{readers, writers, total}
 use Rattle.pf_machine.specs.Opens as opens
-use Rattle.pf_machine.specs.Opens.{fifo_pipe, is_waiting}
+use Rattle.pf_machine.specs.Opens.{fifo_pipe}
 use Rattle.pf_machine.specs.Pipes.{capacity_for, is_spent, new_pipe}
 use Rattle.pf_machine.specs.Queue.{empty}
 use Rattle.pf_machine.specs.Refusals.{◌>>=◌, ◌>>◌, refuse_if}
 use Rattle.pf_machine.specs.State as machine
-use Rattle.pf_machine.specs.State.{itself, State, Outcome, ready, told}
+use Rattle.pf_machine.specs.State.{itself, State, ready}
 use Rattle.pf_base.specs.declared.errno.Errno.{Errno}
 use Rattle.pf_base.specs.declared.errno.Errno.TheVariants.{ENFILE, ENOMEM}
 use Rattle.pf_base.specs.declared.step.Reply.{Reply}
@@ -32,21 +31,20 @@ use Rattle.pf_pipe.specs.Pipe.{unopened}
 use Rattle.pf_ring.specs.Table.{Joined}
 use Rattle.pf_tables.specs.declared.tables.opens.Access.{Access as Stored}
 use Rattle.pf_tables.specs.Meaning.{Namespace, ring_or, AreCharged}
-use Rattle.pf_tables.specs.Opened.{access_seen, before, counted, end_of, fifo_capacity, may_open, opening, waits}
-use Rattle.pf_tables.specs.Opened.{Describes, MakesFifo, SameKeys}
-use Rattle.pf_tables.specs.Owns.{Owns}
+use Rattle.pf_tables.specs.Opened.{access_seen, before, counted, end_of, fifo_capacity, may_open, opening, Describes}
+use Rattle.pf_tables.specs.Opened.{MakesFifo, SameKeys}
 use Rattle.pf_tables.proofs.OwnsLaws.{joined_opened}
 use Rattle.pf_tables.specs.Rows.{ProcessRows, DescriptionRows, PipeRows, Key, Process, Pipe, Opens, ready_in}
 use Rattle.pf_tables.specs.Rows.{process_of, pipe_of, pipes_of, opens_at, opens_of, state_of, UsedRow, NoMore, AreFifos}
-use Rattle.pf_tables.specs.Rows.{Whole, Tied, read_by, written_by}
+use Rattle.pf_tables.specs.Rows.{Whole, TiedWith, read_by, written_by}
 use Rattle.pf_tables.specs.Tables.{Makes}
-use Rattle.pf_tables.proofs.ProcessTableReady.{readies, is_living, is_awake, place_of}
-use Rattle.pf_tables.proofs.OpensOutcome as entered
-use Rattle.pf_tables.proofs.OpensDescribe.{IsSided, founded, admitted, entered-fifos, seated_is}
+use Rattle.pf_tables.proofs.ProcessTableReady.{readies, is_living}
+use Rattle.pf_tables.proofs.OpensOutcome.{on, goes, ready_is, entered-whole, entered-makes}
+use Rattle.pf_tables.proofs.OpensDescribe.{IsSided, founded}
 use Rattle.pf_tables.proofs.OpensFind.{fifo_shown}
 use Rattle.pf_tables.proofs.TablesTied.{by_push}
-use Rattle.pf_tables.proofs.OpensFound.{Opener, ready_is, may_here, caller, has_free}
-use Rattle.pf_tables.proofs.TablesSettled.{settled, readers_shown, writers_shown}
+use Rattle.pf_tables.proofs.OpensFound.{caller, has_free}
+use Rattle.pf_tables.proofs.TablesSettled.{readers_shown, writers_shown}
 
 -- The keys
 
@@ -128,36 +126,42 @@ fifos-founded es fs {drawn} opens k file k_is none keys a = record {
 
 -- The machine makes its pipe
 
-module _ (c : Limits) (s : State Window ℕ) (pid : ℕ) {slots : ℕ} {q : machine.Process ℕ} (lives : ready s pid ≡ Ok q)
-    (given : fifo_capacity c s pid ≡ Ok slots) where
+module _ (c : Limits) (s : State Window ℕ) (pid : ℕ) where
   abbrev gives : machine.Process ℕ → Result ℕ Errno
-  gives p = refuse_if (is_spent s.pipes 1) ENFILE >> told_as ENOMEM (capacity_for c s p.cred)
+  gives q = refuse_if (is_spent s.pipes 1) ENFILE >> told_as ENOMEM (capacity_for c s q.cred)
 
-  given_here : gives q ≡ Ok slots
-  given_here = sym (ap (λ r. r >>= gives) lives) ∙ given
-
-  pub unspent_in : is_spent s.pipes 1 ≡ false
-  unspent_in = by_test (is_spent s.pipes 1) (told_as ENOMEM (capacity_for c s q.cred)) given_here
-    where
-      by_test : (b : Bool) (r : Result ℕ Errno) → (refuse_if b ENFILE >> r) ≡ Ok slots → b ≡ false
-      by_test true r h = absurd (cc)
-      by_test false r h = refl
-
-  abbrev with_slots : ℕ → ℕ → opens.Found Window ℕ
-  with_slots file n = record {
+  abbrev with_slots : machine.Process ℕ → ℕ → ℕ → opens.Found Window ℕ
+  with_slots q file n = record {
     state = record s { pipes = s.pipes ++ Some (new_pipe (empty n) q.cred.uid (Some file)) ∷ [] };
     pipe = length s.pipes;
   }
 
-  pub made_for : (file : ℕ) → opens.pipe_of c s q file None ≡ Ok (with_slots file slots)
-  made_for file =
-      by_test (is_spent s.pipes 1) (told_as ENOMEM (capacity_for c s q.cred)) (with_slots file) given_here
+  made_as : (q : machine.Process ℕ) (file : ℕ)
+      → opens.pipe_of c s q file None ≡ (gives q >>= (λ n. Ok (with_slots q file n)))
+  made_as q file = by_test (is_spent s.pipes 1) (told_as ENOMEM (capacity_for c s q.cred))
     where
-      by_test : (b : Bool) (r : Result ℕ Errno) (f : ℕ → opens.Found Window ℕ) → (refuse_if b ENFILE >> r) ≡ Ok slots
-          → (refuse_if b ENFILE >> (r >>= (λ n. Ok (f n)))) ≡ Ok (f slots)
-      by_test true r f h = absurd (cc)
-      by_test false (Err e) f h = absurd (cc)
-      by_test false (Ok n) f h = let same : n ≡ slots = cc in ap (λ m. Ok (f m)) same
+      by_test : (b : Bool) (r : Result ℕ Errno)
+          → (refuse_if b ENFILE >> (r >>= (λ n. Ok (with_slots q file n))))
+          ≡ ((refuse_if b ENFILE >> r) >>= (λ n. Ok (with_slots q file n)))
+      by_test true r = refl
+      by_test false r = refl
+
+  module _ {q : machine.Process ℕ} (lives : ready s pid ≡ Ok q) {r : Result ℕ Errno}
+      (given : fifo_capacity c s pid ≡ r) where
+    given_here : gives q ≡ r
+    given_here = sym (ap (λ x. x >>= gives) lives) ∙ given
+
+    pub made_for : (file : ℕ) → opens.pipe_of c s q file None ≡ (r >>= (λ n. Ok (with_slots q file n)))
+    made_for file = made_as q file ∙ ap (λ x. x >>= (λ n. Ok (with_slots q file n))) given_here
+
+  pub unspent_in : {q : machine.Process ℕ} → ready s pid ≡ Ok q → {slots : ℕ} → fifo_capacity c s pid ≡ Ok slots
+      → is_spent s.pipes 1 ≡ false
+  unspent_in {q} lives {slots} given =
+      by_test (is_spent s.pipes 1) (told_as ENOMEM (capacity_for c s q.cred)) (given_here lives given)
+    where
+      by_test : (b : Bool) (r : Result ℕ Errno) → (refuse_if b ENFILE >> r) ≡ Ok slots → b ≡ false
+      by_test true r h = absurd (cc)
+      by_test false r h = refl
 
 pub none_is : {X : Type 0} (o : Option X) → is_some o ≡ false → o ≡ None
 none_is None h = refl
@@ -168,29 +172,10 @@ pub unpiped : (c : Limits) (s : State Window ℕ) (pid : ℕ) (a : opens.Access)
     → may_open s pid a file ≡ Ok tt → fifo_pipe s file ≡ None → fifo_capacity c s pid ≡ Err e
     → opening c s pid a file ≡ Err e
 unpiped c s pid a file e may none refused =
-    entered.goes c s pid opener.0 a file opener.1 may
-    ∙ ap (λ o. opens.pipe_of c s opener.0 file o >>= on) none
-    ∙ by_test (is_spent s.pipes 1) (told_as ENOMEM (capacity_for c s opener.0.cred)) (λ n. record {
-      state = record s { pipes = s.pipes ++ Some (new_pipe (empty n) opener.0.cred.uid (Some file)) ∷ [] };
-      pipe = length s.pipes;
-    }) on (sym (ap (λ r. r >>= (λ (p : machine.Process ℕ). refuse_if (is_spent s.pipes 1) ENFILE
-    >> told_as ENOMEM (capacity_for c s p.cred))) opener.1) ∙ refused)
-  where
-    opener : Opener s pid a file may
-    opener = ready_is s pid a file may
-
-    on : opens.Found Window ℕ → Result (Outcome Window ℕ) Errno
-    on x = first pid false (opens.open_pipe itself (length s.descriptions) x.pipe x.state pid opener.0 a x.pipe)
-
-    by_test : (b : Bool) (r : Result ℕ Errno) (f : ℕ → opens.Found Window ℕ)
-        (g : opens.Found Window ℕ → Result (Outcome Window ℕ) Errno) → (refuse_if b ENFILE >> r) ≡ Err e
-        → ((refuse_if b ENFILE >> (r >>= (λ n. Ok (f n)))) >>= g) ≡ Err e
-    by_test true r f g h =
-        let same : ◌≡◌ {A = Result ℕ Errno} (Err ENFILE) (Err e) = h in
-        let it : ENFILE ≡ e = cc in
-        ap Err it
-    by_test false (Err x) f g h = let it : x ≡ e = cc in ap Err it
-    by_test false (Ok n) f g h = absurd (cc)
+    let opener = ready_is s pid a file may in
+    goes s pid a file c may opener.0 opener.1
+    ∙ ap (λ o. on s pid a file opener.0 (opens.pipe_of c s opener.0 file o)) none
+    ∙ ap (on s pid a file opener.0) (made_for c s pid opener.1 refused file)
 
 module _ {files : Files} {files_made : ℕ} {limits : Limits} {charges : UserPages} {es : List (ℕ × Key)}
     {ps : ProcessRows} {ds : DescriptionRows} {pipes : PipeRows} (w : Whole charges es ps ds pipes) {n : Namespace}
@@ -229,160 +214,103 @@ module _ {files : Files} {files_made : ℕ} {limits : Limits} {charges : UserPag
       with_fresh = pipes ++ Some (k.slot, fresh) ∷ []
 
       abbrev with_counted : PipeRows
-      with_counted = pipes ++ Some (k.slot, counted a fresh) ∷ []
+      with_counted = put_at with_fresh k.serial (k.slot, counted a fresh)
 
       stands : at with_fresh k.serial ≡ Some (k.slot, fresh)
       stands = ap (at with_fresh) k_is ∙ at-push_new pipes (Some (k.slot, fresh))
 
-      counted_is : put_at with_fresh k.serial (k.slot, counted a fresh) ≡ with_counted
+      counted_is : with_counted ≡ pipes ++ Some (k.slot, counted a fresh) ∷ []
       counted_is =
           ap (λ m. put_at with_fresh m (k.slot, counted a fresh)) k_is
           ∙ set-append_seam pipes (Some (k.slot, fresh)) [] (Some (k.slot, counted a fresh))
 
+      pushed : pipes_of with_fresh ≡ pipes_of pipes ++ Some (pipe_of (k.slot, fresh)) ∷ []
+      pushed = map_push (option_map pipe_of) pipes (Some (k.slot, fresh))
+
       -- nothing is an end of it yet
-      nobody : (read_by ds k.serial ≡ 0) × (written_by ds k.serial ≡ 0)
+      nobody : (readers itself (state_of ps ds with_fresh files files_made) k.serial ≡ 0)
+          × (writers itself (state_of ps ds with_fresh files files_made) k.serial ≡ 0)
       nobody =
           let row =
           subst (UsedRow (read_by ds k.serial + 0) (written_by ds k.serial + 0))
           (at_past pipes k.serial (omega (arith, k_is))) (w.kept.tied.uses k.serial) in
-          (omega (arith, row.0), omega (arith, row.1))
+          let reads = readers_shown ps ds with_fresh files files_made k.serial in
+          let writes = writers_shown ps ds with_fresh files files_made k.serial in
+          (omega (arith, row.0, reads), omega (arith, row.1, writes))
+
+      abbrev found : opens.Found Window ℕ
+      found = record { state = state_of ps ds with_fresh files files_made; pipe = k.serial }
 
       module _ (sided : IsSided a) {ps' : ProcessRows} {ds' : DescriptionRows} {reply : Reply}
-          (z : Describes ps ps' ds ds' pid (end_of a k) (before a fresh) reply) where
+          (z : Describes ps ps' ds ds' pid (end_of a k) (before a fresh) reply)
+          (closed : fifo_pipe n.state file ≡ None) where
+        no_key : lookup (nat_eq file) es ≡ None
+        no_key = by_key (lookup (nat_eq file) es) refl
+          where
+            by_key : (o : Option Key) → lookup (nat_eq file) es ≡ o → o ≡ None
+            by_key None h = refl
+            by_key (Some j) h = let there = sym (fifo_shown w view file (Some j) h) ∙ closed in absurd (cc)
+
         same_opener : q ≡ z.p
         same_opener =
             let both : ◌≡◌ {A = Result Process Errno} (Ok q) (Ok z.p) = sym (is_living ps pid q is) ∙ z.is in cc
 
-        awake : z.p.parked ≡ None
-        awake = sym (ap (λ (x : Process). x.parked) same_opener) ∙ is_awake ps pid q is
+        ready_now : ready_in ps pid ≡ Ok z.p
+        ready_now = is ∙ ap Ok same_opener
 
         free : first_free z.p.descriptors < 256
         free = has_free w view pid a file may z.p z.is
 
-        now_tied : Tied ps' ds' with_counted
-        now_tied = admitted with_counted z awake free (founded a sided k ps ds pipes w.kept.tied fresh k_is refl refl)
+        held : TiedWith [] (end_of a k ∷ []) ps ds with_counted
+        held =
+            subst (TiedWith [] (end_of a k ∷ []) ps ds) (sym counted_is)
+            (founded a sided k ps ds pipes w.kept.tied fresh k_is refl refl)
 
-        module _ {charges' : UserPages} {es' : List (ℕ × Key)} {pipes' : PipeRows}
-            (m : MakesFifo pipes pipes' es es' (counted a fresh) file k) (closed : fifo_pipe n.state file ≡ None)
-            (more : Charges charges charges' q.cred.uid slots) where
-          no_key : lookup (nat_eq file) es ≡ None
-          no_key = by_key (lookup (nat_eq file) es) refl
-            where
-              by_key : (o : Option Key) → lookup (nat_eq file) es ≡ o → o ≡ None
-              by_key None h = refl
-              by_key (Some j) h = let there = sym (fifo_shown w view file (Some j) h) ∙ closed in absurd (cc)
+        pub founded-whole : {charges' : UserPages} {es' : List (ℕ × Key)} {pipes' : PipeRows}
+            → MakesFifo pipes pipes' es es' (counted a fresh) file k → Charges charges charges' q.cred.uid slots
+            → Whole charges' es' ps' ds' pipes'
+        founded-whole {charges'} {es'} m more =
+            subst (Whole charges' es' ps' ds') (counted_is ∙ sym m.stored)
+            (entered-whole a k fresh with_fresh stands z ready_now free held
+            (subst (AreCharged charges') (sym pushed)
+            (made (λ (x : machine.Pipe Window). x.owner) (λ (x : machine.Pipe Window). x.queue.capacity) charges
+            charges' (pipes_of pipes) w.kept.charged (pipe_of (k.slot, fresh)) more))
+            (subst (AreFifos es' (length ds)) (sym (map_push (option_map opens_at) pipes (Some (k.slot, fresh))))
+            (fifos-founded es es' (opens_of pipes) k file (k_is ∙ sym (length-map pipes (option_map opens_at))) no_key
+            m.keys w.filed)))
 
-          now_charged : AreCharged charges' (pipes_of with_counted)
-          now_charged =
-              subst (AreCharged charges') (sym (map_push (option_map pipe_of) pipes (Some (k.slot, counted a fresh))))
-              (made (λ (x : machine.Pipe Window). x.owner) (λ (x : machine.Pipe Window). x.queue.capacity) charges
-              charges' (pipes_of pipes) w.kept.charged (pipe_of (k.slot, counted a fresh)) more)
+        -- the machine's pipe is this one, under the same number
+        same_found : with_slots limits s pid (process_of z.p) file slots ≡ found
+        same_found =
+            let uid = ap (λ (x : Process). x.cred.uid) (sym same_opener) in
+            let number : length s.pipes ≡ k.serial = length-map pipes (option_map pipe_of) ∙ sym k_is in
+            λ i. record {
+              state = record s {
+                pipes = (ap (λ u. s.pipes ++ Some (new_pipe (empty slots) u (Some file)) ∷ []) uid ∙ sym pushed) i;
+              };
+              pipe = number i;
+            }
 
-          now_filed : AreFifos es' (length ds') (opens_of with_counted)
-          now_filed =
-              let base =
-              fifos-founded es es' (opens_of pipes) k file (k_is ∙ sym (length-map pipes (option_map opens_at))) no_key
-              m.keys w.filed in
-              subst (λ xs. AreFifos es' (length ds') (opens_of xs)) counted_is
-              (entered-fifos es' a with_fresh k fresh stands (ap length z.described ∙ length_push ds _)
-              (subst (AreFifos es' (length ds)) (sym (map_push (option_map opens_at) pipes (Some (k.slot, fresh))))
-              base))
+        found_is : opens.pipe_of limits s (process_of z.p) file (fifo_pipe s file) ≡ Ok found
+        found_is =
+            let no_pipe : fifo_pipe s file ≡ None =
+            subst (λ (x : Namespace). fifo_pipe x.state file ≡ None) (sym view) closed in
+            ap (opens.pipe_of limits s (process_of z.p) file) no_pipe
+            ∙ made_for limits s pid (readies ps pid z.p ready_now) given_now file ∙ ap Ok same_found
 
-          pub founded-whole : Whole charges' es' ps' ds' pipes'
-          founded-whole =
-              subst (Whole charges' es' ps' ds') (sym m.stored)
-              (record { kept = record { tied = now_tied; charged = now_charged }; filed = now_filed })
-
-        module _ (closed : fifo_pipe n.state file ≡ None) where
-          seat : at ps (pid - 1) ≡ Some z.p
-          seat = place_of ps pid z.p z.is
-
-          abbrev outcome : Option ℕ → State Window ℕ
-          outcome o = entered.outcome files files_made a k fresh ps ds with_fresh stands pid z.p seat z.k z.k_is o
-
-          abbrev answer : Option ℕ → Reply
-          answer o = entered.reply files files_made a k fresh ps ds with_fresh stands pid z.p seat z.k z.k_is o
-
-          shows : state_of ps' ds' with_counted files files_made ≡ outcome (before a fresh)
-          shows =
-              (λ i. state_of (seated_is with_counted z awake free
-              (founded a sided k ps ds pipes w.kept.tied fresh k_is refl refl) i) (z.described i) (sym counted_is i)
-              files
-              files_made)
-              ∙ entered.entered-shown files files_made a k fresh ps ds with_fresh stands pid z.p seat z.k z.k_is
-              (before a fresh)
-
-          -- the machine's pipe is this one, under the same number
-          abbrev found : opens.Found Window ℕ
-          found = record { state = state_of ps ds with_fresh files files_made; pipe = k.serial }
-
-          lives : ready s pid ≡ Ok (process_of z.p)
-          lives = readies ps pid z.p (is ∙ ap Ok same_opener)
-
-          found_is : with_slots limits s pid lives given_now file slots ≡ found
-          found_is =
-              let pushed = map_push (option_map pipe_of) pipes (Some (k.slot, fresh)) in
-              let uid = ap (λ (x : Process). x.cred.uid) (sym same_opener) in
-              let number : length s.pipes ≡ k.serial = length-map pipes (option_map pipe_of) ∙ sym k_is in
-              λ i. record {
-                state = record s {
-                  pipes = (ap (λ u. s.pipes ++ Some (new_pipe (empty slots) u (Some file)) ∷ []) uid ∙ sym pushed) i;
-                };
-                pipe = number i;
-              }
-
-          abbrev on : opens.Found Window ℕ → Result (Outcome Window ℕ) Errno
-          on x =
-              first pid false
-              (opens.open_pipe itself (length s.descriptions) x.pipe x.state pid (process_of z.p) (access_seen a)
-              x.pipe)
-
-          machine_is : opening limits s pid (access_seen a) file
-              ≡ Ok (told (outcome (before a fresh)) (answer (before a fresh)))
-          machine_is =
-              let no_pipe : fifo_pipe s file ≡ None =
-              subst (λ (x : Namespace). fifo_pipe x.state file ≡ None) (sym view) closed in
-              let reads : readers itself found.state k.serial ≡ 0 =
-              readers_shown ps ds with_fresh files files_made k.serial ∙ nobody.0 in
-              let writes : writers itself found.state k.serial ≡ 0 =
-              writers_shown ps ds with_fresh files files_made k.serial ∙ nobody.1 in
-              let others =
-              ap (opens.kept_by (access_seen a))
-              (entered.there files files_made a k fresh ps ds with_fresh stands pid z.p seat z.k z.k_is) in
-              entered.goes limits s pid (process_of z.p) (access_seen a) file lives (may_here w view pid a file may)
-              ∙ ap (λ o. opens.pipe_of limits s (process_of z.p) file o >>= on) no_pipe
-              ∙ ap (λ r. r >>= on) (made_for limits s pid lives given_now file ∙ ap Ok found_is)
-              ∙ entered.waits_or_not files files_made a k fresh ps ds with_fresh stands pid z.p seat z.k z.k_is
-              (waits a 0 0) (λ i. is_waiting (access_seen a) (reads i) (writes i))
-              ∙ ap (λ m. Ok (told (outcome (if waits a 0 0 then Some m else None))
-              (answer (if waits a 0 0 then Some m else None)))) others
-
-          pub founded-makes : {limits' : Limits} {pipes' : PipeRows} → limits' ≡ limits → pipes' ≡ with_counted
-              → total n.state + slots ≤ n.limits.reserve
-              → Makes n (record { limits = limits'; state = state_of ps' ds' pipes' files files_made })
-              (opening n.limits n.state pid (access_seen a) file) reply
-          founded-makes {limits'} {pipes'} same stored room =
-              subst (λ (x : Namespace). Makes n x (opening n.limits n.state pid (access_seen a) file) reply)
-              (λ i. record { limits = sym same i; state = state_of ps' ds' (sym stored i) files files_made })
-              (record {
-                is =
-                    subst (λ (m : Namespace). opening m.limits m.state pid (access_seen a) file
-                    ≡ Ok (told (state_of ps' ds' with_counted files files_made) reply)) view
-                    (machine_is ∙ (λ i. Ok (told (sym shows i)
-                    ((entered.reply_is files files_made a k fresh ps ds with_fresh stands pid z.p seat z.k z.k_is
-                    (before a fresh) ∙ sym z.told) i))));
-                limits = ap (λ (m : Namespace). m.limits) view;
-                owned = λ f owns.
-                    let o : Owns f (record { limits = limits; state = s }) = subst (Owns f) (sym view) owns in
-                    let fits : sum_of (λ (q : machine.Pipe Window). q.queue.capacity) s.pipes + slots ≤ limits.reserve =
-                    subst (λ (m : Namespace). total m.state + slots ≤ m.limits.reserve) (sym view) room in
-                    record {
-                      joined =
-                          subst (λ xs. Joined f (map ring_or xs))
-                          (sym (map_push (option_map pipe_of) pipes (Some (k.slot, counted a fresh))))
-                          (joined_opened f s.pipes (pipe_of (k.slot, counted a fresh)) refl o.joined
-                          (omega (arith, fits, o.reserve)));
-                      reserve = o.reserve;
-                    };
-                swept = settled ps' ds' with_counted files files_made now_tied;
-              })
+        pub founded-makes : {limits' : Limits} {pipes' : PipeRows} → limits' ≡ limits
+            → pipes' ≡ pipes ++ Some (k.slot, counted a fresh) ∷ [] → total n.state + slots ≤ n.limits.reserve
+            → Makes n (record { limits = limits'; state = state_of ps' ds' pipes' files files_made })
+            (opening n.limits n.state pid (access_seen a) file) reply
+        founded-makes {limits'} {pipes'} same stored room =
+            subst (λ (x : Namespace). Makes n x (opening n.limits n.state pid (access_seen a) file) reply)
+            (λ i. record {
+              limits = sym same i;
+              state = state_of ps' ds' ((counted_is ∙ sym stored) i) files files_made;
+            })
+            (entered-makes a k fresh with_fresh stands z ready_now free held files files_made pipes view file may
+            found_is nobody (λ f o. subst (λ xs. Joined f (map ring_or xs)) (sym pushed)
+            (joined_opened f s.pipes (pipe_of (k.slot, fresh)) refl o.joined
+            (let fits : sum_of (λ (q : machine.Pipe Window). q.queue.capacity) s.pipes + slots ≤ limits.reserve =
+            subst (λ (m : Namespace). total m.state + slots ≤ m.limits.reserve) (sym view) room in
+            omega (arith, fits, o.reserve)))))

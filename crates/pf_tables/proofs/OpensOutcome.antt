@@ -1,188 +1,264 @@
--- What an open of a FIFO that has a pipe leaves, as the machine says it.
+-- What an open of a FIFO leaves and tells, as the machine says it.
 
-use Rattle.std.proofs.Common.{◌≡◌, ℕ, ◌+◌, ◌-◌, Bool, true, false, [], ◌∷◌, ◌++◌, length, set, Option, Some, None}
-use Rattle.std.proofs.Common.{Result, Ok, Err, nat_le, if◌then◌else◌, refl, sym, ap, ◌∙◌, arith}
+use Rattle.std.proofs.Common.{◌≡◌, ℕ, zero, suc, ◌+◌, ◌-◌, ◌<◌, Bool, true, false, List, [], ◌∷◌, ◌++◌, length, map}
+use Rattle.std.proofs.Common.{set, Option, Some, None, Result, Ok, Err, nat_le, if◌then◌else◌, refl, sym, ap, subst}
+use Rattle.std.proofs.Common.{◌∙◌, arith}
 use Rattle.std.specs.Option.{option_map}
-use Rattle.std.proofs.lemmas.List.{map-set, map_push, length-map}
+use Rattle.std.proofs.lemmas.List.{map-set, map_push, length_push, length-map}
 use Rattle.pf_machine.specs.Refusals.{◌>>=◌, ◌>>◌, refuse_if}
 use Rattle.pf_machine.specs.FileMap.{Files}
 use Rattle.pf_base.specs.Limits.{Limits}
+use Rattle.pf_frame.specs.Live.{Live}
+use Rattle.pf_ring.specs.Table.{Joined}
 use Rattle.pf_ring.specs.declared.ring.Window.{Window}
 use Rattle.pf_machine.specs.Calls.{Opening}
-use Rattle.pf_machine.specs.Numbered.{at, put_at, first_free, one_if}
+use Rattle.pf_machine.specs.Numbered.{at, put_at, change_at, first_free, one_if}
 use Rattle.pf_machine.proofs.NumberedLaws.{first_free-map}
 use Rattle.pf_machine.specs.State as machine
-use Rattle.pf_machine.specs.State.{itself, State, Outcome, ready, with_process, change_process, change_pipe}
-use Rattle.pf_machine.specs.State.{with_descriptor, waiting, told}
+use Rattle.pf_machine.specs.State.{itself, State, Outcome, ready, change_pipe, with_descriptor, waiting, told}
 use Rattle.pf_machine.specs.Counts.{readers, writers}
 use Rattle.pf_machine.specs.Pipes.{is_spent}
 use Rattle.pf_machine.specs.Attempts.{Waits, given, first}
 use Rattle.pf_machine.specs.Opens as opens
-use Rattle.pf_machine.specs.Opens.{Access, fifo_pipe, open_pipe, pipe_of as pipe_for, is_waiting}
+use Rattle.pf_machine.specs.Opens.{Access, fifo_pipe, pipe_of as pipe_for, is_waiting}
 use Rattle.pf_base.specs.declared.TheConstants.{MAX_DESCRIPTORS}
 use Rattle.pf_base.specs.declared.errno.Errno.{Errno}
 use Rattle.pf_base.specs.declared.errno.Errno.TheVariants.{EMFILE, ENXIO, ENFILE}
 use Rattle.pf_base.specs.declared.step.Reply.{Reply}
-use Rattle.pf_base.specs.declared.step.Reply.TheVariants.{Num, Parked}
+use Rattle.pf_base.specs.declared.step.Reply.TheVariants.{Num}
+use Rattle.pf_limits.specs.UserPages.{UserPages}
 use Rattle.pf_tables.specs.declared.tables.opens.Access.{Access as Stored}
-use Rattle.pf_tables.specs.Opened.{access_seen, counted, end_of, taking, told_at, lacks_readers, may_open, opening}
-use Rattle.pf_tables.specs.Rows.{ProcessRows, DescriptionRows, PipeRows, Key, Process, Pipe, call_of, process_of}
-use Rattle.pf_tables.specs.Rows.{description_of, pipe_of, processes_of, pipes_of, state_of}
-use Rattle.pf_tables.proofs.TablesTied.{once}
+use Rattle.pf_tables.specs.Meaning.{Namespace, ring_or, AreCharged}
+use Rattle.pf_tables.specs.Opened.{access_seen, before, counted, end_of, taking, told_at, other_opens, waits}
+use Rattle.pf_tables.specs.Opened.{lacks_readers, may_open, opening, Describes}
+use Rattle.pf_tables.specs.Owns.{Owns}
+use Rattle.pf_tables.specs.Rows.{ProcessRows, DescriptionRows, PipeRows, Key, Pipe, call_of, ready_in, process_of}
+use Rattle.pf_tables.specs.Rows.{description_of, pipe_of, processes_of, pipes_of, opens_of, state_of, AreFifos}
+use Rattle.pf_tables.specs.Rows.{TiedWith, Tied, Whole}
+use Rattle.pf_tables.specs.Tables.{Makes}
+use Rattle.pf_tables.proofs.ProcessTableReady.{readies, is_awake}
+use Rattle.pf_tables.proofs.OpensDescribe.{admitted, opener, seated_is, entered-charged, entered-fifos}
+use Rattle.pf_tables.proofs.TablesSettled.{settled}
 use Rattle.pf_tables.proofs.TablesShown.{shown}
 
--- The machine's open, where nothing refuses it
-pub goes : (c : Limits) (s : State Window ℕ) (pid : ℕ) (p : machine.Process ℕ) (a : Access) (file : ℕ)
-    → ready s pid ≡ Ok p → may_open s pid a file ≡ Ok tt
-    → opening c s pid a file ≡ (pipe_for c s p file (fifo_pipe s file)
-    >>= (λ found. first pid false (open_pipe itself (length s.descriptions) found.pipe found.state pid p a found.pipe)))
-goes c s pid p a file lives may =
-    ap (λ r. r >>= (λ q. opens.open_fifo itself (length s.descriptions) itself c s pid q a file)) lives
-    ∙ by_tests (nat_le MAX_DESCRIPTORS (first_free p.descriptors)) (lacks_readers s a file) (is_spent s.descriptions 1)
-    _
-    (sym (ap (λ r. r >>= (λ q. refuse_if (nat_le MAX_DESCRIPTORS (first_free q.descriptors)) EMFILE
-    >> (refuse_if (lacks_readers s a file) ENXIO >> refuse_if (is_spent s.descriptions 1) ENFILE))) lives) ∙ may)
-  where
-    by_tests : (x y z : Bool) (rest : Result (Outcome Window ℕ) Errno)
-        → (refuse_if x EMFILE >> (refuse_if y ENXIO >> refuse_if z ENFILE)) ≡ Ok tt
-        → (refuse_if x EMFILE >> (refuse_if y ENXIO >> (refuse_if z ENFILE >> rest))) ≡ rest
-    by_tests true y z rest h = absurd (cc)
-    by_tests false true z rest h = absurd (cc)
-    by_tests false false true rest h = absurd (cc)
-    by_tests false false false rest h = refl
+-- The machine's open is refused as `may_open` is, and goes on where that goes through
 
--- or something does
-pub stops : (c : Limits) (s : State Window ℕ) (pid : ℕ) (a : Access) (file : ℕ) (e : Errno)
-    → may_open s pid a file ≡ Err e → opening c s pid a file ≡ Err e
-stops c s pid a file e refused = by_caller (ready s pid) refused
-  where
-    told_so : (x : Errno) → ◌≡◌ {A = Result (Unit {0}) Errno} (Err x) (Err e) → x ≡ e
-    told_so x h = cc
+module _ (s : State Window ℕ) (pid : ℕ) (a : Access) (file : ℕ) where
+  abbrev judge : machine.Process ℕ → Result (Unit {0}) Errno
+  judge q = do
+    refuse_if (nat_le MAX_DESCRIPTORS (first_free q.descriptors)) EMFILE
+    refuse_if (lacks_readers s a file) ENXIO
+    refuse_if (is_spent s.descriptions 1) ENFILE
 
-    by_tests : (x y z : Bool) (rest : Result (Outcome Window ℕ) Errno)
-        → (refuse_if x EMFILE >> (refuse_if y ENXIO >> refuse_if z ENFILE)) ≡ Err e
-        → (refuse_if x EMFILE >> (refuse_if y ENXIO >> (refuse_if z ENFILE >> rest))) ≡ Err e
-    by_tests true y z rest h = ap Err (told_so EMFILE h)
-    by_tests false true z rest h = ap Err (told_so ENXIO h)
-    by_tests false false true rest h = ap Err (told_so ENFILE h)
-    by_tests false false false rest h = absurd (cc)
+  -- what is done with the pipe that it has, or gets
+  abbrev pub on : machine.Process ℕ → Result (opens.Found Window ℕ) Errno → Result (Outcome Window ℕ) Errno
+  on q r = do
+    found ← r
+    first pid false (opens.open_pipe itself (length s.descriptions) found.pipe found.state pid q a found.pipe)
 
-    by_caller : (r : Result (machine.Process ℕ) Errno)
-        → (r >>= (λ q. refuse_if (nat_le MAX_DESCRIPTORS (first_free q.descriptors)) EMFILE
-        >> (refuse_if (lacks_readers s a file) ENXIO >> refuse_if (is_spent s.descriptions 1) ENFILE))) ≡ Err e
-        → (r >>= (λ q. opens.open_fifo itself (length s.descriptions) itself c s pid q a file)) ≡ Err e
-    by_caller (Ok q) h =
+  module _ (c : Limits) where
+    abbrev goes_on : machine.Process ℕ → Result (Outcome Window ℕ) Errno
+    goes_on q = on q (pipe_for c s q file (fifo_pipe s file))
+
+    abbrev opens_for : machine.Process ℕ → Result (Outcome Window ℕ) Errno
+    opens_for q = opens.open_fifo itself (length s.descriptions) itself c s pid q a file
+
+    judged : (q : machine.Process ℕ) → opens_for q ≡ (judge q >>= (λ _. goes_on q))
+    judged q =
         by_tests (nat_le MAX_DESCRIPTORS (first_free q.descriptors)) (lacks_readers s a file)
-        (is_spent s.descriptions 1) _ h
-    by_caller (Err x) h = ap Err (told_so x h)
+        (is_spent s.descriptions 1) (goes_on q)
+      where
+        by_tests : (x y z : Bool) (rest : Result (Outcome Window ℕ) Errno)
+            → (refuse_if x EMFILE >> (refuse_if y ENXIO >> (refuse_if z ENFILE >> rest)))
+            ≡ ((refuse_if x EMFILE >> (refuse_if y ENXIO >> refuse_if z ENFILE)) >>= (λ _. rest))
+        by_tests true y z rest = refl
+        by_tests false true z rest = refl
+        by_tests false false true rest = refl
+        by_tests false false false rest = refl
 
-module _ (files : Files) (files_made : ℕ) (a : Stored) (k : Key) (p : Pipe) (ps : ProcessRows) (ds : DescriptionRows)
-    (pipes : PipeRows) (stands : at pipes k.serial ≡ Some (k.slot, p))
-    (pid : ℕ) (q : Process) (opener : at ps (pid - 1) ≡ Some q) (j : Key) (j_is : j.serial ≡ length ds) where
-  abbrev s : State Window ℕ
-  s = state_of ps ds pipes files files_made
+    pub goes : may_open s pid a file ≡ Ok tt → (q : machine.Process ℕ) → ready s pid ≡ Ok q
+        → opening c s pid a file ≡ goes_on q
+    goes may q lives =
+        ap (λ r. r >>= opens_for) lives ∙ judged q
+        ∙ ap (λ r. r >>= (λ _. goes_on q)) (sym (ap (λ r. r >>= judge) lives) ∙ may)
 
-  -- its pipe is counted, and its description made
-  abbrev pub made : State Window ℕ
-  made =
-      change_pipe (opens.counted (access_seen a)) (record s {
-        descriptions = s.descriptions ++ Some (record
-            { pipe = k.serial; reads = a.reads; writes = a.writes; nonblocking = a.nonblock }) ∷ [];
-      }) k.serial
+    pub stops : (e : Errno) → may_open s pid a file ≡ Err e → opening c s pid a file ≡ Err e
+    stops e refused = by_caller (ready s pid) refused
+      where
+        by_caller : (r : Result (machine.Process ℕ) Errno) → (r >>= judge) ≡ Err e → (r >>= opens_for) ≡ Err e
+        by_caller (Ok q) h = judged q ∙ ap (λ r. r >>= (λ _. goes_on q)) h
+        by_caller (Err x) h = let same : x ≡ e = cc in ap Err same
 
-  abbrev pub outcome : Option ℕ → State Window ℕ
-  outcome None =
-      with_process made pid (with_descriptor (first_free (process_of q).descriptors) (length s.descriptions)
-      (process_of q))
-  outcome (Some n) = change_process (waiting (Some (Opening (length s.descriptions) n))) made pid
+  -- who opens it has a free descriptor, and a description can be drawn
+  abbrev pub Opener : Type 0
+  Opener = (q : machine.Process ℕ) × (ready s pid ≡ Ok q)
+      × (nat_le MAX_DESCRIPTORS (first_free q.descriptors) ≡ false) × (is_spent s.descriptions 1 ≡ false)
 
-  drawn : j.serial ≡ length s.descriptions
-  drawn = j_is ∙ sym (length-map ds (option_map description_of))
+  pub ready_is : may_open s pid a file ≡ Ok tt → Opener
+  ready_is may = by_caller (ready s pid) refl may
+    where
+      by_tests : (x y z : Bool) → (refuse_if x EMFILE >> (refuse_if y ENXIO >> refuse_if z ENFILE)) ≡ Ok tt
+          → (x ≡ false) × (z ≡ false)
+      by_tests true y z h = absurd (cc)
+      by_tests false true z h = absurd (cc)
+      by_tests false false true h = absurd (cc)
+      by_tests false false false h = (refl, refl)
 
-  once_more : (b : Bool) (n : ℕ) → n + one_if b ≡ (if b then n + 1 else n)
-  once_more true n = refl
-  once_more false n = omega arith
+      by_caller : (r : Result (machine.Process ℕ) Errno) → ready s pid ≡ r → (r >>= judge) ≡ Ok tt → Opener
+      by_caller (Err e) h g = absurd (cc)
+      by_caller (Ok q) h g =
+          let w =
+          by_tests (nat_le MAX_DESCRIPTORS (first_free q.descriptors)) (lacks_readers s a file)
+          (is_spent s.descriptions 1) g in
+          (q, h, w.0, w.1)
 
-  counted_shown : pipe_of (k.slot, counted a p) ≡ opens.counted (access_seen a) (pipe_of (k.slot, p))
-  counted_shown i = record (pipe_of (k.slot, p)) {
-    read_opens = once_more a.reads p.opens.read i;
-    write_opens = once_more a.writes p.opens.write i;
+-- a pipe keeps its ring
+ring_stays : (xs : List (Option (machine.Pipe Window))) (n : ℕ) (x y : machine.Pipe Window) → at xs n ≡ Some x
+    → y.queue ≡ x.queue → map ring_or (put_at xs n y) ≡ map ring_or xs
+ring_stays [] n x y h e = refl
+ring_stays (z ∷ zs) zero x y h e = ap (λ r. r ∷ map ring_or zs) (e ∙ sym (ap ring_or h))
+ring_stays (z ∷ zs) (suc n) x y h e = ap (λ rs. ring_or z ∷ rs) (ring_stays zs n x y h e)
+
+-- All that it leaves and tells, over rows in which the FIFO's pipe stands: the pipe that it has, or one that was made
+-- and has no end yet
+module _ (a : Stored) (k : Key) (p : Pipe) {ps : ProcessRows} {ds : DescriptionRows} (pipes : PipeRows)
+    (stands : at pipes k.serial ≡ Some (k.slot, p)) {pid : ℕ} {ps' : ProcessRows} {ds' : DescriptionRows}
+    {reply : Reply} (z : Describes ps ps' ds ds' pid (end_of a k) (before a p) reply) (is : ready_in ps pid ≡ Ok z.p)
+    (free : first_free z.p.descriptors < MAX_DESCRIPTORS)
+    (held : TiedWith [] (end_of a k ∷ []) ps ds (put_at pipes k.serial (k.slot, counted a p))) where
+  abbrev pipes' : PipeRows
+  pipes' = put_at pipes k.serial (k.slot, counted a p)
+
+  awake : z.p.parked ≡ None
+  awake = is_awake ps pid z.p is
+
+  tied' : Tied ps' ds' pipes'
+  tied' = admitted pipes' z awake free held
+
+  pub entered-whole : {charges : UserPages} {es : List (ℕ × Key)} → AreCharged charges (pipes_of pipes)
+      → AreFifos es (length ds) (opens_of pipes) → Whole charges es ps' ds' pipes'
+  entered-whole {charges} {es} charged filed = record {
+    kept = record { tied = tied'; charged = entered-charged charges a pipes k p stands charged };
+    filed = entered-fifos es a pipes k p stands (ap length z.described ∙ length_push ds _) filed;
   }
 
-  pub there : at s.pipes k.serial ≡ Some (pipe_of (k.slot, p))
-  there = shown pipe_of pipes k.serial (k.slot, p) stands
+  module _ (files : Files) (files_made : ℕ) where
+    abbrev of_pipes : PipeRows → State Window ℕ
+    of_pipes xs = state_of ps ds xs files files_made
 
-  pipes_shown : pipes_of (put_at pipes k.serial (k.slot, counted a p)) ≡ made.pipes
-  pipes_shown =
-      map-set (option_map pipe_of) pipes k.serial (Some (k.slot, counted a p))
-      ∙ ap (λ x. set s.pipes k.serial (Some x)) counted_shown
-      ∙ ap (λ o. set s.pipes k.serial (option_map (opens.counted (access_seen a)) o)) (sym there)
+    abbrev s : State Window ℕ
+    s = of_pipes pipes
 
-  taken_shown : process_of (taking None j q) ≡ with_descriptor (first_free (process_of q).descriptors)
-      (length s.descriptions) (process_of q)
-  taken_shown =
-      ap (λ xs. record { cred = q.cred; descriptors = xs; parked = option_map call_of q.parked })
-      (map-set (option_map (λ (x : Key). x.serial)) q.descriptors (first_free q.descriptors) (Some j))
-      ∙ (λ i. record {
-        cred = q.cred;
-        descriptors = put_at (process_of q).descriptors
-            (sym (first_free-map (λ (x : Key). x.serial) q.descriptors) i) (drawn i);
-        parked = option_map call_of q.parked;
-      })
+    -- its pipe is counted, and its description made
+    abbrev made : State Window ℕ
+    made =
+        change_pipe (opens.counted (access_seen a)) (record s {
+          descriptions = s.descriptions ++ Some (record
+              { pipe = k.serial; reads = a.reads; writes = a.writes; nonblocking = a.nonblock }) ∷ [];
+        }) k.serial
 
-  processes_shown : (before : Option ℕ) → processes_of (put_at ps (pid - 1) (taking before j q))
-      ≡ (outcome before).processes
-  processes_shown None =
-      map-set (option_map process_of) ps (pid - 1) (Some (taking None j q))
-      ∙ ap (put_at (processes_of ps) (pid - 1)) taken_shown
-  processes_shown (Some n) =
-      map-set (option_map process_of) ps (pid - 1) (Some (taking (Some n) j q))
-      ∙ ap (λ m. put_at (processes_of ps) (pid - 1) (waiting (Some (Opening m n)) (process_of q))) drawn
-      ∙ ap (λ o. set (processes_of ps) (pid - 1) (option_map (waiting (Some (Opening (length s.descriptions) n))) o))
-      (sym (shown process_of ps (pid - 1) q opener))
+    abbrev seated : Option ℕ → List (Option (machine.Process ℕ))
+    seated None =
+        put_at s.processes (pid - 1)
+        (with_descriptor (first_free (process_of z.p).descriptors) (length s.descriptions) (process_of z.p))
+    seated (Some n) = change_at (waiting (Some (Opening (length s.descriptions) n))) s.processes (pid - 1)
 
-  pub entered-shown : (before : Option ℕ)
-      → state_of (put_at ps (pid - 1) (taking before j q)) (ds ++ Some (j.slot, once (end_of a k)) ∷ [])
-      (put_at pipes k.serial (k.slot, counted a p)) files files_made ≡ outcome before
-  entered-shown None =
-      λ i. record {
-        processes = processes_shown None i;
-        descriptions = map_push (option_map description_of) ds
-            (Some (j.slot, once (end_of a k))) i;
-        pipes = pipes_shown i;
-        files = files;
-        files_made = files_made;
+    abbrev outcome : Option ℕ → State Window ℕ
+    outcome o = record made { processes = seated o }
+
+    drawn : z.k.serial ≡ length s.descriptions
+    drawn = z.k_is ∙ sym (length-map ds (option_map description_of))
+
+    low : first_free (process_of z.p).descriptors ≡ first_free z.p.descriptors
+    low = first_free-map (λ (x : Key). x.serial) z.p.descriptors
+
+    once_more : (b : Bool) (n : ℕ) → n + one_if b ≡ (if b then n + 1 else n)
+    once_more true n = refl
+    once_more false n = omega arith
+
+    counted_shown : pipe_of (k.slot, counted a p) ≡ opens.counted (access_seen a) (pipe_of (k.slot, p))
+    counted_shown i = record (pipe_of (k.slot, p)) {
+      read_opens = once_more a.reads p.opens.read i;
+      write_opens = once_more a.writes p.opens.write i;
+    }
+
+    there : at s.pipes k.serial ≡ Some (pipe_of (k.slot, p))
+    there = shown pipe_of pipes k.serial (k.slot, p) stands
+
+    pipes_set : pipes_of pipes' ≡ put_at s.pipes k.serial (pipe_of (k.slot, counted a p))
+    pipes_set = map-set (option_map pipe_of) pipes k.serial (Some (k.slot, counted a p))
+
+    pipes_shown : pipes_of pipes' ≡ made.pipes
+    pipes_shown =
+        pipes_set ∙ ap (λ x. set s.pipes k.serial (Some x)) counted_shown
+        ∙ ap (λ o. set s.pipes k.serial (option_map (opens.counted (access_seen a)) o)) (sym there)
+
+    seated_shown : (o : Option ℕ) → processes_of (put_at ps (pid - 1) (taking o z.k z.p)) ≡ seated o
+    seated_shown None =
+        map-set (option_map process_of) ps (pid - 1) (Some (taking None z.k z.p))
+        ∙ ap (λ xs. put_at s.processes (pid - 1)
+        (record { cred = z.p.cred; descriptors = xs; parked = option_map call_of z.p.parked }))
+        (map-set (option_map (λ (x : Key). x.serial)) z.p.descriptors (first_free z.p.descriptors) (Some z.k)
+        ∙ (λ i. put_at (process_of z.p).descriptors (sym low i) (drawn i)))
+    seated_shown (Some n) =
+        map-set (option_map process_of) ps (pid - 1) (Some (taking (Some n) z.k z.p))
+        ∙ ap (λ m. put_at s.processes (pid - 1) (waiting (Some (Opening m n)) (process_of z.p))) drawn
+        ∙ ap (λ o. set s.processes (pid - 1) (option_map (waiting (Some (Opening (length s.descriptions) n))) o))
+        (sym (shown process_of ps (pid - 1) z.p (opener pipes' z awake free held)))
+
+    shows : state_of ps' ds' pipes' files files_made ≡ outcome (before a p)
+    shows i = record {
+      processes = (ap processes_of (seated_is pipes' z awake free held) ∙ seated_shown (before a p)) i;
+      descriptions =
+          (ap (map (option_map description_of)) z.described ∙ map_push (option_map description_of) ds _) i;
+      pipes = pipes_shown i;
+      files = files;
+      files_made = files_made;
+    }
+
+    -- what the machine's open comes to, by whether it waits and what it would keep
+    abbrev tried : Bool → ℕ → Result (Outcome Window ℕ) Errno
+    tried b m =
+        first pid false
+        (if b then Waits made (Opening (length s.descriptions) m)
+        else given made pid (process_of z.p) (length s.descriptions))
+
+    abbrev kept : Bool → Option ℕ
+    kept b = if b then Some (other_opens a.reads p) else None
+
+    by_waiting : (b : Bool) → tried b (other_opens a.reads p) ≡ Ok (told (outcome (kept b)) (told_at (kept b) z.p))
+    by_waiting true = refl
+    by_waiting false = ap (λ fd. Ok (told (outcome None) (Num fd))) low
+
+    module _ {limits : Limits} (was : PipeRows) {n : Namespace}
+        (view : record { limits = limits; state = of_pipes was } ≡ n) (file : ℕ)
+        (may : may_open n.state pid (access_seen a) file ≡ Ok tt) where
+      pub entered-makes : pipe_for limits (of_pipes was) (process_of z.p) file (fifo_pipe (of_pipes was) file)
+          ≡ Ok (record { state = s; pipe = k.serial })
+          → (readers itself s k.serial ≡ p.readers) × (writers itself s k.serial ≡ p.writers)
+          → ((f : Live) → Owns f (record { limits = limits; state = of_pipes was }) → Joined f (map ring_or s.pipes))
+          → Makes n (record { limits = limits; state = state_of ps' ds' pipes' files files_made })
+          (opening n.limits n.state pid (access_seen a) file) reply
+      entered-makes found counts joins = record {
+        is =
+            subst (λ (m : Namespace). opening m.limits m.state pid (access_seen a) file
+            ≡ Ok (told (state_of ps' ds' pipes' files files_made) reply)) view
+            (goes (of_pipes was) pid (access_seen a) file limits
+            (subst (λ (m : Namespace). may_open m.state pid (access_seen a) file ≡ Ok tt) (sym view) may)
+            (process_of z.p) (readies ps pid z.p is)
+            ∙ ap (on (of_pipes was) pid (access_seen a) file (process_of z.p)) found
+            ∙ (λ i. tried (is_waiting (access_seen a) (counts.0 i) (counts.1 i))
+            (opens.kept_by (access_seen a) (there i)))
+            ∙ by_waiting (waits a p.readers p.writers) ∙ (λ i. Ok (told (sym shows i) (sym z.told i))));
+        limits = ap (λ (m : Namespace). m.limits) view;
+        owned = λ f owns.
+            let o : Owns f (record { limits = limits; state = of_pipes was }) = subst (Owns f) (sym view) owns in
+            record {
+              joined =
+                  subst (Joined f)
+                  (sym (ap (map ring_or) pipes_set ∙ ring_stays s.pipes k.serial (pipe_of (k.slot, p))
+                  (pipe_of (k.slot, counted a p)) there refl)) (joins f o);
+              reserve = o.reserve;
+            };
+        swept = settled ps' ds' pipes' files files_made tied';
       }
-  entered-shown (Some n) =
-      λ i. record {
-        processes = processes_shown (Some n) i;
-        descriptions = map_push (option_map description_of) ds
-            (Some (j.slot, once (end_of a k))) i;
-        pipes = pipes_shown i;
-        files = files;
-        files_made = files_made;
-      }
-
-  -- what the machine's open comes to, by whether it waits
-  abbrev pub reply : Option ℕ → Reply
-  reply None = Num (first_free (process_of q).descriptors)
-  reply (Some n) = Parked
-
-  pub reply_is : (before : Option ℕ) → reply before ≡ told_at before q
-  reply_is None = ap Num (first_free-map (λ (x : Key). x.serial) q.descriptors)
-  reply_is (Some n) = refl
-
-  abbrev pub before_if : Bool → Option ℕ
-  before_if b = if b then Some (opens.kept_by (access_seen a) (at s.pipes k.serial)) else None
-
-  pub waits_or_not : (b : Bool) → is_waiting (access_seen a) (readers itself s k.serial) (writers itself s k.serial) ≡ b
-      → first pid false (open_pipe itself (length s.descriptions) k.serial s pid (process_of q) (access_seen a)
-      k.serial) ≡ Ok (told (outcome (before_if b)) (reply (before_if b)))
-  waits_or_not true h =
-      ap (λ x. first pid false (if x then Waits made
-      (Opening (length s.descriptions) (opens.kept_by (access_seen a) (at s.pipes k.serial))) else given made pid
-      (process_of q) (length s.descriptions))) h
-  waits_or_not false h =
-      ap (λ x. first pid false (if x then Waits made
-      (Opening (length s.descriptions) (opens.kept_by (access_seen a) (at s.pipes k.serial))) else given made pid
-      (process_of q) (length s.descriptions))) h

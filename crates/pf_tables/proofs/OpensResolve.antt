@@ -1,7 +1,7 @@
 -- A path is resolved to a FIFO, and what its open is told.
 
-use Rattle.std.proofs.Common.{◌≡◌, ℕ, ◌+◌, ◌<◌, Bool, true, false, not, ◌&&◌, List, length, Result}
-use Rattle.std.proofs.Common.{Ok, Err, sym, ap, ◌∙◌, arith}
+use Rattle.std.proofs.Common.{◌≡◌, ℕ, ◌+◌, ◌<◌, Bool, true, false, not, ◌&&◌, List, length, Result, Ok, Err, refl, sym}
+use Rattle.std.proofs.Common.{ap, ◌∙◌, arith}
 use Rattle.pf_machine.specs.FileMap.{Files}
 use Rattle.pf_machine.specs.Numbered.{one_if}
 use Rattle.pf_machine.specs.Opens.{Access, openable, open_fifo, open_path}
@@ -35,42 +35,32 @@ module _ (c : Limits) (s : State Window ℕ) (pid : ℕ) (path : List ℕ) {a b 
   abbrev opens : Access → Result (Outcome Window ℕ) Errno
   opens x = of_ready s pid (λ p. open_path itself (length s.descriptions) itself c s pid p path x)
 
-  abbrev by_number : (ℕ → Result (Outcome Window ℕ) Errno) → Process ℕ → Result (Outcome Window ℕ) Errno
-  by_number go p = openable s.files p.cred path a >>= (λ x. go x.number)
-
   abbrev go_on : Process ℕ → ℕ → Result (Outcome Window ℕ) Errno
   go_on p = open_fifo itself (length s.descriptions) itself c s pid p a
+
+  -- first its number is found, and then it is opened
+  in_turn : opens b ≡ (fifo_named s pid path a >>= opening c s pid a)
+  in_turn = ap opens (sym asked) ∙ by_caller (ready s pid)
+    where
+      by_file : (p : Process ℕ) (r : Result File Errno)
+          → (r >>= (λ x. go_on p x.number)) ≡ ((r >>= (λ x. Ok x.number)) >>= go_on p)
+      by_file p (Ok x) = refl
+      by_file p (Err e) = refl
+
+      by_caller : (r : Result (Process ℕ) Errno)
+          → (r >>= (λ p. openable s.files p.cred path a >>= (λ x. go_on p x.number)))
+          ≡ ((r >>= (λ p. openable s.files p.cred path a >>= (λ x. Ok x.number)))
+          >>= (λ file. r >>= (λ p. go_on p file)))
+      by_caller (Ok p) = by_file p (openable s.files p.cred path a)
+      by_caller (Err e) = refl
 
   -- it was not found, or may not be opened
   pub not_named : (old new : Namespace) (fault : Fault)
       → Answered (λ (file : ℕ). file) (Err fault) (fifo_named s pid path a)
       → Says old new (Err fault) (opens b)
   not_named old new faults.NoMemory h = tt
-  not_named old new (faults.Errno e) h = ap opens (sym asked) ∙ by_caller (ready s pid) h
-    where
-      by_file : (r : Result File Errno) (go : ℕ → Result (Outcome Window ℕ) Errno) → (r >>= (λ x. Ok x.number)) ≡ Err e
-          → (r >>= (λ x. go x.number)) ≡ Err e
-      by_file (Ok x) go g = absurd (cc)
-      by_file (Err y) go g = let same : y ≡ e = cc in ap Err same
-
-      by_caller : (r : Result (Process ℕ) Errno)
-          → (r >>= (λ p. openable s.files p.cred path a >>= (λ x. Ok x.number))) ≡ Err e
-          → (r >>= (λ p. by_number (go_on p) p)) ≡ Err e
-      by_caller (Ok p) g = by_file (openable s.files p.cred path a) (go_on p) g
-      by_caller (Err y) g = let same : y ≡ e = cc in ap Err same
+  not_named old new (faults.Errno e) h = in_turn ∙ ap (λ r. r >>= opening c s pid a) h
 
   -- or what is said of the FIFO is said of the path
   pub goes_on : (file : ℕ) → fifo_named s pid path a ≡ Ok file → opens b ≡ opening c s pid a file
-  goes_on file named = ap opens (sym asked) ∙ by_caller (ready s pid) named
-    where
-      by_file : (r : Result File Errno) (go : ℕ → Result (Outcome Window ℕ) Errno)
-          → (r >>= (λ x. Ok x.number)) ≡ Ok file
-          → (r >>= (λ x. go x.number)) ≡ go file
-      by_file (Ok x) go g = let same : x.number ≡ file = cc in ap go same
-      by_file (Err y) go g = absurd (cc)
-
-      by_caller : (r : Result (Process ℕ) Errno)
-          → (r >>= (λ p. openable s.files p.cred path a >>= (λ x. Ok x.number))) ≡ Ok file
-          → (r >>= (λ p. by_number (go_on p) p)) ≡ (r >>= (λ p. go_on p file))
-      by_caller (Ok p) g = by_file (openable s.files p.cred path a) (go_on p) g
-      by_caller (Err y) g = absurd (cc)
+  goes_on file named = in_turn ∙ ap (λ r. r >>= opening c s pid a) named

@@ -20,7 +20,7 @@ returns-in_err-may_open-clause-says g c =
     let refused =
     goes_on old.limits old.state c.args.pid c.args.path.now c.new-access.ensures c.in_ok-file.file
     c.in_ok-file.ensures.told
-    ∙ stops old.limits old.state c.args.pid (access_seen c.new-access.result) c.in_ok-file.file
+    ∙ stops old.state c.args.pid (access_seen c.new-access.result) c.in_ok-file.file old.limits
     c.in_err-may_open.field-0.0 (sym c.may_open.ensures ∙ c.in_err-may_open.was) in
     search rules
 

@@ -45,8 +45,8 @@ invariant_of-self-2 g c =
     let made = rw (pipe) at c.in_ok-key.ensures.made in
     let charged = rw (pipe) at c.in_ok-key.ensures.charged in
     lemmas.founded-whole c.self.invariant c.self.view_is c.args.pid c.args.access c.args.file c.requires.may
-    c.requires.slots c.in-Ok.process.now c.in-Ok.ensures c.in_ok-key.key made.k_is c.requires.sided z made
-    c.requires.closed charged
+    c.requires.slots c.in-Ok.process.now c.in-Ok.ensures c.in_ok-key.key made.k_is c.requires.sided z
+    c.requires.closed made charged
 
 pub returns-clause-says : goal.returns-clause-says
 returns-clause-says g c =
