@@ -1,6 +1,6 @@
 -- How much a reply hands out, as the tables know it.
 
-use Rattle.std.proofs.Common.{◌≡◌, ℕ, ◌≤◌, not, List, length, Option, Some, None, Result, Ok, Err, refl, sym}
+use Rattle.std.proofs.Common.{◌≡◌, ℕ, ◌≤◌, not, List, length, Option, Some, None, Result, Ok, Err, refl, sym, is_some}
 use Rattle.std.proofs.Common.{ap, subst, ◌∙◌, arith}
 use Rattle.std.specs.Prelude.{min}
 use Rattle.std.specs.Option.{option_map, option_and_then}
@@ -38,11 +38,10 @@ use Rattle.pf_machine.specs.Replies.{reply_length}
 use Rattle.pf_tables.specs.Meaning.{Namespace, meaning, pipe_meaning, pages}
 use Rattle.pf_tables.specs.Owns.{Owns}
 use Rattle.pf_tables.proofs.OwnsLaws.{ring_at-pipe, stands_at, pages_within}
-use Rattle.pf_tables.specs.Rows.{ProcessRows, DescriptionRows, PipeRows, Description, Pipe}
-use Rattle.pf_tables.specs.Rows.{state_of, end_in, Kept}
+use Rattle.pf_tables.specs.Rows.{ProcessRows, DescriptionRows, PipeRows, Description, Pipe, state_of, end_in, Kept}
 use Rattle.pf_machine.proofs.ReplyLaws.{read_bytes, read-few, resume-few, list-few, quiet, few}
-use Rattle.pf_tables.proofs.Ends.{end_of_rows, refused, found}
-use Rattle.pf_tables.proofs.TablesShown.{find_at, was}
+use Rattle.pf_tables.proofs.Ends.{end_of_rows, refused, reaches, pipe_there}
+use Rattle.pf_tables.proofs.TablesShown.{was}
 use Rattle.pf_tables.proofs.Transfers as transfers
 
 -- the reply to a step hands out no more, over these frames
@@ -99,9 +98,8 @@ module _ {files : Files} {files_made : ℕ} {limits : Limits} {charges : UserPag
     -- it has a pipe
     pub no_pipe : find pipes d.pipe.slot d.pipe.serial ≡ None → Covers n (steps.Read pid fd count) 0
     no_pipe none f sound owns =
-        let e = found (pipe_meaning f) (Some sides.Read) ps ds pipes files files_made k.tied pid fd d h in
-        let there = find_at pipes d.pipe.slot d.pipe.serial e.pipe e.stands in
-        let both : ◌≡◌ {A = Option Pipe} None (Some e.pipe) = sym none ∙ there in
+        let there = pipe_there (pipe_meaning f) (Some sides.Read) ps ds pipes files files_made k.tied pid fd h in
+        let gone = ap is_some none in
         absurd (cc)
 
     -- what the pipe holds, up to what is asked for
@@ -109,10 +107,6 @@ module _ {files : Files} {files_made : ℕ} {limits : Limits} {charges : UserPag
         → ((f : Live) → IsSound f → Stands f r.ring.segments → held ≡ length (bytes_of (queue_of f r.ring)))
         → Covers n (steps.Read pid fd count) (min held count)
     reads r handed held holds f sound owns =
-        let e = found (pipe_meaning f) (Some sides.Read) ps ds pipes files files_made k.tied pid fd d h in
-        let rows : ◌≡◌ {A =
-        Option Pipe} (Some e.pipe) (Some r) = sym (find_at pipes d.pipe.slot d.pipe.serial e.pipe e.stands) ∙ handed in
-        let same : e.pipe ≡ r = cc in
         let stands : Stands f r.ring.segments =
         transfers.stands_in k view owns d r handed in
         let number : held ≡ length (bytes_of (queue_of f r.ring)) = holds f sound stands in
@@ -120,12 +114,11 @@ module _ {files : Files} {files_made : ℕ} {limits : Limits} {charges : UserPag
         (few (shows f) (min held count) (call limits (shows f) (steps.Read pid fd count))
         (read-few (shows f) (min held count) limits pid fd count
         (λ x is.
-        let ends : ◌≡◌ {A =
-        Result (End Segment ℕ) Errno} (Ok (end_of_rows (pipe_meaning f) d e.pipe)) (Ok x) = sym e.is ∙ is in
-        let end : end_of_rows (pipe_meaning f) d e.pipe ≡ x = cc in
+        let ends : ◌≡◌ {A = Result (End Segment ℕ) Errno} (Ok (end_of_rows (pipe_meaning f) d r)) (Ok x) =
+        sym (reaches (pipe_meaning f) (Some sides.Read) ps ds pipes files files_made k.tied pid fd h handed) ∙ is in
+        let end : end_of_rows (pipe_meaning f) d r ≡ x = cc in
         let bytes : length (bytes_of (queue_of f r.ring)) ≡ length (bytes_of x.pipe.queue) =
-        ap (λ (q : Pipe). length (bytes_of (queue_of f q.ring))) (sym same)
-        ∙ ap (λ (y : End Segment ℕ). length (bytes_of y.pipe.queue)) end in
+        ap (λ (y : End Segment ℕ). length (bytes_of y.pipe.queue)) end in
         omega (arith, read_bytes (shows f) x count, bytes, number))))
 
 -- A list

@@ -1,7 +1,7 @@
 -- The end of a pipe that a descriptor names, as the tables find it and as the machine does.
 
 use Rattle.std.proofs.Common.{◌≡◌, ℕ, suc, List, [], ◌∷◌, map, ◌+◌, ◌-◌, Bool, true, false, not, Option, Some, None}
-use Rattle.std.proofs.Common.{IsOk, is_ok, Result, Ok, Err, refl, sym, ap, subst, ◌∙◌, arith}
+use Rattle.std.proofs.Common.{IsSome, is_some, IsOk, is_ok, Result, Ok, Err, refl, sym, ap, subst, ◌∙◌, arith}
 use Rattle.std.specs.Option.{option_map, option_and_then}
 use Rattle.pf_machine.specs.FileMap.{Files}
 use Rattle.pf_machine.specs.Refusals.{◌>>=◌, ◌>>◌, refuse_if, or_refuse}
@@ -14,13 +14,16 @@ use Rattle.pf_base.specs.declared.errno.Errno.{Errno}
 use Rattle.pf_base.specs.declared.errno.Errno.TheVariants.{EBADF}
 use Rattle.pf_base.specs.declared.progress.Side.{Side}
 use Rattle.pf_base.specs.declared.progress.Side.TheVariants as sides
+use Rattle.pf_fds.specs.Descriptions.{value_of}
+use Rattle.pf_fds.specs.Registry.{find}
+use Rattle.pf_parked.specs.declared.call.Call.TheVariants.{Open}
 use Rattle.pf_ring.specs.declared.ring.Window.{Window}
 use Rattle.pf_tables.specs.Rows.{ProcessRows, DescriptionRows, PipeRows, Key, Named, Process, Description, Pipe}
 use Rattle.pf_tables.specs.Rows.{process_of, description_of, pipe_of, processes_of, descriptions_of, pipes_of, state_of}
-use Rattle.pf_tables.specs.Rows.{ready_in, has, description_in, end_in, read_by, written_by, UsedRow, Tied}
+use Rattle.pf_tables.specs.Rows.{made_by, ready_in, has, description_in, end_in, read_by, written_by, UsedRow, Tied}
 use Rattle.pf_tables.proofs.ProcessTableReady.{shown_in, ready_shown, place_is}
 use Rattle.pf_tables.proofs.TablesTied.{finds}
-use Rattle.pf_tables.proofs.TablesShown.{shown, find_at}
+use Rattle.pf_tables.proofs.TablesShown.{shown, find_at, find_was}
 use Rattle.pf_tables.proofs.TablesSettled.{readers_shown, writers_shown}
 
 -- the machine's end of a side, or any where none is asked for
@@ -172,6 +175,21 @@ module _ {X : Type 0} (f : Sight X) (side : Option Side) (ps : ProcessRows) (ds 
       by_row (Err e) c g = absurd (cc)
       by_row (Ok p) c g = ap is_ok c
 
+  module _ {d : Description} (h : end_in side ps ds pid fd ≡ Ok d) where
+    -- its pipe stands
+    pub pipe_there : IsSome (find pipes d.pipe.slot d.pipe.serial)
+    pipe_there = let w = found d h in ap is_some (find_at pipes d.pipe.slot d.pipe.serial w.pipe w.stands)
+
+    -- and is the one that is handed out
+    pub reaches : {r : Pipe} → find pipes d.pipe.slot d.pipe.serial ≡ Some r
+        → (ready s pid >>= (λ p. side_end side s p fd)) ≡ Ok (end_of_rows f d r)
+    reaches {r} handed =
+        let w = found d h in
+        let both : ◌≡◌ {A = Option Pipe} (Some w.pipe) (Some r) =
+        sym (find_at pipes d.pipe.slot d.pipe.serial w.pipe w.stands) ∙ handed in
+        let same : w.pipe ≡ r = cc in
+        w.is ∙ ap (λ (q : Pipe). Ok (end_of_rows f d q)) same
+
   -- the counts of a pipe are the machine's
   pub counted : (n place : ℕ) (r : Pipe) → at pipes n ≡ Some (place, r)
       → (readers itself s n ≡ r.readers) × (writers itself s n ≡ r.writers)
@@ -181,6 +199,44 @@ module _ {X : Type 0} (f : Sight X) (side : Option Side) (ps : ProcessRows) (ds 
         omega
             (arith, row.1, writers_shown ps ds pipes files files_made n),
       )
+
+  -- The end that a key is of, as it is handed out
+  module _ (j : Key) where
+    pub key_end : {d : Description} {r : Pipe} → Some d ≡ option_map value_of (find ds j.slot j.serial)
+        → Some r ≡ find pipes d.pipe.slot d.pipe.serial → end_at itself s j.serial ≡ Some (end_of_rows f d r)
+    key_end {d} {r} is handed = by_row (find ds j.slot j.serial) refl is
+      where
+        by_row : (o : Option (Named Description)) → find ds j.slot j.serial ≡ o → Some d ≡ option_map value_of o
+            → end_at itself s j.serial ≡ Some (end_of_rows f d r)
+        by_row None h g = absurd (cc)
+        by_row (Some e) h g =
+            let same : e.value ≡ d = cc in
+            end_shown j e r (find_was ds j.slot j.serial e h)
+            (find_was pipes e.value.pipe.slot e.value.pipe.serial r
+            (ap (λ (x : Description). find pipes x.pipe.slot x.pipe.serial) same ∙ sym handed))
+            ∙ ap (λ (x : Description). Some (end_of_rows f x r)) same
+
+    -- an open that waits has one
+    module _ {p : Process} (here : at ps (pid - 1) ≡ Some p) {before : ℕ}
+        (waits : Some (Open j before) ≡ p.parked) where
+      row : (e : Named Description) × (at ds j.serial ≡ Some (j.slot, e))
+      row = finds ds j (t.finds (pid - 1) 0 p j here (ap made_by (sym waits)))
+
+      row_found : option_map value_of (find ds j.slot j.serial) ≡ Some row.0.value
+      row_found = ap (option_map value_of) (find_at ds j.slot j.serial row.0 row.1)
+
+      pub open_finds : None ≡ option_map value_of (find ds j.slot j.serial) → ⊥
+      open_finds none = let there = row_found in absurd (cc)
+
+      pub open_reaches : {d : Description} → Some d ≡ option_map value_of (find ds j.slot j.serial)
+          → None ≡ find pipes d.pipe.slot d.pipe.serial → ⊥
+      open_reaches {d} is none =
+          let both : ◌≡◌ {A = Option Description} (Some row.0.value) (Some d) = sym row_found ∙ sym is in
+          let same : row.0.value ≡ d = cc in
+          let r = finds pipes row.0.value.pipe (t.is_end j.serial (j.slot, row.0) row.1).0 in
+          let there = find_at pipes row.0.value.pipe.slot row.0.value.pipe.serial r.0 r.1 in
+          let gone = ap (λ (x : Description). find pipes x.pipe.slot x.pipe.serial) same ∙ sym none in
+          absurd (cc)
 
 -- Pipes with their rings are seen as they are
 

@@ -30,13 +30,11 @@ use Rattle.pf_limits.specs.UserPages.{UserPages, charged_to}
 use Rattle.pf_parked.specs.declared.call.Call.TheVariants.{Open}
 use Rattle.pf_tables.specs.Meaning.{Namespace}
 use Rattle.pf_tables.specs.Opened.{lacks_readers, may_open, fifo_capacity, other_opens, IsOver}
-use Rattle.pf_tables.specs.Rows.{ProcessRows, DescriptionRows, PipeRows, Key, Named, Process, Description, Pipe}
-use Rattle.pf_tables.specs.Rows.{call_of, call_in, made_by, process_at, process_in, ready_in, process_of}
-use Rattle.pf_tables.specs.Rows.{description_of, pipe_of, state_of, Kept}
+use Rattle.pf_tables.specs.Rows.{ProcessRows, DescriptionRows, PipeRows, Key, Process, Description, Pipe, call_of}
+use Rattle.pf_tables.specs.Rows.{call_in, process_at, process_in, ready_in, process_of, description_of, pipe_of}
+use Rattle.pf_tables.specs.Rows.{state_of, Kept}
 use Rattle.pf_tables.proofs.ProcessTableReady.{shown_in, readies, living_shown, place_of}
-use Rattle.pf_tables.proofs.Ends.{as_kept, end_of_rows, end_shown, seen_as_kept}
-use Rattle.pf_tables.proofs.TablesTied.{finds}
-use Rattle.pf_tables.proofs.TablesShown.{find_at}
+use Rattle.pf_tables.proofs.Ends.{as_kept, end_of_rows, key_end, open_finds, open_reaches, seen_as_kept}
 
 -- a refusal goes on, and want of memory
 pub passed_on : {A B : Type 0} (fault : Fault) (answer : Result A Errno) (go : A → Result B Errno)
@@ -133,61 +131,32 @@ module _ {files : Files} {files_made : ℕ} {charges : UserPages} {limits : Limi
         by_row None h g = absurd (cc)
         by_row (Some p) h g = (p, ap (or_refuse ESRCH) h, g)
 
-    pub row : (e : Named Description) × (at ds d.serial ≡ Some (d.slot, e))
-    row =
-        finds ds d (kept.tied.finds (pid - 1) 0 sleeper.0 d (place_of ps pid sleeper.0 sleeper.1)
-        (ap made_by sleeper.2))
-
-    pub pipe_row : (r : Pipe) × (at pipes row.0.value.pipe.serial ≡ Some (row.0.value.pipe.slot, r))
-    pipe_row = finds pipes row.0.value.pipe (kept.tied.is_end d.serial (d.slot, row.0) row.1).0
-
-    over_in_state : IsOver (state_of ps ds pipes files files_made) pid
-        (nat_lt before (other_opens row.0.value.reads pipe_row.0))
-    over_in_state =
-        let s = state_of ps ds pipes files files_made in
-        record {
-          p = process_of sleeper.0;
-          n = d.serial;
-          before = before;
-          lives = living_shown ps pid ∙ ap shown_in sleeper.1;
-          waits = ap (option_map call_of) sleeper.2;
-          is =
-              ap (λ o. or_refuse EBADF o >>= (λ e. Ok (open_told s pid (process_of sleeper.0) d.serial before e)))
-              (subst (λ (t : State Window ℕ). end_at itself t d.serial
-              ≡ Some (end_of_rows as_kept row.0.value pipe_row.0))
-              (seen_as_kept ps ds pipes files files_made)
-              (end_shown as_kept None ps ds pipes files files_made kept.tied pid 0 d row.0 pipe_row.0 row.1
-              pipe_row.1));
-        }
-
-    pub over_is : IsOver n.state pid (nat_lt before (other_opens row.0.value.reads pipe_row.0))
-    over_is =
-        subst (λ (m : Namespace). IsOver m.state pid (nat_lt before (other_opens row.0.value.reads pipe_row.0))) view
-        over_in_state
+    place : at ps (pid - 1) ≡ Some sleeper.0
+    place = place_of ps pid sleeper.0 sleeper.1
 
     -- the code finds its description, and the pipe
-    row_found : option_map value_of (find ds d.slot d.serial) ≡ Some row.0.value
-    row_found = ap (option_map value_of) (find_at ds d.slot d.serial row.0 row.1)
-
     pub not_gone : None ≡ option_map value_of (find ds d.slot d.serial) → ⊥
-    not_gone e = let there = row_found in absurd (cc)
+    not_gone = open_finds as_kept None ps ds pipes files files_made kept.tied pid 0 d place (sym sleeper.2)
 
     module _ (end : Description) (is : Some end ≡ option_map value_of (find ds d.slot d.serial)) where
-      same_end : row.0.value ≡ end
-      same_end = let both : ◌≡◌ {A = Option Description} (Some row.0.value) (Some end) = sym row_found ∙ sym is in cc
-
-      pipe_found : find pipes end.pipe.slot end.pipe.serial ≡ Some pipe_row.0
-      pipe_found =
-          subst (λ (x : Description). find pipes x.pipe.slot x.pipe.serial ≡ Some pipe_row.0) same_end
-          (find_at pipes row.0.value.pipe.slot row.0.value.pipe.serial pipe_row.0 pipe_row.1)
-
       pub pipe_not_gone : None ≡ find pipes end.pipe.slot end.pipe.serial → ⊥
-      pipe_not_gone e = let there = pipe_found in absurd (cc)
+      pipe_not_gone =
+          open_reaches as_kept None ps ds pipes files files_made kept.tied pid 0 d place (sym sleeper.2) is
 
       pub over_told : (p : Pipe) → Some p ≡ find pipes end.pipe.slot end.pipe.serial → (x : ℕ)
           → x ≡ other_opens end.reads p → IsOver n.state pid (nat_lt before x)
       over_told p there x x_is =
-          let both : ◌≡◌ {A = Option Pipe} (Some pipe_row.0) (Some p) = sym pipe_found ∙ sym there in
-          let same : pipe_row.0 ≡ p = cc in
-          subst (λ (m : ℕ). IsOver n.state pid (nat_lt before m))
-          ((λ i. other_opens (same_end i).reads (same i)) ∙ sym x_is) over_is
+          let t = state_of ps ds pipes files files_made in
+          subst (λ (m : Namespace). IsOver m.state pid (nat_lt before x)) view
+          (subst (λ (m : ℕ). IsOver t pid (nat_lt before m)) (sym x_is) (record {
+            p = process_of sleeper.0;
+            n = d.serial;
+            before = before;
+            lives = living_shown ps pid ∙ ap shown_in sleeper.1;
+            waits = ap (option_map call_of) sleeper.2;
+            is =
+                ap (λ o. or_refuse EBADF o >>= (λ e. Ok (open_told t pid (process_of sleeper.0) d.serial before e)))
+                (subst (λ (u : State Window ℕ). end_at itself u d.serial ≡ Some (end_of_rows as_kept end p))
+                (seen_as_kept ps ds pipes files files_made)
+                (key_end as_kept None ps ds pipes files files_made kept.tied pid 0 d is there));
+          }))

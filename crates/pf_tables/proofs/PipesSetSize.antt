@@ -1,9 +1,8 @@
 -- A pipe's slots: how many they are told to be, and a pipe that gets another number of them.
 
 use Rattle.std.proofs.Common.{◌≡◌, ℕ, ◌+◌, ◌-◌, ◌*◌, ◌<◌, ◌≤◌, Bool, true, false, not, ◌&&◌, [], length, set, Option}
-use Rattle.std.proofs.Common.{Some, None}
-use Rattle.std.proofs.Common.{IsSome, is_some, Result, Ok, Err, nat_lt, refl, sym, ap, subst, ◌∙◌, arith, if◌then◌else◌}
-use Rattle.std.proofs.Common.{inl, inr}
+use Rattle.std.proofs.Common.{Some, None, IsSome, is_some, Result, Ok, Err, nat_lt, refl, sym, ap, subst, ◌∙◌, arith}
+use Rattle.std.proofs.Common.{if◌then◌else◌, inl, inr}
 use Rattle.std.specs.Option.{option_map}
 use Rattle.std.proofs.lemmas.Bool.{lt-ltb, le-ltb, ltb-false, cases_lt}
 use Rattle.std.proofs.lemmas.List.{map-set, length-map}
@@ -41,29 +40,24 @@ use Rattle.pf_tables.proofs.OwnsLaws.{ring_at-pipe, slots-rings, pages-without, 
 use Rattle.pf_tables.proofs.TablesTied.{requeued}
 use Rattle.pf_tables.proofs.TablesSettled.{settled}
 use Rattle.pf_tables.specs.Rows.{ProcessRows, DescriptionRows, PipeRows, Process, Description, Pipe, process_of}
-use Rattle.pf_tables.specs.Rows.{pipe_of}
-use Rattle.pf_tables.specs.Rows.{pipes_of, state_of, ready_in, end_in, Tied, Kept}
+use Rattle.pf_tables.specs.Rows.{pipe_of, pipes_of, state_of, ready_in, end_in, Tied, Kept}
 use Rattle.pf_tables.specs.Tables.{Makes, Says, verdict, Resizes, Refuses, Resizing}
 use Rattle.pf_tables.proofs.ProcessTableReady.{readies}
-use Rattle.pf_tables.proofs.Ends.{end_of_rows, as_kept, seen_as_kept, Found, refused, found}
+use Rattle.pf_tables.proofs.Ends.{end_of_rows, as_kept, seen_as_kept, Found, refused, found, reaches}
 use Rattle.pf_tables.proofs.TablesShown.{shown, find_at, find_was, set_same}
+use Rattle.pf_tables.proofs.Transfers.{bind-bind}
 
--- a refusal of the second step, and its value, where the third asks the first as well
+-- what is found by the second step, where the third asks the first as well
 module _ {A B C : Type 0} (h : A → Result B Errno) (go : A → B → Result C Errno) where
+  in_turn : (m : Result A Errno) → (m >>= (λ a. h a >>= go a)) ≡ ((m >>= h) >>= (λ b. m >>= (λ a. go a b)))
+  in_turn (Ok a) = refl
+  in_turn (Err e) = refl
+
   stops : (m : Result A Errno) (e : Errno) → (m >>= h) ≡ Err e → (m >>= (λ a. h a >>= go a)) ≡ Err e
-  stops (Ok a) e is = ap (λ r. r >>= go a) is
-  stops (Err z) e is = let same : z ≡ e = cc in ap Err same
+  stops m e is = in_turn m ∙ ap (λ r. r >>= (λ b. m >>= (λ a. go a b))) is
 
   goes : (m : Result A Errno) (a : A) (b : B) → m ≡ Ok a → (m >>= h) ≡ Ok b → (m >>= (λ x. h x >>= go x)) ≡ go a b
-  goes m a b first second =
-      let here : h a ≡ Ok b = sym (ap (λ r. r >>= h) first) ∙ second in
-      ap (λ r. r >>= (λ x. h x >>= go x)) first ∙ ap (λ r. r >>= go a) here
-
--- the value of the second step, where the third asks it alone
-after : {A B C : Type 0} (h : A → Result B Errno) (go : B → Result C Errno) (m : Result A Errno) (b : B)
-    → (m >>= h) ≡ Ok b → (m >>= (λ a. h a >>= go)) ≡ go b
-after h go (Ok a) b is = ap (λ r. r >>= go) is
-after h go (Err z) b is = absurd (cc)
+  goes m a b first second = in_turn m ∙ (λ i. second i >>= (λ y. first i >>= (λ x. go x y)))
 
 -- a change that was refused, whatever the reason
 pub refuses : (u v : UserPages) (p q : Pipe) (privileged : Bool) (to : ℕ) (fault : Fault)
@@ -152,24 +146,20 @@ module _ {charges : UserPages} {limits : Limits} {ps : ProcessRows} {ds : Descri
               state = state_of ps ds (same_rows j) files files_made;
             }) ∙ view
 
-      same_row : at_end.pipe ≡ r
-      same_row =
-          let one : ◌≡◌ {A = Option (ℕ × Pipe)} (Some (d.pipe.slot, at_end.pipe)) (Some (d.pipe.slot, r)) =
-          sym at_end.stands ∙ find_was pipes d.pipe.slot d.pipe.serial r handed in
-          let pair : ◌≡◌ {A = ℕ × Pipe} (d.pipe.slot, at_end.pipe) (d.pipe.slot, r) = cc in
-          ap (λ (x : ℕ × Pipe). x.1) pair
-
       end_is : finds (Ok (end_of_rows as_kept d r)) s
       end_is =
           subst (finds (Ok (end_of_rows as_kept d r))) (seen_as_kept ps ds pipes files files_made)
-          (at_end.is ∙ ap (λ x. Ok (end_of_rows as_kept d x)) same_row)
+          (reaches as_kept None ps ds pipes files files_made k.tied pid fd h handed)
+
+      abbrev size_of : machine.End Window ℕ → Result (Outcome Window ℕ) Errno
+      size_of x = Ok (done s (PAGE_SIZE * x.pipe.queue.capacity))
 
       pub tells_size : (size : ℕ) → size ≡ PAGE_SIZE * r.ring.capacity → Makes n n (gets n.state) (Num size)
       tells_size size all =
           subst (λ (m : Namespace). Makes m m (gets m.state) (Num size)) view (record {
             is =
-                after (λ q. end_of itself s q fd) (λ x. Ok (done s (PAGE_SIZE * x.pipe.queue.capacity))) (ready s pid)
-                (end_of_rows as_kept d r) end_is ∙ ap (λ m. Ok (done s m)) (sym all);
+                bind-bind (ready s pid) (λ q. end_of itself s q fd) size_of ∙ ap (λ x. x >>= size_of) end_is
+                ∙ ap (λ m. Ok (done s m)) (sym all);
             limits = refl;
             owned = λ f o. o;
             swept = settled ps ds pipes files files_made k.tied;

@@ -36,11 +36,11 @@ use Rattle.pf_tables.specs.Meaning.{Namespace, meaning, pipe_meaning}
 use Rattle.pf_tables.specs.Opened.{other_opens}
 use Rattle.pf_tables.specs.Owns.{Owns}
 use Rattle.pf_tables.specs.Queries.{GoesOn}
-use Rattle.pf_tables.specs.Rows.{ProcessRows, DescriptionRows, PipeRows, Key, Named, Process, Description, Pipe, Call}
-use Rattle.pf_tables.specs.Rows.{call_of, process_of, state_of, process_in, waits, end_of_row, end_in, made_by, Kept}
+use Rattle.pf_tables.specs.Rows.{ProcessRows, DescriptionRows, PipeRows, Key, Process, Description, Pipe, Call, call_of}
+use Rattle.pf_tables.specs.Rows.{process_of, state_of, process_in, waits, end_of_row, end_in, Kept}
 use Rattle.pf_tables.proofs.ProcessTableReady.{lives, lives_not, place_of}
-use Rattle.pf_tables.proofs.Ends.{side_end, end_of_rows, Agrees, by_key, end_shown, counted, refused, found}
-use Rattle.pf_tables.proofs.TablesTied.{finds}
+use Rattle.pf_tables.proofs.Ends.{side_end, end_of_rows, Agrees, by_key, counted, refused, reaches, pipe_there, key_end}
+use Rattle.pf_tables.proofs.Ends.{open_finds, open_reaches}
 use Rattle.pf_tables.proofs.TablesShown.{find_at, find_was}
 use Rattle.pf_tables.proofs.Transfers as transfers
 
@@ -264,44 +264,26 @@ module _ {files : Files} {files_made : ℕ} {limits : Limits} {charges : UserPag
 
     -- An open
     module _ {j : Key} {kept : ℕ} (waits : Some (Open j kept) ≡ p.parked) where
-      row : (e : Named Description) × (at ds j.serial ≡ Some (j.slot, e))
-      row = finds ds j (k.tied.finds (pid - 1) 0 p j (place_of ps pid p here) (ap made_by (sym waits)))
-
-      pipe_row : (r : Pipe) × (at pipes row.0.value.pipe.serial ≡ Some (row.0.value.pipe.slot, r))
-      pipe_row = finds pipes row.0.value.pipe (k.tied.is_end j.serial (j.slot, row.0) row.1).0
-
-      row_found : option_map value_of (find ds j.slot j.serial) ≡ Some row.0.value
-      row_found = ap (option_map value_of) (find_at ds j.slot j.serial row.0 row.1)
+      place : at ps (pid - 1) ≡ Some p
+      place = place_of ps pid p here
 
       pub open_has_end : None ≡ option_map value_of (find ds j.slot j.serial) → GoesOn n pid true
       open_has_end none f sound owns =
-          let found = row_found in let both : ◌≡◌ {A = Option Description} None (Some row.0.value) = none
-          ∙ found in absurd (cc)
+          absurd (open_finds (pipe_meaning f) None ps ds pipes files files_made k.tied pid 0 j place waits none)
 
       module _ {d : Description} (is : Some d ≡ option_map value_of (find ds j.slot j.serial)) where
-        same_end : row.0.value ≡ d
-        same_end = let both : ◌≡◌ {A = Option Description} (Some row.0.value) (Some d) = sym row_found ∙ sym is in cc
-
-        pipe_found : find pipes d.pipe.slot d.pipe.serial ≡ Some pipe_row.0
-        pipe_found =
-            subst (λ (x : Description). find pipes x.pipe.slot x.pipe.serial ≡ Some pipe_row.0) same_end
-            (find_at pipes row.0.value.pipe.slot row.0.value.pipe.serial pipe_row.0 pipe_row.1)
-
         pub open_has_pipe : None ≡ find pipes d.pipe.slot d.pipe.serial → GoesOn n pid true
         open_has_pipe none f sound owns =
-            let found = pipe_found in let both : ◌≡◌ {A = Option Pipe} None (Some pipe_row.0) = none
-            ∙ found in absurd (cc)
+            absurd (open_reaches (pipe_meaning f) None ps ds pipes files files_made k.tied pid 0 j place waits is none)
 
         pub opens_on : {r : Pipe} → Some r ≡ find pipes d.pipe.slot d.pipe.serial → (x : ℕ) → x ≡ other_opens d.reads r
             → GoesOn n pid (nat_lt kept x)
-        opens_on {r} handed x x_is =
-            let both : ◌≡◌ {A = Option Pipe} (Some pipe_row.0) (Some r) = sym pipe_found ∙ sym handed in
-            let same : pipe_row.0 ≡ r = cc in
+        opens_on handed x x_is =
             answers (Open j kept) waits tt (nat_lt kept x) (λ f sound owns.
-            ap (nat_lt kept) (x_is ∙ sym (λ i. other_opens (same_end i).reads (same i)))
+            ap (nat_lt kept) x_is
             ∙ sym (ap (λ o. or_is_over (λ (e : End Segment ℕ). nat_lt kept (attempts.other_opens e))
-            (or_refuse EBADF o)) (end_shown (pipe_meaning f) None ps ds pipes files files_made k.tied pid 0 j row.0
-            pipe_row.0 row.1 pipe_row.1)))
+            (or_refuse EBADF o))
+            (key_end (pipe_meaning f) None ps ds pipes files files_made k.tied pid 0 j is handed)))
 
   -- who waits in no call, and who doesn't live, can't go on
   place_found : 0 < pid → process_in ps pid ≡ or_refuse ESRCH (at ps (pid - 1))
@@ -343,9 +325,8 @@ module _ {files : Files} {files_made : ℕ} {limits : Limits} {charges : UserPag
       pub ready_has_pipe : None ≡ find pipes d.pipe.slot d.pipe.serial → (f : Live)
           → readiness (meaning f n.state) pid fd ≡ Err EBADF
       ready_has_pipe none f =
-          let e = found (pipe_meaning f) None ps ds pipes files files_made k.tied pid fd d h in
-          let both : ◌≡◌ {A =
-          Option Pipe} None (Some e.pipe) = none ∙ find_at pipes d.pipe.slot d.pipe.serial e.pipe e.stands in
+          let there = pipe_there (pipe_meaning f) None ps ds pipes files files_made k.tied pid fd h in
+          let gone = ap is_some none in
           absurd (cc)
 
       pub ready_is : {r : Pipe} → Some r ≡ find pipes d.pipe.slot d.pipe.serial → (bytes room reading writing : ℕ)
@@ -355,15 +336,9 @@ module _ {files : Files} {files_made : ℕ} {limits : Limits} {charges : UserPag
           → Ok (record { bytes = bytes; room = room; has_reader = nat_lt 0 reading; has_writer = nat_lt 0 writing })
           ≡ readiness (meaning f n.state) pid fd
       ready_is {r} handed bytes room reading writing bytes_is room_is reading_is writing_is f sound owns =
-          let e = found (pipe_meaning f) None ps ds pipes files files_made k.tied pid fd d h in
-          let both : ◌≡◌ {A =
-          Option Pipe} (Some r) (Some e.pipe) = handed ∙ find_at pipes d.pipe.slot d.pipe.serial e.pipe e.stands in
-          let same : e.pipe ≡ r = cc in
           let c =
           counted (pipe_meaning f) None ps ds pipes files files_made k.tied pid fd d.pipe.serial d.pipe.slot r
           (find_was pipes d.pipe.slot d.pipe.serial r (sym handed)) in
-          let stands : Stands f r.ring.segments =
-          transfers.stands_in k view owns d r (sym handed) in
           subst (λ (m : Namespace). Ok (record {
             bytes = bytes;
             room = room;
@@ -371,11 +346,10 @@ module _ {files : Files} {files_made : ℕ} {limits : Limits} {charges : UserPag
             has_writer = nat_lt 0 writing;
           }) ≡ readiness (meaning f m.state) pid fd) view
           ((λ i. Ok (record {
-            bytes = bytes_is f sound stands i;
+            bytes = bytes_is f sound (transfers.stands_in k view owns d r (sym handed)) i;
             room = room_is f i;
-            has_reader = nat_lt 0
-                ((reading_is ∙ sym c.0) i);
+            has_reader = nat_lt 0 ((reading_is ∙ sym c.0) i);
             has_writer = nat_lt 0 ((writing_is ∙ sym c.1) i);
           }))
           ∙ sym (from_end (shows f) (Ok (end_of_rows (pipe_meaning f) d r))
-          (e.is ∙ ap (λ (q : Pipe). Ok (end_of_rows (pipe_meaning f) d q)) same)))
+          (reaches (pipe_meaning f) None ps ds pipes files files_made k.tied pid fd h (sym handed))))

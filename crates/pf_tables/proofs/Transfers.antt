@@ -1,7 +1,7 @@
 -- A transfer through one pipe, in the meaning of the state that it leaves.
 
 use Rattle.std.proofs.Common.{◌≡◌, ℕ, ◌+◌, ◌-◌, ◌<◌, ◌≤◌, Bool, List, [], ◌++◌, length, take, drop, set, Option, Some}
-use Rattle.std.proofs.Common.{IsSome, IsOk, is_some, Result, Ok, Err, nat_le, nat_lt, refl, sym, ap, subst, ◌∙◌, arith}
+use Rattle.std.proofs.Common.{IsSome, IsOk, Result, Ok, Err, nat_le, nat_lt, refl, sym, ap, subst, ◌∙◌, arith}
 use Rattle.std.specs.Option.{option_map}
 use Rattle.std.proofs.lemmas.Bool.{lt-ltb, le-ltb}
 use Rattle.std.proofs.lemmas.List.{map-set, take_all, length-drop}
@@ -43,7 +43,7 @@ use Rattle.pf_tables.specs.Buffers.{Lies, Truncates}
 use Rattle.pf_tables.specs.Told.{attempted, Came}
 use Rattle.pf_tables.proofs.Buffers as buffers
 use Rattle.pf_tables.proofs.ProcessTableReady.{shown_in, ready_shown}
-use Rattle.pf_tables.proofs.Ends.{side_end, end_of_rows, refused, found, counted}
+use Rattle.pf_tables.proofs.Ends.{side_end, end_of_rows, refused, found, reaches, pipe_there as there_is, counted}
 use Rattle.pf_tables.proofs.TablesShown.{shown, find_at, find_was, set_same}
 use Rattle.pf_tables.proofs.TablesTied.{requeued}
 use Rattle.pf_tables.proofs.TablesSettled.{settled}
@@ -179,9 +179,7 @@ module _ {files : Files} {files_made : ℕ} {f : Live} {limits : Limits} {charge
     module _ (d : Description) where
       pub pipe_there : (side : Option Side) → end_in side ps ds pid fd ≡ Ok d
           → IsSome (find pipes d.pipe.slot d.pipe.serial)
-      pipe_there side h =
-          let w = found (pipe_meaning f) side ps ds pipes files files_made k.tied pid fd d h in ap is_some
-          (find_at pipes d.pipe.slot d.pipe.serial w.pipe w.stands)
+      pipe_there side h = there_is (pipe_meaning f) side ps ds pipes files files_made k.tied pid fd h
 
       pub caller : (side : Option Side) → end_in side ps ds pid fd ≡ Ok d → IsOk (ready (meaning f n.state) pid)
       caller side h =
@@ -198,14 +196,8 @@ module _ {files : Files} {files_made : ℕ} {f : Live} {limits : Limits} {charge
           → end_in side ps ds pid fd ≡ Ok d → find pipes d.pipe.slot d.pipe.serial ≡ Some r
           → (ready s pid >>= (λ p. side_end side s p fd >>= go)) ≡ go (end_of_rows (pipe_meaning f) d r)
       through side go r h handed =
-          let w = found (pipe_meaning f) side ps ds pipes files files_made k.tied pid fd d h in
-          let one : ◌≡◌ {A =
-          Option (ℕ × Pipe)} (Some (d.pipe.slot, w.pipe)) (Some (d.pipe.slot, r)) = sym w.stands
-          ∙ find_was pipes d.pipe.slot d.pipe.serial r handed in
-          let pair : ◌≡◌ {A = ℕ × Pipe} (d.pipe.slot, w.pipe) (d.pipe.slot, r) = cc in
-          let same : w.pipe ≡ r = ap (λ (x : ℕ × Pipe). x.1) pair in
-          bind-bind (ready s pid) (λ p. side_end side s p fd) go ∙ ap (λ x. x >>= go) w.is
-          ∙ ap (λ x. go (end_of_rows (pipe_meaning f) d x)) same
+          bind-bind (ready s pid) (λ p. side_end side s p fd) go
+          ∙ ap (λ x. x >>= go) (reaches (pipe_meaning f) side ps ds pipes files files_made k.tied pid fd h handed)
 
       pub too_long : (x : List ℕ) (written : ℕ) → end_in (Some sides.Write) ps ds pid fd ≡ Ok d → MAX_WRITE < length x
           → attempted (meaning f n.state) pid (Writing fd x written) ≡ Err EINVAL

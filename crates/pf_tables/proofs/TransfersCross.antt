@@ -1,8 +1,7 @@
 -- A transfer between two pipes, in the meaning of the state that it leaves.
 
-use Rattle.std.proofs.Common.{◌≡◌, ◌≢◌, ℕ, zero, suc, ◌+◌, ◌<◌, ◌≤◌, ◌^◌, Bool, true, false, List, [], ◌∷◌, ◌++◌}
-use Rattle.std.proofs.Common.{length, set, Option, Some, None, IsSome, is_some, Result, Ok, Err, nat_eq, refl, sym, ap}
-use Rattle.std.proofs.Common.{subst, ◌∙◌, arith}
+use Rattle.std.proofs.Common.{◌≡◌, ◌≢◌, ℕ, zero, suc, ◌+◌, ◌<◌, ◌≤◌, ◌^◌, List, [], ◌∷◌, ◌++◌, length, set, Option}
+use Rattle.std.proofs.Common.{Some, None, IsSome, Result, Ok, Err, nat_eq, refl, sym, ap, subst, ◌∙◌, arith}
 use Rattle.std.specs.Option.{option_map}
 use Rattle.std.specs.List.{sum_by}
 use Rattle.std.proofs.lemmas.Bool.{eq-eqb, ne_eqb}
@@ -18,7 +17,7 @@ use Rattle.pf_machine.specs.Progress.{Crossed, cross_now}
 use Rattle.pf_machine.specs.State as machine
 use Rattle.pf_machine.specs.State.{itself, State, End, ready, reading_end, writing_end, with_queue, holding}
 use Rattle.pf_machine.specs.Counts.{readers, writers}
-use Rattle.pf_machine.specs.Transfers.{Tried, Ends, two_ends, try_cross}
+use Rattle.pf_machine.specs.Transfers.{Tried, Ends, try_cross}
 use Rattle.pf_machine.specs.Sweep.{sweep}
 use Rattle.pf_base.specs.declared.TheConstants.{MAX_RESERVE}
 use Rattle.pf_base.specs.declared.errno.Errno.{Errno}
@@ -42,28 +41,19 @@ use Rattle.pf_tables.proofs.OwnsLaws.{pages_within, occupied_pages, used-rings}
 use Rattle.pf_tables.specs.Rows.{ProcessRows, DescriptionRows, PipeRows, Description, Pipe, pipe_of, processes_of}
 use Rattle.pf_tables.specs.Rows.{descriptions_of, pipes_of, pipe_with, state_of, end_in, Tied, Kept}
 use Rattle.pf_tables.specs.Told.{attempted, Arrived}
-use Rattle.pf_tables.proofs.Ends.{end_of_rows, Found, refused, found, counted}
-use Rattle.pf_tables.proofs.TablesShown.{shown, find_at, find_was, set_same}
+use Rattle.pf_tables.proofs.Ends.{end_of_rows, Found, refused, found, reaches, pipe_there, counted}
+use Rattle.pf_tables.proofs.TablesShown.{shown, find_was, set_same}
 use Rattle.pf_tables.proofs.TablesTied.{requeued}
 use Rattle.pf_tables.proofs.TablesSettled.{settled}
-use Rattle.pf_tables.proofs.Transfers.{bind-bind, owned, stands, there}
+use Rattle.pf_tables.proofs.Transfers.{owned, stands, there}
 
--- two look-ups by one process
-module _ {A B C : Type 0} (h k : A → Result B Errno) (go : B → B → Result C Errno) where
-  both_ok : (m : Result A Errno) (x y : B) → (m >>= h) ≡ Ok x → (m >>= k) ≡ Ok y
-      → (m >>= (λ a. h a >>= (λ u. k a >>= (λ v. go u v)))) ≡ go x y
-  both_ok (Ok a) x y e f = ap (λ r. r >>= (λ u. k a >>= (λ v. go u v))) e ∙ ap (λ r. r >>= (λ v. go x v)) f
-  both_ok (Err z) x y e f = absurd (cc)
-
-  first_err : (m : Result A Errno) (z : Errno) → (m >>= h) ≡ Err z
-      → (m >>= (λ a. h a >>= (λ u. k a >>= (λ v. go u v)))) ≡ Err z
-  first_err (Ok a) z e = ap (λ r. r >>= (λ u. k a >>= (λ v. go u v))) e
-  first_err (Err y) z e = let same : y ≡ z = cc in ap Err same
-
-  second_err : (m : Result A Errno) (x : B) (z : Errno) → (m >>= h) ≡ Ok x → (m >>= k) ≡ Err z
-      → (m >>= (λ a. h a >>= (λ u. k a >>= (λ v. go u v)))) ≡ Err z
-  second_err (Ok a) x z e f = ap (λ r. r >>= (λ u. k a >>= (λ v. go u v))) e ∙ ap (λ r. r >>= (λ v. go x v)) f
-  second_err (Err y) x z e f = absurd (cc)
+-- two look-ups by one process, and what goes on from both
+both : {A B C D : Type 0} (m : Result A Errno) (h k : A → Result B Errno) (test : B → B → Result C Errno)
+    (go : C → Result D Errno)
+    → (m >>= (λ a. (h a >>= (λ u. k a >>= (λ v. test u v))) >>= go))
+    ≡ (((m >>= h) >>= (λ u. (m >>= k) >>= (λ v. test u v))) >>= go)
+both (Ok a) h k test go = refl
+both (Err e) h k test go = refl
 
 -- a value taken out, another changed, and the first put back
 pub set_around : {X : Type 0} (xs : List X) (i k : ℕ) (a b c : X) → i ≢ k
@@ -323,28 +313,32 @@ module _ {files : Files} {files_made : ℕ} {f : Live} {limits : Limits} {charge
     abbrev s : State Segment ℕ
     s = meaning f (state_of ps ds pipes files files_made)
 
+    abbrev ends : End Segment ℕ → End Segment ℕ → Ends
+    ends i o = record { source = i; sink = o }
+
     -- the machine's test of two ends, and what goes on from there
     abbrev test : End Segment ℕ → End Segment ℕ → Result Ends Errno
-    test i o = refuse_if (nat_eq i.description.pipe o.description.pipe) EINVAL >> Ok (record { source = i; sink = o })
+    test i o = refuse_if (nat_eq i.description.pipe o.description.pipe) EINVAL >> Ok (ends i o)
 
-    abbrev tries : Result Tried Errno → Type 0
-    tries r = attempted s pid (Bringing c source sink m) ≡ r
+    abbrev tries : Ends → Result Tried Errno
+    tries e = Ok (try_cross c s e m)
 
-    goes_on : (r : Result Ends Errno) → (ready s pid >>= (λ p. two_ends s p source sink)) ≡ r
-        → attempted s pid (Bringing c source sink m) ≡ (r >>= (λ e. Ok (try_cross c s e m)))
-    goes_on r h =
-        bind-bind (ready s pid) (λ p. two_ends s p source sink) (λ e. Ok (try_cross c s e m))
-        ∙ ap (λ x. x >>= (λ e. Ok (try_cross c s e m))) h
+    -- what the call comes to, by what is found of each end
+    abbrev brings : Result (End Segment ℕ) Errno → Result (End Segment ℕ) Errno → Result Tried Errno
+    brings x y = (x >>= (λ i. y >>= (λ o. test i o))) >>= tries
 
-    in_view : (r : Result Tried Errno) → tries r → attempted (meaning f n.state) pid (Bringing c source sink m) ≡ r
-    in_view r h = subst (λ (v : Namespace). attempted (meaning f v.state) pid (Bringing c source sink m) ≡ r) view h
+    by_ends : {x y : Result (End Segment ℕ) Errno} → (ready s pid >>= (λ p. reading_end itself s p source)) ≡ x
+        → (ready s pid >>= (λ p. writing_end itself s p sink)) ≡ y
+        → attempted (meaning f n.state) pid (Bringing c source sink m) ≡ brings x y
+    by_ends {x} {y} from to =
+        subst (λ (v : Namespace). attempted (meaning f v.state) pid (Bringing c source sink m) ≡ brings x y) view
+        (both (ready s pid) (λ p. reading_end itself s p source) (λ p. writing_end itself s p sink) test tries
+        ∙ (λ j. brings (from j) (to j)))
 
     pub no_source_end : (e : Errno) → end_in (Some sides.Read) ps ds pid source ≡ Err e
         → attempted (meaning f n.state) pid (Bringing c source sink m) ≡ Err e
     no_source_end e h =
-        in_view (Err e) (goes_on (Err e) (first_err (λ p. reading_end itself s p source)
-        (λ p. writing_end itself s p sink) test (ready s pid) e
-        (refused (pipe_meaning f) (Some sides.Read) ps ds pipes files files_made k.tied pid source e h)))
+        by_ends (refused (pipe_meaning f) (Some sides.Read) ps ds pipes files files_made k.tied pid source e h) refl
 
     module _ (i : Description) (reads : end_in (Some sides.Read) ps ds pid source ≡ Ok i) where
       at_source : Found (pipe_meaning f) (Some sides.Read) ps ds pipes files files_made pid source i
@@ -353,65 +347,40 @@ module _ {files : Files} {files_made : ℕ} {f : Live} {limits : Limits} {charge
       pub no_sink_end : (e : Errno) → end_in (Some sides.Write) ps ds pid sink ≡ Err e
           → attempted (meaning f n.state) pid (Bringing c source sink m) ≡ Err e
       no_sink_end e h =
-          in_view (Err e) (goes_on (Err e) (second_err (λ p. reading_end itself s p source)
-          (λ p. writing_end itself s p sink) test (ready s pid) (end_of_rows (pipe_meaning f) i at_source.pipe) e
-          at_source.is (refused (pipe_meaning f) (Some sides.Write) ps ds pipes files files_made k.tied pid sink e h)))
+          by_ends at_source.is
+          (refused (pipe_meaning f) (Some sides.Write) ps ds pipes files files_made k.tied pid sink e h)
 
       pub source_stands : IsSome (find pipes i.pipe.slot i.pipe.serial)
-      source_stands = ap is_some (find_at pipes i.pipe.slot i.pipe.serial at_source.pipe at_source.stands)
+      source_stands = pipe_there (pipe_meaning f) (Some sides.Read) ps ds pipes files files_made k.tied pid source reads
 
       module _ (o : Description) (writes : end_in (Some sides.Write) ps ds pid sink ≡ Ok o) where
         at_sink : Found (pipe_meaning f) (Some sides.Write) ps ds pipes files files_made pid sink o
         at_sink = found (pipe_meaning f) (Some sides.Write) ps ds pipes files files_made k.tied pid sink o writes
 
         pub sink_stands : IsSome (find pipes o.pipe.slot o.pipe.serial)
-        sink_stands = ap is_some (find_at pipes o.pipe.slot o.pipe.serial at_sink.pipe at_sink.stands)
-
-        two_found : (b : Bool) → nat_eq i.pipe.serial o.pipe.serial ≡ b
-            → (ready s pid >>= (λ p. two_ends s p source sink))
-            ≡ (refuse_if b EINVAL >> Ok (record {
-              source = end_of_rows (pipe_meaning f) i at_source.pipe;
-              sink = end_of_rows (pipe_meaning f) o at_sink.pipe;
-            }))
-        two_found b h =
-            both_ok (λ p. reading_end itself s p source) (λ p. writing_end itself s p sink) test (ready s pid)
-            (end_of_rows (pipe_meaning f) i at_source.pipe) (end_of_rows (pipe_meaning f) o at_sink.pipe) at_source.is
-            at_sink.is
-            ∙ ap (λ x. refuse_if x EINVAL >> Ok (record {
-              source = end_of_rows (pipe_meaning f) i at_source.pipe;
-              sink = end_of_rows (pipe_meaning f) o at_sink.pipe;
-            })) h
+        sink_stands = pipe_there (pipe_meaning f) (Some sides.Write) ps ds pipes files files_made k.tied pid sink writes
 
         pub one_pipe : i.pipe.serial ≡ o.pipe.serial
             → attempted (meaning f n.state) pid (Bringing c source sink m) ≡ Err EINVAL
-        one_pipe e = in_view (Err EINVAL) (goes_on _ (two_found true (eq-eqb i.pipe.serial o.pipe.serial e)))
+        one_pipe e =
+            by_ends at_source.is at_sink.is
+            ∙ ap (λ b. (refuse_if b EINVAL >> Ok (ends (end_of_rows (pipe_meaning f) i at_source.pipe)
+            (end_of_rows (pipe_meaning f) o at_sink.pipe))) >>= tries) (eq-eqb i.pipe.serial o.pipe.serial e)
 
         module _ (differ : i.pipe.serial ≢ o.pipe.serial) (r t : Pipe)
             (from : find pipes i.pipe.slot i.pipe.serial ≡ Some r) (to : find pipes o.pipe.slot o.pipe.serial ≡ Some t)
             (g : Live) (r' t' : Pipe) (progress : Progress)
             (crosses : Crosses r r' t t' f g progress
             (cross_now c (queue_of f r.ring) (queue_of f t.ring) r.writers t.readers m)) where
-          abbrev ends : Ends
-          ends = record { source = end_of_rows (pipe_meaning f) i r; sink = end_of_rows (pipe_meaning f) o t }
+          abbrev those : Ends
+          those = ends (end_of_rows (pipe_meaning f) i r) (end_of_rows (pipe_meaning f) o t)
 
-          same_row : (d : Description) (x y : Pipe) → at pipes d.pipe.serial ≡ Some (d.pipe.slot, x)
-              → find pipes d.pipe.slot d.pipe.serial ≡ Some y → x ≡ y
-          same_row d x y h g =
-              let one : ◌≡◌ {A =
-              Option (ℕ × Pipe)} (Some (d.pipe.slot, x)) (Some (d.pipe.slot, y)) = sym h
-              ∙ find_was pipes d.pipe.slot d.pipe.serial y g in
-              let pair : ◌≡◌ {A = ℕ × Pipe} (d.pipe.slot, x) (d.pipe.slot, y) = cc in
-              ap (λ (z : ℕ × Pipe). z.1) pair
-
-          is_tried : attempted (meaning f n.state) pid (Bringing c source sink m) ≡ Ok (try_cross c s ends m)
+          is_tried : attempted (meaning f n.state) pid (Bringing c source sink m) ≡ Ok (try_cross c s those m)
           is_tried =
-              in_view _ (goes_on _ (two_found false (ne_eqb i.pipe.serial o.pipe.serial differ))
-              ∙ (λ j. Ok (try_cross c s (record {
-                source = end_of_rows (pipe_meaning f) i
-                    (same_row i at_source.pipe r at_source.stands from j);
-                sink = end_of_rows (pipe_meaning f) o
-                    (same_row o at_sink.pipe t at_sink.stands to j);
-              }) m)))
+              by_ends
+              (reaches (pipe_meaning f) (Some sides.Read) ps ds pipes files files_made k.tied pid source reads from)
+              (reaches (pipe_meaning f) (Some sides.Write) ps ds pipes files files_made k.tied pid sink writes to)
+              ∙ ap (λ b. (refuse_if b EINVAL >> Ok those) >>= tries) (ne_eqb i.pipe.serial o.pipe.serial differ)
 
           source_counts : (readers itself s i.pipe.serial ≡ r.readers) × (writers itself s i.pipe.serial ≡ r.writers)
           source_counts =
@@ -437,7 +406,7 @@ module _ {files : Files} {files_made : ℕ} {f : Live} {limits : Limits} {charge
               → Arrived g (record { limits = limits; state = state_of ps ds rows files files_made })
               (attempted (meaning f n.state) pid (Bringing c source sink m)) progress
           arrived rows e = record {
-            tried = try_cross c s ends m;
+            tried = try_cross c s those m;
             is = is_tried;
             progress_is = ap (λ (x : Crossed). x.progress) (sym same_result ∙ crosses.told);
             state =

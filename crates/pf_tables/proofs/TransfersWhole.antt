@@ -1,8 +1,7 @@
 -- A write that comes to its end at once, or stops short of it; and whether a descriptor's description has O_NONBLOCK.
 
 use Rattle.std.proofs.Common.{◌≡◌, ℕ, zero, suc, ◌<◌, ◌≤◌, Bool, true, false, List, length, nat_eq, nat_lt, nat_le}
-use Rattle.std.proofs.Common.{Option, Some, None, Result, Ok, Err, inl, inr, if◌then◌else◌, refl, sym, ap, subst, ◌∙◌}
-use Rattle.std.proofs.Common.{arith}
+use Rattle.std.proofs.Common.{Some, None, Result, Ok, Err, inl, inr, if◌then◌else◌, refl, sym, ap, subst, ◌∙◌, arith}
 use Rattle.std.proofs.lemmas.Bool.{eqb-true, eqb-false, le-ltb, le-leb, lt-leb}
 use Rattle.pf_machine.specs.FileMap.{Files}
 use Rattle.pf_base.specs.Limits.{Limits}
@@ -27,7 +26,7 @@ use Rattle.pf_tables.specs.Meaning.{Namespace, meaning, pipe_meaning}
 use Rattle.pf_tables.specs.Rows.{ProcessRows, DescriptionRows, PipeRows, Description, Pipe, state_of, end_in, Tied}
 use Rattle.pf_tables.specs.Rows.{Kept}
 use Rattle.pf_tables.specs.Told.{attempted, flag_of, is_nonblocking_at, IsDone, IsShort, Stops}
-use Rattle.pf_tables.proofs.Ends.{end_of_rows, state_seen, as_kept, seen_as_kept, refused, found, counted}
+use Rattle.pf_tables.proofs.Ends.{end_of_rows, state_seen, as_kept, seen_as_kept, refused, found, reaches, counted}
 use Rattle.pf_tables.proofs.TablesShown.{find_was}
 use Rattle.pf_tables.proofs.Transfers.{bind-bind}
 
@@ -130,25 +129,19 @@ module _ {files : Files} {files_made : ℕ} (f : Live) {limits : Limits} {charge
       → 0 < r.readers → room_of (queue_of f r.ring) < length x
       → Stops (attempted (meaning f n.state) pid (Writing fd x 0)) (length x)
   stops_at d r x h handed fits some short =
-      let w = found (pipe_meaning f) (Some Write) ps ds pipes files files_made kept.tied pid fd d h in
-      let one : ◌≡◌ {A =
-      Option (ℕ × Pipe)} (Some (d.pipe.slot, w.pipe)) (Some (d.pipe.slot, r)) = sym w.stands
-      ∙ find_was pipes d.pipe.slot d.pipe.serial r handed in
-      let pair : ◌≡◌ {A = ℕ × Pipe} (d.pipe.slot, w.pipe) (d.pipe.slot, r) = cc in
-      let same : w.pipe ≡ r = ap (λ (p : ℕ × Pipe). p.1) pair in
       let counts =
       counted (pipe_meaning f) (Some Write) ps ds pipes files files_made kept.tied pid fd d.pipe.serial d.pipe.slot
-      w.pipe w.stands in
+      r (find_was pipes d.pipe.slot d.pipe.serial r handed) in
       let go : Bool → Result Tried Errno =
-      λ b. refuse_if b EINVAL >> Ok (try_write s (end_of_rows (pipe_meaning f) d w.pipe) x 0) in
+      λ b. refuse_if b EINVAL >> Ok (try_write s (end_of_rows (pipe_meaning f) d r) x 0) in
       subst (λ (v : Namespace). Stops (attempted (meaning f v.state) pid (Writing fd x 0)) (length x)) view
       (record {
-        tried = try_write s (end_of_rows (pipe_meaning f) d w.pipe) x 0;
+        tried = try_write s (end_of_rows (pipe_meaning f) d r) x 0;
         is =
             bind-bind (ready s pid) (λ p. writing_end itself s p fd) _
-            ∙ ap (λ m. m >>= (λ e. refuse_if (nat_lt MAX_WRITE (length x)) EINVAL >> Ok (try_write s e x 0))) w.is
+            ∙ ap (λ m. m >>= (λ e. refuse_if (nat_lt MAX_WRITE (length x)) EINVAL >> Ok (try_write s e x 0)))
+            (reaches (pipe_meaning f) (Some Write) ps ds pipes files files_made kept.tied pid fd h handed)
             ∙ ap go (le-ltb MAX_WRITE (length x) fits);
-        short = stops (queue_of f w.pipe.ring) (nat_le (length x) PIPE_BUF) x (readers itself s d.pipe.serial)
-            (subst (λ k. 0 < k) (ap (λ (p : Pipe). p.readers) (sym same) ∙ sym counts.0) some)
-            (subst (λ (p : Pipe). room_of (queue_of f p.ring) < length x) (sym same) short);
+        short = stops (queue_of f r.ring) (nat_le (length x) PIPE_BUF) x (readers itself s d.pipe.serial)
+            (subst (λ k. 0 < k) (sym counts.0) some) short;
       })
