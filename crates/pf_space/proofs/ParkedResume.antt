@@ -2,8 +2,7 @@
 -- where it has to.
 
 use Rattle.std.proofs.Common.{◌≡◌, ℕ, zero, suc, ◌+◌, ◌-◌, Bool, true, false, List, length, set, Option, Some, None}
-use Rattle.std.proofs.Common.{is_some, Result, Ok, Err, refl, sym, ap, subst, ◌∙◌, arith, nat_eq, nat_lt}
-use Rattle.std.proofs.Common.{if◌then◌else◌}
+use Rattle.std.proofs.Common.{is_some, Result, Ok, Err, refl, sym, ap, subst, ◌∙◌, arith, nat_eq, nat_lt, if◌then◌else◌}
 use Rattle.std.specs.Option.{option_map, option_and_then}
 use Rattle.std.proofs.lemmas.List.{set-set}
 use Rattle.pf_machine.specs.Calls.{Transfer, Reading, Writing, Bringing, Call, Moving, made_by}
@@ -13,10 +12,10 @@ use Rattle.pf_machine.specs.Numbered.{at, change_at}
 use Rattle.pf_machine.proofs.NumberedLaws.{at_within, at-put_same}
 use Rattle.pf_machine.specs.Queue.{Segment}
 use Rattle.pf_machine.specs.Refusals.{◌>>=◌, ◌>>◌, refuse_if, or_refuse}
-use Rattle.pf_machine.specs.State.{itself, State, Process, End, Outcome, process, ready, reading_end, writing_end}
+use Rattle.pf_machine.specs.State.{itself, State, Process, Outcome, process, ready, reading_end, writing_end}
 use Rattle.pf_machine.specs.State.{change_process, waiting, told}
 use Rattle.pf_machine.specs.Sweep.{sweep}
-use Rattle.pf_machine.specs.Transfers.{Tried, Ends, tried, two_ends, try_read, try_write, try_cross}
+use Rattle.pf_machine.specs.Transfers.{Tried, tried, two_ends, try_read, try_write, try_cross}
 use Rattle.pf_machine.specs.Attempts.{Attempt, Finished, Waits, transfer_told, attempt, first, again, resume}
 use Rattle.pf_base.specs.declared.TheConstants.{MAX_WRITE}
 use Rattle.pf_base.specs.declared.errno.Errno.{Errno}
@@ -33,9 +32,11 @@ use Rattle.pf_tables.specs.Meaning.{Namespace, meaning}
 use Rattle.pf_tables.specs.Owns.{Owns}
 use Rattle.pf_tables.specs.Tables.{over, woken, awoken}
 use Rattle.pf_tables.specs.Told.{Told, Says, tried_call, waits_in, settled, ended}
+use Rattle.pf_machine.specs.Maps.{if_ok}
+use Rattle.pf_machine.proofs.MapLaws.{bind-as, bind-same, then-as}
 use Rattle.pf_machine.proofs.ExitLaws.{change-change}
 use Rattle.pf_tables.proofs.MeaningLaws.{settled-meaning, woken-left}
-use Rattle.pf_tables.proofs.TablesShown.{set_same}
+use Rattle.pf_tables.proofs.TablesShown.{set_same, place_in}
 use Rattle.pf_space.proofs.ParkedTransfers.{sweep-waiting}
 
 -- A transfer of a process that was woken
@@ -44,59 +45,43 @@ module _ (pid : ℕ) where
   abbrev pub awake : {X : Type 0} → State X ℕ → State X ℕ
   awake s = change_process (waiting None) s pid
 
-  abbrev lifted : Result Tried Errno → Result Tried Errno
-  lifted (Ok r) = Ok (record r { state = awake r.state })
-  lifted (Err e) = Err e
+  abbrev lift : Tried → Tried
+  lift r = record r { state = awake r.state }
 
-  abbrev lifted_told : Result (Attempt Segment ℕ) Errno → Result (Attempt Segment ℕ) Errno
-  lifted_told (Ok (Finished s reply)) = Ok (Finished (awake s) reply)
-  lifted_told (Ok (Waits s c)) = Ok (Waits (awake s) c)
-  lifted_told (Err e) = Err e
+  abbrev lift_told : Attempt Segment ℕ → Attempt Segment ℕ
+  lift_told (Finished s reply) = Finished (awake s) reply
+  lift_told (Waits s c) = Waits (awake s) c
 
   tried-lifted : (s : State Segment ℕ) (p : Process ℕ) (t : Transfer)
-      → tried (awake s) (waiting None p) t ≡ lifted (tried s p t)
-  tried-lifted s p (Reading fd n) = by_end (reading_end itself s p fd)
-    where
-      by_end : (e : Result (End Segment ℕ) Errno) → (e >>= (λ e. Ok (try_read (awake s) e n)))
-          ≡ lifted (e >>= (λ e. Ok (try_read s e n)))
-      by_end (Ok e) = refl
-      by_end (Err e) = refl
-  tried-lifted s p (Writing fd x written) = by_end (writing_end itself s p fd) (nat_lt MAX_WRITE (length x))
-    where
-      by_end : (e : Result (End Segment ℕ) Errno) (b : Bool)
-          → (e >>= (λ e. refuse_if b EINVAL >> Ok (try_write (awake s) e x written)))
-          ≡ lifted (e >>= (λ e. refuse_if b EINVAL >> Ok (try_write s e x written)))
-      by_end (Ok e) true = refl
-      by_end (Ok e) false = refl
-      by_end (Err e) b = refl
-  tried-lifted s p (Bringing c source sink n) = by_end (two_ends s p source sink)
-    where
-      by_end : (e : Result Ends Errno) → (e >>= (λ e. Ok (try_cross c (awake s) e n)))
-          ≡ lifted (e >>= (λ e. Ok (try_cross c s e n)))
-      by_end (Ok e) = refl
-      by_end (Err e) = refl
+      → tried (awake s) (waiting None p) t ≡ if_ok lift (tried s p t)
+  tried-lifted s p (Reading fd n) =
+      bind-same lift (reading_end itself s p fd) (λ e. Ok (try_read s e n)) (λ e. Ok (try_read (awake s) e n))
+      (λ e. refl)
+  tried-lifted s p (Writing fd x written) =
+      let test = refuse_if (nat_lt MAX_WRITE (length x)) EINVAL in
+      bind-same lift (writing_end itself s p fd) (λ e. test >> Ok (try_write s e x written))
+      (λ e. test >> Ok (try_write (awake s) e x written))
+      (λ e. then-as lift test (Ok (try_write s e x written)) (Ok (try_write (awake s) e x written)) refl)
+  tried-lifted s p (Bringing c source sink n) =
+      bind-same lift (two_ends s p source sink) (λ e. Ok (try_cross c s e n)) (λ e. Ok (try_cross c (awake s) e n))
+      (λ e. refl)
+
+  by_test : (b : Bool) (x y : Result (Attempt Segment ℕ) Errno)
+      → (if b then if_ok lift_told x else if_ok lift_told y) ≡ if_ok lift_told (if b then x else y)
+  by_test true x y = refl
+  by_test false x y = refl
 
   told-lifted : (t : Transfer) (r : Tried) (q : Progress)
-      → transfer_told t (record r { state = awake r.state }) q ≡ lifted_told (transfer_told t r q)
+      → transfer_told t (lift r) q ≡ if_ok lift_told (transfer_told t r q)
   told-lifted (Reading fd n) r (Moved m) = refl
   told-lifted (Reading fd n) r EndOfFile = refl
   told-lifted (Reading fd n) r NoReader = refl
   told-lifted (Reading fd n) r WouldBlock = refl
-  told-lifted (Writing fd x written) r (Moved m) = by_rest (nat_eq (written + m) (length x))
-    where
-      by_rest : (b : Bool)
-          → (if b then Ok (Finished (awake r.state) (replies.Num (length x))) else Ok
-          (Waits (awake r.state) (Moving (Writing fd x (written + m)))))
-          ≡ lifted_told (if b then Ok (Finished r.state (replies.Num (length x))) else Ok
-          (Waits r.state (Moving (Writing fd x (written + m)))))
-      by_rest true = refl
-      by_rest false = refl
-  told-lifted (Writing fd x written) r NoReader = by_none (nat_eq written 0)
-    where
-      by_none : (b : Bool) → (if b then Err EPIPE else Ok (Finished (awake r.state) (replies.Num written)))
-          ≡ lifted_told (if b then Err EPIPE else Ok (Finished r.state (replies.Num written)))
-      by_none true = refl
-      by_none false = refl
+  told-lifted (Writing fd x written) r (Moved m) =
+      by_test (nat_eq (written + m) (length x)) (Ok (Finished r.state (replies.Num (length x))))
+      (Ok (Waits r.state (Moving (Writing fd x (written + m)))))
+  told-lifted (Writing fd x written) r NoReader =
+      by_test (nat_eq written 0) (Err EPIPE) (Ok (Finished r.state (replies.Num written)))
   told-lifted (Writing fd x written) r WouldBlock = refl
   told-lifted (Writing fd x written) r EndOfFile = refl
   told-lifted (Bringing c source sink n) r (Moved m) = refl
@@ -106,14 +91,11 @@ module _ (pid : ℕ) where
 
   attempt-lifted : (s : State Segment ℕ) (p : Process ℕ) (t : Transfer)
       → (tried (awake s) (waiting None p) t >>= (λ r. transfer_told t r r.progress))
-      ≡ lifted_told (tried s p t >>= (λ r. transfer_told t r r.progress))
+      ≡ if_ok lift_told (tried s p t >>= (λ r. transfer_told t r r.progress))
   attempt-lifted s p t =
-      ap (λ q. q >>= (λ r. transfer_told t r r.progress)) (tried-lifted s p t) ∙ by_tried (tried s p t)
-    where
-      by_tried : (q : Result Tried Errno) → (lifted q >>= (λ r. transfer_told t r r.progress))
-          ≡ lifted_told (q >>= (λ r. transfer_told t r r.progress))
-      by_tried (Ok r) = told-lifted t r r.progress
-      by_tried (Err e) = refl
+      ap (λ q. q >>= (λ r. transfer_told t r r.progress)) (tried-lifted s p t)
+      ∙ bind-as lift lift_told (tried s p t) (λ r. transfer_told t r r.progress) (λ r. transfer_told t r r.progress)
+      (λ r. told-lifted t r r.progress)
 
   -- to wait again is to go on waiting
   parked-again : (s : State Segment ℕ) (c : Call ℕ)
@@ -132,14 +114,10 @@ pub record WaitsIn (s : State Segment ℕ) (pid : ℕ) (t : Transfer) : Type 0 w
 pub waiter : (s : State Segment ℕ) (pid : ℕ) (t : Transfer) → call_of s pid ≡ Some (Moving t) → WaitsIn s pid t
 waiter s pid t h = by_row (process s pid) refl h
   where
-    place : (m : ℕ) (q : Process ℕ) → process s m ≡ Some q → at s.processes (m - 1) ≡ Some q
-    place zero q g = absurd (cc)
-    place (suc i) q g = let same : suc i - 1 ≡ i = omega arith in ap (at s.processes) same ∙ g
-
     by_row : (o : Option (Process ℕ)) → process s pid ≡ o
         → option_and_then (λ (p : Process ℕ). p.parked) o ≡ Some (Moving t) → WaitsIn s pid t
     by_row None g h = absurd (cc)
-    by_row (Some p) g h = record { p = p; lives = g; waits = h; stands = place pid p g }
+    by_row (Some p) g h = record { p = p; lives = g; waits = h; stands = place_in s pid g }
 
 module _ (s : State Segment ℕ) (pid : ℕ) (t : Transfer) (w : WaitsIn s pid t) where
   -- it is woken
@@ -170,7 +148,7 @@ module _ (s : State Segment ℕ) (pid : ℕ) (t : Transfer) (w : WaitsIn s pid t
       ap (λ o. or_refuse ESRCH o >>= (λ p. resume s pid p)) w.lives
       ∙ ap (λ o. or_refuse EINVAL o >>= (λ x. Ok (again s pid (attempt s pid w.p x)))) w.waits
 
-  tried_is : tried_call (awake pid s) pid false t ≡ (lifted_told pid came >>= first pid false)
+  tried_is : tried_call (awake pid s) pid false t ≡ (if_ok (lift_told pid) came >>= first pid false)
   tried_is =
       ap (λ q. q >>= (λ p. (tried (awake pid s) p t >>= (λ r. transfer_told t r r.progress)) >>= first pid false))
       ready_is ∙ ap (λ q. q >>= first pid false) (attempt-lifted pid s w.p t)
@@ -179,11 +157,11 @@ module _ (s : State Segment ℕ) (pid : ℕ) (t : Transfer) (w : WaitsIn s pid t
   still_awake still = sweep-waiting s pid w.p w.stands (ap made_by w.waits) None refl ∙ ap (awake pid) (sym still)
 
   -- a reply
-  replied : (o : Outcome Segment ℕ) → settled (lifted_told pid came >>= first pid false) ≡ Ok o
+  replied : (o : Outcome Segment ℕ) → settled (if_ok (lift_told pid) came >>= first pid false) ≡ Ok o
       → settled (Ok (again s pid came)) ≡ Ok o
   replied o h = by_attempt came h
     where
-      by_attempt : (a : Result (Attempt Segment ℕ) Errno) → settled (lifted_told pid a >>= first pid false) ≡ Ok o
+      by_attempt : (a : Result (Attempt Segment ℕ) Errno) → settled (if_ok (lift_told pid) a >>= first pid false) ≡ Ok o
           → settled (Ok (again s pid a)) ≡ Ok o
       by_attempt (Ok (Finished z reply)) h = h
       by_attempt (Ok (Waits z c)) h =
@@ -192,11 +170,11 @@ module _ (s : State Segment ℕ) (pid : ℕ) (t : Transfer) (w : WaitsIn s pid t
       by_attempt (Err e) h = absurd (cc)
 
   -- a refusal is one
-  refused : (e : Errno) → s ≡ sweep itself s → (lifted_told pid came >>= first pid false) ≡ Err e
+  refused : (e : Errno) → s ≡ sweep itself s → (if_ok (lift_told pid) came >>= first pid false) ≡ Err e
       → settled (Ok (again s pid came)) ≡ Ok (record { state = awake pid s; reply = replies.Err e })
   refused e still h = by_attempt came h
     where
-      by_attempt : (a : Result (Attempt Segment ℕ) Errno) → (lifted_told pid a >>= first pid false) ≡ Err e
+      by_attempt : (a : Result (Attempt Segment ℕ) Errno) → (if_ok (lift_told pid) a >>= first pid false) ≡ Err e
           → settled (Ok (again s pid a)) ≡ Ok (record { state = awake pid s; reply = replies.Err e })
       by_attempt (Ok (Finished z reply)) h = absurd (cc)
       by_attempt (Ok (Waits z c)) h = absurd (cc)
@@ -234,7 +212,8 @@ module _ (f : Live) {tables old mid : Namespace} (view : tables ≡ old) (pid : 
       still : s ≡ sweep itself s
       still = settled-meaning f tables.state kept
 
-      machine : tried_call (meaning f mid.state) pid false t ≡ (lifted_told pid (came s pid t w) >>= first pid false)
+      machine : tried_call (meaning f mid.state) pid false t
+          ≡ (if_ok (lift_told pid) (came s pid t w) >>= first pid false)
       machine = ap (λ z. tried_call z pid false t) mid_state ∙ tried_is s pid t w
 
       by_result : (r : Result Reply Fault) → Says f g mid new r (tried_call (meaning f mid.state) pid false t)

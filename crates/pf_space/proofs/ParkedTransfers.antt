@@ -1,12 +1,13 @@
 -- A call that waits, and one that is tried again: what the machine says of it, from what the tables did.
 
-use Rattle.std.proofs.Common.{◌≡◌, ◌≢◌, ◌⊎◌, inl, inr, ℕ, zero, suc, ◌+◌, ◌-◌, Bool, true, false, ◌&&◌, ◌||◌, List}
-use Rattle.std.proofs.Common.{length, Option, Some, None, is_some, Result, Ok, Err, refl, sym, ap, subst, ◌∙◌, arith}
-use Rattle.std.proofs.Common.{nat_eq, nat_lt, if◌then◌else◌}
+use Rattle.std.proofs.Common.{◌≡◌, ◌≢◌, ◌⊎◌, inl, inr, ℕ, ◌+◌, ◌-◌, Bool, true, false, ◌&&◌, ◌||◌, List, length, Option}
+use Rattle.std.proofs.Common.{Some, None, is_some, Result, Ok, Err, refl, sym, ap, subst, ◌∙◌, arith, nat_eq, nat_lt}
+use Rattle.std.proofs.Common.{if◌then◌else◌}
 use Rattle.std.specs.Option.{option_map}
 use Rattle.std.proofs.lemmas.Bool.{ne_eqb}
 use Rattle.pf_machine.specs.Calls.{Transfer, Reading, Writing, Bringing, Call, Moving, made_by}
 use Rattle.pf_machine.specs.Counts.{named_in, names_of, names}
+use Rattle.pf_machine.proofs.HoldsLaws.{Holds, carries, passes, of_given}
 use Rattle.pf_machine.specs.Numbered.{at, change_at, sum_of, weight, one_if, keep}
 use Rattle.pf_machine.proofs.NumberedLaws.{at_within, sum_of-set}
 use Rattle.pf_machine.specs.Progress.{moved}
@@ -15,7 +16,7 @@ use Rattle.pf_machine.specs.Refusals.{◌>>=◌, ◌>>◌, refuse_if, or_refuse}
 use Rattle.pf_machine.specs.State.{itself, State, Process, End, process, ready, reading_end, writing_end}
 use Rattle.pf_machine.specs.State.{change_process, waiting}
 use Rattle.pf_machine.specs.Sweep.{sweep, live_descriptions, live_pipes}
-use Rattle.pf_machine.specs.Transfers.{Tried, Ends, tried, two_ends, try_read, try_write, try_cross}
+use Rattle.pf_machine.specs.Transfers.{Tried, tried, two_ends, try_read, try_write, try_cross}
 use Rattle.pf_machine.specs.Attempts.{Finished, Waits, transfer_told, attempt, first, is_nonblocking, nonblocking}
 use Rattle.pf_machine.specs.Attempts.{transfer}
 use Rattle.pf_base.specs.declared.TheConstants.{MAX_WRITE}
@@ -35,6 +36,7 @@ use Rattle.pf_tables.specs.Meaning.{Namespace, meaning}
 use Rattle.pf_tables.specs.Owns.{Owns}
 use Rattle.pf_tables.specs.Told.{Told, attempted, tried_call, flag_of, is_nonblocking_at, transferred, waits_in}
 use Rattle.pf_tables.specs.Told.{settled}
+use Rattle.pf_tables.proofs.TablesShown.{place_in}
 use Rattle.pf_space.proofs.Books.{flag-meaning}
 
 -- Another call of a process, which is no open: nothing that was swept comes back
@@ -71,27 +73,18 @@ module _ {X : Type 0} (s : State X ℕ) (pid : ℕ) (p : Process ℕ) (stands : 
 -- What was tried
 
 -- a transfer changes no process
-tried-processes : (s : State Segment ℕ) (p : Process ℕ) (t : Transfer) (r : Tried) → tried s p t ≡ Ok r
-    → r.state.processes ≡ s.processes
-tried-processes s p (Reading fd n) r h = by_end (reading_end itself s p fd) h
-  where
-    by_end : (e : Result (End Segment ℕ) Errno) → (e >>= (λ e. Ok (try_read s e n))) ≡ Ok r
-        → r.state.processes ≡ s.processes
-    by_end (Ok e) h = let same : try_read s e n ≡ r = cc in ap (λ (x : Tried). x.state.processes) (sym same)
-    by_end (Err e) h = absurd (cc)
-tried-processes s p (Writing fd x written) r h = by_end (writing_end itself s p fd) (nat_lt MAX_WRITE (length x)) h
-  where
-    by_end : (e : Result (End Segment ℕ) Errno) (b : Bool)
-        → (e >>= (λ e. refuse_if b EINVAL >> Ok (try_write s e x written))) ≡ Ok r → r.state.processes ≡ s.processes
-    by_end (Ok e) false h =
-        let same : try_write s e x written ≡ r = cc in ap (λ (x : Tried). x.state.processes) (sym same)
-    by_end (Ok e) true h = absurd (cc)
-    by_end (Err e) b h = absurd (cc)
-tried-processes s p (Bringing c source sink n) r h = by_end (two_ends s p source sink) h
-  where
-    by_end : (e : Result Ends Errno) → (e >>= (λ e. Ok (try_cross c s e n))) ≡ Ok r → r.state.processes ≡ s.processes
-    by_end (Ok e) h = let same : try_cross c s e n ≡ r = cc in ap (λ (x : Tried). x.state.processes) (sym same)
-    by_end (Err e) h = absurd (cc)
+abbrev Stays : State Segment ℕ → Tried → Type 0
+Stays s r = r.state.processes ≡ s.processes
+
+tried-stays : (s : State Segment ℕ) (p : Process ℕ) (t : Transfer) → Holds (Stays s) (tried s p t)
+tried-stays s p (Reading fd n) =
+    carries (Stays s) (reading_end itself s p fd) (λ e. Ok (try_read s e n)) (λ e. refl)
+tried-stays s p (Writing fd x written) =
+    let goes : End Segment ℕ → Result Tried Errno = λ e. Ok (try_write s e x written) in
+    carries (Stays s) (writing_end itself s p fd) (λ e. refuse_if (nat_lt MAX_WRITE (length x)) EINVAL >> goes e)
+    (λ e. passes (Stays s) (refuse_if (nat_lt MAX_WRITE (length x)) EINVAL) (goes e) refl)
+tried-stays s p (Bringing c source sink n) =
+    carries (Stays s) (two_ends s p source sink) (λ e. Ok (try_cross c s e n)) (λ e. refl)
 
 -- who is ready stands in its place, and waits in no call
 pub record IsReady (s : State Segment ℕ) (pid : ℕ) (p : Process ℕ) : Type 0 where
@@ -101,15 +94,11 @@ pub record IsReady (s : State Segment ℕ) (pid : ℕ) (p : Process ℕ) : Type 
 pub is_ready : (s : State Segment ℕ) (pid : ℕ) (p : Process ℕ) → ready s pid ≡ Ok p → IsReady s pid p
 is_ready s pid p h = by_row (process s pid) refl h
   where
-    place : (m : ℕ) (q : Process ℕ) → process s m ≡ Some q → at s.processes (m - 1) ≡ Some q
-    place zero q g = absurd (cc)
-    place (suc i) q g = let same : suc i - 1 ≡ i = omega arith in ap (at s.processes) same ∙ g
-
     by_call : (q : Process ℕ) (o : Option (Call ℕ)) → process s pid ≡ Some q → q.parked ≡ o
         → (refuse_if (is_some o) EBUSY >> Ok q) ≡ Ok p → IsReady s pid p
     by_call q None g e h =
         let same : q ≡ p = cc in
-        record { stands = place pid q g ∙ ap Some same; awake = ap (λ (x : Process ℕ). x.parked) (sym same) ∙ e }
+        record { stands = place_in s pid g ∙ ap Some same; awake = ap (λ (x : Process ℕ). x.parked) (sym same) ∙ e }
     by_call q (Some c) g e h = absurd (cc)
 
     by_row : (o : Option (Process ℕ)) → process s pid ≡ o
@@ -131,26 +120,28 @@ tries s pid t r h = by_caller (ready s pid) refl h
     by_caller (Err e) c h = absurd (cc)
 
 -- so its call goes on from there
-pub called : (s : State Segment ℕ) (pid : ℕ) (nonblock : Bool) (t : Transfer) (r : Tried) → attempted s pid t ≡ Ok r
-    → tried_call s pid nonblock t ≡ (transfer_told t r r.progress >>= first pid nonblock)
-called s pid nonblock t r h =
-    let w = tries s pid t r h in
-    ap (λ q. q >>= (λ p. attempt s pid p (Moving t) >>= first pid nonblock)) w.caller
-    ∙ ap (λ q. (q >>= (λ x. transfer_told t x x.progress)) >>= first pid nonblock) w.is
-
-pub not_called : (s : State Segment ℕ) (pid : ℕ) (nonblock : Bool) (t : Transfer) (e : Errno)
-    → attempted s pid t ≡ Err e → tried_call s pid nonblock t ≡ Err e
-not_called s pid nonblock t e h = by_caller (ready s pid) h
+call_is : (s : State Segment ℕ) (pid : ℕ) (nonblock : Bool) (t : Transfer)
+    → tried_call s pid nonblock t
+    ≡ (attempted s pid t >>= (λ r. transfer_told t r r.progress >>= first pid nonblock))
+call_is s pid nonblock t = by_caller (ready s pid)
   where
-    by_tried : (p : Process ℕ) (q : Result Tried Errno) → q ≡ Err e
-        → ((q >>= (λ x. transfer_told t x x.progress)) >>= first pid nonblock) ≡ Err e
-    by_tried p (Ok x) g = absurd (cc)
-    by_tried p (Err x) g = let same : x ≡ e = cc in ap Err same
+    by_tried : (q : Result Tried Errno)
+        → ((q >>= (λ r. transfer_told t r r.progress)) >>= first pid nonblock)
+        ≡ (q >>= (λ r. transfer_told t r r.progress >>= first pid nonblock))
+    by_tried (Ok r) = refl
+    by_tried (Err e) = refl
 
-    by_caller : (q : Result (Process ℕ) Errno) → (q >>= (λ p. tried s p t)) ≡ Err e
-        → (q >>= (λ p. attempt s pid p (Moving t) >>= first pid nonblock)) ≡ Err e
-    by_caller (Ok p) g = by_tried p (tried s p t) g
-    by_caller (Err x) g = let same : x ≡ e = cc in ap Err same
+    by_caller : (q : Result (Process ℕ) Errno)
+        → (q >>= (λ p. attempt s pid p (Moving t) >>= first pid nonblock))
+        ≡ ((q >>= (λ p. tried s p t)) >>= (λ r. transfer_told t r r.progress >>= first pid nonblock))
+    by_caller (Ok p) = by_tried (tried s p t)
+    by_caller (Err e) = refl
+
+pub called : (s : State Segment ℕ) (pid : ℕ) (nonblock : Bool) (t : Transfer) {q : Result Tried Errno}
+    → attempted s pid t ≡ q
+    → tried_call s pid nonblock t ≡ (q >>= (λ r. transfer_told t r r.progress >>= first pid nonblock))
+called s pid nonblock t h =
+    call_is s pid nonblock t ∙ ap (λ q. q >>= (λ r. transfer_told t r r.progress >>= first pid nonblock)) h
 
 -- It parks
 
@@ -171,15 +162,18 @@ module _ (f g : Live) (old mid new : Namespace) (pid : ℕ) (t : Transfer) (r : 
   now_waits : sweep itself (change_process (waiting (Some c)) r.state pid)
       ≡ change_process (waiting (Some c)) (sweep itself r.state) pid
   now_waits =
-      sweep-waiting r.state pid w.p (ap (λ ps. at ps (pid - 1)) (tried-processes (meaning f old.state) w.p t r w.is)
-      ∙ here.stands) (ap made_by here.awake) (Some c) moving
+      let stays : Stays (meaning f old.state) r =
+      of_given (Stays (meaning f old.state)) (tried (meaning f old.state) w.p t) r w.is
+      (tried-stays (meaning f old.state) w.p t) in
+      sweep-waiting r.state pid w.p (ap (λ ps. at ps (pid - 1)) stays ∙ here.stands) (ap made_by here.awake) (Some c)
+      moving
 
   pub parks : Told f g old new (Ok replies.Parked) (tried_call (meaning f old.state) pid false t)
   parks = record {
     owns = subst (Owns g) (sym waits_now) (record { joined = owns.joined; reserve = owns.reserve });
     limits = ap (λ (n : Namespace). n.limits) waits_now ∙ limits;
     says =
-        ap settled (called (meaning f old.state) pid false t r is ∙ ap (λ a. a >>= first pid false) waits)
+        ap settled (called (meaning f old.state) pid false t is ∙ ap (λ a. a >>= first pid false) waits)
         ∙ ap (λ (z : State Segment ℕ). Ok (record { state = z; reply = replies.Parked }))
         (now_waits ∙ ap (λ (z : State Segment ℕ). change_process (waiting (Some c)) z pid) (sym state))
         ∙ ap (λ (n : Namespace). Ok (record { state = meaning g n.state; reply = replies.Parked })) (sym waits_now);
@@ -196,7 +190,7 @@ finishes f g old new pid t r is owns limits state reply finished = record {
   owns = owns;
   limits = limits;
   says =
-      ap settled (called (meaning f old.state) pid false t r is ∙ ap (λ a. a >>= first pid false) finished)
+      ap settled (called (meaning f old.state) pid false t is ∙ ap (λ a. a >>= first pid false) finished)
       ∙ ap (λ (z : State Segment ℕ). Ok (record { state = z; reply = reply })) (sym state);
 }
 
@@ -206,7 +200,7 @@ pub refuses : (f g : Live) (old new : Namespace) (pid : ℕ) (t : Transfer) (b :
     → meaning g new.state ≡ meaning f old.state
     → Told f g old new (Err (faults.Errno e)) (tried_call (meaning f old.state) pid b t)
 refuses f g old new pid t b e is owns limits same =
-    record { owns = owns; limits = limits; says = (not_called (meaning f old.state) pid b t e is, same) }
+    record { owns = owns; limits = limits; says = (called (meaning f old.state) pid b t is, same) }
 
 -- It doesn't wait
 

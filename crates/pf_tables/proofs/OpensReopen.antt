@@ -1,7 +1,7 @@
 -- The open in which a process waits, tried again.
 
-use Rattle.std.proofs.Common.{◌≡◌, ℕ, zero, suc, ◌-◌, Bool, true, false, Option, Some, None, set, if◌then◌else◌}
-use Rattle.std.proofs.Common.{Ok, refl, sym, ap, subst, ◌∙◌, arith}
+use Rattle.std.proofs.Common.{◌≡◌, ℕ, ◌-◌, Bool, true, false, Option, Some, None, set, if◌then◌else◌, Ok, refl, sym, ap}
+use Rattle.std.proofs.Common.{subst, ◌∙◌}
 use Rattle.std.specs.Option.{option_map, option_and_then}
 use Rattle.std.proofs.lemmas.List.{set-set}
 use Rattle.pf_machine.specs.Attempts.{Attempt, Waits, again, given, reopened}
@@ -20,7 +20,7 @@ use Rattle.pf_tables.specs.Meaning.{Namespace}
 use Rattle.pf_tables.specs.Opened.{IsOver, Reopens}
 use Rattle.pf_tables.specs.Owns.{Owns}
 use Rattle.pf_tables.specs.Tables.{over, woken, awoken, HasLowest}
-use Rattle.pf_tables.proofs.TablesShown.{set_same}
+use Rattle.pf_tables.proofs.TablesShown.{set_same, place_in}
 
 module _ (old : Namespace) {pid : ℕ} {over_now : Bool} (w : IsOver old.state pid over_now) where
   abbrev s : State Window ℕ
@@ -34,11 +34,7 @@ module _ (old : Namespace) {pid : ℕ} {over_now : Bool} (w : IsOver old.state p
       found (Some q) h = cc
 
   place : at s.processes (pid - 1) ≡ Some w.p
-  place = by_pid pid opener
-    where
-      by_pid : (m : ℕ) → process s m ≡ Some w.p → at s.processes (m - 1) ≡ Some w.p
-      by_pid zero g = absurd (cc)
-      by_pid (suc i) g = let same : suc i - 1 ≡ i = omega arith in ap (at s.processes) same ∙ g
+  place = place_in s pid opener
 
   waits : call_of s pid ≡ Some (Opening w.n w.before)
   waits = ap (option_and_then (λ (p : Process ℕ). p.parked)) opener ∙ w.waits

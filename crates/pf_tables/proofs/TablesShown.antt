@@ -1,10 +1,12 @@
 -- What the tables show of their rows.
 
-use Rattle.std.proofs.Common.{◌≡◌, ℕ, List, map, set, Option, Some, None, refl, sym, ap, ◌∙◌, inl, inr, if◌then◌else◌}
+use Rattle.std.proofs.Common.{◌≡◌, ℕ, zero, suc, ◌-◌, List, map, set, Option, Some, None, refl, sym, ap, ◌∙◌, inl, inr}
+use Rattle.std.proofs.Common.{if◌then◌else◌, arith}
 use Rattle.std.specs.Option.{option_map}
 use Rattle.std.proofs.lemmas.Bool.{cases_eq, eq-eqb, ne_eqb}
 use Rattle.std.proofs.lemmas.List.{set-get_or}
 use Rattle.pf_machine.specs.Numbered.{at}
+use Rattle.pf_machine.specs.State.{State, Process, process}
 use Rattle.pf_machine.proofs.NumberedLaws.{at-map}
 use Rattle.pf_fds.specs.Registry.{find, if_placed}
 
@@ -49,3 +51,9 @@ find_was xs place n x h = placed_was place (at xs n) x h
 -- a list set to what stands there
 pub set_same : {X : Type 0} (xs : List (Option X)) (i : ℕ) (y : Option X) → y ≡ at xs i → set xs i y ≡ xs
 set_same xs i y e = ap (set xs i) e ∙ set-get_or xs i None
+
+-- who has a pid is in the place before it
+pub place_in : {X : Type 0} (s : State X ℕ) (pid : ℕ) {p : Process ℕ} → process s pid ≡ Some p
+    → at s.processes (pid - 1) ≡ Some p
+place_in s zero h = absurd (cc)
+place_in s (suc i) h = let same : suc i - 1 ≡ i = omega arith in ap (at s.processes) same ∙ h
