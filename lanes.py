@@ -1,9 +1,9 @@
 """What the gate does in lanes: the wrong bodies of crates, side by side, in copies of the tree.
 
 A lane is a copy, in which one command runs at a time, since the commands of the kit wait for each other in one tree. A
-crate's untouched text is checked first, when all that it stands on is, and where others stand on it that is done as its
-library is built. What that leaves in the crate's folder out/ is copied to the other lanes, as not every kit keeps it
-elsewhere. Then its wrong bodies can be tried, in any lane.
+crate's untouched text is checked first, when all that it stands on is: where others stand on it, as its library is
+built, and else those of its functions that have wrong bodies. What that leaves in the crate's folder out/ is copied to
+the other lanes, as not every kit keeps it elsewhere. Then its wrong bodies can be tried, in any lane.
 
 What was seen refused is kept in the user's cache folder, where the untouched text checked again behind it: by checksums
 of the edit, of all files of the repository that the check reads, and of wrong_bodies.py, which judges; and by the kit's
@@ -24,7 +24,7 @@ from collections import Counter, namedtuple
 from concurrent.futures import ThreadPoolExecutor
 
 import wrong_bodies
-from wrong_bodies import Trial, bytes_of, check, edits_of, groups_of, is_proved, read, run, say
+from wrong_bodies import Trial, bytes_of, check, edits_of, functions_of, groups_of, is_proved, read, run, say
 
 DEAREST = 25  # how many wrong bodies are named at the end, with what each took
 CHECKS = 4  # how many checks of a crate with wrong bodies one lane makes, where another lane can take the others
@@ -213,7 +213,7 @@ class WrongBodies:
 
     def play(self, besides):
         trials = [(crate, number) for crate, parts in self.parts.items() for number in range(len(parts))]
-        tasks = self.proofs({crate for crate, *_ in [*trials, *besides]})
+        tasks = self.proofs({crate for crate, *_ in [*trials, *besides]}, {crate for crate, *_ in besides})
         tasks += [Task(name, [crate], work) for crate, name, work in besides]
         cost = lambda it: lines_of(self.trees[0], it[0]) * sum(map(len, self.parts[it[0]][it[1]]))
         for it in sorted(trials, key=cost, reverse=True):
@@ -238,19 +238,21 @@ class WrongBodies:
         for name, seconds in (+self.took).most_common(DEAREST):
             say(f"{name}: {seconds:.0f} seconds of the clock")
 
-    def proofs(self, crates):
-        """The check of each crate that others wait for. Those come first that the most others stand on."""
+    def proofs(self, crates, built):
+        """The check of each crate that others wait for. Those come first that the most others stand on. The library is
+        wanted of those that others stand on, and of those that are to be built."""
         needed = set().union(*(below(self.crates, it) for it in crates))
         above = Counter(it for crate in needed for it in below(self.crates, crate))
-        work = lambda crate: lambda tree: self.proof(tree, crate, above[crate] > 1)
+        work = lambda crate: lambda tree: self.proof(tree, crate, above[crate] > 1 or crate in built)
         return [Task(it, self.crates[it], work(it)) for it in sorted(needed, key=lambda it: (-above[it], it))]
 
-    def proof(self, tree, crate, is_stood_on):
+    def proof(self, tree, crate, is_built):
         """Proves a crate as it stands, in one lane, and hands on what that leaves to the others, as not every kit keeps
-        it elsewhere. Where others stand on the crate, that is how its library is built, once for all lanes: the kit
-        proves what it builds, and a check before it would read all of it once more."""
+        it elsewhere. Where its library is wanted, that is how it is built, once for all lanes: the kit proves what it
+        builds, and a check before it would read all of it once more. Where it isn't, the functions are proved that its
+        wrong bodies are of, and no others: that all are proved `rt ci` shows."""
         when, folder = "as it stands, so its wrong bodies and what stands on it aren't tried", f"crates/{crate}"
-        ran = (library if is_stood_on else check)(f"{tree}/{folder}")
+        ran = library(f"{tree}/{folder}") if is_built else check(f"{tree}/{folder}", functions_of(self.unseen(crate)))
         self.proved[crate] += ran.seconds
         if not is_proved(ran, crate, when):
             return False

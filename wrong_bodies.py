@@ -20,8 +20,9 @@ which part of its contract isn't proved, or finds another fault in the file.
 
 A check says when it is done with a function. So what each wrong body took is known, but for those that the kit judged.
 
-A crate's checks are made over what the one before kept. So its untouched text must check before the first wrong body
-(lanes.py sees to that) and, over the same folder, behind the last one: else its check would refuse anything.
+A crate's checks are made over what the one before kept. So the untouched text of these functions must check before the
+first wrong body (lanes.py sees to that) and, over the same folder, behind the last one: else a check would refuse
+anything.
 """
 import contextlib
 import os
@@ -254,6 +255,11 @@ def is_of_functions(edit):
     return bool(edit.spots) and not any(it.startswith(("src/", "specs/", "proofs/")) for it in edit.spots)
 
 
+def functions_of(edits):
+    """The functions that edits are of, by their paths; none where one is in no function, which wants the whole."""
+    return sorted(set().union(*(it.spots for it in edits))) if all(map(is_of_functions, edits)) else []
+
+
 def groups_of(folder, edits):
     """Edits of different functions together, and what is in no function by itself. The functions with the most edits
     come first, as no check has two of one function, and as many checks as these need are made before any is full."""
@@ -347,7 +353,8 @@ class Trial:
     def play(self, groups):
         rest = [it for group in groups for it in self.try_together(group)]
         self.leave_to_the_kit([it for it in rest if not self.try_alone(it)])
-        self.holds = is_proved(self.counted(check(self.folder)), self.crate, "again, behind its wrong bodies")
+        ran = self.counted(check(self.folder, functions_of([it for group in groups for it in group])))
+        self.holds = is_proved(ran, self.crate, "again, behind its wrong bodies")
         return self
 
     def try_together(self, group):
@@ -375,7 +382,7 @@ class Trial:
         """Why a check with these edits doesn't prove functions, as reasons_in has it; None where it judges nothing."""
         if not all(map(is_of_functions, group)):
             return None
-        texts, spots = edited(self.folder, group), sorted(set().union(*(it.spots for it in group)))
+        texts, spots = edited(self.folder, group), functions_of(group)
         planted, laps = planted_in(self.folder, spots, texts) if plants else {}, Laps()
         with in_place(self.folder, texts | dict(planted.values())):
             ran = self.counted(check(self.folder, spots, laps))
