@@ -16,6 +16,7 @@ use crate::logged::Logged;
 use crate::receipt::Receipt;
 use crate::seat::Seat;
 use crate::seated::{Seated, Tenant};
+use crate::spare::ReplyRoom;
 use crate::transcript::Transcript;
 use crate::waiters::{NextEvent, Waiters};
 use crate::waiting::wait_at;
@@ -71,10 +72,19 @@ fn is_idle(step: &Step, reply: &Reply, before: u64, after: u64) -> bool
     }
 }
 
+// What was made for an event isn't wanted, as its step wasn't made.
+fn unwanted(asked: Step, room: ReplyRoom) -> ServiceFault
+    ensures { result ≡ ServiceFault.NoMemory }
+{
+    drop(asked);
+    drop(room);
+    ServiceFault::NoMemory
+}
+
 // One event of a namespace, whose lock is held: the step is made, and the seat keeps it with its place and its reply.
 //
-// The gate is told directly before the step is made. All memory is taken before the step is made, and the transcript's end
-// is looked at first of all.
+// The gate is told directly before the step is made. All memory is taken before the step is made, and the transcript's
+// end, the only reason why there is no next place, is looked at first of all.
 fn kept_event<A: Allocator + Clone, R: Wait, G: Gate, C: Ledger, H: Ledger>(
     rt: &R,
     gate: &G,
@@ -97,14 +107,25 @@ fn kept_event<A: Allocator + Clone, R: Wait, G: Gate, C: Ledger, H: Ledger>(
     ensures unchanged { OnErr result (living.new.logged ≡ living.old.logged) }
 {
     let ns = seat.ns();
-    let place = living.get_ref().place()?;
-    seat.reserve()?;
+    let Ok(place) = living.get_ref().place() else {
+        return Err(ServiceFault::TranscriptFull);
+    };
+    if seat.reserve().is_err() {
+        return Err(ServiceFault::NoMemory);
+    }
     let alloc = living.get_ref().alloc();
-    let asked = step.copy(alloc)?;
+    let Ok(asked) = step.copy(alloc) else {
+        return Err(ServiceFault::NoMemory);
+    };
     let bound = living.get_ref().reply_bound(step);
-    let mut room = living.take_room(bound)?;
+    let Ok(mut room) = living.take_room(bound) else {
+        drop(asked);
+        return Err(ServiceFault::NoMemory);
+    };
     gate.pass(ns, place);
-    let reply = living.log(rt, gate, book, ns, step, bound)?;
+    let Ok(reply) = living.log(rt, gate, book, ns, step, bound) else {
+        return Err(unwanted(asked, room));
+    };
     let told = room.copy(alloc, &reply);
     living.keep_room(room);
     seat.keep(Event {
@@ -113,6 +134,17 @@ fn kept_event<A: Allocator + Clone, R: Wait, G: Gate, C: Ledger, H: Ledger>(
         reply: told,
     });
     Ok(Receipt { ns, place, reply })
+}
+
+// Those who wait are woken, but for an event that is of no use to them: from then on nobody waits.
+fn wake<W: Waiters>(waiters: &W, is_awaited: &mut bool, is_idle: bool)
+    ensures woken { is_idle ≡ false → W.woken waiters.now is_awaited.old }
+    ensures awaited { is_idle ≡ true → is_awaited.new ≡ is_awaited.old }
+{
+    if !is_idle {
+        waiters.wake_all(*is_awaited);
+        *is_awaited = false;
+    }
 }
 
 /// One event of a namespace, whose lock is held: it is made and kept, and those who wait are woken, but for an event that
@@ -148,13 +180,15 @@ pub(crate) fn event<A: Allocator + Clone, R: Wait, G: Gate, C: Ledger, H: Ledger
     ensures waiting { OnErr result (is_awaited.new ≡ is_awaited.old) }
 {
     let before = resumed_written(living.get_ref(), step);
-    let receipt = kept_event(rt, gate, book, living, seat, step)?;
-    let after = resumed_written(living.get_ref(), step);
-    if !is_idle(step, &receipt.reply, before, after) {
-        waiters.wake_all(*is_awaited);
-        *is_awaited = false;
+    match kept_event(rt, gate, book, living, seat, step) {
+        Ok(receipt) => {
+            let after = resumed_written(living.get_ref(), step);
+            let idle = is_idle(step, &receipt.reply, before, after);
+            wake(waiters, is_awaited, idle);
+            Ok(receipt)
+        }
+        Err(fault) => Err(fault),
     }
-    Ok(receipt)
 }
 
 /// `event`, where the namespace lives. `Gone` where it is retired, first of all, and nothing changes.

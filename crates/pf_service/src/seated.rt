@@ -31,6 +31,13 @@ pub(crate) struct Seated<A: Allocator, C: Ledger, H: Ledger> {
     pub(crate) is_awaited: bool,
 }
 
+// What stays of a namespace takes its place.
+fn put<L: Drop>(tenant: &mut Tenant<L>, stays: Retired)
+    ensures { tenant.new ≡ Tenant.Retired stays }
+{
+    *tenant = Tenant::Retired(stays);
+}
+
 impl<A: Allocator + Clone, C: Ledger, H: Ledger> Seated<A, C, H> {
     ghost use Rattle.std.specs.Prelude.{IfOk, IfErr, OnOk, OnErr};
     ghost use Rattle.pf_service.specs.Tenants.{Lives, IsGiveFault, IsGoneFault, IsLivingAt, IsRetirement, IsRetireFault, IsReturned, transcript_of};
@@ -110,9 +117,10 @@ impl<A: Allocator + Clone, C: Ledger, H: Ledger> Seated<A, C, H> {
             return Err(RetireFault::Alive { processes });
         }
         let nothing = Tenant::Retired(living.get_ref().nothing());
-        if let Tenant::Living(living) = mem::replace(&mut self.tenant, nothing) {
-            self.tenant = Tenant::Retired(living.retire(rt, way, book, ns));
-        }
+        let Tenant::Living(living) = mem::replace(&mut self.tenant, nothing) else {
+            unreachable!()
+        };
+        put(&mut self.tenant, living.retire(rt, way, book, ns));
         waiters.wake_all(true);
         Ok(())
     }

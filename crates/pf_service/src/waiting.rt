@@ -103,10 +103,14 @@ fn try_once<A: Allocator + Clone, R: Wait, G: Gate, C: Ledger, H: Ledger, W: Wai
         return Err(ServiceFault::Gone);
     };
     make_room(living, receipts)?;
-    let receipt = event_of(rt, gate, book, seated, waiters, seat, step)?;
-    let waits = receipt.reply.is_same(&Reply::Parked);
-    receipts.push_reserved(receipt);
-    Ok(waits)
+    match event_of(rt, gate, book, seated, waiters, seat, step) {
+        Ok(receipt) => {
+            let waits = receipt.reply.is_same(&Reply::Parked);
+            receipts.push_reserved(receipt);
+            Ok(waits)
+        }
+        Err(fault) => Err(fault),
+    }
 }
 
 /// An event of a seat of the namespace that lies behind a lock, and, as long as its process waits, after each further event of

@@ -1,5 +1,5 @@
 -- The first event, and one more after each that was answered Parked.
-use Rattle.std.proofs.Common.{rules, ℕ, [], ◌∷◌, ◌++◌}
+use Rattle.std.proofs.Common.{ℕ, [], ◌∷◌, ◌++◌, arith}
 use Rattle.std.specs.Prelude.{Bool, IsTrue}
 use Rattle.pf_service.specs.declared.living.Living.{Living as OneLiving}
 use Rattle.pf_service.specs.declared.seated.Tenant.{Tenant}
@@ -9,7 +9,7 @@ use Rattle.pf_service.specs.Waited.{resume_of}
 use Rattle.std.proofs.lemmas.List.Elements.{All-push}
 use Rattle.pf_service.proofs.FaultLaws.{on_ok, on_err}
 use Rattle.pf_service.proofs.LockLaws.{lay_at, happened, happened_at, handed_on, said_of}
-use Rattle.pf_service.proofs.WaitingLaws.{begun, gone_on, answered, left, tried_at, IsParked}
+use Rattle.pf_service.proofs.WaitingLaws.{begun, gone_on, answered, left, nothing, tried_at, IsParked}
 use Rattle.pf_service.proofs.waiting.wait_at.Goals as goal
 
 pub loop-init : goal.loop-init
@@ -24,6 +24,17 @@ loop-init g c =
     let it = happened Lay Woken (Framed c.args.seat.now.ns) c.deref_mut.result.now _ c.args.step.now t.0 t.1 here t.4 t.5 c.in_ok-waits.ensures.framed in
     let said = said_of Lay Woken Passed Framed c.args.seat.now.ns c.args.step.now _ _ _ _ t.0 t.1 t.2 it in
     ((tt, tt), ([], event_at t.0 c.args.step.now t.1, begun _ c.args.step.now _ _ _ _ t.0 t.1 said, t.3))
+
+pub returns-in_err-waits-clause-waited : goal.returns-in_err-waits-clause-waited
+returns-in_err-waits-clause-waited g c =
+    let Lay : Tenant (OneLiving g.row.A.Denot g.row.C.Denot g.row.H.Denot) → Bool → Type 0
+    = λ t awaited. g.W.Waiters.lay c.args.waiters.now g.row.A.Denot g.row.C.Denot g.row.H.Denot t awaited in
+    let Woken : Bool → Type 0 = λ awaited. g.W.Waiters.woken c.args.waiters.now awaited in
+    let Passed : ℕ → ℕ → Type 0 = λ n p. g.G.Gate.passed c.args.gate.now n p in
+    let Framed : ℕ → Type 0 = λ n. g.G.Gate.framed c.args.gate.now n in
+    let none = nothing (IsSaid Passed Framed Lay Woken c.args.seat.now.ns) c.args.step.now c.args.seat.now c.try_once.new.seat
+    c.args.receipts.now.items c.try_once.new.receipts.items c.in_err-waits.ensures.seat c.in_err-waits.ensures.receipts in
+    ([], none, on_ok _ c.from_residual.result c.from_residual.ensures.0, on_err _ c.from_residual.result (λ k d l. absurd (omega arith)))
 
 pub returns-then-not-waits-clause-waited : goal.returns-then-not-waits-clause-waited
 returns-then-not-waits-clause-waited g c =
@@ -40,7 +51,7 @@ loop-preserved g c =
     let Framed : ℕ → Type 0 = λ n. g.G.Gate.framed c.args.gate.now n in
     let i = c.loop.invariant.1 in
     let t = c.in_ok-waits-2.ensures.tried in
-    let waits : IsTrue c.loop.waits = search rules in
+    let waits : IsTrue c.loop.waits = c.if-not-waits.false in
     let again = tried_at Passed c.loop.seat.ns c.args.seat.now.ns c.maker-pid.result _ c.loop.seat c.try_once-in-loop.new.seat
     c.loop.receipts.items c.try_once-in-loop.new.receipts.items t.0 t.1 i.2.waited.gains.ns c.maker-pid.ensures t.2 in
     let here = lay_at Lay _ _ c.deref_mut-in-loop-2.ensures.value c.wait-seated.ensures in
@@ -62,7 +73,7 @@ returns-in_err-waits-2-clause-waited g c =
     let stays = left (IsSaid Passed Framed Lay Woken c.args.seat.now.ns) c.args.step.now
     c.args.seat.now c.loop.seat c.try_once-in-loop.new.seat c.args.receipts.now.items c.loop.receipts.items c.try_once-in-loop.new.receipts.items (i.0 ++ i.1 ∷ [])
     i.2.waited c.in_err-waits-2.ensures.seat c.in_err-waits-2.ensures.receipts in
-    let waits : IsTrue c.loop.waits = search rules in (
+    let waits : IsTrue c.loop.waits = c.if-not-waits.false in (
       i.0 ++ i.1 ∷ [],
       stays,
       on_ok _ c.from_residual-in_err-waits-2.result c.from_residual-in_err-waits-2.ensures.0,
