@@ -1,11 +1,13 @@
--- The step is made where the gate was told of it, and what the caller is told is what the lone machine says after the entries that
--- stood there.
-use Rattle.std.proofs.Common.{◌≡◌, ◌<◌, ◌≤◌, ℕ, length, sym, ap, ◌∙◌, subst}
+-- The step is made where the gate was told of it, over the namespace that was looked at; and what the caller is told is what the
+-- lone machine says after the entries that stood there.
+use Rattle.std.proofs.Common.{◌≡◌, ◌<◌, ◌≤◌, ℕ, length, sym, ap, ◌∙◌, subst, arith}
 use Rattle.pf_machine.specs.Queue.{Segment}
 use Rattle.pf_machine.specs.State.{Outcome}
 use Rattle.pf_machine.specs.Machine.{step_of}
-use Rattle.pf_service.specs.Log.{Log}
+use Rattle.pf_machine.specs.Replies.{reply_length}
+use Rattle.pf_service.specs.Log.{Log, IsLogged}
 use Rattle.pf_service.specs.Told.{Told}
+use Rattle.pf_service.specs.declared.TheConstants.{MAX_ENTRIES}
 use Rattle.pf_service.proofs.LogLaws.{told}
 use Rattle.pf_service.proofs.place.kept_event.Goals as goal
 
@@ -15,8 +17,36 @@ log-requires-clause-passed g c =
     subst (λ (place : ℕ). g.G.Gate.passed c.args.gate.now c.ns-ns.result place)
     (c.in-Ok.ensures.place ∙ ap (λ (l : Log g.row.A.Denot). length l.transcript) same) c.pass.ensures
 
+pub log-requires-clause-room : goal.log-requires-clause-room
+log-requires-clause-room g c =
+    subst (λ (l : Log g.row.A.Denot). length l.transcript < MAX_ENTRIES) (c.get_ref.ensures ∙ sym c.take_room.ensures.logged) c.in-Ok.ensures.room
+
+pub log-requires-clause-covers : goal.log-requires-clause-covers
+log-requires-clause-covers g c =
+    subst (λ (l : Log g.row.A.Denot). reply_length (step_of l.limits l.state c.args.step.now).reply ≤ c.reply_bound-bound.result)
+    (c.get_ref-3.ensures ∙ sym c.take_room.ensures.logged) c.reply_bound-bound.ensures.covers
+
+pub returns-clause-place : goal.returns-clause-place
+returns-clause-place g c =
+    (c.ns-ns.ensures, c.in-Ok.ensures.place ∙ ap (λ (l : Log g.row.A.Denot). length l.transcript) c.get_ref.ensures)
+
+pub returns-clause-room : goal.returns-clause-room
+returns-clause-room g c = subst (λ (l : Log g.row.A.Denot). length l.transcript < MAX_ENTRIES) c.get_ref.ensures c.in-Ok.ensures.room
+
+pub returns-clause-logged : goal.returns-clause-logged
+returns-clause-logged g c =
+    subst (λ (l : Log g.row.A.Denot). IsLogged l c.keep_room.new.self.logged c.args.step.now c.in-Ok-log.reply) c.take_room.ensures.logged
+    (subst (λ (l : Log g.row.A.Denot). IsLogged c.take_room.new.self.logged l c.args.step.now c.in-Ok-log.reply) (sym c.keep_room.ensures.logged)
+    c.in-Ok-log.ensures.logged)
+
 pub returns-clause-passed : goal.returns-clause-passed
 returns-clause-passed g c = c.pass.ensures
+
+pub returns-clause-framed : goal.returns-clause-framed
+returns-clause-framed g c = λ more.
+    let before = ap (λ (l : Log g.row.A.Denot). l.held) c.take_room.ensures.logged in
+    let after = ap (λ (l : Log g.row.A.Denot). l.held) c.keep_room.ensures.logged in
+    c.in-Ok-log.ensures.framed (omega (arith, more, before, after))
 
 pub returns-clause-told : goal.returns-clause-told
 returns-clause-told g c =
