@@ -224,8 +224,13 @@ impl<A: Allocator + Clone> Logged<A> {
         let entries = &mut self.transcript.entries;
         entries.reserve(1)?;
         let asked = step.copy(self.alloc)?;
-        let mut room = self.spare.take(self.alloc, bound)?;
+        let Ok(mut room) = self.spare.take(self.alloc, bound) else {
+            drop(asked);
+            return Err(AllocError);
+        };
         let Answer::Done(reply) = step_over(&mut self.placed, lender, &mut self.loans, step) else {
+            drop(asked);
+            drop(room);
             return Err(AllocError);
         };
         let told = room.copy(self.alloc, &reply);

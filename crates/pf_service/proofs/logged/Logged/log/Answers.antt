@@ -21,15 +21,15 @@ returns-in_err-asked-clause-unchanged g c =
     let was = ap (λ (i : Inside g.row.A.Denot). log_of i.placed i.loans i.transcript) c.self-inside.view_is ∙ c.self.view_is in
     on_err _ c.from_residual-in_err-asked.result (stays c.self-inside.inside.0.1.0 c.self-inside.inside.0.1.0 c.self-inside.inside.0.1.1.0 c.self-inside.inside.0.1.1.0 c.self-inside.inside.0.1.1.1.0.config c.self-inside.inside.0.1.1.1.0.entries.items c.reserve.new.self.items refl refl c.reserve.ensures.items ∙ was, refl)
 
-pub returns-in_err-room-clause-unchanged : goal.returns-in_err-room-clause-unchanged
-returns-in_err-room-clause-unchanged g c =
-    let was = ap (λ (i : Inside g.row.A.Denot). log_of i.placed i.loans i.transcript) c.self-inside.view_is ∙ c.self.view_is in
-    on_err _ c.from_residual-in_err-room.result (stays c.self-inside.inside.0.1.0 c.self-inside.inside.0.1.0 c.self-inside.inside.0.1.1.0 c.self-inside.inside.0.1.1.0 c.self-inside.inside.0.1.1.1.0.config c.self-inside.inside.0.1.1.1.0.entries.items c.reserve.new.self.items refl refl c.reserve.ensures.items ∙ was, refl)
-
 pub returns-in_default-clause-unchanged : goal.returns-in_default-clause-unchanged
 returns-in_default-clause-unchanged g c =
     let was = ap (λ (i : Inside g.row.A.Denot). log_of i.placed i.loans i.transcript) c.self-inside.view_is ∙ c.self.view_is in
-    let same = c.step_over.ensures.unchanged c.in_default.is in
+    (stays c.self-inside.inside.0.1.0 c.self-inside.inside.0.1.0 c.self-inside.inside.0.1.1.0 c.self-inside.inside.0.1.1.0 c.self-inside.inside.0.1.1.1.0.config c.self-inside.inside.0.1.1.1.0.entries.items c.reserve.new.self.items refl refl c.reserve.ensures.items ∙ was, refl)
+
+pub returns-in_default-step_over-clause-unchanged : goal.returns-in_default-step_over-clause-unchanged
+returns-in_default-step_over-clause-unchanged g c =
+    let was = ap (λ (i : Inside g.row.A.Denot). log_of i.placed i.loans i.transcript) c.self-inside.view_is ∙ c.self.view_is in
+    let same = c.step_over.ensures.unchanged c.in_default-step_over.is in
     (stays c.self-inside.inside.0.1.0 c.step_over.new.placed c.self-inside.inside.0.1.1.0 c.step_over.new.loans c.self-inside.inside.0.1.1.1.0.config c.self-inside.inside.0.1.1.1.0.entries.items c.reserve.new.self.items same.0 same.2 c.reserve.ensures.items ∙ was, same.1)
 
 pub copy-told-requires : goal.copy-told-requires
@@ -40,7 +40,7 @@ copy-told-requires g c =
     let answers = made c.self-inside.inside.0.1.0.space c.step_over.new.placed.space c.self-inside.inside.0.1.1.0 c.step_over.new.loans (record { limits = c.self-inside.inside.0.1.1.1.0.config; entries = c.self-inside.inside.0.1.1.1.0.entries.items }) step c.in-Done.reply log c.in-Done.ensures.moved.answers in
     let told : c.in-Done.reply ≡ (step_of c.args.self.now.limits c.args.self.now.state step).reply =
     ap (λ (o : Outcome Segment ℕ). o.reply) answers ∙ ap (λ (l : Log g.row.A.Denot). (step_of l.limits l.state step).reply) was in
-    omega (arith, ap reply_length told, c.requires.covers, c.in_ok-room.ensures.enough)
+    omega (arith, ap reply_length told, c.requires.covers, c.in-Ok.ensures.enough)
 
 pub invariant_of-self-2 : goal.invariant_of-self-2
 invariant_of-self-2 g c =
