@@ -66,8 +66,14 @@ pub(crate) fn admitted<A: Allocator + Clone, C: Ledger, H: Ledger>(
         (λ fault. (book.new ≡ book.old)
         × IsAdmitFault (admit_fault book.old.living book.old.given book.old.slack config.reserve) fault) }
 {
-    let (ns, allotment) = book.admit(config.reserve())?;
-    Ok((ns, Living::new(alloc, placed, stock, config, allotment)))
+    match book.admit(config.reserve()) {
+        Ok((ns, allotment)) => Ok((ns, Living::new(alloc, placed, stock, config, allotment))),
+        Err(fault) => {
+            drop(placed);
+            drop(stock);
+            Err(fault)
+        }
+    }
 }
 
 /// A namespace comes, by any way to the locks, and moves in among the guests: what shows it is given with its number. Behind

@@ -135,6 +135,8 @@ impl<A: Allocator + Clone, G: Gate, C: Ledger, H: Ledger> Service<A, G, C, H> {
         };
         let (book, allotments) = DepotBook::open(alloc, frames, reserves, credits, held)?;
         let Ok(places) = places_of(alloc, way, configs, allotments) else {
+            drop(guests);
+            drop(book);
             return Err(PoolFault::NoMemory);
         };
         Ok(Service {
