@@ -253,6 +253,28 @@ fn call_at<A: Allocator + Clone, R: Wait, G: Gate, C: Ledger, H: Ledger, W: Wait
     event_of(rt, gate, book, &mut *seated, waiters, seat, step)
 }
 
+// What an event was told, as it is. A number is moved by itself: else a receipt is one piece on the whole way, and is
+// copied at each level before its parts have arrived there.
+#[inline(always)]
+fn handed(told: Result<Receipt, ServiceFault>) -> Result<Receipt, ServiceFault>
+    ensures { result ≡ told }
+{
+    match told {
+        Ok(
+            Receipt {
+                ns,
+                place,
+                reply: Reply::Num(number),
+            },
+        ) => Ok(Receipt {
+            ns,
+            place,
+            reply: Reply::Num(number),
+        }),
+        told => told,
+    }
+}
+
 impl<A: Allocator + Clone, C: Ledger, H: Ledger> Place<A, C, H> {
     ghost use Rattle.std.specs.Prelude.{◌++◌, List};
     ghost use Rattle.pf_service.specs.declared.TheConstants.{MAX_SEATS};
@@ -303,7 +325,7 @@ impl<A: Allocator + Clone, C: Ledger, H: Ledger> Place<A, C, H> {
         ensures fault { IfErr result IsEventFault }
         ensures refused { OnErr result (Gains seat.old seat.new []) }
     {
-        call_at(rt, gate, book, &self.seated, &self.next, seat, step)
+        handed(call_at(rt, gate, book, &self.seated, &self.next, seat, step))
     }
 
     /// An event of a seat of the namespace, and, as long as its process waits, after each further event of the namespace a
