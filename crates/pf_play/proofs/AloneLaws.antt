@@ -1,10 +1,10 @@
 -- The lines of one name in turn, in a hub of its own.
 
-use Rattle.std.proofs.Common.{◌≡◌, ℕ, zero, suc, ◌<◌, Bool, true, false, List, [], ◌∷◌, ◌++◌, length, map}
+use Rattle.std.proofs.Common.{◌≡◌, ℕ, zero, suc, ◌<◌, ◌≤◌, Bool, true, false, List, [], ◌∷◌, ◌++◌, length, map}
 use Rattle.std.proofs.Common.{refl, ap, sym, ◌∙◌, subst, arith, append-nil, take}
 use Rattle.std.specs.Prelude.{◌≢◌, Option, Some, nat_eq, nat_lt, slice_get, if◌then◌else◌}
 use Rattle.std.specs.Option.{option_to_list}
-use Rattle.std.proofs.lemmas.List.{map_push}
+use Rattle.std.proofs.lemmas.List.{length-map, length-take, map_push}
 use Rattle.std.proofs.lemmas.Bool.{eq-eqb, ne_eqb}
 use Rattle.pf_base.specs.Limits.{Limits}
 use Rattle.pf_base.specs.declared.admission.EventAnswer.{EventAnswer}
@@ -19,6 +19,7 @@ use Rattle.pf_play.specs.Houses.{alone, first_house, limits_of_name, lone_limits
 use Rattle.pf_play.specs.Numbers.{Follows, numbers_from}
 use Rattle.pf_play.proofs.PlayLaws.{Running, runs_first, runs_on, first_limits, new_house}
 use Rattle.pf_play.proofs.StayLaws.{known_alone}
+use Rattle.pf_play.proofs.ToldLaws.{fall_many}
 
 -- lines of the one name that there is
 abbrev pub as_first : List Line → List (ℕ × Line)
@@ -119,6 +120,17 @@ alone_one script n low =
     let there = space_there script.spaces n low in
     ap (λ (o : Option (List ℕ × Limits)). length (option_to_list o)) there.1
 
+-- so its hub opens with no more than one
+pub lone_few : (script : Draft) (n : ℕ) → n < length script.spaces → length (lone_limits script n) ≤ 1
+lone_few script n low =
+    let front = take (alone script n).opening (alone script n).spaces in
+    omega (
+      arith,
+      length-map front (λ (s : List ℕ × Limits). s.1),
+      length-take (alone script n).opening (alone script n).spaces,
+      alone_one script n low,
+    )
+
 -- nothing yet
 pub alone_first : (script : Draft) (n : ℕ) (ls : List Limits) (numbers : List (Option ℕ)) (hub : House) →
     n < length script.spaces → AreGiven script.opening script.steps (length script.spaces) → ls ≡ lone_limits script n →
@@ -145,3 +157,13 @@ alone_first script n ls numbers hub low known is numbered house =
         length (map (λ s. s.1) (take (if b then 1 else 0) (s ∷ []))) ≡ (if b then 1 else 0)
     taken true s = refl
     taken false s = refl
+
+-- as many answers as lines of the name were read
+pub alone_many : (script : Draft) (n : ℕ) (done rest : List (ℕ × Line)) (numbers : List (Option ℕ)) (hub : House)
+    (answers : List EventAnswer) → RunningAlone script n done rest numbers hub answers →
+    length answers ≡ length (lines_of done n)
+alone_many script n done rest numbers hub answers running =
+    let own = alone script n in
+    let lines = as_first (lines_of done n) in
+    fall_many (first_house own) running.house (map (said own.spaces) lines) answers running.going.fall
+    ∙ length-map lines (said own.spaces) ∙ length-map (lines_of done n) (λ line. (0, line))

@@ -74,11 +74,10 @@ lines_append (x ∷ xs) ys n =
       | false ↦ more
     ]
 
--- as long as a line of the name is left, so is room for its answer
-pub room_left : (es : List (ℕ × Line)) (k : ℕ) (e : ℕ × Line) (answers : List EventAnswer) →
-    k < length es → e ≡ get_or es k e → length answers ≡ length (take k es) →
-    length (answers_of (take k es) answers e.0) < length (lines_of es e.0)
-room_left es k e answers low is many =
+-- a line of the name is left
+pub lines_left : (es : List (ℕ × Line)) (k : ℕ) (e : ℕ × Line) → k < length es → e ≡ get_or es k e →
+    length (lines_of (take k es) e.0) < length (lines_of es e.0)
+lines_left es k e low is =
     let split : es ≡ take k es ++ e ∷ drop (k + 1) es
     = sym (take-append-drop k es) ∙ ap (λ (r : List (ℕ × Line)). take k es ++ r) (next_of es k e low is) in
     let lines : lines_of es e.0 ≡ lines_of (take k es) e.0 ++ e.1 ∷ lines_of (drop (k + 1) es) e.0
@@ -89,10 +88,16 @@ room_left es k e answers low is many =
     (eq-eqb e.0 e.0 refl) in
     omega (
       arith,
-      apart_many (take k es) answers e.0 many,
       ap (λ (r : List Line). length r) lines,
       length-append (lines_of (take k es) e.0) (e.1 ∷ lines_of (drop (k + 1) es) e.0),
     )
+
+-- so is room for its answer
+pub room_left : (es : List (ℕ × Line)) (k : ℕ) (e : ℕ × Line) (answers : List EventAnswer) →
+    k < length es → e ≡ get_or es k e → length answers ≡ length (take k es) →
+    length (answers_of (take k es) answers e.0) < length (lines_of es e.0)
+room_left es k e answers low is many =
+    omega (arith, apart_many (take k es) answers e.0 many, lines_left es k e low is)
 
 -- How many met want of memory
 

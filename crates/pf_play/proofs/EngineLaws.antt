@@ -2,7 +2,7 @@
 
 use Rattle.std.proofs.Common.{inl, inr, true, ◌≡◌, ℕ, ◌+◌, ◌<◌, ◌≤◌, take, drop, List, [], ◌∷◌, ◌++◌, length, append-nil, get_or, map, Option, Ok}
 use Rattle.std.proofs.Common.{refl, ap, subst, sym, ◌∙◌, arith}
-use Rattle.std.specs.Prelude.{Bool, Result}
+use Rattle.std.specs.Prelude.{Bool, Result, Err, IfOk, IsOk}
 use Rattle.std.specs.declared.alloc.Global.{Global}
 use Rattle.std.proofs.lemmas.List.{take-append-drop, take-append-le, take_more, drop_more, length-take}
 use Rattle.std.proofs.Math.Seq.{take-length}
@@ -20,12 +20,13 @@ use Rattle.pf_machine.specs.Events.{keep_step, keep_reply}
 use Rattle.pf_machine.specs.Runs.{run_of}
 use Rattle.pf_script.specs.Script.{Draft}
 use Rattle.pf_script.specs.Text.{text}
-use Rattle.pf_script.specs.Ports.{Output, IsCut, IsWritten}
+use Rattle.pf_script.specs.Faults.{IsRead}
+use Rattle.pf_script.specs.Ports.{Input, Output, IsCut, IsWritten}
 use Rattle.pf_script.specs.declared.refusal.Refusal.{Refusal}
 use Rattle.pf_hub.proofs.NeedLemmas.{at_grown}
 use Rattle.pf_play.specs.Played.{kept_alone, replies_alone, met_alone, NoWantAlone}
 use Rattle.pf_play.specs.Plays.{IsPlayedFor, nomem_of}
-use Rattle.pf_play.specs.Replays.{IfAccepted, Names, Suits}
+use Rattle.pf_play.specs.Replays.{IfAccepted, IsJudged, Names, Suits}
 use Rattle.pf_play.specs.Workers.{Framed, IsFramedFor}
 
 -- limits with an allocator beside each are those limits
@@ -109,6 +110,21 @@ pub told_framed : (framed : Framed) (old new : Output) (script : Draft) (read : 
     × IsWritten old new (text s xs o) × IsFramedFor framed s o xs)
 told_framed framed old new script read name only answers is names played written told =
     rw is (only, answers, names, played, written, told)
+
+-- what was read, and whatever holds of it
+pub judged : (P : Draft → Type 0) (input rest : Input) (script : Draft) → IsRead input rest script → P script →
+    IsJudged input rest P
+judged P input rest script read holds = (read.0, read.1, rw read.2 holds)
+
+-- what holds of an outcome
+pub if_both : {T E : Type 0} (r : Result T E) (P Q R : T → Type 0) → ((x : T) → P x → Q x → R x) → IfOk r P → IfOk r Q
+    → IfOk r R
+if_both (Ok x) P Q R f p q = f x p q
+if_both (Err e) P Q R f p q = tt
+
+pub from_ok : {T E : Type 0} (r : Result T E) (P : T → Type 0) → IfOk r P → IsOk r → (x : T) × P x
+from_ok (Ok x) P p ok = (x, p)
+from_ok (Err e) P p ok = absurd (cc)
 
 -- so many elements are all
 pub take_all : {A : Type 0} (xs : List A) {i : ℕ} → length xs ≤ i → take i xs ≡ xs

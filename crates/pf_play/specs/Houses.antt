@@ -81,3 +81,7 @@ alone script n = record {
 -- the limits of those that its hub opens with
 abbrev pub lone_limits : Draft → ℕ → List Limits
 lone_limits script n = map (λ s. s.1) (take (alone script n).opening (alone script n).spaces)
+
+-- and of those that the hub of all names opens with
+abbrev pub opening_limits : Draft → List Limits
+opening_limits script = map (λ s. s.1) (take script.opening script.spaces)

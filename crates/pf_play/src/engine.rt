@@ -12,10 +12,11 @@ ghost use Rattle.pf_machine.specs.Houses.{House, Stepping, Admitting, Retiring};
 ghost use Rattle.pf_machine.specs.Numbered.{at};
 ghost use Rattle.pf_hub.specs.Opening.{new_hub, new_allocators, limits_of, allocators_of, first_fault};
 ghost use Rattle.pf_hub.specs.Tenants.{house_of};
+ghost use Rattle.pf_script.specs.Places.{lines_of};
 ghost use Rattle.pf_script.specs.Sound.{given};
 ghost use Rattle.pf_play.specs.Answered.{IsRun, HaveRoom};
 ghost use Rattle.pf_play.specs.Filled.{AreFilled};
-ghost use Rattle.pf_play.specs.Houses.{said_of, lone_limits};
+ghost use Rattle.pf_play.specs.Houses.{said_of, lone_limits, opening_limits};
 ghost use Rattle.pf_play.specs.Numbers.{IsNamed, Follows, numbers_from};
 ghost use Rattle.pf_play.specs.Played.{IsChosen, comes_and_goes, is_step};
 ghost use Rattle.pf_play.specs.Plays.{nomem_of};
@@ -263,6 +264,70 @@ fn keep(own: &mut Vec<Vec<Told>>, ns: usize, answer: Told)
     own[ns].push_reserved(answer);
 }
 
+/// What the hub of all names opens with: the limits of the space lines, each with the allocator at its place.
+fn first_configs<A: Allocator + Copy>(
+    alloc: Global,
+    script: &Script,
+    trees: &[A],
+) -> Result<Vec<(Config, A)>, AllocError>
+    requires { length trees.now ≡ length script.now.spaces }
+    ensures limits { IfOk result (λ configs. limits_of configs.items ≡ opening_limits script.now) }
+    ensures own { IfOk result (λ configs. (n : ℕ) (tree : A) →
+        slice_get (allocators_of configs.items) n ≡ Some tree → slice_get trees.now n ≡ Some tree) }
+    ensures fits { IfOk result (λ configs. first_fault script.now.frames (limits_of configs.items) ≡ None) }
+{
+    let limits = script.configs(alloc)?;
+    with_trees(alloc, limits.as_slice(), trees)
+}
+
+/// The hub of all names over these frames, as it opens.
+fn first_hub<A: Allocator + Copy>(
+    alloc: Global,
+    script: &Script,
+    trees: &[A],
+    frames: Vec<Frame>,
+) -> Result<Hub<A>, AllocError>
+    requires frames { length frames.items ≡ script.now.frames }
+    requires trees { length trees.now ≡ length script.now.spaces }
+    ensures opened { IfOk result (λ hub. hub.world ≡ new_hub (opening_limits script.now) script.now.frames) }
+    ensures theirs { IfOk result (λ hub. AreTheirs trees.now (numbers_from 0 (length (opening_limits script.now))) hub) }
+{
+    let configs = first_configs(alloc, script, trees)?;
+    hub_of(alloc, configs, frames)
+}
+
+/// Runs all of a script's lines on a hub as it opens, and puts each answer with those to its name's lines.
+#[inline(always)]
+fn play_lines<A: Allocator + Copy>(
+    script: &Script,
+    trees: &[A],
+    hub: &mut Hub<A>,
+    numbers: &mut Vec<Option<u32>>,
+    own: &mut Vec<Vec<Told>>,
+)
+    requires few { length script.now.spaces ≤ 64 }
+    requires opening { script.now.opening ≤ length script.now.spaces }
+    requires trees { length trees.now ≡ length script.now.spaces }
+    requires opened { hub.old.world ≡ new_hub (opening_limits script.now) script.now.frames }
+    requires numbers { numbers.old.items ≡ numbers_from 0 (length (opening_limits script.now)) }
+    requires names { length script.now.spaces ≤ vec_capacity numbers.old }
+    requires many { length own.old.items ≡ length script.now.spaces }
+    requires none { All (λ v. v.items ≡ []) own.old.items }
+    requires room { HaveRoom script.now own.old.items }
+    requires theirs { AreTheirs trees.now numbers.old.items hub.old }
+    ensures run { IsRun script.now None (Answered.All own.new) }
+    ensures told { HasTold script.now None (Answered.All own.new) numbers.new.items (house_of hub.new.world) }
+    ensures theirs { AreTheirs trees.now numbers.new.items hub.new }
+{
+    let lines = script.steps();
+    for event in lines {
+        let ns = event.0;
+        let tree = trees[ns as usize];
+        let answer = tell(hub, numbers, script, ns, ns, &event.1, tree);
+        keep(own, ns as usize, answer);
+    }
+}
+
 /// Runs all of a script's lines over these frames, whatever they hold. Each namespace's files stand in memory of the
 /// allocator at its place.
 fn play_all<A: Allocator + Copy>(
@@ -278,18 +343,10 @@ fn play_all<A: Allocator + Copy>(
         (house_of ended.hub.world)) }
     ensures trees { IfOk result (λ ended. AreTheirs trees.now ended.numbers.items ended.hub) }
 {
-    let limits = script.configs(alloc)?;
-    let configs = with_trees(alloc, limits.as_slice(), trees)?;
-    let mut hub = hub_of(alloc, configs, frames)?;
     let mut numbers = first_numbers(alloc, script.opening(), script.count_spaces())?;
-    let lines = script.steps();
     let mut own = no_answers(alloc, script)?;
-    for event in lines {
-        let ns = event.0;
-        let tree = trees[ns as usize];
-        let answer = tell(&mut hub, &mut numbers, script, ns, ns, &event.1, tree);
-        keep(&mut own, ns as usize, answer);
-    }
+    let mut hub = first_hub(alloc, script, trees, frames)?;
+    play_lines(script, trees, &mut hub, &mut numbers, &mut own);
     let answered = Answered::All(own);
     Ok(Ended {
         hub,
@@ -355,6 +412,58 @@ fn lone_configs<A: Allocator + Copy>(
     }
 }
 
+/// The hub of one name alone over these frames, as it opens.
+fn lone_hub<A: Allocator + Copy>(
+    alloc: Global,
+    script: &Script,
+    ns: u32,
+    trees: &[A],
+    frames: Vec<Frame>,
+) -> Result<Hub<A>, AllocError>
+    requires frames { length frames.items ≡ script.now.frames }
+    requires exists { ns < length script.now.spaces }
+    requires one { length trees.now ≡ 1 }
+    ensures opened { IfOk result (λ hub. hub.world ≡ new_hub (lone_limits script.now ns) script.now.frames) }
+    ensures theirs { IfOk result (λ hub. AreTheirs trees.now (numbers_from 0 (length (lone_limits script.now ns))) hub) }
+    ensures few { length (lone_limits script.now ns) ≤ 1 }
+{
+    let configs = lone_configs(alloc, script, ns, trees[0])?;
+    hub_of(alloc, configs, frames)
+}
+
+/// Runs the lines of one name alone on a hub as it opens for it, and puts each answer behind those before it.
+#[inline(always)]
+fn play_lines_alone<A: Allocator + Copy>(
+    script: &Script,
+    ns: u32,
+    trees: &[A],
+    hub: &mut Hub<A>,
+    numbers: &mut Vec<Option<u32>>,
+    answers: &mut Vec<Told>,
+)
+    requires exists { ns < length script.now.spaces }
+    requires one { length trees.now ≡ 1 }
+    requires opened { hub.old.world ≡ new_hub (lone_limits script.now ns) script.now.frames }
+    requires numbers { numbers.old.items ≡ numbers_from 0 (length (lone_limits script.now ns)) }
+    requires names { 1 ≤ vec_capacity numbers.old }
+    requires none { answers.old.items ≡ [] }
+    requires room { length (lines_of script.now.steps ns) ≤ vec_capacity answers.old }
+    requires theirs { AreTheirs trees.now numbers.old.items hub.old }
+    ensures run { IsRun script.now (Some ns) (Answered.Alone ns answers.new) }
+    ensures told { HasTold script.now (Some ns) (Answered.Alone ns answers.new) numbers.new.items
+        (house_of hub.new.world) }
+    ensures theirs { AreTheirs trees.now numbers.new.items hub.new }
+{
+    let tree = trees[0];
+    let lines = script.steps();
+    for event in lines {
+        if event.0 == ns {
+            let answer = tell(hub, numbers, script, ns, 0, &event.1, tree);
+            answers.push_reserved(answer);
+        }
+    }
+}
+
 /// Runs the lines of one name alone over all of the script's frames, whatever they hold. Its files stand in memory of the
 /// one allocator.
 fn play_alone<A: Allocator + Copy>(
@@ -372,19 +481,13 @@ fn play_alone<A: Allocator + Copy>(
         (house_of ended.hub.world)) }
     ensures trees { IfOk result (λ ended. AreTheirs trees.now ended.numbers.items ended.hub) }
 {
-    let tree = trees[0];
-    let configs = lone_configs(alloc, script, ns, tree)?;
-    let count = configs.len();
-    let mut numbers = first_numbers(alloc, count, 1)?;
-    let mut hub = hub_of(alloc, configs, frames)?;
-    let lines = script.steps();
     let mut answers = Vec::with_capacity(alloc, script.places(ns as usize).len())?;
-    for event in lines {
-        if event.0 == ns {
-            let answer = tell(&mut hub, &mut numbers, script, ns, 0, &event.1, tree);
-            answers.push(answer)?;
-        }
-    }
+    let mut hub = lone_hub(alloc, script, ns, trees, frames)?;
+    let Ok(mut numbers) = first_numbers(alloc, hub.namespaces(), 1) else {
+        drop(hub);
+        return Err(AllocError);
+    };
+    play_lines_alone(script, ns, trees, &mut hub, &mut numbers, &mut answers);
     let answered = Answered::Alone(ns, answers);
     Ok(Ended {
         hub,

@@ -1,11 +1,11 @@
-ghost use Rattle.std.specs.Prelude.{◌≡◌, ◌≢◌, ◌⊎◌, true, false, None, Err, map, option_copied, string_bytes};
+ghost use Rattle.std.specs.Prelude.{◌≡◌, ◌≢◌, ◌⊎◌, ◌&&◌, true, false, None, Err, is_some, map, option_copied, string_bytes};
 ghost use Rattle.std.specs.Process.{exit_status};
 ghost use Rattle.clap.specs.Words.{kind_of};
 ghost use Rattle.clap.specs.declared.error.kind.ErrorKind.TheVariants as kinds;
 ghost use Rattle.pf_script.specs.Notices.{notice_line};
 ghost use Rattle.pf_play.specs.CommandLine.{name_in, wants_threads};
 ghost use Rattle.pf_play.specs.Program.{code_of, status_of, words_of, Obeys, IsRun};
-ghost use Rattle.pf_play.specs.Program.{IsTold, IsToldLine, IsUsage, IsNoMemory, IsGatedIfDone};
+ghost use Rattle.pf_play.specs.Program.{IsTold, IsToldLine, IsUsage, IsNoMemory, IsGatedIfDone, one_thread_line};
 
 use crate::command_line::{Asked, options_of};
 use crate::run::{ReplayFault, Replayed, replay};
@@ -165,6 +165,33 @@ fn play_input_threads<T: Threads + Wait + Sync, R: Source, W: Sink, G: Gate + Sy
     tell_end(writer, asked.options.only, end)
 }
 
+/// Does what words ask for that are taken.
+fn do_asked<T: Threads + Wait + Sync, R: Source, W: Sink, G: Gate + Sync>(
+    rt: &T,
+    alloc: Global,
+    reader: &mut R,
+    writer: &mut W,
+    asked: &Asked<'_>,
+    gate: &G,
+) -> Status
+    ensures run { asked.now.threads && is_some asked.now.options.tree_heap ≡ false →
+        IsRun asked.now.threads (R.input reader.old) (R.input reader.new) (W.output writer.old) (W.output writer.new)
+        (option_copied asked.now.options.only) result }
+    ensures one_thread { asked.now.threads && is_some asked.now.options.tree_heap ≡ true →
+        (R.input reader.new ≡ R.input reader.old)
+        × IsTold (W.output writer.old) (W.output writer.new) one_thread_line Status.Usage result }
+    ensures gated { asked.now.threads ≡ true → IsGatedIfDone (G.passed gate.now)
+        (R.input reader.old) (R.input reader.new) (option_copied asked.now.options.only) result }
+{
+    if !asked.threads {
+        return play_input(alloc, reader, writer, asked);
+    }
+    if asked.options.tree_heap.is_some() {
+        return tell_text(writer, ONE_THREAD, Status::Usage);
+    }
+    play_input_threads(rt, alloc, reader, writer, asked, gate)
+}
+
 /// Judges the words of the command line, of which the first is the program's name, and then does what they say. What is
 /// written is the same with threads and without, but for a script that admits or retires a namespace: that needs one
 /// thread. The gate is told of each step where threads are asked for, and of none
@@ -183,11 +210,7 @@ pub fn obey<T: Threads + Wait + Sync, R: Source, W: Sink, G: Gate + Sync>(
         (R.input reader.old) (R.input reader.new) (name_in (map string_bytes words.now)) result }
 {
     match options_of(alloc, words) {
-        Ok(asked) if asked.threads && asked.options.tree_heap.is_some() => {
-            tell_text(writer, ONE_THREAD, Status::Usage)
-        }
-        Ok(asked) if asked.threads => play_input_threads(rt, alloc, reader, writer, &asked, gate),
-        Ok(asked) => play_input(alloc, reader, writer, &asked),
+        Ok(asked) => do_asked(rt, alloc, reader, writer, &asked, gate),
         Err(error) => tell_usage(alloc, writer, error),
     }
 }

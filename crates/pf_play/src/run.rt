@@ -1,7 +1,14 @@
-ghost use Rattle.std.specs.Prelude.{◌≡◌, false, IfOk, IfErr, OnErr, option_copied};
+ghost use Rattle.std.specs.Prelude.{◌≡◌, ℕ, List, Option, false, IfOk, IfErr, OnErr, option_copied};
+ghost use Rattle.pf_base.specs.declared.admission.EventAnswer.{EventAnswer};
+ghost use Rattle.pf_play.specs.Answered.{Holds};
 ghost use Rattle.pf_play.specs.Played.{IsChosen};
+ghost use Rattle.pf_play.specs.Plays.{nomem_of};
 ghost use Rattle.pf_play.specs.Replays.{IsReplayed, IsFault, Names, NamesNone};
+ghost use Rattle.pf_script.specs.Faults.{IsRead};
+ghost use Rattle.pf_script.specs.Ports.{Input, IsWritten, IsCut};
+ghost use Rattle.pf_script.specs.Text.{text};
 
+use crate::answered::Answered;
 use crate::engine::{Options, frames_of, play};
 use pf_script::{Refusal, Script, ScriptFault, Sink, Source, WriteFault, read_script};
 use std::alloc::{AllocError, Global};
@@ -91,6 +98,48 @@ pub fn chosen(script: &Script, name: Option<&str>) -> Result<Option<u32>, NoName
     }
 }
 
+/// Prints the answers of a run, and tells how many of them say that memory was wanted.
+pub fn print_answers<W: Sink>(
+    writer: &mut W,
+    script: &Script,
+    answered: &Answered,
+) -> Result<Replayed, ReplayFault>
+    requires { (only : Option ℕ) × (answers : List EventAnswer) × Holds script.now answered.now only answers }
+    ensures written { (only : Option ℕ) (answers : List EventAnswer) → Holds script.now answered.now only answers →
+        IfOk result (λ r. IsWritten (W.output writer.old) (W.output writer.new) (text script.now answers only)
+        × (r.nomem ≡ nomem_of answers)) }
+    ensures cut { (only : Option ℕ) (answers : List EventAnswer) → Holds script.now answered.now only answers →
+        IfErr result (λ fault. (fault ≡ ReplayFault.WriteFault)
+        × IsCut (W.output writer.old) (W.output writer.new) (text script.now answers only)) }
+{
+    let nomem = answered.count_nomem(script);
+    answered.print(writer, script)?;
+    Ok(Replayed { nomem })
+}
+
+/// What `replay` does with a script that was read.
+fn replay_script<W: Sink>(
+    alloc: Global,
+    writer: &mut W,
+    script: &Script,
+    options: &Options<'_>,
+) -> Result<Replayed, ReplayFault>
+    ensures played { (input : Input) (rest : Input) → IsRead input rest script.now → IfOk result
+        (λ r. IsReplayed false input rest (W.output writer.old) (W.output writer.new)
+        (option_copied options.now.only) r.nomem) }
+    ensures fault { (input : Input) (rest : Input) → IsRead input rest script.now → IfErr result
+        (IsFault false input rest (W.output writer.old) (W.output writer.new) (option_copied options.now.only)) }
+{
+    let Ok(only) = chosen(script, options.only) else {
+        return Err(ReplayFault::NoSuchName);
+    };
+    let frames = frames_of(alloc, script.frames(), options.fill)?;
+    let played = play(alloc, script, only, options.tree_heap, frames)?;
+    let end = print_answers(writer, script, &played.answered);
+    drop(played);
+    end
+}
+
 /// Reads a script to its end, runs its lines, and writes the text of the answers. With one name chosen its lines are run
 /// alone, over all of the script's frames, and its section alone is written. With heaps for the files each name that is
 /// run has one of its own.
@@ -109,12 +158,7 @@ pub fn replay<R: Source, W: Sink>(
         (W.output writer.old) (W.output writer.new) (option_copied options.now.only)) }
 {
     let script = read_script(alloc, reader)?;
-    let Ok(only) = chosen(&script, options.only) else {
-        return Err(ReplayFault::NoSuchName);
-    };
-    let frames = frames_of(alloc, script.frames(), options.fill)?;
-    let played = play(alloc, &script, only, options.tree_heap, frames)?;
-    let nomem = played.answered.count_nomem(&script);
-    played.answered.print(writer, &script)?;
-    Ok(Replayed { nomem })
+    let end = replay_script(alloc, writer, &script, options);
+    drop(script);
+    end
 }

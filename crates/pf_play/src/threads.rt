@@ -1,18 +1,23 @@
 //! A script's namespaces on threads of their own, over a depot that they share.
 
-ghost use Rattle.std.specs.Prelude.{◌≡◌, ◌≤◌, ◌<◌, ℕ, false, [], length, map, slice_index_or, Some, None, IfOk, IsOk};
+ghost use Rattle.std.specs.Prelude.{◌≡◌, ◌≤◌, ◌<◌, ℕ, false, [], ◌∷◌, ◌++◌, length, map, slice_index_or, Some, None, Ok, IfOk, IsOk};
 ghost use Rattle.std.specs.List.{All};
+ghost use Rattle.std.specs.declared.alloc.Global.{Global};
+ghost use Rattle.std.specs.declared.vec.Vec.{Vec};
 ghost use Rattle.pf_base.specs.declared.TheConstants.{MAX_FRAMES, MAX_NAMESPACES};
+ghost use Rattle.pf_depot.specs.AllLoans.{reserved_of};
+ghost use Rattle.pf_hub.specs.Opening.{limits_of, first_fault};
 ghost use Rattle.pf_play.specs.Answered.{IsRun};
 ghost use Rattle.pf_play.specs.Played.{IsChosen, comes_and_goes};
 ghost use Rattle.pf_play.specs.Workers.{IsOpened, IsPassed, IsPassedFor, IsRunFramed, IsWorked, AreWorked};
 ghost use Rattle.pf_play.specs.Workers.{AreToldAlone};
-ghost use Rattle.pf_worker.specs.Workers.{new_worker};
+ghost use Rattle.pf_script.specs.declared.told.Told.{Told};
+ghost use Rattle.pf_worker.specs.Workers.{new_worker, new_workers};
 
 use crate::answered::Answered;
 use crate::turns::{Turns, TurnsOf};
 use pf_base::{Config, EventAnswer, MAX_NAMESPACES};
-use pf_depot::DepotBook;
+use pf_depot::{Allotment, DepotBook};
 use pf_frame::{Frame, PoolFault};
 use pf_script::{Line, Script, Told};
 use pf_worker::{Gate, Worker, open};
@@ -123,6 +128,19 @@ fn start<
     Ok(child)
 }
 
+/// The answers of the workers so far, and then those of the next, where all of them came to their ends.
+fn joined(
+    before: Result<Vec<Vec<Told>>, AllocError>,
+    last: Ended,
+) -> Result<Vec<Vec<Told>>, AllocError>
+    ensures { IfOk result (λ own. (front : Vec (Vec Told Global) Global) × (answers : Vec Told Global)
+        × (before ≡ Ok front) × (last ≡ Ok answers) × (own.items ≡ front.items ++ answers ∷ [])) }
+{
+    let mut own = before?;
+    own.push(last?)?;
+    Ok(own)
+}
+
 /// Runs each worker on a thread of its own: all are started before one is waited for. Where one can't be started, the
 /// others are waited for all the same.
 fn work_each<
@@ -147,14 +165,16 @@ fn work_each<
 {
     let mut workers = workers;
     let Some(worker) = workers.pop() else {
+        drop(workers);
         return Ok(Vec::new(alloc));
     };
-    let child = start(rt, alloc, scope, script, book, gate, worker)?;
+    let Ok(child) = start(rt, alloc, scope, script, book, gate, worker) else {
+        drop(workers);
+        return Err(AllocError);
+    };
     let before = work_each(rt, alloc, scope, script, book, gate, workers);
     let last = child.join(rt);
-    let mut own = before?;
-    own.push(last?)?;
-    Ok(own)
+    joined(before, last)
 }
 
 /// Runs each worker on a thread of its own, and waits for all.
@@ -186,6 +206,28 @@ fn work_all<
     )
 }
 
+/// The same over a depot that is let go behind them.
+fn work_over<
+    R: Threads + Wait + Sync,
+    G: Gate + Sync,
+    C: Ledger + Send + Sync,
+    H: Ledger + Send + Sync,
+>(
+    rt: &R,
+    alloc: Global,
+    script: &Script,
+    book: DepotBook<C, H>,
+    gate: &G,
+    workers: Vec<Worker<Global, C, H>>,
+) -> Result<Vec<Vec<Told>>, AllocError>
+    requires { All (IsOpened script.now) workers.items }
+    ensures { IfOk result (λ own. AreWorked (G.passed gate.now) (G.framed gate.now)
+        script.now workers.items (map (λ v. v.items) own.items)) }
+{
+    let book = Mutex::new(book);
+    work_all(rt, alloc, script, &book, gate, workers)
+}
+
 /// The answers of all namespaces, of each its own.
 fn all_of(script: &Script, own: Vec<Vec<Told>>) -> Answered
     requires only { comes_and_goes script.now ≡ false }
@@ -205,6 +247,41 @@ fn with_allocators(alloc: Global, limits: &[Config]) -> Result<Vec<(Config, Glob
     ensures { IfOk result (λ configs. configs.items ≡ map (λ l. (l, alloc)) limits.now) }
 {
     limits.iter().map(|config| (*config, alloc)).collect(alloc)
+}
+
+/// The limits of all of a script's namespaces, each with an allocator for its files.
+fn all_configs(alloc: Global, script: &Script) -> Result<Vec<(Config, Global)>, AllocError>
+    requires { script.now.opening ≡ length script.now.spaces }
+    ensures configs { IfOk result
+        (λ configs. configs.items ≡ map (λ l. (l, alloc)) (map (λ s. s.1) script.now.spaces)) }
+    ensures fits { IfOk result (λ configs. first_fault script.now.frames (limits_of configs.items) ≡ None) }
+{
+    let limits = script.configs(alloc)?;
+    with_allocators(alloc, limits.as_slice())
+}
+
+/// The depot over these frames, which are enough, and the workers of all of a script's namespaces.
+fn all_workers<C: Ledger, H: Ledger>(
+    alloc: Global,
+    script: &Script,
+    frames: Vec<Frame>,
+    credits: Blank,
+    held: Blank,
+) -> Result<(DepotBook<C, H>, Vec<Worker<Global, C, H>>), AllocError>
+    requires names { (credits.name ≡ C.name) × (held.name ≡ H.name) }
+    requires cut { (credits.parts ≡ C.parts) × (held.parts ≡ H.parts) }
+    requires parts { (MAX_NAMESPACES ≤ credits.parts) × (MAX_NAMESPACES ≤ held.parts) }
+    requires whole { script.now.opening ≡ length script.now.spaces }
+    requires frames { length frames.items ≡ script.now.frames }
+    ensures { IfOk result
+        (λ made. made.1.items ≡ new_workers (map (λ l. (l, alloc)) (map (λ s. s.1) script.now.spaces))) }
+{
+    let configs = all_configs(alloc, script)?;
+    match open::<Global, C, H>(alloc, frames, configs, credits, held) {
+        Ok(opened) => Ok(opened),
+        Err(PoolFault::NoMemory) => Err(AllocError),
+        Err(_) => unreachable!(),
+    }
 }
 
 /// Runs all of a script's steps, each namespace's on a thread of its own, over these frames, whatever they hold.
@@ -232,16 +309,47 @@ fn play_all<
     ensures passed { IsOk result → IsPassedFor (G.passed gate.now) script.now None }
     ensures framed { IfOk result (IsRunFramed (G.framed gate.now) script.now None) }
 {
-    let limits = script.configs(alloc)?;
-    let configs = with_allocators(alloc, limits.as_slice())?;
-    let (book, workers) = match open::<Global, C, H>(alloc, frames, configs, credits, held) {
-        Ok(opened) => opened,
-        Err(PoolFault::NoMemory) => return Err(AllocError),
-        Err(_) => unreachable!(),
-    };
-    let book = Mutex::new(book);
-    let own = work_all(rt, alloc, script, &book, gate, workers)?;
+    let (book, workers) = all_workers::<C, H>(alloc, script, frames, credits, held)?;
+    let own = work_over(rt, alloc, script, book, gate, workers)?;
     Ok(all_of(script, own))
+}
+
+/// A depot of these frames with one reservation, which they are enough for, and what its namespace begins with.
+fn lone_book<C: Ledger, H: Ledger>(
+    alloc: Global,
+    reserve: u32,
+    frames: Vec<Frame>,
+    credits: Blank,
+    held: Blank,
+) -> Result<(DepotBook<C, H>, Vec<Allotment<C, H>>), AllocError>
+    requires names { (credits.name ≡ C.name) × (held.name ≡ H.name) }
+    requires cut { (credits.parts ≡ C.parts) × (held.parts ≡ H.parts) }
+    requires parts { (MAX_NAMESPACES ≤ credits.parts) × (MAX_NAMESPACES ≤ held.parts) }
+    requires small { length frames.items ≤ MAX_FRAMES }
+    requires fits { reserve ≤ length frames.items }
+    ensures { IfOk result (λ made. map (λ a. reserved_of a.loans) made.1.items ≡ reserve ∷ []) }
+{
+    let reserves = vec![in alloc; reserve]?;
+    match DepotBook::open(alloc, frames, reserves, credits, held) {
+        Ok(opened) => Ok(opened),
+        Err(PoolFault::NoMemory) => Err(AllocError),
+        Err(_) => unreachable!(),
+    }
+}
+
+/// The worker of the one namespace that these are dealt to.
+fn worker_of<C: Ledger, H: Ledger>(
+    alloc: Global,
+    ns: u32,
+    config: Config,
+    allotments: Vec<Allotment<C, H>>,
+) -> Result<Worker<Global, C, H>, AllocError>
+    requires { map (λ a. reserved_of a.loans) allotments.items ≡ config.reserve ∷ [] }
+    ensures { IfOk result (λ worker. worker ≡ new_worker ns (config, alloc)) }
+{
+    let mut allotments = allotments;
+    let allotment = allotments.pop().unwrap();
+    Worker::new(alloc, ns, config, alloc, allotment)
 }
 
 /// The worker of one namespace alone over these frames, which are enough for it.
@@ -260,14 +368,8 @@ fn lone_worker<C: Ledger, H: Ledger>(
     requires fits { config.reserve ≤ length frames.items }
     ensures { IfOk result (λ made. made.1 ≡ new_worker ns (config, alloc)) }
 {
-    let reserves = vec![in alloc; config.reserve()]?;
-    let (book, mut allotments) = match DepotBook::open(alloc, frames, reserves, credits, held) {
-        Ok(opened) => opened,
-        Err(PoolFault::NoMemory) => return Err(AllocError),
-        Err(_) => unreachable!(),
-    };
-    let allotment = allotments.pop().unwrap();
-    let worker = Worker::new(alloc, ns, config, alloc, allotment)?;
+    let (book, allotments) = lone_book::<C, H>(alloc, config.reserve(), frames, credits, held)?;
+    let worker = worker_of(alloc, ns, config, allotments)?;
     Ok((book, worker))
 }
 
@@ -300,10 +402,14 @@ fn play_alone<
 {
     let config = script.config(ns as usize);
     let (book, worker) = lone_worker::<C, H>(alloc, ns, config, frames, credits, held)?;
-    let workers = vec![in alloc; worker]?;
-    let book = Mutex::new(book);
-    let mut own = work_all(rt, alloc, script, &book, gate, workers)?;
-    Ok(Answered::Alone(ns, own.pop().unwrap()))
+    let Ok(workers) = vec![in alloc; worker] else {
+        drop(book);
+        return Err(AllocError);
+    };
+    let mut own = work_over(rt, alloc, script, book, gate, workers)?;
+    let answers = own.pop().unwrap();
+    drop(own);
+    Ok(Answered::Alone(ns, answers))
 }
 
 /// The same for all steps, or for those of one namespace that is chosen.

@@ -1,136 +1,40 @@
--- The name's lines are told as those of the one name that there is, and the others are passed by.
-use Rattle.std.proofs.Common.{rules, ◌≡◌, ◌+◌, List, [], ◌∷◌, ◌++◌, length, take, drop, ap, sym, ◌∙◌, arith, refl}
-use Rattle.std.specs.Prelude.{Some}
+-- The hub opens with the name where it has a space line, and else with none.
+use Rattle.std.proofs.Common.{ap, arith, sym, subst, ◌≡◌, ◌∙◌, ℕ, List, length}
 use Rattle.std.proofs.lemmas.List.{length-map}
-use Rattle.std.proofs.Math.ListN.{drop_of_length-le}
-use Rattle.pf_base.specs.Limits.{Limits}
-use Rattle.pf_hub.specs.Opening.{new_hub, limits_of}
-use Rattle.pf_hub.specs.Tenants.{house_of}
-use Rattle.pf_play.specs.Houses.{alone, limits_of_name}
+use Rattle.std.specs.Prelude.{Some}
+use Rattle.pf_hub.specs.Opening.{new_tenant}
+use Rattle.pf_play.specs.Houses.{lone_limits}
 use Rattle.pf_play.specs.Numbers.{numbers_from}
-use Rattle.pf_play.proofs.AnsweredLaws.{answered}
-use Rattle.pf_play.proofs.EngineLaws.{take_all, next_of, taken_of}
-use Rattle.pf_play.proofs.PlayLaws.{given_next, housed}
-use Rattle.pf_play.proofs.StayLaws.{settled_alone}
-use Rattle.pf_play.proofs.TreeLaws.{first_theirs, lone_own, own_there, admits_next}
-use Rattle.pf_play.proofs.AloneLaws.{RunningAlone, alone_first, alone_next, alone_on, alone_by, alone_one, alone_limits}
+use Rattle.pf_play.specs.Trees.{AreTheirs}
+use Rattle.pf_script.specs.Places.{places_of}
+use Rattle.pf_play.proofs.AloneLaws.{lone_few}
+use Rattle.pf_play.proofs.WorkLaws.{many_from}
 use Rattle.pf_play.proofs.engine.play_alone.Goals as goal
-use Rattle.pf_play.proofs.engine.play_alone.Goals.{then-event-ns+in_ok-push, else-event-ns}
 
-pub loop-event-init : goal.loop-event-init
-loop-event-init g c =
-    let script = c.args.script.now in
-    let ls : List Limits = limits_of c.in_ok-configs.configs.items in
-    let none : c.in_ok-answers.answers.items ≡ [] = search rules in
-    let count : c.len-count.result ≡ length c.in_ok-configs.configs.items = search rules in
-    let many : length ls ≡ length c.in_ok-configs.configs.items = length-map c.in_ok-configs.configs.items (λ e. e.0) in
-    let numbered : c.in_ok-numbers.numbers.items ≡ numbers_from 0 (length ls) =
-    c.in_ok-numbers.ensures.numbers ∙ ap (numbers_from 0) (count ∙ sym many) in
-    let opened : c.in_ok-hub.hub.world ≡ new_hub ls script.frames =
-    c.in_ok-hub.ensures.opened ∙ ap (new_hub ls) c.requires.frames in
-    record {
-      running =
-          rw (none, c.steps-lines.ensures.steps)
-          (alone_first script c.args.ns ls c.in_ok-numbers.numbers.items (house_of c.in_ok-hub.hub.world) c.requires.exists
-          (rw c.steps-lines.ensures.steps at c.steps-lines.ensures.known) c.in_ok-configs.ensures.limits numbered
-          (ap house_of opened));
-      room = search rules;
-      theirs =
-          first_theirs c.args.trees.now c.in_ok-configs.configs.items c.in_ok-numbers.numbers.items script.frames
-          c.in_ok-hub.hub (c.in_ok-numbers.ensures.numbers ∙ ap (numbers_from 0) count) opened
-          c.in_ok-hub.ensures.allocators
-          (lone_own c.args.trees.now c.in_ok-configs.configs.items c.index-trees-0.result c.in_ok-configs.ensures.few
-          c.in_ok-configs.ensures.allocators
-          (own_there c.args.trees.now 0 0 c.index-trees-0.result (omega (arith, c.requires.one)) c.index-trees-0.is refl));
-    }
+pub first_numbers-requires-clause-within : goal.first_numbers-requires-clause-within
+first_numbers-requires-clause-within g c =
+    let ls = lone_limits c.args.script.now c.args.ns in
+    let given : c.namespaces.result ≡ length ls = c.namespaces.ensures.given
+    ∙ ap (λ w. length w.tenants) c.in_ok-hub.ensures.opened ∙ length-map ls (λ l. Some (new_tenant l)) in
+    omega (arith, given, lone_few c.args.script.now c.args.ns c.requires.exists)
 
-pub tell-answer-requires : goal.tell-answer-requires
-tell-answer-requires g c =
-    let e = c.event-item.result in
-    let lines = c.steps-lines.result.now in
-    let at = c.loop-event.event-index in
-    let left : drop at lines ≡ e ∷ drop (at + 1) lines = next_of lines at e c.loop-event-test.true c.event-item.is in
-    let old : RunningAlone c.args.script.now c.args.ns (take at lines) (e ∷ drop (at + 1) lines) c.loop-event.numbers.items
-    (house_of c.loop-event.hub.world) c.loop-event.answers.items = rw left at c.loop-event.invariant.running in
-    let running = alone_next c.args.script.now c.args.ns (take at lines) (drop (at + 1) lines) e c.loop-event.numbers.items
-    (house_of c.loop-event.hub.world) c.loop-event.answers.items c.if-event-ns.true old in
-    let next = given_next _ (0, e.1) _ _ running.known in
-    let one = alone_one c.args.script.now c.args.ns c.requires.exists in
-    record {
-      exists = c.requires.exists;
-      room = omega (arith, next.1, one, c.loop-event.invariant.room);
-      few = omega (arith, next.1, one);
-    }
+pub play_lines_alone-requires-clause-numbers : goal.play_lines_alone-requires-clause-numbers
+play_lines_alone-requires-clause-numbers g c =
+    let ls = lone_limits c.args.script.now c.args.ns in
+    let given : c.namespaces.result ≡ length ls = c.namespaces.ensures.given
+    ∙ ap (λ w. length w.tenants) c.in_ok-hub.ensures.opened ∙ length-map ls (λ l. Some (new_tenant l)) in
+    c.in-Ok.ensures.numbers ∙ ap (numbers_from 0) given
 
-pub loop-event-preserved : goal.loop-event-preserved
-loop-event-preserved g c =
-    let script = c.args.script.now in
-    let n = c.args.ns in
-    let e = c.event-item.result in
-    let lines = c.steps-lines.result.now in
-    let at = c.loop-event.event-index in
-    let left : drop at lines ≡ e ∷ drop (at + 1) lines = next_of lines at e c.loop-event-test.true c.event-item.is in
-    let taken : take (at + 1) lines ≡ take at lines ++ e ∷ [] = taken_of lines at e c.loop-event-test.true c.event-item.is in
-    let old : RunningAlone script n (take at lines) (e ∷ drop (at + 1) lines) c.loop-event.numbers.items
-    (house_of c.loop-event.hub.world) c.loop-event.answers.items = rw left at c.loop-event.invariant.running in
-    elim c.if-event-ns.branch [
-      | then-event-ns+in_ok-push w ↦
-          let running = alone_next script n (take at lines) (drop (at + 1) lines) e c.loop-event.numbers.items
-          (house_of c.loop-event.hub.world) c.loop-event.answers.items w.if-event-ns.true old in
-          let follows = w.tell-answer.ensures.follows (limits_of_name (alone script n).spaces 0) running.house
-          (alone_limits script.spaces n c.requires.exists) running.named in
-          record {
-            running =
-                rw (w.hub-is, w.numbers-is, w.answers-is, w.in_ok-push.ensures.items, taken)
-                (alone_on script n (take at lines) (drop (at + 1) lines) e c.loop-event.numbers.items
-                (house_of c.loop-event.hub.world) c.loop-event.answers.items _ _ _ w.if-event-ns.true running
-                w.tell-answer.ensures.number follows);
-            room = rw (w.numbers-is, w.tell-answer.ensures.room) c.loop-event.invariant.room;
-            theirs = rw (w.hub-is, w.numbers-is)
-                (w.tell-answer.ensures.trees c.args.trees.now c.loop-event.invariant.theirs
-                (λ admits.
-                own_there c.args.trees.now 0 (length c.loop-event.numbers.items) c.index-trees-0.result
-                (omega (arith, c.requires.one)) c.index-trees-0.is (admits_next _ (0, e.1) _ _ running.known admits)));
-          }
-      | else-event-ns w ↦ record {
-        running = rw (w.hub-is, w.numbers-is, w.answers-is, taken)
-            (alone_by script n (take at lines) (drop (at + 1) lines) e c.loop-event.numbers.items
-            (house_of c.loop-event.hub.world) c.loop-event.answers.items w.if-event-ns.false old);
-        room = rw w.numbers-is c.loop-event.invariant.room;
-        theirs = rw (w.hub-is, w.numbers-is) c.loop-event.invariant.theirs;
-      }
-    ]
+pub play_lines_alone-requires-clause-theirs : goal.play_lines_alone-requires-clause-theirs
+play_lines_alone-requires-clause-theirs g c =
+    let ls = lone_limits c.args.script.now c.args.ns in
+    let given : c.namespaces.result ≡ length ls = c.namespaces.ensures.given
+    ∙ ap (λ w. length w.tenants) c.in_ok-hub.ensures.opened ∙ length-map ls (λ l. Some (new_tenant l)) in
+    subst (λ ns. AreTheirs c.args.trees.now ns c.in_ok-hub.hub)
+    (sym (c.in-Ok.ensures.numbers ∙ ap (numbers_from 0) given)) c.in_ok-hub.ensures.theirs
 
-pub returns-clause-run : goal.returns-clause-run
-returns-clause-run g c =
-    let script = c.args.script.now in
-    let lines = c.steps-lines.result.now in
-    let all : take c.loop-event.event-index lines ≡ script.steps =
-    take_all lines c.loop-event-test.false ∙ c.steps-lines.ensures.steps in
-    let none : drop c.loop-event.event-index lines ≡ [] = drop_of_length-le lines c.loop-event-test.false in
-    let running = rw (all, none) at c.loop-event.invariant.running in
-    let answers = c.loop-event.answers.items in
-    let played = settled_alone script c.args.ns answers (housed (alone script c.args.ns) _ _ _ running)
-    (rw c.steps-lines.ensures.steps at c.steps-lines.ensures.known) c.requires.exists in (
-      answers,
-      (refl, refl, answered script (Some c.args.ns) answers c.requires.exists played),
-      played,
-    )
-
-pub returns-clause-told : goal.returns-clause-told
-returns-clause-told g c =
-    let script = c.args.script.now in
-    let lines = c.steps-lines.result.now in
-    let all : take c.loop-event.event-index lines ≡ script.steps =
-    take_all lines c.loop-event-test.false ∙ c.steps-lines.ensures.steps in
-    let none : drop c.loop-event.event-index lines ≡ [] = drop_of_length-le lines c.loop-event-test.false in
-    let running = rw (all, none) at c.loop-event.invariant.running in
-    let answers = c.loop-event.answers.items in
-    let played = settled_alone script c.args.ns answers (housed (alone script c.args.ns) _ _ _ running)
-    (rw c.steps-lines.ensures.steps at c.steps-lines.ensures.known) c.requires.exists in (
-      answers,
-      (refl, refl, answered script (Some c.args.ns) answers c.requires.exists played),
-      running.house,
-      running.going.fall,
-      running.named,
-    )
+pub play_lines_alone-requires-clause-room : goal.play_lines_alone-requires-clause-room
+play_lines_alone-requires-clause-room g c =
+    let places : length c.places.result.now ≡ length (places_of c.args.script.now.steps c.args.ns)
+    = ap (λ (ps : List ℕ). length ps) c.places.ensures in
+    omega (arith, places, many_from 0 c.args.script.now.steps c.args.ns, c.in_ok-answers.ensures.capacity)

@@ -11,7 +11,7 @@ use Rattle.pf_play.specs.Answered.{HaveRoom}
 use Rattle.pf_play.specs.Houses.{first_house}
 use Rattle.pf_play.specs.Trees.{AreTheirs}
 use Rattle.pf_play.proofs.PlayLaws.{Running}
-use Rattle.pf_play.proofs.engine.play_all.Given as goal
+use Rattle.pf_play.proofs.engine.play_lines.Given as goal
 
 abbrev pub invariant-loop-event : goal.invariant-loop-event
 invariant-loop-event g l = record {
