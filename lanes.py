@@ -1,8 +1,8 @@
 """What the gate does in lanes: the wrong bodies of crates, side by side, in copies of the tree.
 
 A lane is a copy, in which one command runs at a time, since the commands of the kit wait for each other in one tree. A
-crate's untouched text is checked first, when all that it stands on is: where others stand on it, as its library is
-built, and else those of its functions that have wrong bodies. What that leaves in the crate's folder out/ is copied to
+crate's untouched text is checked first, when all that it stands on is: where its library is wanted, as that is built,
+and else those of its functions that have wrong bodies. What that leaves in the crate's folder out/ is copied to
 the other lanes, as not every kit keeps it elsewhere. Then its wrong bodies can be tried, in any lane.
 
 What was seen refused is kept in the user's cache folder, where the untouched text checked again behind it: by checksums
@@ -250,9 +250,10 @@ class WrongBodies:
         """Proves a crate as it stands, in one lane, and hands on what that leaves to the others, as not every kit keeps
         it elsewhere. Where its library is wanted, that is how it is built, once for all lanes: the kit proves what it
         builds, and a check before it would read all of it once more. Where it isn't, the functions are proved that its
-        wrong bodies are of, and no others: that all are proved `rt ci` shows."""
+        wrong bodies are of, and no others: that all are proved `rt ci` shows, in a whole run."""
         when, folder = "as it stands, so its wrong bodies and what stands on it aren't tried", f"crates/{crate}"
-        ran = library(f"{tree}/{folder}") if is_built else check(f"{tree}/{folder}", functions_of(self.unseen(crate)))
+        spots = functions_of([it for part in self.parts.get(crate, []) for group in part for it in group])
+        ran = library(f"{tree}/{folder}") if is_built else check(f"{tree}/{folder}", spots)
         self.proved[crate] += ran.seconds
         if not is_proved(ran, crate, when):
             return False

@@ -22,7 +22,7 @@ A check says when it is done with a function. So what each wrong body took is kn
 
 A crate's checks are made over what the one before kept. So the untouched text of these functions must check before the
 first wrong body (lanes.py sees to that) and, over the same folder, behind the last one: else a check would refuse
-anything.
+anything. Where the kit judged one, which it does by the whole crate, all of the crate must check there.
 """
 import contextlib
 import os
@@ -352,8 +352,11 @@ class Trial:
 
     def play(self, groups):
         rest = [it for group in groups for it in self.try_together(group)]
-        self.leave_to_the_kit([it for it in rest if not self.try_alone(it)])
-        ran = self.counted(check(self.folder, functions_of([it for group in groups for it in group])))
+        left = [it for it in rest if not self.try_alone(it)]
+        self.leave_to_the_kit(left)
+        # the kit judges by the whole crate, so where it did that must check whole
+        spots = [] if left else functions_of([it for group in groups for it in group])
+        ran = self.counted(check(self.folder, spots))
         self.holds = is_proved(ran, self.crate, "again, behind its wrong bodies")
         return self
 
