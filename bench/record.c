@@ -73,7 +73,7 @@ static double timed(int threads, struct record record) {
 
 int main(int argc, char **argv) {
     long pairs = argc > 1 ? atol(argv[1]) : 50000;
-    const struct record records[2] = {{pairs, 1}, {pairs / 10, PAGE}};
+    const struct record records[2] = {{pairs, 1}, {(pairs + 9) / 10, PAGE}};
     for (int i = 0; i < 2; i++) {
         printf("record %zu bytes: %.0f ns a pair of one thread", records[i].size, timed(1, records[i]));
         printf("; %.0f for a pair of each of %d at once\n", timed(THREADS, records[i]), THREADS);
