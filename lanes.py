@@ -189,9 +189,10 @@ def library(folder):
 
 
 def parts_of(groups):
-    """Groups shared out for lanes, in each the small ones first: so the large ones, with many functions, come last."""
+    """Groups shared out for lanes, in each the large ones first: the untouched text of the last one's functions is proved
+    again behind it."""
     number = -(-len(groups) // CHECKS)
-    return [sorted(groups, key=len)[at::number] for at in range(number)]
+    return [sorted(groups, key=len, reverse=True)[at::number] for at in range(number)]
 
 
 class WrongBodies:

@@ -20,9 +20,11 @@ which part of its contract isn't proved, or finds another fault in the file.
 
 A check says when it is done with a function. So what each wrong body took is known, but for those that the kit judged.
 
-A crate's checks are made over what the one before kept. So the untouched text of these functions must check before the
-first wrong body (lanes.py sees to that) and, over the same folder, behind the last one: else a check would refuse
-anything. Where the kit judged one, which it does by the whole crate, all of the crate must check there.
+Each check begins with what the crate's out/ held when its untouched text was proved, which is put back before it: behind
+another check the functions that this one edited would be proved again, wherever they are called. So the untouched text
+of these functions must check before the first wrong body (lanes.py sees to that) and, over what the last one left,
+behind it: else a check would refuse anything. Where the kit judged one, which it does by the whole crate, all of the
+crate must check there.
 """
 import contextlib
 import os
@@ -341,6 +343,7 @@ class Trial:
     def __init__(self, tree, crate, words):
         self.tree, self.crate, self.folder, self.words = tree, crate, f"{tree}/crates/{crate}", words
         self.tried, self.holds, self.seconds, self.took = [], False, 0.0, Counter()  # took: seconds by an edit's name
+        self.out, self.proved, self.is_left = f"{self.folder}/out", f"{tree}/proved.{crate}", False
 
     def counted(self, ran):
         self.seconds += ran.seconds
@@ -351,14 +354,32 @@ class Trial:
         print(f"wrong {self.crate}/{edit.name}: {said}", flush=True)
 
     def play(self, groups):
-        rest = [it for group in groups for it in self.try_together(group)]
-        left = [it for it in rest if not self.try_alone(it)]
-        self.leave_to_the_kit(left)
-        # the kit judges by the whole crate, so where it did that must check whole
-        spots = [] if left else functions_of([it for group in groups for it in group])
-        ran = self.counted(check(self.folder, spots))
+        with self.out_kept():
+            rest = [it for group in groups for it in self.try_together(group)]
+            left = [it for it in rest if not self.try_alone(it)]
+            self.leave_to_the_kit(left)
+            # the kit judges by the whole crate, so where it did that must check whole
+            spots = [] if left else functions_of([it for group in groups for it in group])
+            ran = self.counted(check(self.folder, spots))
         self.holds = is_proved(ran, self.crate, "again, behind its wrong bodies")
         return self
+
+    @contextlib.contextmanager
+    def out_kept(self):
+        """Keeps aside what out/ holds, which is of the untouched text, and puts it back in the end."""
+        shutil.copytree(self.out, self.proved, symlinks=True) if os.path.isdir(self.out) else os.mkdir(self.proved)
+        try:
+            yield
+        finally:
+            shutil.rmtree(self.out, ignore_errors=True)
+            os.rename(self.proved, self.out)
+
+    def put_back(self):
+        """Puts back what out/ held, where a check has been since."""
+        if self.is_left:
+            shutil.rmtree(self.out)
+            shutil.copytree(self.proved, self.out, symlinks=True)
+        self.is_left = True
 
     def try_together(self, group):
         """Tries edits in one check of their functions, and returns those that it doesn't show to be refused. Where it
@@ -387,6 +408,7 @@ class Trial:
             return None
         texts, spots = edited(self.folder, group), functions_of(group)
         planted, laps = planted_in(self.folder, spots, texts) if plants else {}, Laps()
+        self.put_back()
         with in_place(self.folder, texts | dict(planted.values())):
             ran = self.counted(check(self.folder, spots, laps))
         self.took.update({it.name: sum(laps.seconds[spot] for spot in it.spots) for it in group})
