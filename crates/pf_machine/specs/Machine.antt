@@ -10,13 +10,12 @@ use Rattle.pf_base.specs.declared.errno.Errno.{Errno}
 use Rattle.pf_base.specs.declared.meta.Kind.TheVariants as kinds
 use Rattle.pf_base.specs.declared.progress.Crossing.TheVariants as crossings
 use Rattle.pf_base.specs.declared.step.Step.{Step}
-use Rattle.pf_base.specs.declared.step.Step.TheVariants.{Spawn, Exit, Pipe, Close, Read, Write, Tee, Splice, SetSize, GetSize, Fork, Dup, SetNonblock}
-use Rattle.pf_base.specs.declared.step.Step.TheVariants.{Mkdir, Mkfifo, Open, Unlink, Rmdir, Chmod, Stat, List as Lists, Resume}
+use Rattle.pf_base.specs.declared.step.Step.TheVariants as steps
 use Rattle.pf_base.specs.declared.step.Reply.{Reply}
 use Rattle.pf_base.specs.declared.step.Reply.TheVariants.{Parked}
 use Rattle.pf_base.specs.declared.step.Answer.{Answer}
 use Rattle.pf_base.specs.declared.step.Answer.TheVariants.{Done, NoMemory}
-use Rattle.pf_machine.specs.State.{itself, State, Outcome, settle, process, living, ready}
+use Rattle.pf_machine.specs.State.{itself, State, Process, Outcome, settle, process, living, ready}
 use Rattle.pf_machine.specs.Processes.{spawn, fork, exit}
 use Rattle.pf_machine.specs.Descriptors.{dup, close, set_nonblock}
 use Rattle.pf_machine.specs.Pipes.{pipe, set_size, get_size}
@@ -28,36 +27,53 @@ use Rattle.pf_machine.specs.Sweep.{sweep}
 
 -- Steps
 
--- what a step does and is told, or the first error: ESRCH where no such process lives, then EBUSY where it waits in a
--- call, but for Exit and Resume
+-- whose a step is, and what it does then: nobody's; one of a process that is to live; one of a process that is to wait
+-- in no call either
+pub data Deed : Type 0 where
+  OfNobody : (Limits → State Segment ℕ → Result (Outcome Segment ℕ) Errno) → Deed
+  OfLiving : ℕ → (Limits → State Segment ℕ → Process ℕ → Result (Outcome Segment ℕ) Errno) → Deed
+  OfReady : ℕ → (Limits → State Segment ℕ → Process ℕ → Result (Outcome Segment ℕ) Errno) → Deed
+
+abbrev pub deed : Step → Deed
+deed (steps.Spawn uid gid umask groups) =
+    OfNobody (λ c s. spawn s (record { uid = uid; gid = gid; groups = groups; umask = umask }))
+deed (steps.Exit pid) = OfLiving pid (λ c s p. exit s pid)
+deed (steps.Resume pid) = OfLiving pid (λ c s p. resume s pid p)
+deed (steps.Fork pid) = OfReady pid (λ c s p. fork s p)
+deed (steps.Mkdir pid path mode) = OfReady pid (λ c s p. make kinds.Directory s p path mode)
+deed (steps.Mkfifo pid path mode) = OfReady pid (λ c s p. make kinds.Fifo s p path mode)
+deed (steps.Unlink pid path) = OfReady pid (λ c s p. unlink s p path)
+deed (steps.Rmdir pid path) = OfReady pid (λ c s p. rmdir s p path)
+deed (steps.Chmod pid path mode) = OfReady pid (λ c s p. chmod s p path mode)
+deed (steps.Stat pid path) = OfReady pid (λ c s p. stat s p path)
+deed (steps.List pid path) = OfReady pid (λ c s p. list s p path)
+deed (steps.Open pid path flags) =
+    OfReady pid (λ c s p. open_path itself (length s.descriptions) itself c s pid p path (access_of flags.0))
+deed (steps.Pipe pid nonblock) =
+    OfReady pid
+    (λ c s p. pipe (length s.descriptions) (length s.descriptions + 1) (length s.pipes) c s pid p nonblock)
+deed (steps.Dup pid fd) = OfReady pid (λ c s p. dup s pid p fd)
+deed (steps.Close pid fd) = OfReady pid (λ c s p. close s pid p fd)
+deed (steps.Read pid fd n) = OfReady pid (λ c s p. transfer s pid p false (Reading fd n))
+deed (steps.Write pid fd payload) = OfReady pid (λ c s p. transfer s pid p false (Writing fd payload 0))
+deed (steps.Tee pid source sink n nonblock) =
+    OfReady pid (λ c s p. transfer s pid p nonblock (Bringing crossings.Tee source sink n))
+deed (steps.Splice pid source sink n nonblock) =
+    OfReady pid (λ c s p. transfer s pid p nonblock (Bringing crossings.Splice source sink n))
+deed (steps.SetSize pid fd bytes) = OfReady pid (λ c s p. set_size itself c s p fd bytes)
+deed (steps.GetSize pid fd) = OfReady pid (λ c s p. get_size itself s p fd)
+deed (steps.SetNonblock pid fd on) = OfReady pid (λ c s p. set_nonblock itself s p fd on)
+
+-- what a deed does, or the first error: ESRCH where no such process lives, then EBUSY where it waits in a call and is not
+-- to
+abbrev pub done_at : Limits → State Segment ℕ → Deed → Result (Outcome Segment ℕ) Errno
+done_at c s (OfNobody does) = does c s
+done_at c s (OfLiving pid does) = living s pid >>= does c s
+done_at c s (OfReady pid does) = ready s pid >>= does c s
+
+-- what a step does and is told, or the first error
 abbrev pub call : Limits → State Segment ℕ → Step → Result (Outcome Segment ℕ) Errno
-call c s (Spawn uid gid umask groups) = spawn s (record { uid = uid; gid = gid; groups = groups; umask = umask })
-call c s (Exit pid) = living s pid >>= (λ p. exit s pid)
-call c s (Resume pid) = living s pid >>= (λ p. resume s pid p)
-call c s (Fork pid) = ready s pid >>= (λ p. fork s p)
-call c s (Mkdir pid path mode) = ready s pid >>= (λ p. make kinds.Directory s p path mode)
-call c s (Mkfifo pid path mode) = ready s pid >>= (λ p. make kinds.Fifo s p path mode)
-call c s (Unlink pid path) = ready s pid >>= (λ p. unlink s p path)
-call c s (Rmdir pid path) = ready s pid >>= (λ p. rmdir s p path)
-call c s (Chmod pid path mode) = ready s pid >>= (λ p. chmod s p path mode)
-call c s (Stat pid path) = ready s pid >>= (λ p. stat s p path)
-call c s (Lists pid path) = ready s pid >>= (λ p. list s p path)
-call c s (Open pid path flags) =
-    ready s pid >>= (λ p. open_path itself (length s.descriptions) itself c s pid p path (access_of flags.0))
-call c s (Pipe pid nonblock) =
-    ready s pid >>=
-    (λ p. pipe (length s.descriptions) (length s.descriptions + 1) (length s.pipes) c s pid p nonblock)
-call c s (Dup pid fd) = ready s pid >>= (λ p. dup s pid p fd)
-call c s (Close pid fd) = ready s pid >>= (λ p. close s pid p fd)
-call c s (Read pid fd n) = ready s pid >>= (λ p. transfer s pid p false (Reading fd n))
-call c s (Write pid fd payload) = ready s pid >>= (λ p. transfer s pid p false (Writing fd payload 0))
-call c s (Tee pid source sink n nonblock) =
-    ready s pid >>= (λ p. transfer s pid p nonblock (Bringing crossings.Tee source sink n))
-call c s (Splice pid source sink n nonblock) =
-    ready s pid >>= (λ p. transfer s pid p nonblock (Bringing crossings.Splice source sink n))
-call c s (SetSize pid fd bytes) = ready s pid >>= (λ p. set_size itself c s p fd bytes)
-call c s (GetSize pid fd) = ready s pid >>= (λ p. get_size itself s p fd)
-call c s (SetNonblock pid fd on) = ready s pid >>= (λ p. set_nonblock itself s p fd on)
+call c s step = done_at c s (deed step)
 
 -- before the sweep
 abbrev pub act : Limits → State Segment ℕ → Step → Outcome Segment ℕ
@@ -80,36 +96,22 @@ Answers c NoMemory old step new = new ≡ old
 
 -- Want of memory
 
+abbrev pub maker : Deed → Option ℕ
+maker (OfNobody does) = None
+maker (OfLiving pid does) = Some pid
+maker (OfReady pid does) = Some pid
+
 -- the process that makes a step; nobody makes a Spawn
 abbrev pub pid_of : Step → Option ℕ
-pid_of (Spawn uid gid umask groups) = None
-pid_of (Exit pid) = Some pid
-pid_of (Pipe pid nonblock) = Some pid
-pid_of (Close pid fd) = Some pid
-pid_of (Read pid fd n) = Some pid
-pid_of (Write pid fd payload) = Some pid
-pid_of (Tee pid source sink n nonblock) = Some pid
-pid_of (Splice pid source sink n nonblock) = Some pid
-pid_of (SetSize pid fd bytes) = Some pid
-pid_of (GetSize pid fd) = Some pid
-pid_of (Fork pid) = Some pid
-pid_of (Dup pid fd) = Some pid
-pid_of (SetNonblock pid fd on) = Some pid
-pid_of (Mkdir pid path mode) = Some pid
-pid_of (Mkfifo pid path mode) = Some pid
-pid_of (Unlink pid path) = Some pid
-pid_of (Rmdir pid path) = Some pid
-pid_of (Chmod pid path mode) = Some pid
-pid_of (Stat pid path) = Some pid
-pid_of (Lists pid path) = Some pid
-pid_of (Open pid path flags) = Some pid
-pid_of (Resume pid) = Some pid
+pid_of step = maker (deed step)
+
+abbrev pub is_of_living : Deed → Bool
+is_of_living (OfLiving pid does) = true
+is_of_living _ = false
 
 -- whether a process may make a step while it waits in a call
 abbrev pub is_for_waiting : Step → Bool
-is_for_waiting (Exit pid) = true
-is_for_waiting (Resume pid) = true
-is_for_waiting _ = false
+is_for_waiting step = is_of_living (deed step)
 
 module _ {X N : Type 0} where
   -- the call in which the process of a pid waits
@@ -142,28 +144,22 @@ is_parked _ = false
 -- whether a step that is told this may have made a process or a pipe, given a pipe other slots, handed out bytes, kept a
 -- copy of bytes that wait, or walked a path, whose names stand in memory
 abbrev pub takes_memory : State Segment ℕ → Step → Reply → Bool
-takes_memory s (Spawn uid gid umask groups) reply = true
-takes_memory s (Exit pid) reply = false
-takes_memory s (Resume pid) reply = hands_out (call_of s pid)
-takes_memory s (Fork pid) reply = true
-takes_memory s (Mkdir pid path mode) reply = true
-takes_memory s (Mkfifo pid path mode) reply = true
-takes_memory s (Unlink pid path) reply = true
-takes_memory s (Rmdir pid path) reply = true
-takes_memory s (Chmod pid path mode) reply = true
-takes_memory s (Stat pid path) reply = true
-takes_memory s (Lists pid path) reply = true
-takes_memory s (Open pid path flags) reply = true
-takes_memory s (Pipe pid nonblock) reply = true
-takes_memory s (Dup pid fd) reply = false
-takes_memory s (Close pid fd) reply = false
-takes_memory s (Read pid fd n) reply = true
-takes_memory s (Write pid fd payload) reply = is_parked reply
-takes_memory s (Tee pid source sink n nonblock) reply = false
-takes_memory s (Splice pid source sink n nonblock) reply = false
-takes_memory s (SetSize pid fd bytes) reply = true
-takes_memory s (GetSize pid fd) reply = false
-takes_memory s (SetNonblock pid fd on) reply = false
+takes_memory s (steps.Spawn uid gid umask groups) reply = true
+takes_memory s (steps.Resume pid) reply = hands_out (call_of s pid)
+takes_memory s (steps.Fork pid) reply = true
+takes_memory s (steps.Mkdir pid path mode) reply = true
+takes_memory s (steps.Mkfifo pid path mode) reply = true
+takes_memory s (steps.Unlink pid path) reply = true
+takes_memory s (steps.Rmdir pid path) reply = true
+takes_memory s (steps.Chmod pid path mode) reply = true
+takes_memory s (steps.Stat pid path) reply = true
+takes_memory s (steps.List pid path) reply = true
+takes_memory s (steps.Open pid path flags) reply = true
+takes_memory s (steps.Pipe pid nonblock) reply = true
+takes_memory s (steps.Read pid fd n) reply = true
+takes_memory s (steps.Write pid fd payload) reply = is_parked reply
+takes_memory s (steps.SetSize pid fd bytes) reply = true
+takes_memory s _ reply = false
 
 -- whether a step, in this state, may want memory
 abbrev pub may_want_memory : Limits → State Segment ℕ → Step → Bool
