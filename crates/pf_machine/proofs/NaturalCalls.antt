@@ -1,5 +1,6 @@
--- What a call does at a state of one's own, the lone machine's call does at what that state means: a line for each kind
--- of step that moves no bytes. A slot shows a segment, and a name stands for a number.
+-- What a call does at a state of one's own, the lone machine's call does at what that state means: of the kinds of step
+-- that move no bytes, those that draw a name, and those that let something go or on. Of the others the lemma of their
+-- own says it, by `call-as`. A slot shows a segment, and a name stands for a number.
 
 use Rattle.std.proofs.Common.{◌≡◌, ℕ, ◌+◌, List, length, Bool, Option, Some, None, Result, Ok, Err, refl, sym, ap, ◌∙◌}
 use Rattle.std.specs.Option.{option_map, option_and_then}
@@ -8,25 +9,20 @@ use Rattle.pf_base.specs.Limits.{Limits}
 use Rattle.pf_base.specs.declared.errno.Errno.{Errno}
 use Rattle.pf_base.specs.declared.errno.Errno.TheVariants.{ESRCH, EINVAL}
 use Rattle.pf_base.specs.declared.open_flags.OpenFlags.{OpenFlags}
-use Rattle.pf_base.specs.declared.meta.Kind.TheVariants as kinds
-use Rattle.pf_base.specs.declared.step.Step.TheVariants.{Spawn, Exit, Pipe, Close, SetSize, GetSize, Fork, Dup, SetNonblock}
-use Rattle.pf_base.specs.declared.step.Step.TheVariants.{Mkdir, Mkfifo, Open, Unlink, Rmdir, Chmod, Stat, List as Lists, Resume}
+use Rattle.pf_base.specs.declared.step.Step.TheVariants.{Exit, Pipe, Close, Open, Resume}
 use Rattle.pf_machine.specs.Refusals.{◌>>=◌, or_refuse}
 use Rattle.pf_machine.specs.Queue.{Segment}
 use Rattle.pf_machine.specs.Calls.{Call, Opening}
 use Rattle.pf_machine.specs.State.{itself, State, Process, Outcome, process, living, of_living, of_ready}
-use Rattle.pf_machine.specs.Processes.{spawn, fork, exit}
-use Rattle.pf_machine.specs.Descriptors.{dup, close, set_nonblock}
-use Rattle.pf_machine.specs.Pipes.{pipe, set_size, get_size}
+use Rattle.pf_machine.specs.Processes.{exit}
+use Rattle.pf_machine.specs.Descriptors.{close}
+use Rattle.pf_machine.specs.Pipes.{pipe}
 use Rattle.pf_machine.specs.Attempts.{attempt, reopened, again, resume}
 use Rattle.pf_machine.specs.Opens.{open_path, access_of}
-use Rattle.pf_machine.specs.Files.{make, unlink, rmdir, chmod, stat, list}
 use Rattle.pf_machine.specs.Machine.{call, call_of}
 use Rattle.pf_machine.specs.Maps.{if_ok, call_as, process_as, description_as, pipe_as, state_as, outcome_as}
 use Rattle.pf_machine.proofs.MapLaws.{bind-as}
-use Rattle.pf_machine.proofs.Natural.{process-as, living-as, call-as, spawn-as, born-as, exit-as, dup-as, close-as, set_nonblock-as, get_size-as, pipe-as}
-use Rattle.pf_machine.proofs.NaturalFiles.{make-as, unlink-as, rmdir-as, chmod-as, stat-as, list-as}
-use Rattle.pf_machine.proofs.NaturalSizes.{set_size-as}
+use Rattle.pf_machine.proofs.Natural.{process-as, living-as, call-as, exit-as, close-as, pipe-as}
 use Rattle.pf_machine.proofs.NaturalOpens.{open_path-as}
 use Rattle.pf_machine.proofs.NaturalWaits.{reopened-as, again-as}
 
@@ -37,12 +33,6 @@ module _ {X N : Type 0} (shows : X → Segment) (number : N → ℕ) where
   abbrev O : Outcome X N → Outcome Segment ℕ
   O = outcome_as shows number
 
-  pub spawn-call : (c : Limits) (s : State X N) (uid gid umask : ℕ) (groups : List ℕ)
-      → call c (S s) (Spawn uid gid umask groups)
-      ≡ if_ok O (spawn s (record { uid = uid; gid = gid; groups = groups; umask = umask }))
-  spawn-call c s uid gid umask groups =
-      spawn-as shows number s (record { uid = uid; gid = gid; groups = groups; umask = umask })
-
   module _ (c : Limits) (s : State X N) (pid : ℕ) where
     -- Processes
 
@@ -51,21 +41,10 @@ module _ {X N : Type 0} (shows : X → Segment) (number : N → ℕ) where
         ap (λ r. r >>= (λ p. exit (S s) pid)) (living-as shows number s pid)
         ∙ bind-as (process_as number) O (living s pid) _ _ (λ p. exit-as shows number s pid)
 
-    pub fork-call : call c (S s) (Fork pid) ≡ if_ok O (of_ready s pid (λ p. fork s p))
-    fork-call = call-as shows number O s pid _ _ (λ p. born-as shows number s p)
-
     -- Descriptors
-
-    pub dup-call : (fd : ℕ) → call c (S s) (Dup pid fd) ≡ if_ok O (of_ready s pid (λ p. dup s pid p fd))
-    dup-call fd = call-as shows number O s pid _ _ (λ p. dup-as shows number s pid p fd)
 
     pub close-call : (fd : ℕ) → call c (S s) (Close pid fd) ≡ if_ok O (of_ready s pid (λ p. close s pid p fd))
     close-call fd = call-as shows number O s pid _ _ (λ p. close-as shows number s pid p fd)
-
-    pub set_nonblock-call : (fd : ℕ) (on : Bool)
-        → call c (S s) (SetNonblock pid fd on) ≡ if_ok O (of_ready s pid (λ p. set_nonblock number s p fd on))
-    set_nonblock-call fd on =
-        call-as shows number O s pid _ _ (λ p. set_nonblock-as shows number number itself (λ k. refl) s p fd on)
 
     -- Pipes
 
@@ -80,56 +59,18 @@ module _ {X N : Type 0} (shows : X → Segment) (number : N → ℕ) where
         ((length-map s.pipes (option_map (pipe_as shows)) ∙ sym new) i) c (S s) pid p nonblock))
         ∙ call-as shows number O s pid _ _ (λ p. pipe-as shows number r w n c s pid p nonblock)
 
-    pub set_size-call : (fd bytes : ℕ)
-        → call c (S s) (SetSize pid fd bytes) ≡ if_ok O (of_ready s pid (λ p. set_size number c s p fd bytes))
-    set_size-call fd bytes =
-        call-as shows number O s pid _ _ (λ p. set_size-as shows number number itself (λ k. refl) c s p fd bytes)
+    -- Opens
 
-    pub get_size-call : (fd : ℕ)
-        → call c (S s) (GetSize pid fd) ≡ if_ok O (of_ready s pid (λ p. get_size number s p fd))
-    get_size-call fd =
-        call-as shows number O s pid _ _ (λ p. get_size-as shows number number itself (λ k. refl) s p fd)
-
-    -- Files
-
-    module _ (path : List ℕ) where
-      pub mkdir-call : (mode : ℕ)
-          → call c (S s) (Mkdir pid path mode) ≡ if_ok O (of_ready s pid (λ p. make kinds.Directory s p path mode))
-      mkdir-call mode =
-          call-as shows number O s pid _ _ (λ p. make-as shows number s p path kinds.Directory mode)
-
-      pub mkfifo-call : (mode : ℕ)
-          → call c (S s) (Mkfifo pid path mode) ≡ if_ok O (of_ready s pid (λ p. make kinds.Fifo s p path mode))
-      mkfifo-call mode = call-as shows number O s pid _ _ (λ p. make-as shows number s p path kinds.Fifo mode)
-
-      pub unlink-call : call c (S s) (Unlink pid path) ≡ if_ok O (of_ready s pid (λ p. unlink s p path))
-      unlink-call = call-as shows number O s pid _ _ (λ p. unlink-as shows number s p path)
-
-      pub rmdir-call : call c (S s) (Rmdir pid path) ≡ if_ok O (of_ready s pid (λ p. rmdir s p path))
-      rmdir-call = call-as shows number O s pid _ _ (λ p. rmdir-as shows number s p path)
-
-      pub chmod-call : (mode : ℕ)
-          → call c (S s) (Chmod pid path mode) ≡ if_ok O (of_ready s pid (λ p. chmod s p path mode))
-      chmod-call mode = call-as shows number O s pid _ _ (λ p. chmod-as shows number s p path mode)
-
-      pub stat-call : call c (S s) (Stat pid path) ≡ if_ok O (of_ready s pid (λ p. stat s p path))
-      stat-call = call-as shows number O s pid _ _ (λ p. stat-as shows number s p path)
-
-      pub list-call : call c (S s) (Lists pid path) ≡ if_ok O (of_ready s pid (λ p. list s p path))
-      list-call = call-as shows number O s pid _ _ (λ p. list-as shows number s p path)
-
-      -- Opens
-
-      -- whatever the name is that the description gets, and those of pipes
-      pub open-call : (name : N) (of : ℕ → N) → number name ≡ length s.descriptions → ((n : ℕ) → number (of n) ≡ n)
-          → (flags : OpenFlags)
-          → call c (S s) (Open pid path flags)
-          ≡ if_ok O (of_ready s pid (λ p. open_path number name of c s pid p path (access_of flags.0)))
-      open-call name of drawn numbers flags =
-          ap (λ m. of_ready (S s) pid (λ p. open_path itself m itself c (S s) pid p path (access_of flags.0)))
-          (length-map s.descriptions (option_map (description_as number)) ∙ sym drawn)
-          ∙ call-as shows number O s pid _ _ (λ p. open_path-as shows number number itself (λ k. refl) name of itself
-          (λ n. sym (numbers n)) c s pid p path (access_of flags.0))
+    -- whatever the name is that the description gets, and those of pipes
+    pub open-call : (path : List ℕ) (name : N) (of : ℕ → N) → number name ≡ length s.descriptions
+        → ((n : ℕ) → number (of n) ≡ n) → (flags : OpenFlags)
+        → call c (S s) (Open pid path flags)
+        ≡ if_ok O (of_ready s pid (λ p. open_path number name of c s pid p path (access_of flags.0)))
+    open-call path name of drawn numbers flags =
+        ap (λ m. of_ready (S s) pid (λ p. open_path itself m itself c (S s) pid p path (access_of flags.0)))
+        (length-map s.descriptions (option_map (description_as number)) ∙ sym drawn)
+        ∙ call-as shows number O s pid _ _ (λ p. open_path-as shows number number itself (λ k. refl) name of itself
+        (λ n. sym (numbers n)) c s pid p path (access_of flags.0))
 
     -- Resume
 

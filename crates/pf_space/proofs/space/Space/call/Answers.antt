@@ -5,10 +5,10 @@
 use Rattle.std.proofs.Common.{◌+◌, length, refl, subst, sym, ap, ◌∙◌}
 use Rattle.pf_machine.specs.Machine.{call}
 use Rattle.pf_machine.specs.State.{itself}
-use Rattle.pf_machine.proofs.NaturalCalls.{spawn-call, pipe-call, fork-call, dup-call, set_nonblock-call, mkdir-call}
-use Rattle.pf_machine.proofs.NaturalCalls.{mkfifo-call}
-use Rattle.pf_machine.proofs.NaturalCalls.{unlink-call, rmdir-call, chmod-call, stat-call, list-call, open-call}
-use Rattle.pf_machine.proofs.NaturalCalls.{set_size-call, get_size-call}
+use Rattle.pf_machine.proofs.Natural.{call-as, spawn-as, born-as, dup-as, set_nonblock-as, get_size-as}
+use Rattle.pf_machine.proofs.NaturalCalls.{pipe-call, open-call}
+use Rattle.pf_machine.proofs.NaturalFiles.{make-as, unlink-as, rmdir-as, chmod-as, stat-as, list-as}
+use Rattle.pf_machine.proofs.NaturalSizes.{set_size-as}
 use Rattle.pf_base.specs.declared.progress.Crossing.TheVariants as crossings
 use Rattle.pf_base.specs.declared.step.Step.{Step}
 use Rattle.pf_base.specs.declared.step.Step.TheVariants as steps
@@ -41,8 +41,7 @@ pub returns-in-Spawn-clause-told : goal.returns-in-Spawn-clause-told
 returns-in-Spawn-clause-told g c =
     booked c.self.view_is c.requires.owns c.handed.ensures
     c.in-Spawn.is _ c.spawn.ensures.says c.spawn.ensures.refused
-    (λ shows. spawn-call shows itself c.self.inside.tables.limits c.self.inside.tables.state c.in-Spawn.uid
-    c.in-Spawn.gid c.in-Spawn.umask c.in-Spawn.groups)
+    (λ shows. spawn-as shows itself _ _)
 
 pub returns-in-Pipe-clause-told : goal.returns-in-Pipe-clause-told
 returns-in-Pipe-clause-told g c =
@@ -56,90 +55,78 @@ pub returns-in-Fork-clause-told : goal.returns-in-Fork-clause-told
 returns-in-Fork-clause-told g c =
     booked c.self-in-Fork.view_is c.requires.owns c.handed-in-Fork.ensures
     c.in-Fork.is _ c.fork.ensures.says c.fork.ensures.refused
-    (λ shows. fork-call shows itself c.self-in-Fork.inside.tables.limits c.self-in-Fork.inside.tables.state
-    c.in-Fork.pid)
+    (λ shows. call-as shows itself _ _ _ _ _ (λ p. born-as shows itself _ p))
 
 pub returns-in-Dup-clause-told : goal.returns-in-Dup-clause-told
 returns-in-Dup-clause-told g c =
     booked c.self-in-Dup.view_is c.requires.owns c.handed-in-Dup.ensures
     c.in-Dup.is _ c.dup.ensures.says c.dup.ensures.refused
-    (λ shows. dup-call shows itself c.self-in-Dup.inside.tables.limits c.self-in-Dup.inside.tables.state c.in-Dup.pid
-    c.in-Dup.fd)
+    (λ shows. call-as shows itself _ _ _ _ _ (λ p. dup-as shows itself _ _ p _))
 
 pub returns-in-SetNonblock-clause-told : goal.returns-in-SetNonblock-clause-told
 returns-in-SetNonblock-clause-told g c =
     booked c.self-in-SetNonblock.view_is c.requires.owns c.handed-in-SetNonblock.ensures
     c.in-SetNonblock.is _ c.set_nonblocking.ensures.says c.set_nonblocking.ensures.refused
-    (λ shows. set_nonblock-call shows itself c.self-in-SetNonblock.inside.tables.limits
-    c.self-in-SetNonblock.inside.tables.state c.in-SetNonblock.pid c.in-SetNonblock.fd c.in-SetNonblock.on)
+    (λ shows. call-as shows itself _ _ _ _ _ (λ p. set_nonblock-as shows itself itself itself (λ n. refl) _ p _ _))
 
 pub returns-in-SetSize-clause-told : goal.returns-in-SetSize-clause-told
 returns-in-SetSize-clause-told g c =
     booked c.self-in-SetSize.view_is c.requires.owns c.handed-in-SetSize.ensures
     c.in-SetSize.is _ c.set_size.ensures.says c.set_size.ensures.refused
-    (λ shows. set_size-call shows itself c.self-in-SetSize.inside.tables.limits c.self-in-SetSize.inside.tables.state
-    c.in-SetSize.pid c.in-SetSize.fd c.in-SetSize.bytes)
+    (λ shows. call-as shows itself _ _ _ _ _ (λ p. set_size-as shows itself itself itself (λ n. refl) _ _ p _ _))
 
 pub returns-in-GetSize-clause-told : goal.returns-in-GetSize-clause-told
 returns-in-GetSize-clause-told g c =
     looked_up c.self-in-GetSize.view_is c.requires.owns c.handed-in-GetSize.ensures
     c.in-GetSize.is _ c.size.ensures.says
-    (λ shows. get_size-call shows itself c.self-in-GetSize.inside.tables.limits c.self-in-GetSize.inside.tables.state
-    c.in-GetSize.pid c.in-GetSize.fd)
+    (λ shows. call-as shows itself _ _ _ _ _ (λ p. get_size-as shows itself itself itself (λ n. refl) _ p _))
 
 pub returns-in-Mkdir-clause-told : goal.returns-in-Mkdir-clause-told
 returns-in-Mkdir-clause-told g c =
     booked c.self-in-Mkdir.view_is c.requires.owns c.handed-in-Mkdir.ensures
     (c.in-Mkdir.is ∙ ap (λ x. steps.Mkdir c.in-Mkdir.pid x c.in-Mkdir.mode) (sym c.as_slice-in-Mkdir.ensures)) _
     c.make_file.ensures.says c.make_file.ensures.refused
-    (λ shows. mkdir-call shows itself c.self-in-Mkdir.inside.tables.limits c.self-in-Mkdir.inside.tables.state
-    c.in-Mkdir.pid c.as_slice-in-Mkdir.result.now c.in-Mkdir.mode)
+    (λ shows. call-as shows itself _ _ _ _ _ (λ p. make-as shows itself _ p _ _ _))
 
 pub returns-in-Mkfifo-clause-told : goal.returns-in-Mkfifo-clause-told
 returns-in-Mkfifo-clause-told g c =
     booked c.self-in-Mkfifo.view_is c.requires.owns c.handed-in-Mkfifo.ensures
     (c.in-Mkfifo.is ∙ ap (λ x. steps.Mkfifo c.in-Mkfifo.pid x c.in-Mkfifo.mode) (sym c.as_slice-in-Mkfifo.ensures)) _
     c.make_file-in-Mkfifo.ensures.says c.make_file-in-Mkfifo.ensures.refused
-    (λ shows. mkfifo-call shows itself c.self-in-Mkfifo.inside.tables.limits c.self-in-Mkfifo.inside.tables.state
-    c.in-Mkfifo.pid c.as_slice-in-Mkfifo.result.now c.in-Mkfifo.mode)
+    (λ shows. call-as shows itself _ _ _ _ _ (λ p. make-as shows itself _ p _ _ _))
 
 pub returns-in-Unlink-clause-told : goal.returns-in-Unlink-clause-told
 returns-in-Unlink-clause-told g c =
     booked c.self-in-Unlink.view_is c.requires.owns c.handed-in-Unlink.ensures
     (c.in-Unlink.is ∙ ap (λ x. steps.Unlink c.in-Unlink.pid x) (sym c.as_slice-in-Unlink.ensures)) _
     c.unlink.ensures.says c.unlink.ensures.refused
-    (λ shows. unlink-call shows itself c.self-in-Unlink.inside.tables.limits c.self-in-Unlink.inside.tables.state
-    c.in-Unlink.pid c.as_slice-in-Unlink.result.now)
+    (λ shows. call-as shows itself _ _ _ _ _ (λ p. unlink-as shows itself _ p _))
 
 pub returns-in-Rmdir-clause-told : goal.returns-in-Rmdir-clause-told
 returns-in-Rmdir-clause-told g c =
     booked c.self-in-Rmdir.view_is c.requires.owns c.handed-in-Rmdir.ensures
     (c.in-Rmdir.is ∙ ap (λ x. steps.Rmdir c.in-Rmdir.pid x) (sym c.as_slice-in-Rmdir.ensures)) _ c.rmdir.ensures.says
     c.rmdir.ensures.refused
-    (λ shows. rmdir-call shows itself c.self-in-Rmdir.inside.tables.limits c.self-in-Rmdir.inside.tables.state
-    c.in-Rmdir.pid c.as_slice-in-Rmdir.result.now)
+    (λ shows. call-as shows itself _ _ _ _ _ (λ p. rmdir-as shows itself _ p _))
 
 pub returns-in-Chmod-clause-told : goal.returns-in-Chmod-clause-told
 returns-in-Chmod-clause-told g c =
     booked c.self-in-Chmod.view_is c.requires.owns c.handed-in-Chmod.ensures
     (c.in-Chmod.is ∙ ap (λ x. steps.Chmod c.in-Chmod.pid x c.in-Chmod.mode) (sym c.as_slice-in-Chmod.ensures)) _
     c.chmod.ensures.says c.chmod.ensures.refused
-    (λ shows. chmod-call shows itself c.self-in-Chmod.inside.tables.limits c.self-in-Chmod.inside.tables.state
-    c.in-Chmod.pid c.as_slice-in-Chmod.result.now c.in-Chmod.mode)
+    (λ shows. call-as shows itself _ _ _ _ _ (λ p. chmod-as shows itself _ p _ _))
 
 pub returns-in-Stat-clause-told : goal.returns-in-Stat-clause-told
 returns-in-Stat-clause-told g c =
     looked_up c.self-in-Stat.view_is c.requires.owns c.handed-in-Stat.ensures
     (c.in-Stat.is ∙ ap (λ x. steps.Stat c.in-Stat.pid x) (sym c.as_slice-in-Stat.ensures)) _ c.stat.ensures.says
-    (λ shows. stat-call shows itself c.self-in-Stat.inside.tables.limits c.self-in-Stat.inside.tables.state
-    c.in-Stat.pid c.as_slice-in-Stat.result.now)
+    (λ shows. call-as shows itself _ _ _ _ _ (λ p. stat-as shows itself _ p _))
 
 pub returns-in-List-clause-told : goal.returns-in-List-clause-told
 returns-in-List-clause-told g c =
     looked_up c.self-in-List.view_is c.requires.owns c.handed-in-List.ensures
     (c.in-List.is ∙ ap (λ x. steps.List c.in-List.pid x) (sym c.as_slice-in-List.ensures)) _ c.list.ensures.says
-    (λ shows. list-call shows itself c.self-in-List.inside.tables.limits c.self-in-List.inside.tables.state
-    c.in-List.pid c.as_slice-in-List.result.now)
+    (λ shows. call-as shows itself _ _ _ _ _ (λ p. list-as shows itself _ p _))
 
 pub returns-in-Open-clause-told : goal.returns-in-Open-clause-told
 returns-in-Open-clause-told g c =
