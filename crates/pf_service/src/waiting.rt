@@ -28,29 +28,9 @@ use std::sync::{Mutex, Wait};
 fn maker(step: &Step) -> u32
     ensures { result ≡ maker (pid_of step.now) }
 {
-    match step {
-        Step::Spawn { .. } => 0,
-        Step::Exit { pid }
-        | Step::Fork { pid }
-        | Step::Resume { pid }
-        | Step::Pipe { pid, .. }
-        | Step::Close { pid, .. }
-        | Step::Read { pid, .. }
-        | Step::Write { pid, .. }
-        | Step::Tee { pid, .. }
-        | Step::Splice { pid, .. }
-        | Step::SetSize { pid, .. }
-        | Step::GetSize { pid, .. }
-        | Step::Dup { pid, .. }
-        | Step::SetNonblock { pid, .. }
-        | Step::Mkdir { pid, .. }
-        | Step::Mkfifo { pid, .. }
-        | Step::Open { pid, .. }
-        | Step::Unlink { pid, .. }
-        | Step::Rmdir { pid, .. }
-        | Step::Chmod { pid, .. }
-        | Step::Stat { pid, .. }
-        | Step::List { pid, .. } => *pid,
+    match pf_space::maker(step) {
+        Some(pid) => pid,
+        None => 0,
     }
 }
 

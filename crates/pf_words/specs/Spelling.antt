@@ -5,11 +5,8 @@ use Rattle.std.specs.Prelude.{◌∷◌, ◌++◌, length, map, codes, decimal, 
 use Rattle.std.specs.List.{list_all, AllByRecursion}
 use Rattle.hex.specs.Hex.{IsBytes, encode_lower}
 use Rattle.pf_base.specs.declared.step.Step.{Step}
-use Rattle.pf_base.specs.declared.step.Step.TheVariants.{Spawn, Fork, Exit, Pipe, Dup, Close, Read, Write, Tee}
-use Rattle.pf_base.specs.declared.step.Step.TheVariants.{Splice, SetSize, GetSize, SetNonblock, Mkdir, Mkfifo, Open}
-use Rattle.pf_base.specs.declared.step.Step.TheVariants.{Unlink, Rmdir, Chmod, Stat, List as ListNames, Resume}
 use Rattle.pf_base.specs.declared.open_flags.OpenFlags.{OpenFlags}
-use Rattle.pf_words.specs.Verbs.{step_words}
+use Rattle.pf_words.specs.Verbs.{Field, Small, Large, Mode, Path, Bytes, Groups, Switch, Flag, Flags, text_of, step_words}
 
 -- texts with this byte between them
 unfoldable pub joined : ℕ → List (List ℕ) → List ℕ
@@ -49,35 +46,6 @@ abbrev pub bytes_word : List ℕ → List ℕ
 bytes_word [] = codes "-"
 bytes_word (b ∷ bs) = encode_lower (b ∷ bs)
 
--- Steps
-
--- a verb, and the words behind it
-unfoldable pub spell : Step → List (List ℕ)
-spell (Spawn uid gid umask groups) = codes "spawn" ∷ decimal uid ∷ decimal gid ∷ octal_word umask ∷ groups_words groups
-spell (Fork pid) = codes "fork" ∷ decimal pid ∷ []
-spell (Exit pid) = codes "exit" ∷ decimal pid ∷ []
-spell (Resume pid) = codes "resume" ∷ decimal pid ∷ []
-spell (Dup pid fd) = codes "dup" ∷ decimal pid ∷ decimal fd ∷ []
-spell (Close pid fd) = codes "close" ∷ decimal pid ∷ decimal fd ∷ []
-spell (SetNonblock pid fd on) = codes "nonblock" ∷ decimal pid ∷ decimal fd ∷ switch_word on ∷ []
-spell (Pipe pid nonblock) = codes "pipe" ∷ decimal pid ∷ flag_words nonblock
-spell (SetSize pid fd bytes) = codes "setsize" ∷ decimal pid ∷ decimal fd ∷ decimal bytes ∷ []
-spell (GetSize pid fd) = codes "getsize" ∷ decimal pid ∷ decimal fd ∷ []
-spell (Read pid fd n) = codes "read" ∷ decimal pid ∷ decimal fd ∷ decimal n ∷ []
-spell (Write pid fd payload) = codes "write" ∷ decimal pid ∷ decimal fd ∷ bytes_word payload ∷ []
-spell (Tee pid source sink n nonblock) =
-    codes "tee" ∷ decimal pid ∷ decimal source ∷ decimal sink ∷ decimal n ∷ flag_words nonblock
-spell (Splice pid source sink n nonblock) =
-    codes "splice" ∷ decimal pid ∷ decimal source ∷ decimal sink ∷ decimal n ∷ flag_words nonblock
-spell (Mkdir pid path mode) = codes "mkdir" ∷ decimal pid ∷ path ∷ octal_word mode ∷ []
-spell (Mkfifo pid path mode) = codes "mkfifo" ∷ decimal pid ∷ path ∷ octal_word mode ∷ []
-spell (Chmod pid path mode) = codes "chmod" ∷ decimal pid ∷ path ∷ octal_word mode ∷ []
-spell (Unlink pid path) = codes "unlink" ∷ decimal pid ∷ path ∷ []
-spell (Rmdir pid path) = codes "rmdir" ∷ decimal pid ∷ path ∷ []
-spell (Stat pid path) = codes "stat" ∷ decimal pid ∷ path ∷ []
-spell (ListNames pid path) = codes "list" ∷ decimal pid ∷ path ∷ []
-spell (Open pid path flags) = codes "open" ∷ decimal pid ∷ path ∷ flags_word flags ∷ []
-
 -- What has words
 
 -- a byte of a word: neither a space nor a line feed
@@ -105,30 +73,43 @@ IsMode m = m < 4096
 abbrev pub IsAccess : OpenFlags → Type 0
 IsAccess flags = (flags.0 < 8) × (0 < flags.0 % 4)
 
+-- Steps
+
+-- the words of a field
+abbrev pub words_of : Field → List (List ℕ)
+words_of (Small n) = decimal n ∷ []
+words_of (Large n) = decimal n ∷ []
+words_of (Mode m) = octal_word m ∷ []
+words_of (Path path) = path ∷ []
+words_of (Bytes bytes) = bytes_word bytes ∷ []
+words_of (Groups groups) = groups_words groups
+words_of (Switch on) = switch_word on ∷ []
+words_of (Flag on) = flag_words on
+words_of (Flags flags) = flags_word flags ∷ []
+
+-- it is in the range of the grammar's words
+abbrev pub InRange : Field → Type 0
+InRange (Small n) = Is32 n
+InRange (Large n) = Is64 n
+InRange (Mode m) = IsMode m
+InRange (Path path) = IsWord path
+InRange (Bytes bytes) = IsBytes bytes
+InRange (Groups groups) = AllByRecursion Is32 groups
+InRange (Switch on) = Unit
+InRange (Flag on) = Unit
+InRange (Flags flags) = IsAccess flags
+
+abbrev pub all_words : List Field → List (List ℕ)
+all_words [] = []
+all_words (field ∷ fields) = words_of field ++ all_words fields
+
+-- the words of a step
+unfoldable pub spell : Step → List (List ℕ)
+spell step = (text_of step).0 ∷ all_words (text_of step).1
+
 -- the fields are in the ranges of the grammar's words
 unfoldable pub HasWords : Step → Type 0
-HasWords (Spawn uid gid umask groups) = Is32 uid × Is32 gid × AllByRecursion Is32 groups × IsMode umask
-HasWords (Fork pid) = Is32 pid
-HasWords (Exit pid) = Is32 pid
-HasWords (Resume pid) = Is32 pid
-HasWords (Dup pid fd) = Is32 pid × Is32 fd
-HasWords (Close pid fd) = Is32 pid × Is32 fd
-HasWords (SetNonblock pid fd on) = Is32 pid × Is32 fd
-HasWords (Pipe pid nonblock) = Is32 pid
-HasWords (SetSize pid fd bytes) = Is32 pid × Is32 fd × Is64 bytes
-HasWords (GetSize pid fd) = Is32 pid × Is32 fd
-HasWords (Read pid fd n) = Is32 pid × Is32 fd × Is64 n
-HasWords (Write pid fd payload) = Is32 pid × Is32 fd × IsBytes payload
-HasWords (Tee pid source sink n nonblock) = Is32 pid × Is32 source × Is32 sink × Is64 n
-HasWords (Splice pid source sink n nonblock) = Is32 pid × Is32 source × Is32 sink × Is64 n
-HasWords (Mkdir pid path mode) = Is32 pid × IsWord path × IsMode mode
-HasWords (Mkfifo pid path mode) = Is32 pid × IsWord path × IsMode mode
-HasWords (Chmod pid path mode) = Is32 pid × IsWord path × IsMode mode
-HasWords (Unlink pid path) = Is32 pid × IsWord path
-HasWords (Rmdir pid path) = Is32 pid × IsWord path
-HasWords (Stat pid path) = Is32 pid × IsWord path
-HasWords (ListNames pid path) = Is32 pid × IsWord path
-HasWords (Open pid path flags) = Is32 pid × IsWord path × IsAccess flags
+HasWords step = AllByRecursion InRange (text_of step).1
 
 -- each step whose fields are in the grammar's ranges has words, which are words of a line and are read as that step
 abbrev pub EachStepIsRead : Type 0
