@@ -64,8 +64,8 @@ deed (steps.SetSize pid fd bytes) = OfReady pid (λ c s p. set_size itself c s p
 deed (steps.GetSize pid fd) = OfReady pid (λ c s p. get_size itself s p fd)
 deed (steps.SetNonblock pid fd on) = OfReady pid (λ c s p. set_nonblock itself s p fd on)
 
--- what a deed does, or the first error: ESRCH where no such process lives, then EBUSY where it waits in a call and is not
--- to
+-- what a deed does, or the first error: ESRCH where no such process lives, then EBUSY where it waits in a call, but of
+-- one that is only to live
 abbrev pub done_at : Limits → State Segment ℕ → Deed → Result (Outcome Segment ℕ) Errno
 done_at c s (OfNobody does) = does c s
 done_at c s (OfLiving pid does) = living s pid >>= does c s

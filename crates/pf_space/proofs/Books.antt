@@ -15,7 +15,9 @@ use Rattle.pf_machine.specs.Calls.{Call, Opening, Moving}
 use Rattle.pf_machine.specs.Machine.{call}
 use Rattle.pf_machine.specs.Maps.{if_ok, each, call_as, process_as, description_as, state_as, outcome_as}
 use Rattle.pf_machine.specs.Queue.{Segment}
-use Rattle.pf_machine.specs.State.{itself, State, Process, Outcome, told}
+use Rattle.pf_machine.specs.Refusals.{◌>>=◌}
+use Rattle.pf_machine.specs.State.{itself, State, Process, Outcome, ready, of_ready, told}
+use Rattle.pf_machine.proofs.Natural.{call-as}
 use Rattle.pf_machine.proofs.NaturalWaits.{has_nonblock-as}
 use Rattle.pf_frame.specs.Live.{Live}
 use Rattle.pf_ring.specs.Ring.{segment_of}
@@ -72,6 +74,13 @@ module _ (f : Live) (limits : Limits) (s : State Window ℕ) (step : Step) (own 
 
   pub refused-as : {e : Errno} → own ≡ Err e → call limits (meaning f s) step ≡ Err e
   refused-as is = machine ∙ ap (if_ok (outcome_as (segment_of f) itself)) is
+
+-- what a process that is ready does is the machine's call, where its own part is so
+pub as_ready : (shows : Window → Segment) (s : State Window ℕ) (pid : ℕ)
+    (k : Process ℕ → Result (Outcome Window ℕ) Errno) (m : Process ℕ → Result (Outcome Segment ℕ) Errno)
+    → ((p : Process ℕ) → m (process_as itself p) ≡ if_ok (outcome_as shows itself) (k p))
+    → (ready (state_as shows itself s) pid >>= m) ≡ if_ok (outcome_as shows itself) (of_ready s pid k)
+as_ready shows = call-as shows itself (outcome_as shows itself)
 
 -- A call that was made, or refused. given: what is handed on of what the tables told; step: the kind that it is of;
 -- natural: what the machine's call of that kind is where a window shows a segment

@@ -1,5 +1,5 @@
--- Each step's words are words of a line, and are read as that step. Both are shown of all kinds at once: the tactic goes
--- through them.
+-- Each step's words are words of a line, and are read as that step. Both are shown of all kinds at once: the tactic
+-- goes through them.
 
 use Rattle.std.proofs.Common.{◌≡◌, ℕ, ◌<◌, ◌^◌, arith}
 use Rattle.std.specs.Prelude.{decimal, Ok}

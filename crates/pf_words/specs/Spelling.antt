@@ -6,7 +6,8 @@ use Rattle.std.specs.List.{list_all, AllByRecursion}
 use Rattle.hex.specs.Hex.{IsBytes, encode_lower}
 use Rattle.pf_base.specs.declared.step.Step.{Step}
 use Rattle.pf_base.specs.declared.open_flags.OpenFlags.{OpenFlags}
-use Rattle.pf_words.specs.Verbs.{Field, Small, Large, Mode, Path, Bytes, Groups, Switch, Flag, Flags, text_of, step_words}
+use Rattle.pf_words.specs.Verbs.{Field, Small, Large, Mode, Path, Bytes, Groups, Switch, Flag, Flags, text_of}
+use Rattle.pf_words.specs.Verbs.{step_words}
 
 -- texts with this byte between them
 unfoldable pub joined : ℕ → List (List ℕ) → List ℕ

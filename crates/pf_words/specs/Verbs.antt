@@ -103,7 +103,8 @@ process_call verb words =
 unfoldable pub crossing_call : List ℕ → List (List ℕ) → Result Step Cause
 crossing_call verb words =
     if bytes_eq verb (codes "tee") then made (λ c. steps.Tee c.pid c.source c.sink c.n c.nonblock) (crossing_of words)
-    else if bytes_eq verb (codes "splice") then made (λ c. steps.Splice c.pid c.source c.sink c.n c.nonblock) (crossing_of words)
+    else if bytes_eq verb (codes "splice")
+    then made (λ c. steps.Splice c.pid c.source c.sink c.n c.nonblock) (crossing_of words)
     else process_call verb words
 
 -- the call that a verb and its words stand for
@@ -119,7 +120,7 @@ call_of verb words =
     else if bytes_eq verb (codes "nonblock") then nonblock_of words
     else crossing_call verb words
 
--- The words of each step, the other way round: its verb, and its fields in the order of its words
+-- The same the other way round
 
 -- a field of a step, by how it is written
 pub data Field : Type 0 where
@@ -133,7 +134,7 @@ pub data Field : Type 0 where
   Flag : Bool → Field
   Flags : OpenFlags → Field
 
--- a verb, and the fields behind it
+-- a step's verb, and the fields behind it in the order of their words
 unfoldable pub text_of : Step → List ℕ × List Field
 text_of (steps.Spawn uid gid umask groups) =
     (codes "spawn", Small uid ∷ Small gid ∷ Mode umask ∷ Groups groups ∷ [])
