@@ -32,6 +32,7 @@ impl<A: Allocator> Model for Space<A> {
 }
 
 /// The process that makes a step: nobody makes a Spawn.
+#[inline(always)]
 pub fn maker(step: &Step) -> Option<u32>
     ensures { result ≡ pid_of step.now }
 {
