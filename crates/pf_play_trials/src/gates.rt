@@ -1,14 +1,11 @@
 //! A gate that holds two namespaces' steps, so that a replay ends only where both are run at once, and where neither keeps the
 //! depot's lock between its steps; and one that counts the frames of each namespace.
 
+use crate::patience::Patience;
 use crate::texts::played;
 use pf_play::Gate;
 use std::sync::atomic::{AtomicU64, Ordering};
 use std::test::Fail;
-use std::thread;
-
-/// The most turns that a step is held.
-const TURNS: u64 = 1_000_000;
 
 /// What the gate was told.
 #[derive(Drop)]
@@ -17,8 +14,7 @@ struct Meeting {
     held: AtomicU64,
     /// How many writes of the second one were answered, each of which took a frame.
     written: AtomicU64,
-    /// Not 0: a step was held for all its turns.
-    used_up: AtomicU64,
+    patience: Patience,
 }
 
 impl Meeting {
@@ -26,25 +22,14 @@ impl Meeting {
         Meeting {
             held: AtomicU64::new(0),
             written: AtomicU64::new(0),
-            used_up: AtomicU64::new(0),
+            patience: Patience::new(),
         }
-    }
-
-    /// Waits until so many were told.
-    fn wait_for(&self, told: &AtomicU64, number: u64) {
-        for _ in 0..TURNS {
-            if told.load(Ordering::SeqCst) >= number {
-                return;
-            }
-            thread::yield_now();
-        }
-        self.used_up.store(1, Ordering::SeqCst);
     }
 
     /// Holds a step of the first namespace until the second has written so often.
     fn hold(&self, number: u64) {
         self.held.store(number, Ordering::SeqCst);
-        self.wait_for(&self.written, number);
+        self.patience.wait_for(&self.written, number);
     }
 }
 
@@ -57,10 +42,10 @@ impl Gate for Meeting {
         match (ns, place) {
             (0, 0) => self.hold(1),
             (0, 3) => self.hold(2),
-            (1, 0) => self.wait_for(&self.held, 1),
+            (1, 0) => self.patience.wait_for(&self.held, 1),
             (1, 3) => {
                 self.written.store(1, Ordering::SeqCst);
-                self.wait_for(&self.held, 2);
+                self.patience.wait_for(&self.held, 2);
             }
             (1, 5) => self.written.store(2, Ordering::SeqCst),
             _ => {}
@@ -110,7 +95,7 @@ fn two_namespaces_at_once(rt: HostRuntime) -> Result<(), Fail> {
     let (end, writer) = played(&rt, rt.alloc(), SCRIPT, TEXT, &gate);
     assert!(rt; end.is_ok());
     assert!(rt; writer.is_whole());
-    assert_eq!(rt; gate.used_up.load(Ordering::SeqCst), 0);
+    assert!(rt; gate.patience.is_left());
     Ok(())
 }
 

@@ -81,7 +81,8 @@ const ROWS: [(&[&str], &str, u8, u64); 8] = [
     ),
 ];
 
-fn words_of(alloc: Global, texts: &[&str]) -> Result<Vec<String>, AllocError> {
+/// These words of a command line.
+pub(crate) fn words_of(alloc: Global, texts: &[&str]) -> Result<Vec<String>, AllocError> {
     let mut words = Vec::with_capacity(alloc, texts.len())?;
     for text in texts {
         words.push(String::from_str(alloc, text)?)?;

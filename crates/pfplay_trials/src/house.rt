@@ -1,4 +1,4 @@
-use crate::flaw::Flaw;
+use crate::trouble::Trouble;
 use pf_base::EventAnswer;
 use pf_hub::Hub;
 use pf_play::frames_of;
@@ -18,7 +18,7 @@ pub(crate) struct House<'a> {
 }
 
 /// A hub of these scripts' namespaces, over frames that hold this byte throughout.
-fn hub_of(alloc: Global, scripts: [&Script; 2], fill: u8) -> Result<Hub<Global>, Flaw> {
+fn hub_of(alloc: Global, scripts: [&Script; 2], fill: u8) -> Result<Hub<Global>, Trouble> {
     let mut count = 0u32;
     let mut configs = Vec::new(alloc);
     for script in scripts {
@@ -28,7 +28,7 @@ fn hub_of(alloc: Global, scripts: [&Script; 2], fill: u8) -> Result<Hub<Global>,
         }
     }
     let frames = frames_of(alloc, count, fill)?;
-    Hub::new(alloc, frames, configs).map_err(Flaw::NoHub)
+    Hub::new(alloc, frames, configs).map_err(Trouble::NoHub)
 }
 
 impl<'a> House<'a> {
@@ -38,7 +38,7 @@ impl<'a> House<'a> {
         tenant: &Script,
         neighbour: &'a Script,
         fill: u8,
-    ) -> Result<Self, Flaw> {
+    ) -> Result<Self, Trouble> {
         Ok(House {
             hub: hub_of(alloc, [tenant, neighbour], fill)?,
             tenant: 0,
@@ -54,7 +54,7 @@ impl<'a> House<'a> {
         tenant: &Script,
         neighbour: &'a Script,
         fill: u8,
-    ) -> Result<Self, Flaw> {
+    ) -> Result<Self, Trouble> {
         Ok(House {
             hub: hub_of(alloc, [neighbour, tenant], fill)?,
             tenant: 1,
@@ -65,18 +65,18 @@ impl<'a> House<'a> {
     }
 
     /// A line's step, of the namespace with this number.
-    fn step(&mut self, ns: u32, line: &Line) -> Result<EventAnswer, Flaw> {
+    fn step(&mut self, ns: u32, line: &Line) -> Result<EventAnswer, Trouble> {
         let Line::Step(step) = line else {
-            return Err(Flaw::NoStep);
+            return Err(Trouble::NoStep);
         };
         if !self.hub.lives(ns) {
-            return Err(Flaw::NoNamespace);
+            return Err(Trouble::NoNamespace);
         }
         Ok(EventAnswer::Answer(self.hub.step(ns, step)))
     }
 
     /// The neighbour's next step, if it has one left.
-    fn step_of_neighbour(&mut self) -> Result<(), Flaw> {
+    fn step_of_neighbour(&mut self) -> Result<(), Trouble> {
         let (load, neighbour) = (self.load, self.neighbour);
         if let Some((_, line)) = load.get(self.made) {
             let _ = self.step(neighbour, line)?;
@@ -86,7 +86,7 @@ impl<'a> House<'a> {
     }
 
     /// All steps of the neighbour. Then it begins anew.
-    pub(crate) fn load_whole(&mut self) -> Result<(), Flaw> {
+    pub(crate) fn load_whole(&mut self) -> Result<(), Trouble> {
         for _ in 0..self.load.len() {
             self.step_of_neighbour()?;
         }
@@ -95,7 +95,7 @@ impl<'a> House<'a> {
     }
 
     /// A step of the tenant, behind one of the neighbour's.
-    pub(crate) fn tell(&mut self, line: &Line) -> Result<EventAnswer, Flaw> {
+    pub(crate) fn tell(&mut self, line: &Line) -> Result<EventAnswer, Trouble> {
         self.step_of_neighbour()?;
         let tenant = self.tenant;
         self.step(tenant, line)

@@ -1,7 +1,7 @@
 //! A tenant that moves to another hub: its steps so far are played again there.
 
-use crate::flaw::Flaw;
 use crate::house::House;
+use crate::trouble::Trouble;
 use pf_base::EventAnswer;
 use pf_script::{Collected, Line, MemoryBytes, Script, print, read_script};
 use std::alloc::Global;
@@ -10,8 +10,8 @@ use std::alloc::Global;
 const FILLS: [u8; 2] = [165, 90];
 
 /// The script of this text.
-fn script_of(alloc: Global, text: &str) -> Result<Script, Flaw> {
-    read_script(alloc, &mut MemoryBytes::new(text.as_bytes())).map_err(Flaw::Refused)
+fn script_of(alloc: Global, text: &str) -> Result<Script, Trouble> {
+    read_script(alloc, &mut MemoryBytes::new(text.as_bytes())).map_err(Trouble::Refused)
 }
 
 /// Makes these steps of the tenant, and pushes what it is told.
@@ -19,7 +19,7 @@ fn make(
     house: &mut House<'_>,
     steps: &[(u32, Line)],
     told: &mut Vec<EventAnswer>,
-) -> Result<(), Flaw> {
+) -> Result<(), Trouble> {
     for (_, line) in steps {
         told.push(house.tell(line)?)?;
     }
@@ -31,10 +31,10 @@ fn make_again(
     house: &mut House<'_>,
     steps: &[(u32, Line)],
     told: &[EventAnswer],
-) -> Result<(), Flaw> {
+) -> Result<(), Trouble> {
     for (place, ((_, line), answer)) in steps.iter().zip(told).enumerate() {
         if house.tell(line)? != *answer {
-            return Err(Flaw::Otherwise(place));
+            return Err(Trouble::Otherwise(place));
         }
     }
     Ok(())
@@ -46,7 +46,7 @@ fn go_on(
     first: &[(u32, Line)],
     rest: &[(u32, Line)],
     told: &mut Vec<EventAnswer>,
-) -> Result<(), Flaw> {
+) -> Result<(), Trouble> {
     house.load_whole()?;
     make_again(house, first, told)?;
     make(house, rest, told)
@@ -65,7 +65,7 @@ fn make_here(
     script: &Script,
     neighbour: &Script,
     told: &mut Vec<EventAnswer>,
-) -> Result<(), Flaw> {
+) -> Result<(), Trouble> {
     let mut house = House::behind(alloc, script, neighbour, FILLS[0])?;
     make(&mut house, halves(script).0, told)
 }
@@ -76,7 +76,7 @@ fn make_there(
     script: &Script,
     neighbour: &Script,
     told: &mut Vec<EventAnswer>,
-) -> Result<(), Flaw> {
+) -> Result<(), Trouble> {
     let mut house = House::before(alloc, script, neighbour, FILLS[1])?;
     let (first, rest) = halves(script);
     go_on(&mut house, first, rest, told)
@@ -93,9 +93,9 @@ fn is_printed(alloc: Global, script: &Script, told: &[EventAnswer], text: &str) 
 
 /// Moves the tenant of the first script in the middle, between hubs where the other two scripts are its neighbours, and
 /// looks whether it is told this text. Behind how many steps it moved.
-fn move_tenant(alloc: Global, scripts: &[Script], text: &str) -> Result<usize, Flaw> {
+fn move_tenant(alloc: Global, scripts: &[Script], text: &str) -> Result<usize, Trouble> {
     let [script, here, there] = scripts else {
-        return Err(Flaw::NoNamespace);
+        return Err(Trouble::NoNamespace);
     };
     let mut told = Vec::new(alloc);
     make_here(alloc, script, here, &mut told)?;
@@ -103,12 +103,12 @@ fn move_tenant(alloc: Global, scripts: &[Script], text: &str) -> Result<usize, F
     if is_printed(alloc, script, &told, text) {
         Ok(script.steps().len() / 2)
     } else {
-        Err(Flaw::Text)
+        Err(Trouble::Text)
     }
 }
 
 /// The same of the texts of the scripts.
-pub(crate) fn moved(alloc: Global, texts: [&str; 3], text: &str) -> Result<usize, Flaw> {
+pub(crate) fn moved(alloc: Global, texts: [&str; 3], text: &str) -> Result<usize, Trouble> {
     let mut scripts = Vec::new(alloc);
     for script in texts {
         scripts.push(script_of(alloc, script)?)?;

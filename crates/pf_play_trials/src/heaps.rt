@@ -1,6 +1,7 @@
 //! A namespace that makes a thousand FIFOs in a heap of 1,024 bytes: it is told of want of memory, and then the FIFO isn't
 //! there; each other one is.
 
+use crate::words::words_of;
 use pf_play::{Collected, MemoryBytes, NoGate, Status, obey};
 use std::alloc::{AllocError, Global};
 use std::sync::Wait;
@@ -21,14 +22,6 @@ fn script(alloc: Global) -> Result<String, AllocError> {
         script.push_str(lines.as_str())?;
     }
     Ok(script)
-}
-
-fn words(alloc: Global) -> Result<Vec<String>, AllocError> {
-    let mut words = Vec::new(alloc);
-    for word in WORDS {
-        words.push(String::from_str(alloc, word)?)?;
-    }
-    Ok(words)
 }
 
 /// What the program ends with.
@@ -70,7 +63,7 @@ fn counted(text: &str) -> Option<(usize, usize)> {
 
 #[test]
 fn a_heap_is_filled(rt: HostRuntime) -> Result<(), Fail> {
-    let (script, words) = (script(rt.alloc())?, words(rt.alloc())?);
+    let (script, words) = (script(rt.alloc())?, words_of(rt.alloc(), &WORDS)?);
     let mut writer = Collected::new(rt.alloc());
     let status = played(&rt, rt.alloc(), &mut writer, script.as_str(), &words);
     assert_eq!(rt; status as u8, 3);

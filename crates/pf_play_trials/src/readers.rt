@@ -2,7 +2,8 @@
 //! that fails is a read fault, whatever the failure is called, and nothing is written; where one gives none, the input is
 //! over. Neither is asked again. A reader that claims more bytes than there was room for keeps no contract of a reader.
 
-use crate::hello::{OPTIONS, SCRIPT, TEXT};
+use crate::hello::{SCRIPT, TEXT};
+use crate::texts::OPTIONS;
 use pf_play::{Collected, Failed, Reading, ReplayFault, Source, replay};
 use std::alloc::{AllocError, Global};
 use std::io::{self, ErrorKind, Read};

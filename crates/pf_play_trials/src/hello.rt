@@ -1,13 +1,5 @@
 //! A script of one namespace, and its text.
 
-use pf_play::Options;
-
-pub(crate) const OPTIONS: Options<'static> = Options {
-    only: None,
-    tree_heap: None,
-    fill: 165,
-};
-
 pub(crate) const SCRIPT: &str = "pool 16
 space red 16
 red spawn 5 5 022

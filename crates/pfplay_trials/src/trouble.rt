@@ -5,7 +5,7 @@ use thiserror::Error;
 
 /// What keeps a recorded program from being told its text.
 #[derive(Debug, Drop, Error)]
-pub(crate) enum Flaw {
+pub(crate) enum Trouble {
     /// A growth of memory was refused outside a step.
     #[error("no memory")]
     NoMemory,
@@ -29,14 +29,14 @@ pub(crate) enum Flaw {
     Text,
 }
 
-impl From<AllocError> for Flaw {
+impl From<AllocError> for Trouble {
     fn from(_: AllocError) -> Self {
-        Flaw::NoMemory
+        Trouble::NoMemory
     }
 }
 
-impl<T: Drop> From<AllocFailed<T>> for Flaw {
+impl<T: Drop> From<AllocFailed<T>> for Trouble {
     fn from(_: AllocFailed<T>) -> Self {
-        Flaw::NoMemory
+        Trouble::NoMemory
     }
 }

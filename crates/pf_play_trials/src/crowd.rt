@@ -1,22 +1,19 @@
 //! A gate that holds 63 namespaces at their first step until the 64th has been told its first answer, and that one until
 //! all others are held: a replay ends only where each has a thread of its own.
 
-use crate::hello::OPTIONS;
+use crate::patience::Patience;
+use crate::texts::OPTIONS;
 use pf_play::{Collected, Gate, MemoryBytes, ReplayFault, Replayed, replay_threads};
 use std::alloc::{AllocError, Global};
 use std::sync::Wait;
 use std::sync::atomic::{AtomicU64, Ordering};
 use std::test::Fail;
-use std::thread;
 use std::thread::Threads;
 
 /// The namespaces, of which the last isn't held.
 const NAMESPACES: u32 = 64;
 
 const LAST: u32 = 63;
-
-/// The most turns that a step is held.
-const TURNS: u64 = 1_000_000;
 
 /// What the gate was told.
 #[derive(Drop)]
@@ -25,8 +22,7 @@ struct Held {
     others: AtomicU64,
     /// Not 0: the last namespace goes on to its second step, so its first was answered.
     answered: AtomicU64,
-    /// Not 0: a step was held for all its turns.
-    used_up: AtomicU64,
+    patience: Patience,
 }
 
 impl Held {
@@ -34,19 +30,8 @@ impl Held {
         Held {
             others: AtomicU64::new(0),
             answered: AtomicU64::new(0),
-            used_up: AtomicU64::new(0),
+            patience: Patience::new(),
         }
-    }
-
-    /// Waits until so many were told.
-    fn wait_for(&self, told: &AtomicU64, number: u64) {
-        for _ in 0..TURNS {
-            if told.load(Ordering::SeqCst) >= number {
-                return;
-            }
-            thread::yield_now();
-        }
-        self.used_up.store(1, Ordering::SeqCst);
     }
 }
 
@@ -57,11 +42,11 @@ impl Gate for Held {
 
     fn pass(&self, ns: u32, place: u64) {
         match (ns == LAST, place) {
-            (true, 0) => self.wait_for(&self.others, u64::from(LAST)),
+            (true, 0) => self.patience.wait_for(&self.others, u64::from(LAST)),
             (true, _) => self.answered.store(1, Ordering::SeqCst),
             (false, 0) => {
                 self.others.fetch_add(1, Ordering::SeqCst);
-                self.wait_for(&self.answered, 1);
+                self.patience.wait_for(&self.answered, 1);
             }
             (false, _) => {}
         }
@@ -113,7 +98,7 @@ fn sixty_three_are_held_until_the_last_is_answered(rt: HostRuntime) -> Result<()
     let end = played(&rt, rt.alloc(), &mut writer, script.as_str(), &gate);
     assert!(rt; matches!(end, Ok(replayed) if replayed.nomem == 0));
     assert!(rt; writer.as_slice() == text.as_bytes());
-    assert_eq!(rt; gate.used_up.load(Ordering::SeqCst), 0);
+    assert!(rt; gate.patience.is_left());
     assert_eq!(rt; gate.others.load(Ordering::SeqCst), u64::from(LAST));
     Ok(())
 }

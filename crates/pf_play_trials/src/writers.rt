@@ -2,7 +2,8 @@
 //! been: it is a write fault, whatever the failure is called, exactly the bytes before it were taken, and the writer isn't
 //! asked again.
 
-use crate::hello::{OPTIONS, SCRIPT, TEXT};
+use crate::hello::{SCRIPT, TEXT};
+use crate::texts::OPTIONS;
 use pf_play::{MemoryBytes, ReplayFault, Writing, replay};
 use std::io::{self, ErrorKind, Write};
 use std::test::Fail;
