@@ -115,13 +115,6 @@ module _ {limits : Limits} {charges : UserPages} {es : List (ℕ × Key)} {ps : 
       subst (λ (m : Namespace). fifo_pipe m.state file ≡ option_map (λ k. k.serial) found) view
       (fifo_is es pipes w.filed file ps ds files files_made found h)
 
-  pub has_pipe : is_some (lookup (nat_eq file) es) ≡ is_some (fifo_pipe n.state file)
-  has_pipe = by_key (lookup (nat_eq file) es) refl
-    where
-      by_key : (o : Option Key) → lookup (nat_eq file) es ≡ o → is_some o ≡ is_some (fifo_pipe n.state file)
-      by_key None h = sym (ap is_some (fifo_shown None h))
-      by_key (Some k) h = sym (ap is_some (fifo_shown (Some k) h))
-
   abbrev reading : Namespace → ℕ
   reading m = fifo_readers itself m.state (fifo_pipe m.state file)
 

@@ -30,7 +30,7 @@ use Rattle.pf_tables.proofs.ProcessTableReady.{shown_in, ready_shown, is_living}
 use Rattle.pf_tables.proofs.Ends.{as_kept, counted as ends_counted}
 use Rattle.pf_tables.proofs.OpensOutcome.{Opener, ready_is, entered-whole, entered-makes}
 use Rattle.pf_tables.proofs.OpensDescribe.{IsSided, entered}
-use Rattle.pf_tables.proofs.OpensFind.{fifo_is, fifo_shown}
+use Rattle.pf_tables.proofs.OpensFind.{fifo_is}
 use Rattle.pf_tables.proofs.TablesShown.{shown, find_was}
 use Rattle.pf_tables.proofs.TablesTied.{pipe_row}
 
@@ -53,13 +53,6 @@ module _ {files : Files} {files_made : ℕ} {limits : Limits} {charges : UserPag
 
   pub may_here : may_open s pid (access_seen a) file ≡ Ok tt
   may_here = subst (λ (m : Namespace). may_open m.state pid (access_seen a) file ≡ Ok tt) (sym view) may
-
-  -- its FIFO has a key
-  pub not_closed : IsSome (fifo_pipe n.state file) → lookup (nat_eq file) es ≡ None → ⊥
-  not_closed there none =
-      let gone = fifo_shown w view file None none in
-      let both = subst (λ o. IsSome o) gone there in
-      absurd (cc)
 
   pub caller : (q : Process) × (ready_in ps pid ≡ Ok q) × (first_free q.descriptors < MAX_DESCRIPTORS)
   caller = by_row (ready_in ps pid) refl

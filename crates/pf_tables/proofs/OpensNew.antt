@@ -163,10 +163,6 @@ module _ (c : Limits) (s : State Window ℕ) (pid : ℕ) where
       by_test true r h = absurd (cc)
       by_test false r h = refl
 
-pub none_is : {X : Type 0} (o : Option X) → is_some o ≡ false → o ≡ None
-none_is None h = refl
-none_is (Some x) h = absurd (cc)
-
 -- or refuses it
 pub unpiped : (c : Limits) (s : State Window ℕ) (pid : ℕ) (a : opens.Access) (file : ℕ) (e : Errno)
     → may_open s pid a file ≡ Ok tt → fifo_pipe s file ≡ None → fifo_capacity c s pid ≡ Err e

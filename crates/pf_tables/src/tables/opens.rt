@@ -1,7 +1,7 @@
 //! Opens of FIFOs (open(2), fifo(7)): a FIFO has a pipe while somebody has it open, which its first opener is charged
 //! with.
 
-ghost use Rattle.std.specs.Prelude.{◌≡◌, ◌+◌, ◌-◌, ◌^◌, ◌<◌, ◌≤◌, [], false, true, None, Some, Ok, Err, IsSome, is_some, IsOk, IfOk, OnOk, OnErr, length, nat_lt};
+ghost use Rattle.std.specs.Prelude.{◌≡◌, ◌+◌, ◌-◌, ◌^◌, ◌<◌, ◌≤◌, [], false, true, None, Some, Ok, Err, IfSome, IsOk, IfOk, OnOk, OnErr, length, nat_lt};
 ghost use Rattle.pf_machine.specs.Opens.{has_flag, access_of, fifo_pipe, fifo_readers, open_path};
 ghost use Rattle.pf_machine.specs.Numbered.{one_if};
 ghost use Rattle.pf_machine.specs.State.{itself, of_ready, ready};
@@ -12,7 +12,7 @@ ghost use Rattle.pf_tables.specs.Rows.{ready_in};
 ghost use Rattle.pf_tables.specs.Opened.{access_seen, counted, waits, before, other_opens, lacks_readers, end_of};
 ghost use Rattle.pf_tables.specs.Opened.{fifo_named, may_open, fifo_capacity, opening};
 ghost use Rattle.pf_tables.specs.Opened.{HasFree, Describes, SameKeys, MakesFifo, IsOver, Reopens};
-ghost use Rattle.pf_tables.specs.Tables.{Says, waits_in_open};
+ghost use Rattle.pf_tables.specs.Tables.{Makes, Says, waits_in_open};
 ghost use Rattle.pf_walk.specs.Told.{Told};
 
 use super::pipes::{insert_named, new_capacity};
@@ -240,24 +240,24 @@ impl<A: Allocator> Tables<A> {
         new_capacity(&self.pages, cred, Errno::ENOMEM)
     }
 
-    // Opens a FIFO that somebody has open. Where memory is refused, nothing has changed.
-    fn open_found(&mut self, pid: u32, file: u64, access: Access) -> Result<Reply, Fault>
+    // Opens a FIFO that somebody has open; none where nobody has. Where memory is refused, nothing has changed.
+    fn open_found(&mut self, pid: u32, file: u64, access: Access) -> Result<Option<Reply>, AllocError>
         requires may { may_open self.old.state pid (access_seen access) file ≡ Ok tt }
-        requires found { IsSome (fifo_pipe self.old.state file) }
         requires sided { 0 < one_if access.reads + one_if access.writes }
-        ensures says { Says self.old self.new result
-            (opening self.old.limits self.old.state pid (access_seen access) file) }
+        ensures opens { IfOk result (λ opened. IfSome opened (Makes self.old self.new
+            (opening self.old.limits self.old.state pid (access_seen access) file))) }
+        ensures closed { result ≡ Ok None → (fifo_pipe self.old.state file ≡ None) × (self.new ≡ self.old) }
         ensures refused { OnErr result (self.new ≡ self.old) }
     {
-        self.descriptions.reserve(1)?;
         let Some(key) = self.fifos.get(&file).copied() else {
-            unreachable!()
+            return Ok(None);
         };
+        self.descriptions.reserve(1)?;
         let pipe = self.pipes.value_mut(key);
         let kept = access.before(pipe);
         count(pipe, access);
         let (processes, descriptions) = (&mut self.processes, &mut self.descriptions);
-        Ok(describe(processes, descriptions, pid, access.end(key), kept))
+        Ok(Some(describe(processes, descriptions, pid, access.end(key), kept)))
     }
 
     // Opens a FIFO that nobody has open: its first opener is charged with its pipe. Where memory is refused, nothing has
@@ -316,18 +316,11 @@ impl<A: Allocator> Tables<A> {
         let access = Access::new(flags);
         let file = self.openable(alloc, pid, path, access)?;
         self.may_open(pid, file, access)?;
-        if self.has_pipe(file) {
-            return self.open_found(pid, file, access);
+        if let Some(reply) = self.open_found(pid, file, access)? {
+            return Ok(reply);
         }
         let slots = self.fifo_capacity(pid)?;
         self.open_new(alloc, pid, file, access, slots)
-    }
-
-    // Whether somebody has a FIFO open.
-    fn has_pipe(&self, file: u64) -> bool
-        ensures { result ≡ is_some (fifo_pipe self.now.state file) }
-    {
-        self.fifos.contains_key(&file)
     }
 
     /// Tries the open again in which a process waits: its lowest free descriptor names the description, where the other

@@ -1,17 +1,17 @@
-use Rattle.std.proofs.Common.{◌∙◌, ap, subst, sym}
+use Rattle.std.proofs.Common.{None, refl, ◌∙◌, ap, subst, sym}
 use Rattle.pf_fds.specs.Descriptions.{Descriptions}
 use Rattle.pf_machine.specs.Numbered.{put_at}
 use Rattle.pf_tables.specs.Opened.{access_seen, opening}
 use Rattle.pf_tables.specs.Rows.{Description, Pipe, state_of}
 use Rattle.pf_tables.specs.Tables.{Makes}
-use Rattle.pf_tables.proofs.OpensFind.{key_stands}
+use Rattle.pf_tables.proofs.OpensFind.{key_stands, fifo_shown}
 use Rattle.pf_tables.proofs.OpensFound as lemmas
 use Rattle.pf_tables.proofs.tables.Tables.open_found.Goals as goal
 
-pub unreachable-requires : goal.unreachable-requires
-unreachable-requires g c =
-    lemmas.not_closed c.self.invariant c.self.view_is c.args.pid c.args.access c.args.file c.requires.may
-    c.requires.found (sym c.get.ensures.value ∙ sym c.copied.ensures ∙ c.in_default.is)
+pub returns-in_default-clause-closed : goal.returns-in_default-clause-closed
+returns-in_default-clause-closed g c _ =
+    let none = sym c.get.ensures.value ∙ sym c.copied.ensures ∙ c.in_default.is in
+    (fifo_shown c.self.invariant c.self.view_is c.args.file None none, refl)
 
 pub value_mut-pipe-requires : goal.value_mut-pipe-requires
 value_mut-pipe-requires g c = record {
@@ -52,8 +52,8 @@ invariant_of-self-2 g c =
     (lemmas.joined-whole c.self.invariant c.self.view_is c.args.pid c.args.access c.args.file c.requires.may
     c.in-Some.key _ c.value_mut-pipe.ensures.value c.requires.sided z)
 
-pub returns-clause-says : goal.returns-clause-says
-returns-clause-says g c =
+pub returns-clause-opens : goal.returns-clause-opens
+returns-clause-opens g c =
     let drawn = ap (λ (x : Descriptions Description). x.items) c.in_ok-reserve.ensures.rest in
     let z = rw (drawn, c.end.ensures, c.before-kept.ensures) at c.describe.ensures in
     subst (λ (r : Pipe). Makes c.args.self.now (record {
