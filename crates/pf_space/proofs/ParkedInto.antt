@@ -12,6 +12,7 @@ use Rattle.pf_machine.specs.Refusals.{or_refuse}
 use Rattle.pf_machine.specs.Replies.{reply_length}
 use Rattle.pf_machine.specs.State.{itself, State, Process, Outcome, living}
 use Rattle.pf_machine.specs.Sweep.{sweep}
+use Rattle.pf_machine.specs.Transfers.{Tried}
 use Rattle.pf_machine.proofs.ReplyLaws.{resume-few, few}
 use Rattle.pf_base.specs.declared.errno.Errno.{Errno}
 use Rattle.pf_base.specs.declared.errno.Errno.TheVariants.{ESRCH}
@@ -31,10 +32,16 @@ use Rattle.pf_tables.specs.Buffers.{read_in, Truncates, Replied, number_told, by
 use Rattle.pf_tables.specs.Meaning.{Namespace, meaning}
 use Rattle.pf_tables.specs.Owns.{Owns}
 use Rattle.pf_tables.specs.Tables.{awoken}
-use Rattle.pf_tables.specs.Told.{Told, attempted, tried_call, waits_in, ended}
+use Rattle.pf_tables.specs.Told.{Told, Came, Refused, tried_call, waits_in, ended}
 use Rattle.pf_space.proofs.ParkedResume.{waiter, resumed}
 use Rattle.pf_space.proofs.ParkedTransfers.{parks, finishes, refuses}
 use Rattle.pf_space.proofs.Steps.{made_step, refused_step}
+
+-- a Resume is told so, and the first of its bytes lie in a buffer
+abbrev Resumed : Live → Live → Namespace → Namespace → ℕ → Result (Option ℕ) Errno → List ℕ → List ℕ → Type 0
+Resumed f g old new pid told before after =
+    Replied (λ (reply : Reply). Answers old.limits (Done reply) (meaning f old.state) (steps.Resume pid)
+    (meaning g new.state)) told before after
 
 -- Which call it is
 
@@ -68,76 +75,77 @@ none : (xs : List ℕ) → length xs ≡ 0 → xs ≡ []
 none [] e = refl
 none (x ∷ xs) e = absurd (omega (arith, e))
 
-module _ (f g : Live) {tables old mid : Namespace} (new : Namespace) (view : tables ≡ old) (pid fd n : ℕ)
-    (waits : call_of (meaning f old.state) pid ≡ Some (Moving (Reading fd n)))
+-- where no byte came, none lies there
+nothing : (progress : Progress) (before after : List ℕ) (r : Tried) → Truncates progress before after r
+    → moved progress ≡ 0 → after ≡ laid [] before
+nothing progress before after r lie zero =
+    lie.1 ∙ ap (λ (xs : List ℕ). laid xs before) (none r.bytes (lie.0 ∙ zero))
+
+module _ {D : Type 0} (live : D → Live) {x y : D} {tables old mid new : Namespace} (view : tables ≡ old) (pid : ℕ)
+    {fd n : ℕ} (waits : call_of (meaning (live x) old.state) pid ≡ Some (Moving (Reading fd n)))
     (mid_is : mid ≡ record tables { state = awoken tables.state pid })
-    (still : tables.state ≡ sweep itself tables.state) (told : Result (Option ℕ) Errno) (before after : List ℕ) where
-  abbrev Resumed : Type 0
-  Resumed =
-      Replied (λ (reply : Reply). Answers old.limits (Done reply) (meaning f old.state) (steps.Resume pid)
-      (meaning g new.state)) told before after
-
-  abbrev Tries : Result Reply Fault → Type 0
-  Tries result = Told f g mid new result (tried_call (meaning f mid.state) pid false (Reading fd n))
-
+    (still : tables.state ≡ sweep itself tables.state) {told : Result (Option ℕ) Errno} (before : List ℕ)
+    {after : List ℕ} where
   -- what it is told as a first call, it is told
   answered : (reply : Reply) (result : Result Reply Fault) → ended result ≡ Ok reply
-      → (result ≡ Err faults.NoMemory → ⊥) → Tries result → told ≡ number_told reply
-      → after ≡ laid (bytes_told reply) before → Resumed
+      → (result ≡ Err faults.NoMemory → ⊥)
+      → Told (live x) (live y) mid new result (tried_call (meaning (live x) mid.state) pid false (Reading fd n))
+      → told ≡ number_told reply → after ≡ laid (bytes_told reply) before
+      → Resumed (live x) (live y) old new pid told before after
   answered reply result is ample tried told_is lie =
-      let here : Told f g old new (Ok reply) (call old.limits (meaning f old.state) (steps.Resume pid)) =
-      resumed f view pid (Reading fd n)
+      let here : Told (live x) (live y) old new (Ok reply)
+      (call old.limits (meaning (live x) old.state) (steps.Resume pid)) =
+      resumed (live x) view pid (Reading fd n)
       (subst (λ (o : Namespace). call_of o.state pid ≡ Some (Moving (Reading fd n))) (sym view) waits) mid_is still
       tried ample (sym is) in
       record {
         reply = reply;
-        is = made_step old.limits (meaning f old.state) (meaning g new.state) (steps.Resume pid) reply here.says;
+        is = made_step old.limits (meaning (live x) old.state) (meaning (live y) new.state) (steps.Resume pid) reply
+            here.says;
         told_is = told_is;
         bytes_lie = lie;
       }
 
-  module _ (between : Namespace) (progress : Progress)
-      (came : Truncates g between (attempted (meaning f mid.state) pid (Reading fd n)) progress before after)
-      (owns : Owns g between) (limits : between.limits ≡ mid.limits) where
-    -- where no byte came, none lies there
-    nothing : moved progress ≡ 0 → after ≡ laid [] before
-    nothing zero = came.bytes_lie ∙ ap (λ (xs : List ℕ). laid xs before) (none came.tried.bytes (came.as_many ∙ zero))
-
+  module _ {between : Namespace} {progress : Progress} (came : Came live x y mid between pid (Reading fd n) progress
+      (Truncates progress before after)) where
     pub waits_on : progress ≡ WouldBlock → new ≡ waits_in (Some (Moving (Reading fd n))) between pid → told ≡ Ok None
-        → Resumed
+        → Resumed (live x) (live y) old new pid told before after
     waits_on is waiting says =
         answered replies.Parked (Ok replies.Parked) refl (λ e. absurd (cc))
-        (parks f g mid between new pid (Reading fd n) came.tried came.is owns limits came.state (Moving (Reading fd n))
-        refl (ap (transfer_told (Reading fd n) came.tried) (came.progress_is ∙ is)) waiting)
-        says (nothing (ap moved is))
+        (parks live came (Moving (Reading fd n)) refl
+        (ap (transfer_told (Reading fd n) came.tried) (came.progress_is ∙ is)) waiting) says
+        (nothing progress before after came.tried came.holds (ap moved is))
 
-  module _ (progress : Progress) (came : Truncates g new (attempted (meaning f mid.state) pid (Reading fd n)) progress
-      before after) (owns : Owns g new) (limits : new.limits ≡ mid.limits) where
-    pub comes : (m : ℕ) → progress ≡ Moved m → told ≡ Ok (Some m) → Resumed
-    comes m is says =
+  module _ {progress : Progress} (came : Came live x y mid new pid (Reading fd n) progress
+      (Truncates progress before after)) where
+    pub comes : {m : ℕ} → progress ≡ Moved m → told ≡ Ok (Some m)
+        → Resumed (live x) (live y) old new pid told before after
+    comes {m} is says =
         answered (replies.Bytes came.tried.bytes) (Ok (replies.Bytes came.tried.bytes)) refl (λ e. absurd (cc))
-        (finishes f g mid new pid (Reading fd n) came.tried came.is owns limits came.state
-        (replies.Bytes came.tried.bytes) (ap (transfer_told (Reading fd n) came.tried) (came.progress_is ∙ is)))
-        (says ∙ ap (λ (k : ℕ). Ok (Some k)) (sym (came.as_many ∙ ap moved is))) came.bytes_lie
+        (finishes live came (replies.Bytes came.tried.bytes)
+        (ap (transfer_told (Reading fd n) came.tried) (came.progress_is ∙ is)))
+        (says ∙ ap (λ (k : ℕ). Ok (Some k)) (sym (came.holds.0 ∙ ap moved is))) came.holds.1
 
     finished : transfer_told (Reading fd n) came.tried came.tried.progress
-        ≡ Ok (Finished came.tried.state (replies.Bytes [])) → moved progress ≡ 0 → told ≡ Ok (Some 0) → Resumed
+        ≡ Ok (Finished came.tried.state (replies.Bytes [])) → moved progress ≡ 0 → told ≡ Ok (Some 0)
+        → Resumed (live x) (live y) old new pid told before after
     finished is zero says =
         answered (replies.Bytes []) (Ok (replies.Bytes [])) refl (λ e. absurd (cc))
-        (finishes f g mid new pid (Reading fd n) came.tried came.is owns limits came.state (replies.Bytes []) is) says
-        (nothing new progress came owns limits zero)
+        (finishes live came (replies.Bytes []) is) says
+        (nothing progress before after came.tried came.holds zero)
 
-    pub ends : (progress ≡ EndOfFile) ⊎ (progress ≡ NoReader) → told ≡ Ok (Some 0) → Resumed
+    pub ends : (progress ≡ EndOfFile) ⊎ (progress ≡ NoReader) → told ≡ Ok (Some 0)
+        → Resumed (live x) (live y) old new pid told before after
     ends is says = elim is [
       | inl e ↦ finished (ap (transfer_told (Reading fd n) came.tried) (came.progress_is ∙ e)) (ap moved e) says
       | inr e ↦ finished (ap (transfer_told (Reading fd n) came.tried) (came.progress_is ∙ e)) (ap moved e) says
     ]
 
-  pub is_refused : (e : Errno) → attempted (meaning f mid.state) pid (Reading fd n) ≡ Err e → Owns g new
-      → new.limits ≡ mid.limits → meaning g new.state ≡ meaning f mid.state → told ≡ Err e → after ≡ before → Resumed
-  is_refused e is owns limits same says lie =
+  pub is_refused : {e : Errno} → Refused live x y mid new pid (Reading fd n) e → Owns (live x) mid → told ≡ Err e
+      → after ≡ before → Resumed (live x) (live y) old new pid told before after
+  is_refused {e} refused owns says lie =
       answered (replies.Err e) (Err (faults.Errno e)) refl (λ x. absurd (cc))
-      (refuses f g mid new pid (Reading fd n) false e is owns limits same) says (lie ∙ no_byte_lies before)
+      (refuses live pid (Reading fd n) refused refl owns false) says (lie ∙ no_byte_lies before)
 
 -- Another call
 
@@ -153,14 +161,9 @@ no_bytes replies.Parked short = refl
 no_bytes (replies.Err e) short = refl
 
 module _ (f g : Live) (old new : Namespace) (pid : ℕ) (told : Result (Option ℕ) Errno) (buffer : List ℕ) where
-  abbrev Told_so : Type 0
-  Told_so =
-      Replied (λ (reply : Reply). Answers old.limits (Done reply) (meaning f old.state) (steps.Resume pid)
-      (meaning g new.state)) told buffer buffer
-
   pub others_told : hands_out (call_of (meaning f old.state) pid) ≡ false → (reply : Reply)
       → Told f g old new (Ok reply) (call old.limits (meaning f old.state) (steps.Resume pid))
-      → told ≡ number_told reply → Told_so
+      → told ≡ number_told reply → Resumed f g old new pid told buffer buffer
   others_told quiet reply here says =
       let s = meaning f old.state in
       let is : record {
@@ -185,7 +188,8 @@ module _ (f g : Live) (old new : Namespace) (pid : ℕ) (told : Result (Option �
 
   pub others_refused : (e : Errno) → Told f g old new (Err (faults.Errno e))
       (call old.limits (meaning f old.state) (steps.Resume pid))
-      → meaning f old.state ≡ sweep itself (meaning f old.state) → told ≡ Err e → Told_so
+      → meaning f old.state ≡ sweep itself (meaning f old.state) → told ≡ Err e
+      → Resumed f g old new pid told buffer buffer
   others_refused e here still says =
       record {
         reply = replies.Err e;

@@ -13,7 +13,7 @@ use Rattle.pf_machine.proofs.NumberedLaws.{at_within, sum_of-set}
 use Rattle.pf_machine.specs.Progress.{moved}
 use Rattle.pf_machine.specs.Queue.{Segment}
 use Rattle.pf_machine.specs.Refusals.{◌>>=◌, ◌>>◌, refuse_if, or_refuse}
-use Rattle.pf_machine.specs.State.{itself, State, Process, End, process, ready, reading_end, writing_end}
+use Rattle.pf_machine.specs.State.{itself, State, Process, End, Outcome, process, ready, reading_end, writing_end}
 use Rattle.pf_machine.specs.State.{change_process, waiting}
 use Rattle.pf_machine.specs.Sweep.{sweep, live_descriptions, live_pipes}
 use Rattle.pf_machine.specs.Transfers.{Tried, tried, two_ends, try_read, try_write, try_cross}
@@ -26,7 +26,7 @@ use Rattle.pf_base.specs.declared.fault.Fault.{Fault}
 use Rattle.pf_base.specs.declared.fault.Fault.TheVariants as faults
 use Rattle.pf_base.specs.declared.progress.Crossing.{Crossing}
 use Rattle.pf_base.specs.declared.progress.Progress.{Progress}
-use Rattle.pf_base.specs.declared.progress.Progress.TheVariants.{Moved, WouldBlock, EndOfFile}
+use Rattle.pf_base.specs.declared.progress.Progress.TheVariants.{Moved, WouldBlock, EndOfFile, NoReader}
 use Rattle.pf_base.specs.declared.step.Reply.{Reply}
 use Rattle.pf_base.specs.declared.step.Reply.TheVariants as replies
 use Rattle.pf_frame.specs.Live.{Live}
@@ -34,8 +34,8 @@ use Rattle.pf_parked.specs.UnfinishedWrite.{UnfinishedWrite}
 use Rattle.pf_ring.specs.declared.ring.Window.{Window}
 use Rattle.pf_tables.specs.Meaning.{Namespace, meaning}
 use Rattle.pf_tables.specs.Owns.{Owns}
-use Rattle.pf_tables.specs.Told.{Told, attempted, tried_call, flag_of, is_nonblocking_at, transferred, waits_in}
-use Rattle.pf_tables.specs.Told.{settled}
+use Rattle.pf_tables.specs.Told.{Told, Came, Refused, Still, Stops, IsShort, Parks, attempted, tried_call}
+use Rattle.pf_tables.specs.Told.{flag_of, is_nonblocking_at, transferred, waits_in, settled}
 use Rattle.pf_tables.proofs.TablesShown.{place_in}
 use Rattle.pf_space.proofs.Books.{flag-meaning}
 
@@ -143,64 +143,92 @@ pub called : (s : State Segment ℕ) (pid : ℕ) (nonblock : Bool) (t : Transfer
 called s pid nonblock t h =
     call_is s pid nonblock t ∙ ap (λ q. q >>= (λ r. transfer_told t r r.progress >>= first pid nonblock)) h
 
--- It parks
+-- What was done over a door
+module _ {D : Type 0} (live : D → Live) {x y : D} where
+  module _ {old mid : Namespace} {pid : ℕ} {t : Transfer} {progress : Progress} {Is : Tried → Type 0}
+      (came : Came live x y old mid pid t progress Is) where
+    abbrev s : State Segment ℕ
+    s = meaning (live x) old.state
 
-module _ (f g : Live) (old mid new : Namespace) (pid : ℕ) (t : Transfer) (r : Tried)
-    (is : attempted (meaning f old.state) pid t ≡ Ok r) (owns : Owns g mid) (limits : mid.limits ≡ old.limits)
-    (state : meaning g mid.state ≡ sweep itself r.state)
-    (c : Call ℕ) (moving : made_by (Some c) ≡ None) (waits : transfer_told t r r.progress ≡ Ok (Waits r.state c))
-    (waits_now : new ≡ waits_in (Some c) mid pid) where
-  s : State Segment ℕ
-  s = meaning f old.state
+    w : Tries (meaning (live x) old.state) pid t came.tried
+    w = tries (meaning (live x) old.state) pid t came.tried came.is
 
-  w : Tries (meaning f old.state) pid t r
-  w = tries (meaning f old.state) pid t r is
+    here : IsReady (meaning (live x) old.state) pid w.p
+    here = is_ready (meaning (live x) old.state) pid w.p w.caller
 
-  here : IsReady (meaning f old.state) pid w.p
-  here = is_ready (meaning f old.state) pid w.p w.caller
+    -- It parks
+    module _ {new : Namespace} (c : Call ℕ) (moving : made_by (Some c) ≡ None)
+        (waits : transfer_told t came.tried came.tried.progress ≡ Ok (Waits came.tried.state c))
+        (waits_now : new ≡ waits_in (Some c) mid pid) where
+      now_waits : sweep itself (change_process (waiting (Some c)) came.tried.state pid)
+          ≡ change_process (waiting (Some c)) (sweep itself came.tried.state) pid
+      now_waits =
+          let stays : Stays s came.tried = of_given (Stays s) (tried s w.p t) came.tried w.is (tried-stays s w.p t) in
+          sweep-waiting came.tried.state pid w.p (ap (λ ps. at ps (pid - 1)) stays ∙ here.stands)
+          (ap made_by here.awake) (Some c) moving
 
-  now_waits : sweep itself (change_process (waiting (Some c)) r.state pid)
-      ≡ change_process (waiting (Some c)) (sweep itself r.state) pid
-  now_waits =
-      let stays : Stays (meaning f old.state) r =
-      of_given (Stays (meaning f old.state)) (tried (meaning f old.state) w.p t) r w.is
-      (tried-stays (meaning f old.state) w.p t) in
-      sweep-waiting r.state pid w.p (ap (λ ps. at ps (pid - 1)) stays ∙ here.stands) (ap made_by here.awake) (Some c)
-      moving
+      pub parks : Told (live x) (live y) old new (Ok replies.Parked) (tried_call s pid false t)
+      parks = record {
+        owns =
+            subst (Owns (live y)) (sym waits_now) (record { joined = came.owns.joined; reserve = came.owns.reserve });
+        limits = ap (λ (n : Namespace). n.limits) waits_now ∙ came.limits;
+        says =
+            ap settled (called s pid false t came.is ∙ ap (λ a. a >>= first pid false) waits)
+            ∙ ap (λ (z : State Segment ℕ). Ok (record { state = z; reply = replies.Parked }))
+            (now_waits ∙ ap (λ (z : State Segment ℕ). change_process (waiting (Some c)) z pid) (sym came.state))
+            ∙ ap (λ (n : Namespace). Ok (record { state = meaning (live y) n.state; reply = replies.Parked }))
+            (sym waits_now);
+      }
 
-  pub parks : Told f g old new (Ok replies.Parked) (tried_call (meaning f old.state) pid false t)
-  parks = record {
-    owns = subst (Owns g) (sym waits_now) (record { joined = owns.joined; reserve = owns.reserve });
-    limits = ap (λ (n : Namespace). n.limits) waits_now ∙ limits;
-    says =
-        ap settled (called (meaning f old.state) pid false t is ∙ ap (λ a. a >>= first pid false) waits)
-        ∙ ap (λ (z : State Segment ℕ). Ok (record { state = z; reply = replies.Parked }))
-        (now_waits ∙ ap (λ (z : State Segment ℕ). change_process (waiting (Some c)) z pid) (sym state))
-        ∙ ap (λ (n : Namespace). Ok (record { state = meaning g n.state; reply = replies.Parked })) (sym waits_now);
-  }
+    -- one that moved nothing, and that nobody asked not to wait: of the namespace as it was then, and so as it is
+    pub waits_first : {new before : Namespace} → old ≡ before → progress ≡ WouldBlock
+        → transfer_told t came.tried WouldBlock ≡ Ok (Waits came.tried.state (Moving t))
+        → new ≡ waits_in (Some (Moving t)) mid pid → (asked : State Window ℕ → Bool) → asked mid.state ≡ false
+        → Told (live x) (live y) before new (Ok replies.Parked)
+        (tried_call (meaning (live x) before.state) pid (asked before.state) t)
+    waits_first {new} view is waits now asked nobody =
+        subst (λ (o : Namespace). Told (live x) (live y) o new (Ok replies.Parked)
+        (tried_call (meaning (live x) o.state) pid (asked o.state) t)) view
+        (subst (λ b. Told (live x) (live y) old new (Ok replies.Parked) (tried_call s pid b t))
+        (sym nobody ∙ ap (λ (n : Namespace). asked n.state) (came.untouched (ap moved is)).0)
+        (parks (Moving t) refl (ap (transfer_told t came.tried) (came.progress_is ∙ is) ∙ waits) now))
 
--- It is finished
+    -- It is finished
+    pub finishes : (reply : Reply)
+        → transfer_told t came.tried came.tried.progress ≡ Ok (Finished came.tried.state reply)
+        → Told (live x) (live y) old mid (Ok reply) (tried_call s pid false t)
+    finishes reply finished = record {
+      owns = came.owns;
+      limits = came.limits;
+      says =
+          ap settled (called s pid false t came.is ∙ ap (λ a. a >>= first pid false) finished)
+          ∙ ap (λ (z : State Segment ℕ). Ok (record { state = z; reply = reply })) (sym came.state);
+    }
 
-pub finishes : (f g : Live) (old new : Namespace) (pid : ℕ) (t : Transfer) (r : Tried)
-    → attempted (meaning f old.state) pid t ≡ Ok r → Owns g new → new.limits ≡ old.limits
-    → meaning g new.state ≡ sweep itself r.state
-    → (reply : Reply) → transfer_told t r r.progress ≡ Ok (Finished r.state reply)
-    → Told f g old new (Ok reply) (tried_call (meaning f old.state) pid false t)
-finishes f g old new pid t r is owns limits state reply finished = record {
-  owns = owns;
-  limits = limits;
-  says =
-      ap settled (called (meaning f old.state) pid false t is ∙ ap (λ a. a >>= first pid false) finished)
-      ∙ ap (λ (z : State Segment ℕ). Ok (record { state = z; reply = reply })) (sym state);
-}
+  -- or refused
+  pub refuses : {old new before : Namespace} (pid : ℕ) (t : Transfer) {e : Errno} → Refused live x y old new pid t e
+      → old ≡ before → Owns (live x) before → (b : Bool)
+      → Told (live x) (live y) before new (Err (faults.Errno e)) (tried_call (meaning (live x) before.state) pid b t)
+  refuses {old} {new} {before} pid t {e} refused view owns b =
+      subst (λ (o : Namespace). Told (live x) (live y) o new (Err (faults.Errno e))
+      (tried_call (meaning (live x) o.state) pid b t)) view
+      (let still = refused.1 in record {
+        owns = subst (Owns (live y)) (sym still.0) (subst (λ z. Owns (live z) old) (sym still.1)
+            (subst (Owns (live x)) (sym view) owns));
+        limits = ap (λ (n : Namespace). n.limits) still.0;
+        says =
+            (called (meaning (live x) old.state) pid b t refused.0, λ i. meaning (live (still.1 i)) (still.0 i).state);
+      })
 
--- or refused
-pub refuses : (f g : Live) (old new : Namespace) (pid : ℕ) (t : Transfer) (b : Bool) (e : Errno)
-    → attempted (meaning f old.state) pid t ≡ Err e → Owns g new → new.limits ≡ old.limits
-    → meaning g new.state ≡ meaning f old.state
-    → Told f g old new (Err (faults.Errno e)) (tried_call (meaning f old.state) pid b t)
-refuses f g old new pid t b e is owns limits same =
-    record { owns = owns; limits = limits; says = (called (meaning f old.state) pid b t is, same) }
+  -- A call goes on where nothing was done before
+  pub goes_from : {old mid new before : Namespace} {z : D} {result : Result Reply Fault} → Still x y old mid
+      → old ≡ before
+      → (machine : Live → State Window ℕ → Result (Outcome Segment ℕ) Errno)
+      → Told (live y) (live z) mid new result (machine (live y) mid.state)
+      → Told (live x) (live z) before new result (machine (live x) before.state)
+  goes_from {new} {z} {result} still view machine =
+      subst (λ (w : D × Namespace). Told (live w.0) (live z) w.1 new result (machine (live w.0) w.1.state))
+      (λ i. (still.1 i, (still.0 ∙ view) i))
 
 -- It doesn't wait
 
@@ -208,14 +236,6 @@ refuses f g old new pid t b e is owns limits same =
 flagged : (f : Live) (s : State Window ℕ) (pid fd : ℕ) (p : Process ℕ) → ready s pid ≡ Ok p
     → is_nonblocking_at s pid fd ≡ is_nonblocking (meaning f s) p fd
 flagged f s pid fd p h = ap (flag_of s fd) h ∙ sym (flag-meaning f s p fd)
-
-pub flag-at : (f : Live) (s : State Window ℕ) (pid fd : ℕ)
-    → is_nonblocking_at (meaning f s) pid fd ≡ is_nonblocking_at s pid fd
-flag-at f s pid fd = by_caller (ready s pid)
-  where
-    by_caller : (q : Result (Process ℕ) Errno) → flag_of (meaning f s) fd q ≡ flag_of s fd q
-    by_caller (Ok p) = flag-meaning f s p fd
-    by_caller (Err e) = refl
 
 -- so a first call that is tried, where it is known whether it may wait, is the machine's
 tried_first : (s : State Segment ℕ) (pid : ℕ) (flag b : Bool) (t : Transfer)
@@ -282,10 +302,30 @@ stays_waiting r fd write rest is blocked =
           ∙ ap (λ (w : UnfinishedWrite). Ok (Waits r.state (Moving (Writing fd w.bytes w.written)))) (sym is)
     ]
 
+-- a first write that stops short of its end waits, where nobody asked it not to
+pub stops_short : (f : Live) (s : State Window ℕ) (pid fd : ℕ) (x : List ℕ) → is_nonblocking_at s pid fd ≡ false
+    → Stops (attempted (meaning f s) pid (Writing fd x 0)) (length x)
+    → Parks (transferred (meaning f s) pid false (Writing fd x 0))
+stops_short f s pid fd x nobody h =
+    subst Parks (write_as f s pid fd x false nobody) (by_progress h.tried.progress refl h.short)
+  where
+    waits : (n : ℕ) → transfer_told (Writing fd x 0) h.tried h.tried.progress
+        ≡ Ok (Waits h.tried.state (Moving (Writing fd x n)))
+        → Parks (tried_call (meaning f s) pid false (Writing fd x 0))
+    waits n is = record {
+      state = change_process (waiting (Some (Moving (Writing fd x n)))) h.tried.state pid;
+      is = called (meaning f s) pid false (Writing fd x 0) h.is ∙ ap (λ a. a >>= first pid false) is;
+    }
+
+    by_progress : (q : Progress) → h.tried.progress ≡ q → IsShort q (length x)
+        → Parks (tried_call (meaning f s) pid false (Writing fd x 0))
+    by_progress (Moved n) e some =
+        waits (0 + n) (goes_on h.tried fd x 0 n (record { bytes = x; written = 0 + n }) (λ all. absurd (omega
+        (arith, all, some))) refl e)
+    by_progress WouldBlock e some = waits 0 (ap (transfer_told (Writing fd x 0) h.tried) e)
+    by_progress EndOfFile e none = absurd none
+    by_progress NoReader e none = absurd none
+
 -- in other words
 pub blocked_as : {p q : Progress} → p ≡ q → (q ≡ WouldBlock) ⊎ (q ≡ EndOfFile) → (p ≡ WouldBlock) ⊎ (p ≡ EndOfFile)
 blocked_as e h = subst (λ p. (p ≡ WouldBlock) ⊎ (p ≡ EndOfFile)) (sym e) h
-
-pub none_of : {X : Type 0} (o : Option X) → ((x : X) → o ≡ Some x → ⊥) → o ≡ None
-none_of None none = refl
-none_of (Some x) none = absurd (none x refl)

@@ -91,14 +91,14 @@ module _ {files : Files} {files_made : ℕ} {limits : Limits} {charges : UserPag
       by_end (Err e) h =
           few (shows f) 0 (call limits (shows f) (steps.Read pid fd count)) (read-few (shows f) 0 limits pid fd count
           (λ x is. let both : ◌≡◌ {A = Result (End Segment ℕ) Errno} (Err e) (Ok x) = sym
-          (refused (pipe_meaning f) (Some sides.Read) ps ds pipes files files_made k.tied pid fd e h)
+          (refused (pipe_meaning f) (Some sides.Read) files files_made k.tied pid fd e h)
           ∙ is in absurd (cc)))
 
   module _ (d : Description) (h : end_in (Some sides.Read) ps ds pid fd ≡ Ok d) where
     -- it has a pipe
     pub no_pipe : find pipes d.pipe.slot d.pipe.serial ≡ None → Covers n (steps.Read pid fd count) 0
     no_pipe none f sound owns =
-        let there = pipe_there (pipe_meaning f) (Some sides.Read) ps ds pipes files files_made k.tied pid fd h in
+        let there = pipe_there (pipe_meaning f) (Some sides.Read) files files_made k.tied pid fd h in
         let gone = ap is_some none in
         absurd (cc)
 
@@ -107,15 +107,14 @@ module _ {files : Files} {files_made : ℕ} {limits : Limits} {charges : UserPag
         → ((f : Live) → IsSound f → Stands f r.ring.segments → held ≡ length (bytes_of (queue_of f r.ring)))
         → Covers n (steps.Read pid fd count) (min held count)
     reads r handed held holds f sound owns =
-        let stands : Stands f r.ring.segments =
-        transfers.stands_in k view owns d r handed in
+        let stands : Stands f r.ring.segments = transfers.stands_in k view owns d handed in
         let number : held ≡ length (bytes_of (queue_of f r.ring)) = holds f sound stands in
         subst (AtMost f (steps.Read pid fd count) (min held count)) view
         (few (shows f) (min held count) (call limits (shows f) (steps.Read pid fd count))
         (read-few (shows f) (min held count) limits pid fd count
         (λ x is.
         let ends : ◌≡◌ {A = Result (End Segment ℕ) Errno} (Ok (end_of_rows (pipe_meaning f) d r)) (Ok x) =
-        sym (reaches (pipe_meaning f) (Some sides.Read) ps ds pipes files files_made k.tied pid fd h handed) ∙ is in
+        sym (reaches (pipe_meaning f) (Some sides.Read) files files_made k.tied pid fd h handed) ∙ is in
         let end : end_of_rows (pipe_meaning f) d r ≡ x = cc in
         let bytes : length (bytes_of (queue_of f r.ring)) ≡ length (bytes_of x.pipe.queue) =
         ap (λ (y : End Segment ℕ). length (bytes_of y.pipe.queue)) end in

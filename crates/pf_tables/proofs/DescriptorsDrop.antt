@@ -24,7 +24,7 @@ use Rattle.pf_limits.proofs.SumLaws.{covers, gone as refunded}
 use Rattle.pf_tables.specs.Meaning.{Namespace}
 use Rattle.pf_tables.specs.Rows as rows
 use Rattle.pf_tables.specs.Rows.{key_in, pipe_of, ProcessRows, DescriptionRows, PipeRows, Key, Process, keys_of}
-use Rattle.pf_tables.specs.Rows.{process_of, processes_of, pipes_of, state_of, Tied, Kept}
+use Rattle.pf_tables.specs.Rows.{process_of, processes_of, pipes_of, state_of, Tied, Kept, Whole}
 use Rattle.pf_tables.specs.Tables.{emptied, IsBare, Leaves, Left, LetsGo, Makes}
 use Rattle.pf_tables.proofs.ProcessTableReady.{place_is}
 use Rattle.pf_tables.proofs.DescriptorsNamed.{Has, named_is, names_nothing}
@@ -103,8 +103,8 @@ module _ {limits : Limits} (ps : ProcessRows) (ds : DescriptionRows) (pipes : Pi
 
 -- A process that has no descriptors goes
 
-module _ {charges : UserPages} {limits : Limits} {ps : ProcessRows} {ds : DescriptionRows} {pipes : PipeRows}
-    {files : Files} {files_made : ℕ} (k : Kept charges ps ds pipes) {n : Namespace}
+module _ {charges : UserPages} {limits : Limits} {es : List (ℕ × Key)} {ps : ProcessRows} {ds : DescriptionRows}
+    {pipes : PipeRows} {files : Files} {files_made : ℕ} (whole : Whole charges es ps ds pipes) {n : Namespace}
     (view : record { limits = limits; state = state_of ps ds pipes files files_made } ≡ n) (pid : ℕ)
     (b : IsBare n.state (pid - 1) MAX_DESCRIPTORS) {ps' : ProcessRows} (is : ps' ≡ clear_at ps (pid - 1)) where
   -- who it is in the tables
@@ -129,18 +129,18 @@ module _ {charges : UserPages} {limits : Limits} {ps : ProcessRows} {ds : Descri
     | inl l ↦ none_was (λ (j : Key). j.serial) (at w.0.descriptors fd)
         (sym (at-map (λ (j : Key). j.serial) w.0.descriptors fd)
         ∙ ap (λ (q : machine.Process ℕ). at q.descriptors fd) w.2 ∙ b.bare fd l)
-    | inr past ↦ at_past w.0.descriptors fd (omega (arith, k.tied.wide (pid - 1) w.0 w.1, past))
+    | inr past ↦ at_past w.0.descriptors fd (omega (arith, whole.kept.tied.wide (pid - 1) w.0 w.1, past))
   ]
 
   i_in : pid - 1 < MAX_PROCESSES
-  i_in = omega (arith, at_within ps (pid - 1) w.0 w.1, k.tied.places)
+  i_in = omega (arith, at_within ps (pid - 1) w.0 w.1, whole.kept.tied.places)
 
   vacated : Tied ps' ds pipes
   vacated =
-      subst (λ x. Tied x ds pipes) (sym is) (gone ps ds pipes k.tied (pid - 1) i_in w.0 w.1 bare_all)
+      subst (λ x. Tied x ds pipes) (sym is) (gone ps ds pipes whole.kept.tied (pid - 1) i_in w.0 w.1 bare_all)
 
-  pub vacated-kept : Kept charges ps' ds pipes
-  vacated-kept = record { tied = vacated; charged = k.charged }
+  pub vacated-whole : Whole charges es ps' ds pipes
+  vacated-whole = record { kept = record { tied = vacated; charged = whole.kept.charged }; filed = whole.filed }
 
   pub vacated-makes : Makes n (record { limits = limits; state = state_of ps' ds pipes files files_made })
       (exit n.state pid) (Num 0)

@@ -150,7 +150,7 @@ module _ (ps : ProcessRows) (ds : DescriptionRows) (pipes : PipeRows) (t : Tied 
   leaves ds' pipes' u d p = record {
     tied = u;
     state =
-        λ files files_made. changed-swept ps' ds' pipes' files files_made u (state_of ps ds pipes files files_made) d p
+        λ files files_made. changed-swept files files_made u (state_of ps ds pipes files files_made) d p
         ∙ ap (λ qs. sweep itself (with_processes (state_of ps ds pipes files files_made) qs))
         (ap processes_of is ∙ emptied_shown ps i fd);
   }

@@ -62,7 +62,7 @@ pub record Found {X : Type 0} (f : Sight X) (side : Option Side) (ps : ProcessRo
       >>= (λ p. side_end side (state_seen f ps ds pipes files files_made) p fd)) ≡ Ok (end_of_rows f d pipe)
   pub caller : IsOk (ready_in ps pid)
 
-module _ {X : Type 0} (f : Sight X) (side : Option Side) (ps : ProcessRows) (ds : DescriptionRows) (pipes : PipeRows)
+module _ {X : Type 0} (f : Sight X) (side : Option Side) {ps : ProcessRows} {ds : DescriptionRows} {pipes : PipeRows}
     (files : Files) (files_made : ℕ) (t : Tied ps ds pipes) (pid fd : ℕ) where
   abbrev s : State X ℕ
   s = state_seen f ps ds pipes files files_made

@@ -8,15 +8,13 @@ use Rattle.std.proofs.lemmas.Bool.{cases_eq, eq-eqb, ne_eqb}
 use Rattle.std.proofs.lemmas.List.{map-set, map_push, length_push}
 use Rattle.pf_machine.specs.Numbered.{at, put_at, clear_at}
 use Rattle.pf_machine.proofs.NumberedLaws.{at_within, at-put_other, at-push_old}
-use Rattle.pf_fds.specs.Registry.{find}
 use Rattle.pf_pipe.specs.Pipe.{unopened}
 use Rattle.pf_tables.specs.Rows.{ProcessRows, DescriptionRows, PipeRows, Key, Pipe, Opens, opens_at, opens_of, NoMore}
 use Rattle.pf_tables.specs.Rows.{AreFifos}
 use Rattle.pf_tables.specs.Tables.{LetsGo, Forgets}
-use Rattle.pf_tables.proofs.TransfersCross.{set_around}
 use Rattle.pf_tables.proofs.TablesTied.{by_set, by_push, once}
 use Rattle.pf_tables.proofs.PipesOpen.{Puts, reading, writing, two_ended}
-use Rattle.pf_tables.proofs.TablesShown.{shown, find_was, set_same}
+use Rattle.pf_tables.proofs.TablesShown.{shown, set_same}
 
 -- one row has one file, and one key is of one pipe
 pub same_file : {p q : ℕ} {o x : Opens} → ◌≡◌ {A = Option (ℕ × Opens)} (Some (p, o)) (Some (q, x)) → o.file ≡ x.file
@@ -58,26 +56,11 @@ opens_stay pipes n place p w stands same =
     ∙ set_same (opens_of pipes) n (Some (place, w.opens))
     (ap (λ (o : Opens). Some (place, o)) same ∙ sym (shown opens_at pipes n (place, p) stands))
 
--- a pipe that was found is put back with other windows
 pub fifos-put : (es : List (ℕ × Key)) {drawn : ℕ} (pipes : PipeRows) (k : Key) (r w : Pipe)
-    → find pipes k.slot k.serial ≡ Some r → w.opens ≡ r.opens → AreFifos es drawn (opens_of pipes)
+    → at pipes k.serial ≡ Some (k.slot, r) → w.opens ≡ r.opens → AreFifos es drawn (opens_of pipes)
     → AreFifos es drawn (opens_of (put_at pipes k.serial (k.slot, w)))
-fifos-put es pipes k r w handed same a =
-    fifos-same es (omega arith) (opens_stay pipes k.serial k.slot r w (find_was pipes k.slot k.serial r handed) same) a
-
--- and two, one of which was taken out
-pub fifos-crossed : (es : List (ℕ × Key)) {drawn : ℕ} (pipes : PipeRows) (i o : Key) (r r' s s' : Pipe)
-    → i.serial ≢ o.serial → find pipes i.slot i.serial ≡ Some r → find pipes o.slot o.serial ≡ Some s
-    → r'.opens ≡ r.opens → s'.opens ≡ s.opens
-    → AreFifos es drawn (opens_of pipes) → AreFifos es drawn
-    (opens_of (put_at (put_at (clear_at pipes o.serial) i.serial (i.slot, r')) o.serial (o.slot, s')))
-fifos-crossed es {drawn} pipes i o r r' s s' differ from to same also a =
-    let still : at (put_at pipes o.serial (o.slot, s')) i.serial ≡ Some (i.slot, r) =
-    at-put_other pipes o.serial i.serial (Some (o.slot, s')) differ ∙ find_was pipes i.slot i.serial r from in
-    subst (λ (xs : PipeRows). AreFifos es drawn (opens_of xs))
-    (sym (set_around pipes i.serial o.serial (Some (i.slot, r')) (Some (o.slot, s')) None differ))
-    (fifos-same es (omega arith) (opens_stay (put_at pipes o.serial (o.slot, s')) i.serial i.slot r r' still same)
-    (fifos-put es pipes o s s' to also a))
+fifos-put es pipes k r w stands same =
+    fifos-same es (omega arith) (opens_stay pipes k.serial k.slot r w stands same)
 
 -- some descriptions change, and none is drawn
 pub fifos-changed : (es : List (ℕ × Key)) {opens : List (Option (ℕ × Opens))} (ds ds' : DescriptionRows)

@@ -83,7 +83,7 @@ module _ {limits : Limits} {ps : ProcessRows} {ds : DescriptionRows} {pipes : Pi
           is = called _ (goes ∙ ap (λ r. r >>= (λ x. Ok (told s (reply x)))) found);
           limits = refl;
           owned = λ f o. o;
-          swept = settled ps ds pipes files files_made tied;
+          swept = settled files files_made tied;
         })
 
     pub tells_not : (fault : Fault) → Told shows (Err fault) answer → Says n n (Err fault) (call n.state)

@@ -24,6 +24,7 @@ mod TablesTied
 mod OpensFound
 mod DescriptorsNamed
 mod PipesOpen
+mod PipesRing
 mod PipesSetSize
 mod OpensResolve
 mod ProcessTable

@@ -129,7 +129,7 @@ module _ {limits : Limits} {charges : UserPages} {es : List (ℕ × Key)} {ps : 
       let it : x.0 ≡ p = cc in
       ap (fifo_readers itself n.state) (fifo_shown (Some k) h)
       ∙ subst (λ (m : Namespace). fifo_readers itself m.state (Some k.serial) ≡ x.0.readers) view
-      (counted as_kept None ps ds pipes files files_made w.kept.tied 0 0 k.serial k.slot x.0 x.1).0
+      (counted as_kept None files files_made w.kept.tied 0 0 k.serial k.slot x.0 x.1).0
       ∙ ap (λ (q : Pipe). q.readers) it
 
   pub not_lost : (k : Key) → lookup (nat_eq file) es ≡ Some k → find pipes k.slot k.serial ≢ None

@@ -1,7 +1,7 @@
 -- An open of a FIFO that somebody has open: all that it keeps and tells.
 
 use Rattle.std.proofs.Common.{◌≡◌, ℕ, ◌-◌, ◌^◌, ◌<◌, ◌≤◌, Bool, true, false, List, [], ◌∷◌, length, Option, Some, None}
-use Rattle.std.proofs.Common.{IsSome, IsOk, is_ok, Result, Ok, Err, nat_eq, refl, sym, ap, subst, ◌∙◌, arith}
+use Rattle.std.proofs.Common.{IsOk, is_ok, Result, Ok, Err, nat_eq, refl, sym, ap, subst, ◌∙◌, arith}
 use Rattle.std.specs.Option.{option_map}
 use Rattle.std.specs.Map.{lookup}
 use Rattle.std.proofs.lemmas.Bool.{leb-false, ltb-false}
@@ -22,7 +22,7 @@ use Rattle.pf_fds.specs.Registry.{find}
 use Rattle.pf_limits.specs.UserPages.{UserPages}
 use Rattle.pf_tables.specs.declared.tables.opens.Access.{Access as Stored}
 use Rattle.pf_tables.specs.Meaning.{Namespace}
-use Rattle.pf_tables.specs.Opened.{access_seen, before, counted, end_of, may_open, opening, HasFree, Describes}
+use Rattle.pf_tables.specs.Opened.{access_seen, before, counted, IsFew, end_of, may_open, opening, HasFree, Describes}
 use Rattle.pf_tables.specs.Rows.{ProcessRows, DescriptionRows, PipeRows, Key, Process, Pipe, process_in, ready_in}
 use Rattle.pf_tables.specs.Rows.{process_of, description_of, opens_at, state_of, reads_it, writes_it, TiedWith, Whole}
 use Rattle.pf_tables.specs.Tables.{Makes}
@@ -94,26 +94,28 @@ module _ {files : Files} {files_made : ℕ} {limits : Limits} {charges : UserPag
     stands : at pipes k.serial ≡ Some (k.slot, p)
     stands = find_was pipes k.slot k.serial p handed
 
-    pub few_readers : p.readers < 2 ^ 64 - 1
-    few_readers =
+    pub is_few : IsFew p
+    is_few =
         let row = pipe_row [] [] ps ds pipes k p stands w.kept.tied in
-        let all = sum-le-length (λ e. reads_it k.serial e.1.value) ds (λ e. at_most_one _) in
-        omega (arith, row.0, all, unspent)
-
-    pub few_writers : p.writers < 2 ^ 64 - 1
-    few_writers =
-        let row = pipe_row [] [] ps ds pipes k p stands w.kept.tied in
-        let all = sum-le-length (λ e. writes_it k.serial e.1.value) ds (λ e. at_most_one _) in
-        omega (arith, row.1, all, unspent)
-
-    few : (p.opens.read ≤ length ds) × (p.opens.write ≤ length ds)
-    few = w.filed.few k.serial (k.slot, p.opens) (shown opens_at pipes k.serial (k.slot, p) stands)
-
-    pub few_read_opens : p.opens.read < 2 ^ 64 - 1
-    few_read_opens = omega (arith, few.0, unspent)
-
-    pub few_write_opens : p.opens.write < 2 ^ 64 - 1
-    few_write_opens = omega (arith, few.1, unspent)
+        let opens = w.filed.few k.serial (k.slot, p.opens) (shown opens_at pipes k.serial (k.slot, p) stands) in
+        record {
+          readers =
+              omega (
+                arith,
+                row.0,
+                sum-le-length (λ e. reads_it k.serial e.1.value) ds (λ e. at_most_one _),
+                unspent,
+              );
+          writers =
+              omega (
+                arith,
+                row.1,
+                sum-le-length (λ e. writes_it k.serial e.1.value) ds (λ e. at_most_one _),
+                unspent,
+              );
+          read_opens = omega (arith, opens.0, unspent);
+          write_opens = omega (arith, opens.1, unspent);
+        }
 
     -- after it
     module _ (sided : IsSided a) {ps' : ProcessRows} {ds' : DescriptionRows} {reply : Reply}
@@ -136,5 +138,4 @@ module _ {files : Files} {files_made : ℕ} {limits : Limits} {charges : UserPag
           entered-makes a k p pipes stands z is (has_free z.p z.is) held files files_made pipes view file may
           (ap (opens.pipe_of limits s (process_of z.p) file)
           (fifo_is es pipes w.filed file ps ds files files_made (Some k) found))
-          (ends_counted as_kept None ps ds pipes files files_made w.kept.tied pid 0 k.serial k.slot p stands)
-          (λ f o. o.joined)
+          (ends_counted as_kept None files files_made w.kept.tied pid 0 k.serial k.slot p stands) (λ f o. o.joined)

@@ -1,7 +1,7 @@
 -- The first open of a FIFO: its pipe is made, and all that this keeps and tells.
 
 use Rattle.std.proofs.Common.{◌≡◌, ◌≢◌, ℕ, ◌+◌, ◌-◌, ◌^◌, ◌<◌, ◌≤◌, ◌⊎◌, Bool, true, false, List, [], ◌∷◌, ◌++◌, length}
-use Rattle.std.proofs.Common.{map, Option, Some, None, is_some, Result, Ok, Err, nat_eq, if◌then◌else◌, refl, sym, ap}
+use Rattle.std.proofs.Common.{map, Option, Some, None, Result, Ok, Err, nat_eq, if◌then◌else◌, refl, sym, ap}
 use Rattle.std.proofs.Common.{subst, ◌∙◌, inl, inr, arith}
 use Rattle.std.specs.Option.{option_map}
 use Rattle.std.specs.Map.{lookup}

@@ -260,5 +260,5 @@ module _ (a : Stored) (k : Key) (p : Pipe) {ps : ProcessRows} {ds : DescriptionR
                   (pipe_of (k.slot, counted a p)) there refl)) (joins f o);
               reserve = o.reserve;
             };
-        swept = settled ps' ds' pipes' files files_made tied';
+        swept = settled files files_made tied';
       }

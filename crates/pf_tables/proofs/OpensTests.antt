@@ -136,12 +136,12 @@ module _ {files : Files} {files_made : ℕ} {charges : UserPages} {limits : Limi
 
     -- the code finds its description, and the pipe
     pub not_gone : None ≡ option_map value_of (find ds d.slot d.serial) → ⊥
-    not_gone = open_finds as_kept None ps ds pipes files files_made kept.tied pid 0 d place (sym sleeper.2)
+    not_gone = open_finds as_kept None files files_made kept.tied pid 0 d place (sym sleeper.2)
 
     module _ (end : Description) (is : Some end ≡ option_map value_of (find ds d.slot d.serial)) where
       pub pipe_not_gone : None ≡ find pipes end.pipe.slot end.pipe.serial → ⊥
       pipe_not_gone =
-          open_reaches as_kept None ps ds pipes files files_made kept.tied pid 0 d place (sym sleeper.2) is
+          open_reaches as_kept None files files_made kept.tied pid 0 d place (sym sleeper.2) is
 
       pub over_told : (p : Pipe) → Some p ≡ find pipes end.pipe.slot end.pipe.serial → (x : ℕ)
           → x ≡ other_opens end.reads p → IsOver n.state pid (nat_lt before x)
@@ -158,5 +158,5 @@ module _ {files : Files} {files_made : ℕ} {charges : UserPages} {limits : Limi
                 ap (λ o. or_refuse EBADF o >>= (λ e. Ok (open_told t pid (process_of sleeper.0) d.serial before e)))
                 (subst (λ (u : State Window ℕ). end_at itself u d.serial ≡ Some (end_of_rows as_kept end p))
                 (seen_as_kept ps ds pipes files files_made)
-                (key_end as_kept None ps ds pipes files files_made kept.tied pid 0 d is there));
+                (key_end as_kept None files files_made kept.tied pid 0 d is there));
           }))

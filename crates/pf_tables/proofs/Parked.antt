@@ -1,6 +1,7 @@
 -- A call is over, or begins: what the tables keep and show of it.
 
-use Rattle.std.proofs.Common.{◌≡◌, ℕ, zero, suc, ◌-◌, [], ◌∷◌, set, map, Option, Some, None, IsOk, Result, Ok, refl}
+use Rattle.std.proofs.Common.{◌≡◌, ℕ, zero, suc, ◌-◌, List, [], ◌∷◌, set, map, Option, Some, None, IsOk, Result, Ok}
+use Rattle.std.proofs.Common.{refl}
 use Rattle.std.proofs.Common.{sym, ap, subst, ◌∙◌, arith}
 use Rattle.std.specs.Option.{option_map, option_and_then}
 use Rattle.std.proofs.lemmas.List.{map-set, set-set}
@@ -19,7 +20,7 @@ use Rattle.pf_tables.specs.Meaning.{Namespace}
 use Rattle.pf_tables.specs.Rows as rows
 use Rattle.pf_tables.specs.Rows.{ProcessRows, DescriptionRows, PipeRows, Key, Process, Call, call_of, made_by, keys_of}
 use Rattle.pf_tables.specs.Rows.{IsSpare, process_in, ready_in, process_of, processes_of}
-use Rattle.pf_tables.specs.Rows.{state_of, TiedWith, Tied, Kept}
+use Rattle.pf_tables.specs.Rows.{state_of, TiedWith, Tied, Whole}
 use Rattle.pf_tables.specs.Tables.{over, woken, awoken, HasLowest}
 use Rattle.pf_tables.specs.Told.{waits_in}
 use Rattle.pf_tables.proofs.ProcessTableReady.{shown_in, found_in, living_shown, ready_shown, place_of, place_is}
@@ -109,8 +110,8 @@ module _ (ps : ProcessRows) (ds : DescriptionRows) (pipes : PipeRows) (t : Tied 
           (at-put_same ps i (Some asleep) (at_within ps i p stands)) (spare key kept e) key
           (at-first_free p.descriptors) u)
 
-module _ {charges : UserPages} {limits : Limits} {ps : ProcessRows} {ds : DescriptionRows} {pipes : PipeRows}
-    {files : Files} {files_made : ℕ} (k : Kept charges ps ds pipes) {n : Namespace}
+module _ {charges : UserPages} {limits : Limits} {es : List (ℕ × Key)} {ps : ProcessRows} {ds : DescriptionRows}
+    {pipes : PipeRows} {files : Files} {files_made : ℕ} (whole : Whole charges es ps ds pipes) {n : Namespace}
     (view : record { limits = limits; state = state_of ps ds pipes files files_made } ≡ n) (pid : ℕ)
     (lives : IsOk (living n.state pid)) (spare : (p : Process) → process_in ps pid ≡ Ok p → IsSpare p)
     {qs : ProcessRows} (are : qs ≡ change_at rows.woken ps (pid - 1)) where
@@ -123,12 +124,15 @@ module _ {charges : UserPages} {limits : Limits} {ps : ProcessRows} {ds : Descri
   put_is : qs ≡ put_at ps (pid - 1) (rows.woken w.0)
   put_is = are ∙ ap (λ o. set ps (pid - 1) (option_map rows.woken o)) stands
 
-  pub awoken-kept : Kept charges qs ds pipes
-  awoken-kept = record {
-    tied =
-        subst (λ x. Tied x ds pipes) (sym put_is)
-        (woken-tied ps ds pipes k.tied (pid - 1) w.0 stands (spare w.0 w.1));
-    charged = k.charged;
+  pub awoken-whole : Whole charges es qs ds pipes
+  awoken-whole = record {
+    kept = record {
+      tied =
+          subst (λ x. Tied x ds pipes) (sym put_is)
+          (woken-tied ps ds pipes whole.kept.tied (pid - 1) w.0 stands (spare w.0 w.1));
+      charged = whole.kept.charged;
+    };
+    filed = whole.filed;
   }
 
   now_shown : state_of qs ds pipes files files_made ≡ awoken (state_of ps ds pipes files files_made) pid
@@ -148,8 +152,8 @@ module _ {charges : UserPages} {limits : Limits} {ps : ProcessRows} {ds : Descri
 
 -- A call that is no open's begins
 
-module _ {charges : UserPages} {limits : Limits} {ps : ProcessRows} {ds : DescriptionRows} {pipes : PipeRows}
-    {files : Files} {files_made : ℕ} (k : Kept charges ps ds pipes) {n : Namespace}
+module _ {charges : UserPages} {limits : Limits} {es : List (ℕ × Key)} {ps : ProcessRows} {ds : DescriptionRows}
+    {pipes : PipeRows} {files : Files} {files_made : ℕ} (whole : Whole charges es ps ds pipes) {n : Namespace}
     (view : record { limits = limits; state = state_of ps ds pipes files files_made } ≡ n) (pid : ℕ)
     (is_ready : IsOk (ready n.state pid)) where
   -- who is ready for the machine is ready in the tables
@@ -179,10 +183,10 @@ module _ {charges : UserPages} {limits : Limits} {ps : ProcessRows} {ds : Descri
         subst (λ x. Tied x ds pipes) (sym row_is)
         (subst (λ o. TiedWith (rows.holding o []) [] (put_at ps (pid - 1) q) ds pipes)
         (ap made_by (is_awake ps pid ready_row.0 ready_row.1))
-        (moved [] [] ps ds pipes (pid - 1) 0 ready_row.0 q there (omega arith) None keys_same k.tied))
+        (moved [] [] ps ds pipes (pid - 1) 0 ready_row.0 q there (omega arith) None keys_same whole.kept.tied))
 
-    pub parked-kept : Kept charges qs ds pipes
-    parked-kept = record { tied = now_tied; charged = k.charged }
+    pub parked-whole : Whole charges es qs ds pipes
+    parked-whole = record { kept = record { tied = now_tied; charged = whole.kept.charged }; filed = whole.filed }
 
     pub parked-namespace : record { limits = limits; state = state_of qs ds pipes files files_made }
         ≡ waits_in (Some (call_of call)) n pid

@@ -357,5 +357,5 @@ module _ {files : Files} {files_made : ℕ} {charges : UserPages} {ps : ProcessR
                 (omega (arith, fits, before.reserve, kept.charged.total)));
             reserve = ap (λ (l : Limits). l.reserve) more.limits ∙ before.reserve;
           };
-      swept = settled ps' ds' pipes' files files_made tied_after;
+      swept = settled files files_made tied_after;
     }

@@ -1,7 +1,8 @@
 -- A pipe's slots: how many they are told to be, and a pipe that gets another number of them.
 
-use Rattle.std.proofs.Common.{◌≡◌, ℕ, ◌+◌, ◌-◌, ◌*◌, ◌<◌, ◌≤◌, Bool, true, false, not, ◌&&◌, [], length, set, Option}
-use Rattle.std.proofs.Common.{Some, None, IsSome, is_some, Result, Ok, Err, nat_lt, refl, sym, ap, subst, ◌∙◌, arith}
+use Rattle.std.proofs.Common.{◌≡◌, ℕ, ◌+◌, ◌-◌, ◌*◌, ◌<◌, ◌≤◌, Bool, true, false, not, ◌&&◌, List, [], length, set}
+use Rattle.std.proofs.Common.{Option, Some, None, IsSome, is_some, Result, Ok, Err, nat_lt, refl, sym, ap, subst, ◌∙◌}
+use Rattle.std.proofs.Common.{arith}
 use Rattle.std.proofs.Common.{if◌then◌else◌, inl, inr}
 use Rattle.std.specs.Option.{option_map}
 use Rattle.std.proofs.lemmas.Bool.{lt-ltb, le-ltb, ltb-false, cases_lt}
@@ -36,15 +37,17 @@ use Rattle.pf_ring.specs.Table.{Joined, ring_at, slots_of, slots_used}
 use Rattle.pf_ring.proofs.TableLaws.{joined_resized}
 use Rattle.pf_tables.specs.Meaning.{Namespace, ring_or, rings_of, Charged}
 use Rattle.pf_tables.specs.Owns.{Owns}
-use Rattle.pf_tables.proofs.OwnsLaws.{ring_at-pipe, slots-rings, pages-without, recharged, charged-same}
+use Rattle.pf_tables.proofs.OwnsLaws.{slots-rings, pages-without, recharged, charged-same}
 use Rattle.pf_tables.proofs.TablesTied.{requeued}
 use Rattle.pf_tables.proofs.TablesSettled.{settled}
 use Rattle.pf_tables.specs.Rows.{ProcessRows, DescriptionRows, PipeRows, Process, Description, Pipe, process_of}
-use Rattle.pf_tables.specs.Rows.{pipe_of, pipes_of, state_of, ready_in, end_in, Tied, Kept}
+use Rattle.pf_tables.specs.Rows.{Key, pipe_of, pipes_of, state_of, ready_in, end_in, Whole}
 use Rattle.pf_tables.specs.Tables.{Makes, Says, verdict, Resizes, Refuses, Resizing}
 use Rattle.pf_tables.proofs.ProcessTableReady.{readies}
 use Rattle.pf_tables.proofs.Ends.{end_of_rows, as_kept, seen_as_kept, Found, refused, found, reaches}
-use Rattle.pf_tables.proofs.TablesShown.{shown, find_at, find_was, set_same}
+use Rattle.pf_tables.proofs.Fifos.{fifos-put}
+use Rattle.pf_tables.proofs.PipesRing.{there, ring_is, same_pipes, shows}
+use Rattle.pf_tables.proofs.TablesShown.{find_at, find_was}
 use Rattle.pf_tables.proofs.Transfers.{bind-bind}
 
 -- what is found by the second step, where the third asks the first as well
@@ -66,8 +69,8 @@ refuses u v p q privileged to (faults.Errno e) z = z.1
 refuses u v p q privileged to faults.NoMemory z = z
 
 -- what is known before
-module _ {charges : UserPages} {limits : Limits} {ps : ProcessRows} {ds : DescriptionRows} {pipes : PipeRows}
-    {files : Files} {files_made : ℕ} (k : Kept charges ps ds pipes) {n : Namespace}
+module _ {charges : UserPages} {limits : Limits} {es : List (ℕ × Key)} {ps : ProcessRows} {ds : DescriptionRows}
+    {pipes : PipeRows} {files : Files} {files_made : ℕ} (rows : Whole charges es ps ds pipes) {n : Namespace}
     (view : record { limits = limits; state = state_of ps ds pipes files files_made } ≡ n) (pid fd : ℕ) where
   abbrev s : State Window ℕ
   s = state_of ps ds pipes files files_made
@@ -85,7 +88,7 @@ module _ {charges : UserPages} {limits : Limits} {ps : ProcessRows} {ds : Descri
   no_end : (e : Errno) → end_in None ps ds pid fd ≡ Err e → finds (Err e) s
   no_end e h =
       subst (finds (Err e)) (seen_as_kept ps ds pipes files files_made)
-      (refused as_kept None ps ds pipes files files_made k.tied pid fd e h)
+      (refused as_kept None files files_made rows.kept.tied pid fd e h)
 
   pub no_size : {e : Errno} → end_in None ps ds pid fd ≡ Err e → gets n.state ≡ Err e
   no_size {e} h =
@@ -104,7 +107,7 @@ module _ {charges : UserPages} {limits : Limits} {ps : ProcessRows} {ds : Descri
 
   module _ {d : Description} (h : end_in None ps ds pid fd ≡ Ok d) where
     at_end : Found as_kept None ps ds pipes files files_made pid fd d
-    at_end = found as_kept None ps ds pipes files files_made k.tied pid fd d h
+    at_end = found as_kept None files files_made rows.kept.tied pid fd d h
 
     pub stands : (r : Pipe) × (find pipes d.pipe.slot d.pipe.serial ≡ Some r)
     stands = (at_end.pipe, find_at pipes d.pipe.slot d.pipe.serial at_end.pipe at_end.stands)
@@ -113,27 +116,31 @@ module _ {charges : UserPages} {limits : Limits} {ps : ProcessRows} {ds : Descri
     pipe_there = ap is_some stands.1
 
     module _ {r : Pipe} (handed : find pipes d.pipe.slot d.pipe.serial ≡ Some r) where
-      there : at (pipes_of pipes) d.pipe.serial ≡ Some (pipe_of (d.pipe.slot, r))
-      there =
-          shown pipe_of pipes d.pipe.serial (d.pipe.slot, r) (find_was pipes d.pipe.slot d.pipe.serial r handed)
+      was : at pipes d.pipe.serial ≡ Some (d.pipe.slot, r)
+      was = find_was pipes d.pipe.slot d.pipe.serial r handed
 
       -- its pages are among its owner's
       pub covered : r.ring.capacity ≤ charged_to charges r.owner
       covered =
           covers (λ (q : machine.Pipe Window). q.owner) (λ (q : machine.Pipe Window). q.queue.capacity) charges
-          (pipes_of pipes) d.pipe.serial (pipe_of (d.pipe.slot, r)) k.charged there
+          (pipes_of pipes) d.pipe.serial (pipe_of (d.pipe.slot, r)) rows.kept.charged
+          (there ps ds pipes files files_made d.pipe r was)
 
       -- where it is as it was, and nobody is charged otherwise
       module _ (r' : Pipe) (charges' : UserPages) (z : Refuses charges charges' r r') where
         same_rows : put_at pipes d.pipe.serial (d.pipe.slot, r') ≡ pipes
-        same_rows =
-            set_same pipes d.pipe.serial (Some (d.pipe.slot, r'))
-            (ap (λ x. Some (d.pipe.slot, x)) z.pipe ∙ sym (find_was pipes d.pipe.slot d.pipe.serial r handed))
+        same_rows = same_pipes ps ds pipes files files_made d.pipe r was r' z.pipe
 
-        pub same_kept : Kept charges' ps ds (put_at pipes d.pipe.serial (d.pipe.slot, r'))
-        same_kept =
-            subst (Kept charges' ps ds) (sym same_rows)
-            (record { tied = k.tied; charged = charged-same charges charges' r.owner s z.charges k.charged })
+        pub same-whole : Whole charges' es ps ds (put_at pipes d.pipe.serial (d.pipe.slot, r'))
+        same-whole =
+            subst (Whole charges' es ps ds) (sym same_rows)
+            (record {
+              kept = record {
+                tied = rows.kept.tied;
+                charged = charged-same charges charges' r.owner s z.charges rows.kept.charged;
+              };
+              filed = rows.filed;
+            })
 
         pub same_view : limits ≡ charges.limits
             → record {
@@ -149,7 +156,7 @@ module _ {charges : UserPages} {limits : Limits} {ps : ProcessRows} {ds : Descri
       end_is : finds (Ok (end_of_rows as_kept d r)) s
       end_is =
           subst (finds (Ok (end_of_rows as_kept d r))) (seen_as_kept ps ds pipes files files_made)
-          (reaches as_kept None ps ds pipes files files_made k.tied pid fd h handed)
+          (reaches as_kept None files files_made rows.kept.tied pid fd h handed)
 
       abbrev size_of : machine.End Window ℕ → Result (Outcome Window ℕ) Errno
       size_of x = Ok (done s (PAGE_SIZE * x.pipe.queue.capacity))
@@ -162,7 +169,7 @@ module _ {charges : UserPages} {limits : Limits} {ps : ProcessRows} {ds : Descri
                 ∙ ap (λ m. Ok (done s m)) (sym all);
             limits = refl;
             owned = λ f o. o;
-            swept = settled ps ds pipes files files_made k.tied;
+            swept = settled files files_made rows.kept.tied;
           })
 
       module _ (p : Process) (is : ready_in ps pid ≡ Ok p) (bytes : ℕ) where
@@ -205,8 +212,8 @@ module _ {charges : UserPages} {limits : Limits} {ps : ProcessRows} {ds : Descri
             verdict_is : may (pages_for bytes) ≡ verdict charges (is_privileged p.cred) r to
             verdict_is =
                 λ j. if nat_lt r.ring.capacity (sym slots j)
-                then told_as EPERM (may_grow (same j) (is_privileged p.cred) (sym (k.charged.users r.owner) j)
-                (sym k.charged.total j) r.ring.capacity (sym slots j))
+                then told_as EPERM (may_grow (same j) (is_privileged p.cred) (sym (rows.kept.charged.users r.owner) j)
+                (sym rows.kept.charged.total j) r.ring.capacity (sym slots j))
                 else refuse_if (nat_lt (sym slots j) (length r.ring.segments)) EBUSY
 
             set_as : (o : Result (Unit {0}) Errno) → verdict charges (is_privileged p.cred) r to ≡ o
@@ -232,24 +239,23 @@ module _ {charges : UserPages} {limits : Limits} {ps : ProcessRows} {ds : Descri
         abbrev ring' : Ring
         ring' = record { capacity = to; segments = r.ring.segments }
 
-        shows : state_of ps ds pipes' files files_made ≡ with_queue s d.pipe.serial ring'
-        shows =
-            ap (λ xs. record s { pipes = xs })
-            (map-set (option_map pipe_of) pipes d.pipe.serial (Some (d.pipe.slot, r'))
-            ∙ ap (λ (q : Pipe). set (pipes_of pipes) d.pipe.serial (Some (pipe_of (d.pipe.slot, q)))) z.pipe
-            ∙ ap (λ x. set (pipes_of pipes) d.pipe.serial (option_map (holding ring') x)) (sym there))
+        shows_it : state_of ps ds pipes' files files_made ≡ with_queue s d.pipe.serial ring'
+        shows_it =
+            shows ps ds pipes files files_made d.pipe r was r' (ap (λ (q : Pipe). q.owner) z.pipe)
+            (ap (λ (q : Pipe). q.opens) z.pipe) ∙ ap (λ (q : Pipe). with_queue s d.pipe.serial q.ring) z.pipe
 
-        tied' : Tied ps ds pipes'
-        tied' =
-            requeued [] [] ps ds pipes d.pipe r (find_was pipes d.pipe.slot d.pipe.serial r handed) r'
-            (ap (λ (q : Pipe). q.readers) z.pipe) (ap (λ (q : Pipe). q.writers) z.pipe) k.tied
-
-        pub resized-kept : Kept charges' ps ds pipes'
-        resized-kept = record {
-          tied = tied';
-          charged =
-              subst (Charged charges') (sym shows)
-              (recharged charges charges' s d.pipe.serial (pipe_of (d.pipe.slot, r)) ring' there z.charges k.charged);
+        pub resized-whole : Whole charges' es ps ds pipes'
+        resized-whole = record {
+          kept = record {
+            tied =
+                requeued [] [] ps ds pipes d.pipe r was r' (ap (λ (q : Pipe). q.readers) z.pipe)
+                (ap (λ (q : Pipe). q.writers) z.pipe) rows.kept.tied;
+            charged =
+                subst (Charged charges') (sym shows_it)
+                (recharged charges charges' s d.pipe.serial (pipe_of (d.pipe.slot, r)) ring'
+                (there ps ds pipes files files_made d.pipe r was) z.charges rows.kept.charged);
+          };
+          filed = fifos-put es pipes d.pipe r r' was (ap (λ (q : Pipe). q.opens) z.pipe) rows.filed;
         }
 
         -- all slots stay within the reservation: those of a pipe that grew, by the test, and those of one that shrank
@@ -280,12 +286,13 @@ module _ {charges : UserPages} {limits : Limits} {ps : ProcessRows} {ds : Descri
             reserve_kept : sum_by slots_of (rings_of s) + to ≤ f.reserved + r.ring.capacity
             reserve_kept =
                 let all : sum_by slots_of (rings_of s) ≡ charges.total =
-                slots-rings (pipes_of pipes) ∙ sym k.charged.total in
+                slots-rings (pipes_of pipes) ∙ sym rows.kept.charged.total in
                 let own : r.ring.capacity ≤ charges.total =
                 omega (
                   arith,
-                  k.charged.total,
-                  pages-without (pipes_of pipes) d.pipe.serial (pipe_of (d.pipe.slot, r)) there,
+                  rows.kept.charged.total,
+                  pages-without (pipes_of pipes) d.pipe.serial (pipe_of (d.pipe.slot, r))
+                      (there ps ds pipes files files_made d.pipe r was),
                 ) in
                 elim (cases_lt r.ring.capacity to) [
                   | inl more ↦ omega (arith, all, own, grown more, o.reserve)
@@ -295,10 +302,14 @@ module _ {charges : UserPages} {limits : Limits} {ps : ProcessRows} {ds : Descri
             resized-joined : Joined f (rings_of (state_of ps ds pipes' files files_made))
             resized-joined =
                 let here : ring_at (rings_of s) d.pipe.serial ≡ r.ring =
-                ring_at-pipe (pipes_of pipes) d.pipe.serial (pipe_of (d.pipe.slot, r)) there in
+                ring_is ps ds pipes files files_made d.pipe r was in
                 let within : d.pipe.serial < length (rings_of s) =
-                subst (λ m. d.pipe.serial < m) (sym (length-map (pipes_of pipes) ring_or))
-                (at_within (pipes_of pipes) d.pipe.serial (pipe_of (d.pipe.slot, r)) there) in
+                omega (
+                  arith,
+                  length-map (pipes_of pipes) ring_or,
+                  length-map pipes (option_map pipe_of),
+                  at_within pipes d.pipe.serial (d.pipe.slot, r) was,
+                ) in
                 let joined : Joined f (set (rings_of s) d.pipe.serial ring') =
                 subst (λ (x : Ring). Joined f (set (rings_of s) d.pipe.serial (record {
                   capacity = to;
@@ -307,12 +318,12 @@ module _ {charges : UserPages} {limits : Limits} {ps : ProcessRows} {ds : Descri
                 (joined_resized f (rings_of s) d.pipe.serial to within o.joined
                 (subst (λ (x : Ring). slots_used x ≤ to) (sym here) z.fits)
                 (omega (arith, reserve_kept, ap slots_of here))) in
-                subst (λ (x : State Window ℕ). Joined f (rings_of x)) (sym shows)
+                subst (λ (x : State Window ℕ). Joined f (rings_of x)) (sym shows_it)
                 (subst (Joined f)
                 (sym (map-set ring_or (pipes_of pipes) d.pipe.serial
                 (option_map (holding ring') (at (pipes_of pipes) d.pipe.serial))
                 ∙ ap (λ (q : Option (machine.Pipe Window)). set (rings_of s) d.pipe.serial
-                (ring_or (option_map (holding ring') q))) there)) joined)
+                (ring_or (option_map (holding ring') q))) (there ps ds pipes files files_made d.pipe r was))) joined)
 
           pub resized : (is : ready_in ps pid ≡ Ok p) (bytes size : ℕ) → bytes ≤ MAX_SIZE → over p is bytes ≡ false
               → to ≡ pages_for bytes → size ≡ PAGE_SIZE * pages_for bytes
@@ -326,11 +337,11 @@ module _ {charges : UserPages} {limits : Limits} {ps : ProcessRows} {ds : Descri
                 is =
                     set_as p is bytes short under to slots same (Ok tt) z.may
                     ∙ (λ j. Ok (done (with_queue s d.pipe.serial (with_capacity (sym slots j) r.ring)) (sym all j)))
-                    ∙ ap (λ t. Ok (done t size)) (sym shows);
+                    ∙ ap (λ t. Ok (done t size)) (sym shows_it);
                 limits = z.charges.limits ∙ sym same;
                 owned = λ f o. record {
                   joined = resized-joined f o;
                   reserve = ap (λ (l : Limits). l.reserve) (z.charges.limits ∙ sym same) ∙ o.reserve;
                 };
-                swept = settled ps ds pipes' files files_made tied';
+                swept = settled files files_made resized-whole.kept.tied;
               })

@@ -62,9 +62,6 @@ module _ (ps : ProcessRows) (pid : ℕ) where
   pub readies : (p : Process) → ready_in ps pid ≡ Ok p → machine.ready_in (processes_of ps) pid ≡ Ok (process_of p)
   readies p h = ready_shown ∙ ap shown_in h
 
-  pub readies_not : (e : Errno) → ready_in ps pid ≡ Err e → machine.ready_in (processes_of ps) pid ≡ Err e
-  readies_not e h = ready_shown ∙ ap shown_in h
-
 -- who is ready lives
 pub is_living : (ps : ProcessRows) (pid : ℕ) (p : Process) → ready_in ps pid ≡ Ok p → process_in ps pid ≡ Ok p
 is_living ps pid p h = by_row (process_in ps pid) h

@@ -97,23 +97,23 @@ module _ {files : Files} {files_made : ℕ} {limits : Limits} {charges : UserPag
     -- Its ends
 
     agrees : (f : Live) (side : Option Side) (fd : ℕ)
-        → Agrees (pipe_meaning f) side ps ds pipes files files_made k.tied pid fd (end_of_row side p ds fd)
+        → Agrees (pipe_meaning f) side files files_made k.tied pid fd (end_of_row side p ds fd)
         (side_end side (shows f) (process_of p) fd)
     agrees f side fd =
-        by_key (pipe_meaning f) side ps ds pipes files files_made k.tied pid fd (pid - 1) p (place_of ps pid p here)
+        by_key (pipe_meaning f) side files files_made k.tied pid fd (pid - 1) p (place_of ps pid p here)
         (at p.descriptors fd) refl
 
     no_end : (f : Live) (side : Option Side) (fd : ℕ) (e : Errno) → Err e ≡ end_of_row side p ds fd
         → side_end side (shows f) (process_of p) fd ≡ Err e
     no_end f side fd e h =
-        subst (λ r. Agrees (pipe_meaning f) side ps ds pipes files files_made k.tied pid fd r
+        subst (λ r. Agrees (pipe_meaning f) side files files_made k.tied pid fd r
         (side_end side (shows f) (process_of p) fd)) (sym h) (agrees f side fd)
 
     module _ (f : Live) (side : Option Side) (fd : ℕ) (d : Description) (h : Ok d ≡ end_of_row side p ds fd) where
       an_end : (r : Pipe) × (at pipes d.pipe.serial ≡ Some (d.pipe.slot, r))
           × (side_end side (shows f) (process_of p) fd ≡ Ok (end_of_rows (pipe_meaning f) d r))
       an_end =
-          subst (λ r. Agrees (pipe_meaning f) side ps ds pipes files files_made k.tied pid fd r
+          subst (λ r. Agrees (pipe_meaning f) side files files_made k.tied pid fd r
           (side_end side (shows f) (process_of p) fd)) (sym h) (agrees f side fd)
 
       -- it has a pipe
@@ -139,12 +139,12 @@ module _ {files : Files} {files_made : ℕ} {limits : Limits} {charges : UserPag
     counts : (f : Live) (d : Description) (r : Pipe) → Some r ≡ find pipes d.pipe.slot d.pipe.serial
         → (readers itself (shows f) d.pipe.serial ≡ r.readers) × (writers itself (shows f) d.pipe.serial ≡ r.writers)
     counts f d r handed =
-        counted (pipe_meaning f) None ps ds pipes files files_made k.tied pid 0 d.pipe.serial d.pipe.slot r
+        counted (pipe_meaning f) None files files_made k.tied pid 0 d.pipe.serial d.pipe.slot r
         (find_was pipes d.pipe.slot d.pipe.serial r (sym handed))
 
     stands : (f : Live) → Owns f n → (d : Description) (r : Pipe) → Some r ≡ find pipes d.pipe.slot d.pipe.serial
         → Stands f r.ring.segments
-    stands f owns d r handed = transfers.stands_in k view owns d r (sym handed)
+    stands f owns d r handed = transfers.stands_in k view owns d (sym handed)
 
     -- A read
     module _ {fd m : ℕ} (waits : Some (Read fd m) ≡ p.parked) where
@@ -269,12 +269,12 @@ module _ {files : Files} {files_made : ℕ} {limits : Limits} {charges : UserPag
 
       pub open_has_end : None ≡ option_map value_of (find ds j.slot j.serial) → GoesOn n pid true
       open_has_end none f sound owns =
-          absurd (open_finds (pipe_meaning f) None ps ds pipes files files_made k.tied pid 0 j place waits none)
+          absurd (open_finds (pipe_meaning f) None files files_made k.tied pid 0 j place waits none)
 
       module _ {d : Description} (is : Some d ≡ option_map value_of (find ds j.slot j.serial)) where
         pub open_has_pipe : None ≡ find pipes d.pipe.slot d.pipe.serial → GoesOn n pid true
         open_has_pipe none f sound owns =
-            absurd (open_reaches (pipe_meaning f) None ps ds pipes files files_made k.tied pid 0 j place waits is none)
+            absurd (open_reaches (pipe_meaning f) None files files_made k.tied pid 0 j place waits is none)
 
         pub opens_on : {r : Pipe} → Some r ≡ find pipes d.pipe.slot d.pipe.serial → (x : ℕ) → x ≡ other_opens d.reads r
             → GoesOn n pid (nat_lt kept x)
@@ -282,8 +282,7 @@ module _ {files : Files} {files_made : ℕ} {limits : Limits} {charges : UserPag
             answers (Open j kept) waits tt (nat_lt kept x) (λ f sound owns.
             ap (nat_lt kept) x_is
             ∙ sym (ap (λ o. or_is_over (λ (e : End Segment ℕ). nat_lt kept (attempts.other_opens e))
-            (or_refuse EBADF o))
-            (key_end (pipe_meaning f) None ps ds pipes files files_made k.tied pid 0 j is handed)))
+            (or_refuse EBADF o)) (key_end (pipe_meaning f) None files files_made k.tied pid 0 j is handed)))
 
   -- who waits in no call, and who doesn't live, can't go on
   place_found : 0 < pid → process_in ps pid ≡ or_refuse ESRCH (at ps (pid - 1))
@@ -319,13 +318,13 @@ module _ {files : Files} {files_made : ℕ} {limits : Limits} {charges : UserPag
         → readiness (meaning f n.state) pid fd ≡ Err e
     ready_refused {e} h f =
         subst (λ (m : Namespace). readiness (meaning f m.state) pid fd ≡ Err e) view
-        (from_end (shows f) (Err e) (refused (pipe_meaning f) None ps ds pipes files files_made k.tied pid fd e h))
+        (from_end (shows f) (Err e) (refused (pipe_meaning f) None files files_made k.tied pid fd e h))
 
     module _ {d : Description} (h : end_in None ps ds pid fd ≡ Ok d) where
       pub ready_has_pipe : None ≡ find pipes d.pipe.slot d.pipe.serial → (f : Live)
           → readiness (meaning f n.state) pid fd ≡ Err EBADF
       ready_has_pipe none f =
-          let there = pipe_there (pipe_meaning f) None ps ds pipes files files_made k.tied pid fd h in
+          let there = pipe_there (pipe_meaning f) None files files_made k.tied pid fd h in
           let gone = ap is_some none in
           absurd (cc)
 
@@ -337,7 +336,7 @@ module _ {files : Files} {files_made : ℕ} {limits : Limits} {charges : UserPag
           ≡ readiness (meaning f n.state) pid fd
       ready_is {r} handed bytes room reading writing bytes_is room_is reading_is writing_is f sound owns =
           let c =
-          counted (pipe_meaning f) None ps ds pipes files files_made k.tied pid fd d.pipe.serial d.pipe.slot r
+          counted (pipe_meaning f) None files files_made k.tied pid fd d.pipe.serial d.pipe.slot r
           (find_was pipes d.pipe.slot d.pipe.serial r (sym handed)) in
           subst (λ (m : Namespace). Ok (record {
             bytes = bytes;
@@ -346,10 +345,10 @@ module _ {files : Files} {files_made : ℕ} {limits : Limits} {charges : UserPag
             has_writer = nat_lt 0 writing;
           }) ≡ readiness (meaning f m.state) pid fd) view
           ((λ i. Ok (record {
-            bytes = bytes_is f sound (transfers.stands_in k view owns d r (sym handed)) i;
+            bytes = bytes_is f sound (transfers.stands_in k view owns d (sym handed)) i;
             room = room_is f i;
             has_reader = nat_lt 0 ((reading_is ∙ sym c.0) i);
             has_writer = nat_lt 0 ((writing_is ∙ sym c.1) i);
           }))
           ∙ sym (from_end (shows f) (Ok (end_of_rows (pipe_meaning f) d r))
-          (reaches (pipe_meaning f) None ps ds pipes files files_made k.tied pid fd h (sym handed))))
+          (reaches (pipe_meaning f) None files files_made k.tied pid fd h (sym handed))))

@@ -61,7 +61,7 @@ pub record Within {X : Type 0} (new old : List (Option X)) : Type 0 where
   pub numbers : length new ≡ length old
   pub stood : (n : ℕ) (x : X) → at new n ≡ Some x → at old n ≡ Some x
 
-module _ (ps : ProcessRows) (ds : DescriptionRows) (pipes : PipeRows) (files : Files) (files_made : ℕ)
+module _ {ps : ProcessRows} {ds : DescriptionRows} {pipes : PipeRows} (files : Files) (files_made : ℕ)
     (t : Tied ps ds pipes) where
   named_stands : (n : ℕ) (o : Option (ℕ × Named Description)) → at ds n ≡ o → 0 < names itself (processes_of ps) n
       → (e : ℕ × Named Description) × (at ds n ≡ Some e)
@@ -148,5 +148,5 @@ makes {qs} {es} {pipes} t files files_made {limits} view same call reply is =
         joined = subst (λ (ps : List (Option (machine.Pipe Window))). Joined f (map ring_or ps)) same o.joined;
         reserve = o.reserve;
       };
-      swept = settled qs es pipes files files_made t;
+      swept = settled files files_made t;
     })

@@ -1,19 +1,17 @@
 -- A transfer through one pipe, in the meaning of the state that it leaves.
 
-use Rattle.std.proofs.Common.{◌≡◌, ℕ, ◌+◌, ◌-◌, ◌<◌, ◌≤◌, Bool, List, [], ◌++◌, length, take, drop, set, Option, Some}
+use Rattle.std.proofs.Common.{◌≡◌, ℕ, ◌+◌, ◌-◌, ◌<◌, ◌≤◌, Bool, List, ◌++◌, length, take, drop, Option, Some}
 use Rattle.std.proofs.Common.{IsSome, IsOk, Result, Ok, Err, nat_le, nat_lt, refl, sym, ap, subst, ◌∙◌, arith}
-use Rattle.std.specs.Option.{option_map}
 use Rattle.std.proofs.lemmas.Bool.{lt-ltb, le-ltb}
-use Rattle.std.proofs.lemmas.List.{map-set, take_all, length-drop}
-use Rattle.pf_ring.specs.declared.ring.Window.{Window}
+use Rattle.std.proofs.lemmas.List.{take_all, length-drop}
 use Rattle.pf_machine.specs.FileMap.{Files}
 use Rattle.pf_base.specs.Limits.{Limits}
 use Rattle.pf_machine.specs.Refusals.{◌>>=◌, ◌>>◌, refuse_if}
-use Rattle.pf_machine.specs.Queue.{Segment, taken}
+use Rattle.pf_machine.specs.Queue.{Segment, Queue, taken}
 use Rattle.pf_machine.specs.Numbered.{at, put_at}
-use Rattle.pf_machine.specs.Calls.{Reading, Writing}
+use Rattle.pf_machine.specs.Calls.{Transfer, Reading, Writing}
 use Rattle.pf_machine.specs.Progress.{Passed, moved, read_now, write_now}
-use Rattle.pf_machine.specs.State.{itself, State, End, ready, reading_end, writing_end, with_queue, holding}
+use Rattle.pf_machine.specs.State.{itself, State, End, ready, reading_end, writing_end, with_queue}
 use Rattle.pf_machine.specs.Counts.{readers, writers}
 use Rattle.pf_machine.specs.Transfers.{Tried, try_read, try_write}
 use Rattle.pf_machine.specs.Sweep.{sweep}
@@ -25,27 +23,25 @@ use Rattle.pf_base.specs.declared.progress.Side.{Side}
 use Rattle.pf_base.specs.declared.progress.Side.TheVariants as sides
 use Rattle.pf_fds.specs.Registry.{find}
 use Rattle.pf_frame.specs.Live.{Live, IsSound}
-use Rattle.pf_pipe.specs.Pipe.{Passes}
+use Rattle.pf_pipe.specs.Pipe.{Passes, SameButWindows}
 use Rattle.pf_ring.specs.Laid.{laid}
-use Rattle.pf_ring.specs.Ring.{Ring, queue_of}
+use Rattle.pf_ring.specs.Ring.{queue_of}
 use Rattle.pf_ring.specs.Windows.{Stands}
-use Rattle.pf_ring.specs.Table.{Joined, slots_used, slots_of}
 use Rattle.pf_ring.proofs.TableLaws.{no_source}
 use Rattle.pf_limits.specs.UserPages.{UserPages}
-use Rattle.pf_tables.specs.Meaning.{Namespace, meaning, rings_of, Charged, pipe_meaning}
-use Rattle.pf_tables.proofs.MeaningLaws.{meaning-with_queue, settled-meaning}
+use Rattle.pf_tables.specs.Meaning.{Namespace, meaning, rings_of, pipe_meaning}
+use Rattle.pf_tables.proofs.MeaningLaws.{settled-meaning}
 use Rattle.pf_tables.specs.Owns.{Owns}
-use Rattle.pf_tables.proofs.OwnsLaws.{ring_at-pipe, stands_at, credits_at, others_written, joined_written}
-use Rattle.pf_tables.proofs.OwnsLaws.{charged-with_queue}
+use Rattle.pf_tables.proofs.OwnsLaws.{stands_at, credits_at}
 use Rattle.pf_tables.specs.Rows.{ProcessRows, DescriptionRows, PipeRows, Process, Description, Pipe, pipe_of}
-use Rattle.pf_tables.specs.Rows.{processes_of, descriptions_of, pipes_of, state_of, pipe_with, ready_in, end_in, Kept}
-use Rattle.pf_tables.specs.Buffers.{Lies, Truncates}
-use Rattle.pf_tables.specs.Told.{attempted, Came}
+use Rattle.pf_tables.specs.Rows.{pipes_of, state_of, ready_in, end_in, Key, Kept, Whole}
+use Rattle.pf_tables.specs.Buffers.{HasReadInto, HasReadTruncated}
+use Rattle.pf_tables.specs.Told.{attempted, Came, Wrote}
 use Rattle.pf_tables.proofs.Buffers as buffers
 use Rattle.pf_tables.proofs.ProcessTableReady.{shown_in, ready_shown}
 use Rattle.pf_tables.proofs.Ends.{side_end, end_of_rows, refused, found, reaches, pipe_there as there_is, counted}
-use Rattle.pf_tables.proofs.TablesShown.{shown, find_at, find_was, set_same}
-use Rattle.pf_tables.proofs.TablesTied.{requeued}
+use Rattle.pf_tables.proofs.PipesRing.{there, same_pipes, refilled-whole, refilled-joined, refilled-means}
+use Rattle.pf_tables.proofs.TablesShown.{find_at, find_was}
 use Rattle.pf_tables.proofs.TablesSettled.{settled}
 
 -- the third step goes on from the second as from the two together
@@ -58,105 +54,88 @@ bind-bind (Err e) h go = refl
 pub rest_is : (n : ℕ) (x : List ℕ) → take (length x - n) (drop n x) ≡ drop n x
 rest_is n x = take_all (length x - n) (drop n x) (omega (arith, length-drop n x))
 
--- what is known before
+-- The pipe that was found, where it is handed out
+
 module _ {files : Files} {files_made : ℕ} {f : Live} {limits : Limits} {charges : UserPages} {ps : ProcessRows}
-    {ds : DescriptionRows} {pipes : PipeRows} (k : Kept charges ps ds pipes) {n : Namespace}
+    {ds : DescriptionRows} {pipes : PipeRows} (kept : Kept charges ps ds pipes) {n : Namespace}
     (view : record { limits = limits; state = state_of ps ds pipes files files_made } ≡ n)
     (owns : Owns f n) where
   pub owned : Owns f (record { limits = limits; state = state_of ps ds pipes files files_made })
   owned = subst (Owns f) (sym view) owns
 
-  -- The pipe that was found, where it is handed out
-  module _ (d : Description) (r : Pipe) (handed : find pipes d.pipe.slot d.pipe.serial ≡ Some r) where
-    pub stands : at pipes d.pipe.serial ≡ Some (d.pipe.slot, r)
-    stands = find_was pipes d.pipe.slot d.pipe.serial r handed
-
-    pub there : at (pipes_of pipes) d.pipe.serial ≡ Some (pipe_of (d.pipe.slot, r))
-    there = shown pipe_of pipes d.pipe.serial (d.pipe.slot, r) stands
+  module _ (d : Description) {r : Pipe} (handed : find pipes d.pipe.slot d.pipe.serial ≡ Some r) where
+    row : at (pipes_of pipes) d.pipe.serial ≡ Some (pipe_of (d.pipe.slot, r))
+    row = there ps ds pipes files files_made d.pipe r (find_was pipes d.pipe.slot d.pipe.serial r handed)
 
     pub stands_in : Stands f r.ring.segments
-    stands_in =
-        stands_at f (state_of ps ds pipes files files_made) d.pipe.serial (pipe_of (d.pipe.slot, r)) owned.joined there
+    stands_in = stands_at f (state_of ps ds pipes files files_made) d.pipe.serial _ owned.joined row
 
     pub credits : IsSound f → f.held + (r.ring.capacity - length r.ring.segments) ≤ f.reserved
-    credits sound =
-        credits_at f (state_of ps ds pipes files files_made) d.pipe.serial (pipe_of (d.pipe.slot, r)) sound owned.joined
-        there
+    credits sound = credits_at f (state_of ps ds pipes files files_made) d.pipe.serial _ sound owned.joined row
 
-    pub same_pipes : (r' : Pipe) → r' ≡ r → put_at pipes d.pipe.serial (d.pipe.slot, r') ≡ pipes
-    same_pipes r' e =
-        set_same pipes d.pipe.serial (Some (d.pipe.slot, r')) (ap (λ x. Some (d.pipe.slot, x)) e ∙ sym stands)
+module _ {files : Files} {files_made : ℕ} {limits : Limits} {charges : UserPages} {es : List (ℕ × Key)}
+    {ps : ProcessRows} {ds : DescriptionRows} {pipes : PipeRows} (rows : Whole charges es ps ds pipes) {n : Namespace}
+    (view : record { limits = limits; state = state_of ps ds pipes files files_made } ≡ n) where
+  module _ (d : Description) {r : Pipe} (handed : find pipes d.pipe.slot d.pipe.serial ≡ Some r) where
+    stands : at pipes d.pipe.serial ≡ Some (d.pipe.slot, r)
+    stands = find_was pipes d.pipe.slot d.pipe.serial r handed
 
-    pub same_kept : (r' : Pipe) → r' ≡ r → Kept charges ps ds (put_at pipes d.pipe.serial (d.pipe.slot, r'))
-    same_kept r' e = subst (Kept charges ps ds) (sym (same_pipes r' e)) k
+    same_rows : {r' : Pipe} → r' ≡ r → put_at pipes d.pipe.serial (d.pipe.slot, r') ≡ pipes
+    same_rows {r'} = same_pipes ps ds pipes files files_made d.pipe r stands r'
 
-    pub same_view : (r' : Pipe) → r' ≡ r → record {
+    pub same-whole : {r' : Pipe} → r' ≡ r → Whole charges es ps ds (put_at pipes d.pipe.serial (d.pipe.slot, r'))
+    same-whole e = subst (Whole charges es ps ds) (sym (same_rows e)) rows
+
+    pub same_view : {r' : Pipe} → r' ≡ r → record {
       limits = limits;
       state = state_of ps ds
           (put_at pipes d.pipe.serial (d.pipe.slot, r')) files files_made;
     } ≡ n
-    same_view r' e =
-        ap (λ x. record { limits = limits; state = state_of ps ds x files files_made }) (same_pipes r' e) ∙ view
+    same_view e =
+        ap (λ x. record { limits = limits; state = state_of ps ds x files files_made }) (same_rows e) ∙ view
 
     -- A transfer went through it
-    module _ (g : Live) (r' : Pipe) (progress : Progress) (m : Passed) (passes : Passes r r' f g progress m) where
+    module _ {f g : Live} {r' : Pipe} {progress : Progress} {m : Passed} (passes : Passes r r' f g progress m) where
       abbrev pipes' : PipeRows
       pipes' = put_at pipes d.pipe.serial (d.pipe.slot, r')
 
-      fits : length r'.ring.segments ≤ r'.ring.capacity
-      fits =
-          passes.fits (subst (λ (x : Ring). slots_used x ≤ slots_of x)
-          (ring_at-pipe (pipes_of pipes) d.pipe.serial (pipe_of (d.pipe.slot, r)) there)
-          (owned.joined.fits d.pipe.serial))
-
-      shows : state_of ps ds pipes' files files_made
-          ≡ with_queue (state_of ps ds pipes files files_made) d.pipe.serial r'.ring
-      shows =
-          ap (λ xs. record {
-            processes = processes_of ps;
-            descriptions = descriptions_of ds;
-            pipes = xs;
-            files = files;
-            files_made = files_made;
-          })
-          (map-set (option_map pipe_of) pipes d.pipe.serial (Some (d.pipe.slot, r'))
-          ∙ (λ i. set (pipes_of pipes) d.pipe.serial (Some (pipe_with r'.ring (passes.owner i) (passes.opens i))))
-          ∙ ap (λ o. set (pipes_of pipes) d.pipe.serial (option_map (holding r'.ring) o)) (sym there))
-
-      pub passed-kept : Kept charges ps ds pipes'
-      passed-kept = record {
-        tied = requeued [] [] ps ds pipes d.pipe r stands r' passes.readers passes.writers k.tied;
-        charged =
-            subst (Charged charges) (sym shows) (charged-with_queue charges (state_of ps ds pipes files files_made)
-            d.pipe.serial (pipe_of (d.pipe.slot, r)) r'.ring there passes.capacity k.charged);
+      same : SameButWindows r r'
+      same = record {
+        owner = passes.owner;
+        readers = passes.readers;
+        writers = passes.writers;
+        opens = passes.opens;
+        capacity = passes.capacity;
+        fits = passes.fits;
       }
 
-      pub passed-owns : Owns g (record { limits = limits; state = state_of ps ds pipes' files files_made })
-      passed-owns = record {
-        joined =
-            subst (λ (s : State Window ℕ). Joined g (rings_of s)) (sym shows)
-            (joined_written f g (state_of ps ds pipes files files_made) d.pipe.serial (pipe_of (d.pipe.slot, r)) r'.ring
-            [] (no_source (rings_of (state_of ps ds pipes files files_made))) owned.joined there passes.keeps
-            passes.capacity fits);
-        reserve = owned.reserve ∙ sym passes.keeps.reservation;
-      }
+      pub passed-whole : Whole charges es ps ds pipes'
+      passed-whole = refilled-whole ps ds pipes files files_made d.pipe r stands r' same rows
 
-      pub passed-state : meaning g (state_of ps ds pipes' files files_made)
-          ≡ sweep itself (with_queue (meaning f (state_of ps ds pipes files files_made)) d.pipe.serial m.queue)
-      passed-state =
-          settled-meaning g (state_of ps ds pipes' files files_made)
-          (settled ps ds pipes' files files_made passed-kept.tied)
-          ∙ ap (sweep itself)
-          (ap (meaning g) shows
-          ∙ meaning-with_queue f g (state_of ps ds pipes files files_made) d.pipe.serial r'.ring
-          (others_written f g (state_of ps ds pipes files files_made) d.pipe.serial (pipe_of (d.pipe.slot, r)) r'.ring
-          [] (no_source (rings_of (state_of ps ds pipes files files_made))) owned.joined there passes.keeps)
-          ∙ ap (with_queue (meaning f (state_of ps ds pipes files files_made)) d.pipe.serial)
-          (sym (ap (λ (p : Passed). p.queue) passes.told)))
+      module _ (owns : Owns f n) where
+        passed-owns : Owns g (record { limits = limits; state = state_of ps ds pipes' files files_made })
+        passed-owns =
+            let own = owned rows.kept view owns in record {
+              joined =
+                  refilled-joined ps ds pipes files files_made d.pipe r stands r' same own.joined
+                  (no_source (rings_of (state_of ps ds pipes files files_made))) passes.keeps;
+              reserve = own.reserve ∙ sym passes.keeps.reservation;
+            }
 
-  -- What the machine does, from what the tables find
+        passed-state : meaning g (state_of ps ds pipes' files files_made)
+            ≡ sweep itself (with_queue (meaning f (state_of ps ds pipes files files_made)) d.pipe.serial m.queue)
+        passed-state =
+            let own = owned rows.kept view owns in
+            settled-meaning g (state_of ps ds pipes' files files_made) (settled files files_made passed-whole.kept.tied)
+            ∙ ap (sweep itself)
+            (refilled-means ps ds pipes files files_made d.pipe r stands r' same own.joined
+            (no_source (rings_of (state_of ps ds pipes files files_made))) passes.keeps
+            ∙ ap (with_queue (meaning f (state_of ps ds pipes files files_made)) d.pipe.serial)
+            (sym (ap (λ (p : Passed). p.queue) passes.told)))
 
-  module _ (pid fd : ℕ) where
+  -- What the machine does, from what the tables find. f: the frames of its door
+
+  module _ (pid fd : ℕ) {f : Live} (owns : Owns f n) where
     abbrev s : State Segment ℕ
     s = meaning f (state_of ps ds pipes files files_made)
 
@@ -166,7 +145,7 @@ module _ {files : Files} {files_made : ℕ} {f : Live} {limits : Limits} {charge
         subst (λ (v : Namespace). attempted (meaning f v.state) pid (Writing fd x written) ≡ Err e) view
         (bind-bind (ready s pid) (λ p. writing_end itself s p fd) _
         ∙ ap (λ r. r >>= (λ e. refuse_if (nat_lt MAX_WRITE (length x)) EINVAL >> Ok (try_write s e x written)))
-        (refused (pipe_meaning f) (Some sides.Write) ps ds pipes files files_made k.tied pid fd e h))
+        (refused (pipe_meaning f) (Some sides.Write) files files_made rows.kept.tied pid fd e h))
 
     pub no_read : (m : ℕ) (e : Errno) → end_in (Some sides.Read) ps ds pid fd ≡ Err e
         → attempted (meaning f n.state) pid (Reading fd m) ≡ Err e
@@ -174,18 +153,18 @@ module _ {files : Files} {files_made : ℕ} {f : Live} {limits : Limits} {charge
         subst (λ (v : Namespace). attempted (meaning f v.state) pid (Reading fd m) ≡ Err e) view
         (bind-bind (ready s pid) (λ p. reading_end itself s p fd) _
         ∙ ap (λ r. r >>= (λ e. Ok (try_read s e m)))
-        (refused (pipe_meaning f) (Some sides.Read) ps ds pipes files files_made k.tied pid fd e h))
+        (refused (pipe_meaning f) (Some sides.Read) files files_made rows.kept.tied pid fd e h))
 
     module _ (d : Description) where
       pub pipe_there : (side : Option Side) → end_in side ps ds pid fd ≡ Ok d
           → IsSome (find pipes d.pipe.slot d.pipe.serial)
-      pipe_there side h = there_is (pipe_meaning f) side ps ds pipes files files_made k.tied pid fd h
+      pipe_there side h = there_is (pipe_meaning f) side files files_made rows.kept.tied pid fd h
 
       pub caller : (side : Option Side) → end_in side ps ds pid fd ≡ Ok d → IsOk (ready (meaning f n.state) pid)
       caller side h =
           subst (λ (v : Namespace). IsOk (ready (meaning f v.state) pid)) view
           (rw (ready_shown ps pid) (shown_ok (ready_in ps pid)
-          (found (pipe_meaning f) side ps ds pipes files files_made k.tied pid fd d h).caller))
+          (found (pipe_meaning f) side files files_made rows.kept.tied pid fd d h).caller))
         where
           shown_ok : (r : Result Process Errno) → IsOk r → IsOk (shown_in r)
           shown_ok (Ok p) g = refl
@@ -197,12 +176,12 @@ module _ {files : Files} {files_made : ℕ} {f : Live} {limits : Limits} {charge
           → (ready s pid >>= (λ p. side_end side s p fd >>= go)) ≡ go (end_of_rows (pipe_meaning f) d r)
       through side go r h handed =
           bind-bind (ready s pid) (λ p. side_end side s p fd) go
-          ∙ ap (λ x. x >>= go) (reaches (pipe_meaning f) side ps ds pipes files files_made k.tied pid fd h handed)
+          ∙ ap (λ x. x >>= go) (reaches (pipe_meaning f) side files files_made rows.kept.tied pid fd h handed)
 
       pub too_long : (x : List ℕ) (written : ℕ) → end_in (Some sides.Write) ps ds pid fd ≡ Ok d → MAX_WRITE < length x
           → attempted (meaning f n.state) pid (Writing fd x written) ≡ Err EINVAL
       too_long x written h long =
-          let w = found (pipe_meaning f) (Some sides.Write) ps ds pipes files files_made k.tied pid fd d h in
+          let w = found (pipe_meaning f) (Some sides.Write) files files_made rows.kept.tied pid fd d h in
           let go : Bool → Result Tried Errno =
           λ b. refuse_if b EINVAL >> Ok (try_write s (end_of_rows (pipe_meaning f) d w.pipe) x written) in
           subst (λ (v : Namespace). attempted (meaning f v.state) pid (Writing fd x written) ≡ Err EINVAL) view
@@ -210,101 +189,96 @@ module _ {files : Files} {files_made : ℕ} {f : Live} {limits : Limits} {charge
           (try_write s e x written)) w.pipe h (find_at pipes d.pipe.slot d.pipe.serial w.pipe w.stands)
           ∙ ap go (lt-ltb MAX_WRITE (length x) long))
 
-      -- what a transfer through the pipe that was found left
-      module _ (r : Pipe) (handed : find pipes d.pipe.slot d.pipe.serial ≡ Some r) (g : Live) (r' : Pipe)
-          (progress : Progress) where
-        counts : (readers itself s d.pipe.serial ≡ r.readers) × (writers itself s d.pipe.serial ≡ r.writers)
-        counts =
-            counted (pipe_meaning f) (Some sides.Read) ps ds pipes files files_made k.tied pid fd d.pipe.serial
-            d.pipe.slot r (find_was pipes d.pipe.slot d.pipe.serial r handed)
+-- What a transfer through the pipe that was found left, over a door that went from x to y
+module _ {files : Files} {files_made : ℕ} {limits : Limits} {charges : UserPages}
+    {es : List (ℕ × Key)} {ps : ProcessRows}
+    {ds : DescriptionRows} {pipes : PipeRows} (rows : Whole charges es ps ds pipes) {n : Namespace}
+    (view : record { limits = limits; state = state_of ps ds pipes files files_made } ≡ n) {D : Type 0}
+    (live : D → Live) {x : D} (owns : Owns (live x) n) (pid fd : ℕ) (d : Description) (r : Pipe)
+    (handed : find pipes d.pipe.slot d.pipe.serial ≡ Some r) where
+  abbrev here : State Segment ℕ
+  here = meaning (live x) (state_of ps ds pipes files files_made)
 
-        abbrev after : Namespace
-        after =
-            record {
-              limits = limits;
-              state = state_of ps ds (put_at pipes d.pipe.serial (d.pipe.slot, r')) files
-                  files_made;
-            }
+  abbrev q : Queue
+  q = queue_of (live x) r.ring
 
-        pub wrote : (x : List ℕ) (written : ℕ) (whole : Bool) → end_in (Some sides.Write) ps ds pid fd ≡ Ok d
-            → length x ≤ MAX_WRITE → whole ≡ nat_le (length x) PIPE_BUF
-            → Passes r r' f g progress (write_now (queue_of f r.ring) r.readers whole (drop written x))
-            → Came g after (attempted (meaning f n.state) pid (Writing fd x written)) progress
-            (take (moved progress) (drop written x))
-        wrote x written whole h short is_whole passes =
-            let machine : Passed =
-            write_now (queue_of f r.ring) (readers itself s d.pipe.serial) (nat_le (length x) PIPE_BUF)
-            (drop written x) in
-            let same : write_now (queue_of f r.ring) r.readers whole (drop written x) ≡ machine =
-            (λ i. write_now (queue_of f r.ring) (sym counts.0 i) (is_whole i) (drop written x)) in
-            let told : machine.progress ≡ progress = ap (λ (m : Passed). m.progress) (sym same ∙ passes.told) in
-            let go : Bool → Result Tried Errno =
-            λ b. refuse_if b EINVAL >> Ok (try_write s (end_of_rows (pipe_meaning f) d r) x written) in
-            subst (λ (v : Namespace). Came g after (attempted (meaning f v.state) pid (Writing fd x written)) progress
-            (take (moved progress) (drop written x))) view
-            (record {
-              tried = try_write s (end_of_rows (pipe_meaning f) d r) x written;
-              is =
-                  through (Some sides.Write) (λ e. refuse_if (nat_lt MAX_WRITE (length x)) EINVAL >> Ok
-                  (try_write s e x written)) r h handed ∙ ap go (le-ltb MAX_WRITE (length x) short);
-              progress_is = told;
-              bytes_are = ap (λ p. take (moved p) (drop written x)) told;
-              state = passed-state d r handed g r' progress machine (subst (Passes r r' f g progress) same passes);
-            })
+  abbrev e : End Segment ℕ
+  e = end_of_rows (pipe_meaning (live x)) d r
 
-        pub was_read : (m : ℕ) (bytes : List ℕ) → end_in (Some sides.Read) ps ds pid fd ≡ Ok d
-            → bytes ≡ taken (queue_of f r.ring) (moved progress)
-            → Passes r r' f g progress (read_now (queue_of f r.ring) r.writers m)
-            → Came g after (attempted (meaning f n.state) pid (Reading fd m)) progress bytes
-        was_read m bytes h are passes =
-            let machine : Passed = read_now (queue_of f r.ring) (writers itself s d.pipe.serial) m in
-            let same : read_now (queue_of f r.ring) r.writers m ≡ machine =
-            ap (λ w. read_now (queue_of f r.ring) w m) (sym counts.1) in
-            let told : machine.progress ≡ progress = ap (λ (p : Passed). p.progress) (sym same ∙ passes.told) in
-            subst (λ (v : Namespace). Came g after (attempted (meaning f v.state) pid (Reading fd m)) progress bytes)
-            view
-            (record {
-              tried = try_read s (end_of_rows (pipe_meaning f) d r) m;
-              is = through (Some sides.Read) (λ e. Ok (try_read s e m)) r h handed;
-              progress_is = told;
-              bytes_are = ap (λ p. taken (queue_of f r.ring) (moved p)) told ∙ sym are;
-              state = passed-state d r handed g r' progress machine (subst (Passes r r' f g progress) same passes);
-            })
+  counts : (readers itself here d.pipe.serial ≡ r.readers) × (writers itself here d.pipe.serial ≡ r.writers)
+  counts =
+      counted (pipe_meaning (live x)) (Some sides.Read) files files_made rows.kept.tied pid fd d.pipe.serial
+      d.pipe.slot r (find_was pipes d.pipe.slot d.pipe.serial r handed)
 
-        -- into a buffer, the bytes of which lie at its front
-        pub was_read_into : (before bytes : List ℕ) → end_in (Some sides.Read) ps ds pid fd ≡ Ok d
-            → bytes ≡ taken (queue_of f r.ring) (moved progress) ++ drop (moved progress) before
-            → Passes r r' f g progress (read_now (queue_of f r.ring) r.writers (length before))
-            → Came g after (attempted (meaning f n.state) pid (Reading fd (length before))) progress
-            (take (moved progress) bytes) × Lies (moved progress) before bytes
-        was_read_into before bytes h lie passes =
-            let is : moved (read_now (queue_of f r.ring) r.writers (length before)).progress ≡ moved progress =
-            ap (λ (p : Passed). moved p.progress) passes.told in
-            let front : take (moved progress) bytes ≡ taken (queue_of f r.ring) (moved progress) =
-            buffers.front (queue_of f r.ring) r.writers (moved progress) before bytes is lie in (
-              was_read (length before) (take (moved progress) bytes) h front passes,
-              buffers.lies (queue_of f r.ring)
-                  r.writers (moved progress) before bytes is lie,
-            )
+  abbrev after : Pipe → Namespace
+  after r' =
+      record { limits = limits; state = state_of ps ds (put_at pipes d.pipe.serial (d.pipe.slot, r')) files files_made }
 
-        -- and where they are more than it has room for
-        pub was_truncated : (m : ℕ) (before bytes : List ℕ) → end_in (Some sides.Read) ps ds pid fd ≡ Ok d
-            → bytes ≡ laid (taken (queue_of f r.ring) (moved progress)) before
-            → Passes r r' f g progress (read_now (queue_of f r.ring) r.writers m)
-            → Truncates g after (attempted (meaning f n.state) pid (Reading fd m)) progress before bytes
-        was_truncated m before bytes h lie passes =
-            let came : Came g after (attempted (meaning f n.state) pid (Reading fd m)) progress
-            (taken (queue_of f r.ring) (moved progress)) =
-            was_read m (taken (queue_of f r.ring) (moved progress)) h refl passes in
-            record {
-              tried = came.tried;
-              is = came.is;
-              progress_is = came.progress_is;
-              as_many =
-                  ap (λ (xs : List ℕ). length xs) came.bytes_are
-                  ∙ subst (λ (k : ℕ). length (taken (queue_of f r.ring) k) ≡ k)
-                  (ap (λ (p : Passed). moved p.progress) passes.told)
-                  (buffers.as_many_read (queue_of f r.ring) r.writers m);
-              bytes_lie = lie ∙ ap (λ (xs : List ℕ). laid xs before) (sym came.bytes_are);
-              state = came.state;
-            }
+  module _ {y : D} {r' : Pipe} {progress : Progress} (untouched : moved progress ≡ 0 → (r' ≡ r) × (y ≡ x)) where
+    came : {Is : Tried → Type 0} {m : Passed} → Passes r r' (live x) (live y) progress m → (call : Transfer) (t : Tried)
+        → attempted here pid call ≡ Ok t → t.progress ≡ m.progress → t.state ≡ with_queue here d.pipe.serial m.queue
+        → (t.progress ≡ progress → Is t) → Came live x y n (after r') pid call progress Is
+    came {Is} {m} passes call t is far state holds =
+        let told : t.progress ≡ progress = far ∙ ap (λ (p : Passed). p.progress) passes.told in
+        subst (λ (v : Namespace). Came live x y v (after r') pid call progress Is) view (record {
+          tried = t;
+          is = is;
+          progress_is = told;
+          holds = holds told;
+          owns = passed-owns rows view d handed passes owns;
+          limits = refl;
+          state = passed-state rows view d handed passes owns ∙ ap (sweep itself) (sym state);
+          untouched = λ zero. let same = untouched zero in
+              (same_view rows view d handed same.0 ∙ sym view, same.1);
+        })
+
+    pub wrote : (w : List ℕ) (written : ℕ) (whole : Bool) → end_in (Some sides.Write) ps ds pid fd ≡ Ok d
+        → length w ≤ MAX_WRITE → whole ≡ nat_le (length w) PIPE_BUF
+        → Passes r r' (live x) (live y) progress (write_now q r.readers whole (drop written w))
+        → Wrote live x y n (after r') pid (Writing fd w written) (drop written w) (Ok progress)
+    wrote w written whole h short is_whole passes =
+        let go : Bool → Result Tried Errno = λ b. refuse_if b EINVAL >> Ok (try_write here e w written) in
+        came
+        (subst (Passes r r' (live x) (live y) progress)
+        (λ i. write_now q (sym counts.0 i) (is_whole i) (drop written w)) passes)
+        (Writing fd w written) (try_write here e w written)
+        (through rows view pid fd owns d (Some sides.Write) (λ z. refuse_if (nat_lt MAX_WRITE (length w)) EINVAL >> Ok
+        (try_write here z w written)) r h handed ∙ ap go (le-ltb MAX_WRITE (length w) short)) refl refl
+        (ap (λ p. take (moved p) (drop written w)))
+
+    pub was_read : {Is : Tried → Type 0} (m : ℕ) → end_in (Some sides.Read) ps ds pid fd ≡ Ok d
+        → Passes r r' (live x) (live y) progress (read_now q r.writers m)
+        → ((t : Tried) → t.bytes ≡ taken q (moved progress) → Is t)
+        → Came live x y n (after r') pid (Reading fd m) progress Is
+    was_read m h passes holds =
+        came
+        (subst (Passes r r' (live x) (live y) progress) (ap (λ w. read_now q w m) (sym counts.1)) passes)
+        (Reading fd m) (try_read here e m)
+        (through rows view pid fd owns d (Some sides.Read) (λ z. Ok (try_read here z m)) r h handed) refl refl
+        (λ told. holds (try_read here e m) (ap (λ p. taken q (moved p)) told))
+
+    -- into a buffer, the bytes of which lie at its front
+    pub was_read_into : (old new : List ℕ) → end_in (Some sides.Read) ps ds pid fd ≡ Ok d
+        → new ≡ taken q (moved progress) ++ drop (moved progress) old
+        → Passes r r' (live x) (live y) progress (read_now q r.writers (length old))
+        → HasReadInto live x y n (after r') pid fd old new (Ok progress)
+    was_read_into old new h lie passes =
+        let is : moved (read_now q r.writers (length old)).progress ≡ moved progress =
+        ap (λ (p : Passed). moved p.progress) passes.told in (
+          was_read (length old) h passes
+              (λ t bytes. bytes ∙ sym (buffers.front q r.writers (moved progress) old new is lie)),
+          buffers.lies q r.writers (moved progress) old new is lie,
+        )
+
+    -- and where they are more than it has room for
+    pub was_truncated : (m : ℕ) (old new : List ℕ) → end_in (Some sides.Read) ps ds pid fd ≡ Ok d
+        → new ≡ laid (taken q (moved progress)) old
+        → Passes r r' (live x) (live y) progress (read_now q r.writers m)
+        → HasReadTruncated live x y n (after r') pid (Reading fd m) old new (Ok progress)
+    was_truncated m old new h lie passes =
+        was_read m h passes (λ t bytes. (
+          ap (λ (xs : List ℕ). length xs) bytes
+              ∙ subst (λ (k : ℕ). length (taken q k) ≡ k) (ap (λ (p : Passed). moved p.progress) passes.told)
+              (buffers.as_many_read q r.writers m),
+          lie ∙ ap (λ (xs : List ℕ). laid xs old) (sym bytes),
+        ))

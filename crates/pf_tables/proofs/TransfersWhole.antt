@@ -111,10 +111,10 @@ module _ {ps : ProcessRows} {ds : DescriptionRows} {pipes : PipeRows} (tied : Ti
 
   pub flag_told : (d : Description) → end_in None ps ds pid fd ≡ Ok d
       → d.nonblocking ≡ is_nonblocking_at n.state pid fd
-  flag_told d h = found_flag (found as_kept None ps ds pipes files files_made tied pid fd d h).is
+  flag_told d h = found_flag (found as_kept None files files_made tied pid fd d h).is
 
   pub no_flag : (e : Errno) → end_in None ps ds pid fd ≡ Err e → false ≡ is_nonblocking_at n.state pid fd
-  no_flag e h = found_flag (refused as_kept None ps ds pipes files files_made tied pid fd e h)
+  no_flag e h = found_flag (refused as_kept None files files_made tied pid fd e h)
 
 module _ {files : Files} {files_made : ℕ} (f : Live) {limits : Limits} {charges : UserPages} {ps : ProcessRows}
     {ds : DescriptionRows} {pipes : PipeRows} (kept : Kept charges ps ds pipes) {n : Namespace}
@@ -130,7 +130,7 @@ module _ {files : Files} {files_made : ℕ} (f : Live) {limits : Limits} {charge
       → Stops (attempted (meaning f n.state) pid (Writing fd x 0)) (length x)
   stops_at d r x h handed fits some short =
       let counts =
-      counted (pipe_meaning f) (Some Write) ps ds pipes files files_made kept.tied pid fd d.pipe.serial d.pipe.slot
+      counted (pipe_meaning f) (Some Write) files files_made kept.tied pid fd d.pipe.serial d.pipe.slot
       r (find_was pipes d.pipe.slot d.pipe.serial r handed) in
       let go : Bool → Result Tried Errno =
       λ b. refuse_if b EINVAL >> Ok (try_write s (end_of_rows (pipe_meaning f) d r) x 0) in
@@ -140,7 +140,7 @@ module _ {files : Files} {files_made : ℕ} (f : Live) {limits : Limits} {charge
         is =
             bind-bind (ready s pid) (λ p. writing_end itself s p fd) _
             ∙ ap (λ m. m >>= (λ e. refuse_if (nat_lt MAX_WRITE (length x)) EINVAL >> Ok (try_write s e x 0)))
-            (reaches (pipe_meaning f) (Some Write) ps ds pipes files files_made kept.tied pid fd h handed)
+            (reaches (pipe_meaning f) (Some Write) files files_made kept.tied pid fd h handed)
             ∙ ap go (le-ltb MAX_WRITE (length x) fits);
         short = stops (queue_of f r.ring) (nat_le (length x) PIPE_BUF) x (readers itself s d.pipe.serial)
             (subst (λ k. 0 < k) (sym counts.0) some) short;

@@ -1,10 +1,8 @@
 -- A read whose bytes lie in a buffer that its caller has: what it came to, and what stands in the buffer then.
 
 use Rattle.std.specs.Prelude.{◌≡◌, ℕ, ◌≤◌, List, [], length, take, drop, Option, Some, None, Result, Ok, Err}
-use Rattle.pf_machine.specs.Calls.{Call, Reading, Moving}
+use Rattle.pf_machine.specs.Calls.{Transfer, Call, Reading, Moving}
 use Rattle.pf_machine.specs.Progress.{moved}
-use Rattle.pf_machine.specs.State.{itself}
-use Rattle.pf_machine.specs.Sweep.{sweep}
 use Rattle.pf_machine.specs.Transfers.{Tried}
 use Rattle.pf_base.specs.declared.errno.Errno.{Errno}
 use Rattle.pf_base.specs.declared.fault.Fault.{Fault}
@@ -17,8 +15,8 @@ use Rattle.pf_base.specs.declared.step.Reply.TheVariants as replies
 use Rattle.pf_frame.specs.Live.{Live}
 use Rattle.pf_ring.specs.Laid.{laid}
 use Rattle.pf_tables.specs.declared.tables.parked.ParkedRead.{ParkedRead}
-use Rattle.pf_tables.specs.Meaning.{Namespace, meaning}
-use Rattle.pf_tables.specs.Told.{Came}
+use Rattle.pf_tables.specs.Meaning.{Namespace}
+use Rattle.pf_tables.specs.Told.{Came, Refused}
 
 -- so many bytes lie at the front of a buffer, and what is behind them is as it was
 pub record Lies (number : ℕ) (before after : List ℕ) : Type 0 where
@@ -27,11 +25,14 @@ pub record Lies (number : ℕ) (before after : List ℕ) : Type 0 where
   pub behind : drop number after ≡ drop number before
 
 -- a read into a buffer came as far as the machine's, and the bytes at the front are the machine's; or its refusal is,
--- and the buffer is as it was
-abbrev pub HasReadInto : Live → Namespace → List ℕ → List ℕ → Result Progress Errno → Result Tried Errno → Type 0
-HasReadInto g new before after (Ok progress) machine =
-    Came g new machine progress (take (moved progress) after) × Lies (moved progress) before after
-HasReadInto g new before after (Err e) machine = (machine ≡ Err e) × (after ≡ before)
+-- and the buffer is as it was. The door goes from d to e
+abbrev pub HasReadInto : {D : Type 0} → (D → Live) → D → D → Namespace → Namespace → ℕ → ℕ → List ℕ → List ℕ
+    → Result Progress Errno → Type 0
+HasReadInto live d e old new pid fd before after (Ok progress) =
+    Came live d e old new pid (Reading fd (length before)) progress (λ r. r.bytes ≡ take (moved progress) after)
+    × Lies (moved progress) before after
+HasReadInto live d e old new pid fd before after (Err err) =
+    Refused live d e old new pid (Reading fd (length before)) err × (after ≡ before)
 
 -- A read is told a number of bytes, which lie at the front of its buffer; or nothing, where it waits; or an error
 
@@ -64,21 +65,17 @@ abbrev pub read_in : {N : Type 0} → Option (Call N) → Option ParkedRead
 read_in (Some (Moving (Reading fd n))) = Some (record { fd = fd; n = n })
 read_in _ = None
 
--- a read came so far, took so many bytes, and left this state, without what nobody can reach any more; and the first of
--- the bytes lie at the front of a buffer
-pub record Truncates (g : Live) (new : Namespace) (machine : Result Tried Errno) (progress : Progress)
-    (before after : List ℕ) : Type 0 where
-  pub tried : Tried
-  pub is : machine ≡ Ok tried
-  pub progress_is : tried.progress ≡ progress
-  pub as_many : length tried.bytes ≡ moved progress
-  pub bytes_lie : after ≡ laid tried.bytes before
-  pub state : meaning g new.state ≡ sweep itself tried.state
+-- a read took as many bytes as it says, and the first of them lie at the front of a buffer
+abbrev pub Truncates : Progress → List ℕ → List ℕ → Tried → Type 0
+Truncates progress before after r = (length r.bytes ≡ moved progress) × (after ≡ laid r.bytes before)
 
 -- it came as far as the machine's; or its refusal is, and the buffer is as it was
-abbrev pub HasReadTruncated : Live → Namespace → List ℕ → List ℕ → Result Progress Errno → Result Tried Errno → Type 0
-HasReadTruncated g new before after (Ok progress) machine = Truncates g new machine progress before after
-HasReadTruncated g new before after (Err e) machine = (machine ≡ Err e) × (after ≡ before)
+abbrev pub HasReadTruncated : {D : Type 0} → (D → Live) → D → D → Namespace → Namespace → ℕ → Transfer → List ℕ
+    → List ℕ → Result Progress Errno → Type 0
+HasReadTruncated live d e old new pid call before after (Ok progress) =
+    Came live d e old new pid call progress (Truncates progress before after)
+HasReadTruncated live d e old new pid call before after (Err err) =
+    Refused live d e old new pid call err × (after ≡ before)
 
 -- as what a reply to such a call is told: a number, where it has bytes how many; an error; or nothing, where it waits
 -- on. It is told no other reply

@@ -1,6 +1,6 @@
 -- What an open of a FIFO does to the tables and tells.
 
-use Rattle.std.specs.Prelude.{◌≡◌, ℕ, ◌+◌, ◌-◌, ◌<◌, Bool, not, ◌&&◌, List, [], ◌∷◌, ◌++◌, length, Option, Some}
+use Rattle.std.specs.Prelude.{◌≡◌, ℕ, ◌+◌, ◌-◌, ◌^◌, ◌<◌, Bool, not, ◌&&◌, List, [], ◌∷◌, ◌++◌, length, Option, Some}
 use Rattle.std.specs.Prelude.{None, nat_eq, nat_le, if◌then◌else◌, Result, Ok}
 use Rattle.std.specs.Map.{lookup}
 use Rattle.pf_machine.specs.Refusals.{◌>>=◌, ◌>>◌, refuse_if}
@@ -48,6 +48,13 @@ counted a p = record p {
   writers = p.writers + one_if a.writes;
   opens = record p.opens { read = p.opens.read + one_if a.reads; write = p.opens.write + one_if a.writes };
 }
+
+-- one end or open more passes the end of no count
+pub record IsFew (p : Pipe) : Type 0 where
+  pub readers : p.readers < 2 ^ 64 - 1
+  pub writers : p.writers < 2 ^ 64 - 1
+  pub read_opens : p.opens.read < 2 ^ 64 - 1
+  pub write_opens : p.opens.write < 2 ^ 64 - 1
 
 -- the description that it makes
 abbrev pub end_of : Stored → Key → Description

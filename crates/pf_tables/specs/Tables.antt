@@ -72,8 +72,8 @@ two_free xs = do
   refuse_if (nat_le MAX_DESCRIPTORS (second_free xs)) EMFILE
   Ok (first_free xs, second_free xs)
 
--- A call was made that moves no bytes and lets no descriptor go, as an exit's end, whose process has none any more:
--- what it leaves and is told is what the machine's call leaves and is told at the tables' own state. Whatever frames
+-- A call was made that moves no bytes and lets no descriptor go; the end of an exit is one, since its process has none
+-- any more. It leaves and is told what the machine's call leaves and is told at the tables' own state. The frames that
 -- were the namespace's own still are, and nothing stands that nobody can reach
 pub record Makes (old new : Namespace) (call : Result (Outcome Window ℕ) Errno) (reply : Reply) : Type 0 where
   pub is : call ≡ Ok (told new.state reply)

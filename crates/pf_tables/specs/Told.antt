@@ -54,36 +54,6 @@ is_nonblocking_at s pid fd = flag_of s fd (ready s pid)
 abbrev pub transferred : State Segment ℕ → ℕ → Bool → Transfer → Result (Outcome Segment ℕ) Errno
 transferred s pid flag call = ready s pid >>= (λ p. transfer s pid p flag call)
 
--- it came so far, moved these bytes, and left this state, without what nobody can reach any more
-pub record Came (g : Live) (new : Namespace) (machine : Result Tried Errno) (progress : Progress)
-    (bytes : List ℕ) : Type 0 where
-  pub tried : Tried
-  pub is : machine ≡ Ok tried
-  pub progress_is : tried.progress ≡ progress
-  pub bytes_are : tried.bytes ≡ bytes
-  pub state : meaning g new.state ≡ sweep itself tried.state
-
--- the same where the bytes stay in the pipes
-pub record Arrived (g : Live) (new : Namespace) (machine : Result Tried Errno) (progress : Progress) : Type 0 where
-  pub tried : Tried
-  pub is : machine ≡ Ok tried
-  pub progress_is : tried.progress ≡ progress
-  pub state : meaning g new.state ≡ sweep itself tried.state
-
--- a transfer came as far as the machine's, or its refusal is the machine's
-abbrev pub Wrote : Live → Namespace → List ℕ → Result Progress Errno → Result Tried Errno → Type 0
-Wrote g new x (Ok progress) machine = Came g new machine progress (take (moved progress) x)
-Wrote g new x (Err e) machine = machine ≡ Err e
-
-abbrev pub HasRead : Live → Namespace → Result Taken Fault → Result Tried Errno → Type 0
-HasRead g new (Ok t) machine = Came g new machine t.progress t.bytes
-HasRead g new (Err (faults.Errno e)) machine = machine ≡ Err e
-HasRead g new (Err faults.NoMemory) machine = ⊤
-
-abbrev pub HasCrossed : Live → Namespace → Result Progress Errno → Result Tried Errno → Type 0
-HasCrossed g new (Ok progress) machine = Arrived g new machine progress
-HasCrossed g new (Err e) machine = machine ≡ Err e
-
 -- a write that was done at once came to its end; where it would wait, nothing was done
 abbrev pub IsDone : Progress → ℕ → Type 0
 IsDone progress number = (progress ≡ Moved number) ⊎ (progress ≡ NoReader)
@@ -99,11 +69,51 @@ pub record Stops (machine : Result Tried Errno) (number : ℕ) : Type 0 where
   pub is : machine ≡ Ok tried
   pub short : IsShort tried.progress number
 
-abbrev pub HasWritten : Live → Namespace → List ℕ → Result (Option Progress) Errno → Result Tried Errno → Type 0
-HasWritten g new x (Ok (Some progress)) machine =
-    Came g new machine progress (take (moved progress) x) × IsDone progress (length x)
-HasWritten g new x (Ok None) machine = Stops machine (length x)
-HasWritten g new x (Err e) machine = machine ≡ Err e
+-- Transfers of a process over a door that goes from d to e
+
+-- nothing was done
+abbrev pub Still : {D : Type 0} → D → D → Namespace → Namespace → Type 0
+Still d e old new = (new ≡ old) × (e ≡ d)
+
+module _ {D : Type 0} (live : D → Live) (d e : D) (old new : Namespace) (pid : ℕ) (call : Transfer) where
+  -- a transfer came as far as the machine's, of which this is true, and left what it leaves, without what nobody can
+  -- reach any more. Where no byte was moved, nothing was done
+  pub record Came (progress : Progress) (Is : Tried → Type 0) : Type 0 where
+    pub tried : Tried
+    pub is : attempted (meaning (live d) old.state) pid call ≡ Ok tried
+    pub progress_is : tried.progress ≡ progress
+    pub holds : Is tried
+    pub owns : Owns (live e) new
+    pub limits : new.limits ≡ old.limits
+    pub state : meaning (live e) new.state ≡ sweep itself tried.state
+    pub untouched : moved progress ≡ 0 → Still d e old new
+
+  -- its refusal is the machine's, and nothing was done
+  abbrev pub Refused : Errno → Type 0
+  Refused err = (attempted (meaning (live d) old.state) pid call ≡ Err err) × Still d e old new
+
+  -- a write of these bytes
+  abbrev pub Wrote : List ℕ → Result Progress Errno → Type 0
+  Wrote x (Ok progress) = Came progress (λ r. r.bytes ≡ take (moved progress) x)
+  Wrote x (Err err) = Refused err
+
+  -- one that does nothing where it would wait
+  abbrev pub WroteWhole : List ℕ → Result (Option Progress) Errno → Type 0
+  WroteWhole x (Ok (Some progress)) =
+      Came progress (λ r. r.bytes ≡ take (moved progress) x) × IsDone progress (length x)
+  WroteWhole x (Ok None) = Stops (attempted (meaning (live d) old.state) pid call) (length x) × Still d e old new
+  WroteWhole x (Err err) = Refused err
+
+  -- a read, and want of memory
+  abbrev pub HasRead : Result Taken Fault → Type 0
+  HasRead (Ok t) = Came t.progress (λ r. r.bytes ≡ t.bytes)
+  HasRead (Err (faults.Errno err)) = Refused err
+  HasRead (Err faults.NoMemory) = Still d e old new
+
+  -- a transfer whose bytes stay in the pipes
+  abbrev pub HasCrossed : Result Progress Errno → Type 0
+  HasCrossed (Ok progress) = Came progress (λ r. ⊤)
+  HasCrossed (Err err) = Refused err
 
 -- what a write is told that came to its end at once
 abbrev pub write_ended : Progress → Result Reply Fault

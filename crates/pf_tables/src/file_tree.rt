@@ -11,8 +11,8 @@ use pf_tree::Tree;
 use std::alloc::{Allocator, Global};
 use std::marker::Model;
 
-/// The tree of a namespace's files. It is changed by the calls of `pf_walk` alone, so it has at most 10,000 files besides the
-/// root, with names of at most 255 bytes.
+/// The tree of a namespace's files. It is changed by the calls of `pf_walk` alone, so it has at most 10,000 files
+/// besides the root, with names of at most 255 bytes.
 ///
 /// A contract sees the finite map from paths to files.
 #[derive(Drop)]
@@ -49,8 +49,8 @@ impl<A: Allocator> FileTree<A> {
         &self.tree
     }
 
-    /// A number of bytes that no list of names is longer than: a name of the most bytes with a slash for each file but the root. It
-    /// costs constant time.
+    /// A number of bytes that no list of names is longer than: a name of the most bytes with a slash for each file but
+    /// the root. It costs constant time.
     pub fn list_bound(&self) -> usize
         ensures covers { (path : Path) → length (listed (names_below path self.now)) ≤ result }
         ensures most { result ≤ MAX_FILES * (MAX_NAME + 1) }

@@ -1,10 +1,12 @@
 //! The processes of a namespace, each with the call in which it waits.
 
-ghost use Rattle.std.specs.Prelude.{◌≡◌, ℕ, ◌-◌, ◌<◌, ◌≤◌, true, false, None, Some, Ok, Err, IfOk, IsOk, IsSome, MatchResult, option_copied, slice_set};
+ghost use Rattle.std.specs.Prelude.{◌≡◌, ℕ, ◌-◌, ◌<◌, ◌≤◌, true, false, None, Some, Ok, Err, IfOk, IsOk, IsSome};
+ghost use Rattle.std.specs.Prelude.{MatchResult, option_copied, slice_set};
 ghost use Rattle.pf_machine.specs.Numbered.{at, put_at, clear_at, change_at, first_free, sum_of};
 ghost use Rattle.pf_machine.specs.State.{vacant};
 ghost use Rattle.pf_base.specs.declared.TheConstants.{MAX_DESCRIPTORS, MAX_PROCESSES};
-ghost use Rattle.pf_tables.specs.Rows.{process_at, process_in, ready_in, call_in, woken, HasSpare, MayWait, waits, key_at, with_key, with_keys, without_key, with_call};
+ghost use Rattle.pf_tables.specs.Rows.{process_at, process_in, ready_in, call_in, woken, HasSpare, MayWait, waits};
+ghost use Rattle.pf_tables.specs.Rows.{key_at, with_key, with_keys, without_key, with_call};
 
 use pf_base::{Cred, Errno, MAX_DESCRIPTORS};
 use pf_fds::{FdTable, Key, Marks, Places};
@@ -118,8 +120,8 @@ impl ProcessTable {
         self.waiting.mark(i);
     }
 
-    /// The call in which a process waits is over, and is given out. A description that an open made gets the lowest free
-    /// descriptor.
+    /// The call in which a process waits is over, and is given out. A description that an open made gets the lowest
+    /// free descriptor.
     pub fn wake(&mut self, pid: u32) -> Option<Call<Key>>
         requires { IsOk (process_in self.old pid) }
         ensures call { result ≡ call_in self.old pid }

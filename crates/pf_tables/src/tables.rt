@@ -1,9 +1,9 @@
-//! What a namespace keeps: its limits, its processes with their descriptors, the open file descriptions, the pipes and the
-//! files.
+//! What a namespace keeps: its limits, its processes with their descriptors, the open file descriptions, the pipes and
+//! the files.
 //!
-//! A call that moves no bytes says what it does to the machine's state that the tables keep, with a ring in each pipe, and
-//! hands out a pipe that goes, whose slots still have their frames. Whatever else is said of a call here is said of the
-//! lone machine's state that they mean over the frames of a door.
+//! A call that moves no bytes says what it does to the machine's state that the tables keep, with a ring in each pipe,
+//! and hands out a pipe that goes, whose slots still have their frames. Whatever else is said of a call here is said of
+//! the lone machine's state that they mean over the frames of a door.
 
 ghost use Rattle.std.specs.Prelude.{◌≡◌, Some, None, IfOk};
 ghost use Rattle.pf_tables.specs.Rows.{key_in, end_of_row, end_in};
@@ -66,8 +66,8 @@ pub struct Tables<A: Allocator> {
     pipes: Registry<Pipe>,
     // The pipe of each FIFO that somebody has open, by the FIFO's number.
     fifos: HashMap<u64, Key>,
-    // The files, which are all that stands in memory of A, and how many were ever made besides the root: the count stands
-    // beside the tree, since a file's number must never come back.
+    // The files, which are all that stands in memory of A, and how many were ever made besides the root: the count
+    // stands beside the tree, since a file's number must never come back.
     files: FileTree<A>,
     files_made: u64,
 }

@@ -1,5 +1,5 @@
-//! What is known of a reply before its step is made, of a write that waits, and of how many live: numbers, which take no
-//! memory.
+//! What is known of a reply before its step is made, of a write that waits, and of how many live: numbers, which take
+//! no memory.
 
 ghost use Rattle.std.specs.Prelude.{◌≡◌, ◌≤◌};
 ghost use Rattle.pf_machine.specs.Machine.{call_of};
@@ -28,11 +28,11 @@ impl<A: Allocator> Space<A> {
         self.tables.processes()
     }
 
-    /// A number of bytes that the vector of a step's reply is no longer than, in this state, to reserve memory for a copy of it.
-    /// It costs constant time.
+    /// A number of bytes that the vector of a step's reply is no longer than, in this state, to reserve memory for a
+    /// copy of it. It costs constant time.
     ///
-    /// A read's is what the pipe holds, up to what is asked for. A list's is 256 for each file but the root, and that of a
-    /// read that waits what it asks for, up to all that 65,536 frames hold.
+    /// A read's is what the pipe holds, up to what is asked for. A list's is 256 for each file but the root, and that
+    /// of a read that waits what it asks for, up to all that 65,536 frames hold.
     pub fn reply_bound(&self, step: &Step) -> usize
         ensures covers { Covers self.now step.now result }
         ensures most { result ≤ most_of step.now }

@@ -1,5 +1,5 @@
-//! What a host may ask besides the steps (this profile's own): who can go on, and what an end is ready for. A query changes
-//! nothing, costs constant time for each process that it looks at, and takes no memory.
+//! What a host may ask besides the steps (this profile's own): who can go on, and what an end is ready for. A query
+//! changes nothing, costs constant time for each process that it looks at, and takes no memory.
 
 ghost use Rattle.pf_tables.specs.Queries.{GoesOn, GoesOnNext, IsReadiness};
 
@@ -8,8 +8,8 @@ use pf_base::{Errno, Readiness};
 use std::alloc::Allocator;
 
 impl<A: Allocator> Space<A> {
-    /// Whether the call in which a process waits comes further when it is tried again: its Resume is told something else than
-    /// Parked, or more bytes of its write go in. False where it waits in no call.
+    /// Whether the call in which a process waits comes further when it is tried again: its Resume is told something
+    /// else than Parked, or more bytes of its write go in. False where it waits in no call.
     pub fn can_go_on(&self, pid: u32) -> bool
         ensures { GoesOn self.now pid result }
     {
@@ -23,8 +23,8 @@ impl<A: Allocator> Space<A> {
         self.tables.next_to_go_on(after)
     }
 
-    /// What the pipe is ready for that a process's descriptor names (poll(2)). It is refused as a question for the
-    /// capacity is: ESRCH, EBUSY, EBADF.
+    /// What the pipe of a process's descriptor is ready for (poll(2)). The refusals are those of a question for its
+    /// capacity: ESRCH, EBUSY, EBADF.
     pub fn readiness(&self, pid: u32, fd: u32) -> Result<Readiness, Errno>
         ensures { IsReadiness self.now pid fd result }
     {

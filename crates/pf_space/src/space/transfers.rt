@@ -1,5 +1,5 @@
-//! Bytes into pipes, out of them and between them: write(2), read(2), tee(2) and splice(2), as pipe(7) says of O_NONBLOCK. A
-//! call that would wait parks, or is told EAGAIN where the step or a description says nonblocking.
+//! Bytes into pipes, out of them and between them: write(2), read(2), tee(2) and splice(2), as pipe(7) says of
+//! O_NONBLOCK. A call that would wait parks, or is told EAGAIN where the step or a description says nonblocking.
 
 ghost use Rattle.std.specs.Prelude.{◌≡◌, ◌≢◌, ◌≤◌, length, Err, IsOk, IfOk, IfSome, not, ◌&&◌, ◌||◌, false, true};
 ghost use Rattle.pf_machine.specs.Calls.{Reading, Writing, Bringing};
@@ -32,8 +32,8 @@ fn write_ended(progress: Progress) -> Result<Reply, Fault>
 /// 1 MiB that costs more than the bytes.
 const SHARED_FROM: usize = 131_072;
 
-// What a write that waits keeps: a step's own bytes, where they are many and the step alone has them, and else a copy. So
-// no spare capacity of the host's stays for as long as the write waits.
+// What a write that waits keeps: a step's own bytes, where they are many and the step alone has them, and else a copy.
+// So no spare capacity of the host's stays for as long as the write waits.
 fn kept(alloc: Global, bytes: &[u8], payload: Option<&ByteString>) -> Result<ByteString, AllocError>
     requires { IfSome payload (λ p. p.now ≡ bytes.now) }
     ensures { IfOk result (λ kept. kept ≡ bytes.now) }
@@ -47,8 +47,8 @@ fn kept(alloc: Global, bytes: &[u8], payload: Option<&ByteString>) -> Result<Byt
     ByteString::from_slice(alloc, bytes)
 }
 
-// A step and its resume share `write_on`, `read_on` and `cross`. They are inlined in both, or a reply goes through memory
-// at each call above them: a write and a read of a byte through a hub then take 97 ns in place of 56.
+// A step and its resume share `write_on`, `read_on` and `cross`. They are inlined in both, or a reply goes through
+// memory at each call above them: a write and a read of a byte through a hub then take 97 ns in place of 56.
 impl<A: Allocator + Clone> Space<A> {
     /// The step that writes these bytes into the pipe that a process's descriptor names (write(2)): its answer and what
     /// it leaves are those of `step` with a `Step::Write` of them. A copy of them is made only where the write waits.
@@ -266,7 +266,8 @@ impl<A: Allocator + Clone> Space<A> {
         self.read_on(door, pid, fd, n, false)
     }
 
-    /// Reads what there is, and waits where it has to; where it isn't tried again, a nonblocking description doesn't wait.
+    /// Reads what there is, and waits where it has to; where it isn't tried again, a nonblocking description doesn't
+    /// wait.
     #[inline(always)]
     pub(super) fn read_on<F: Frames>(
         &mut self,
@@ -312,9 +313,9 @@ impl<A: Allocator + Clone> Space<A> {
         flag || self.tables.is_nonblocking(pid, source) || self.tables.is_nonblocking(pid, sink)
     }
 
-    /// Brings at most n bytes from the pipe that one descriptor of a process names to the pipe that another one names: a copy
-    /// of them (tee(2)), or the bytes themselves (splice(2)). It waits where it has to; where it isn't tried again, it
-    /// doesn't wait with the flag, or where one of the two descriptions is nonblocking.
+    /// Brings at most n bytes from the pipe that one descriptor of a process names to the pipe that another one names:
+    /// a copy of them (tee(2)), or the bytes themselves (splice(2)). It waits where it has to; where it isn't tried
+    /// again, it doesn't wait with the flag, or where one of the two descriptions is nonblocking.
     #[inline(always)]
     pub(super) fn cross<F: Frames>(
         &mut self,

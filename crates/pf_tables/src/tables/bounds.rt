@@ -41,7 +41,8 @@ impl<A: Allocator> Tables<A> {
         pipe.len().min(n as usize)
     }
 
-    /// How many bytes a list of names hands out at most, whoever asks for whichever: the longest name and a slash for each file but the root.
+    /// How many bytes a list of names hands out at most, whoever asks for whichever: the longest name and a slash for
+    /// each file but the root.
     pub fn list_bound(&self) -> usize
         ensures covers { (pid : ℕ) (path : List ℕ) → Covers self.now (Lists pid path) result }
         ensures most { result ≤ MAX_FILES * (MAX_NAME + 1) }
@@ -49,8 +50,8 @@ impl<A: Allocator> Tables<A> {
         self.files.list_bound()
     }
 
-    /// How many bytes the call hands out at most in which a process waits, tried again: none but a read's, what it asks for
-    /// or what all frames hold.
+    /// How many bytes the call hands out at most in which a process waits, tried again: none but a read's, what it asks
+    /// for or what all frames hold.
     pub fn resume_bound(&self, pid: u32) -> usize
         ensures covers { Covers self.now (Resume pid) result }
         ensures most { result ≤ most_of (Resume pid) }

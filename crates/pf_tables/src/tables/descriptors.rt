@@ -2,7 +2,8 @@
 //! description's last name goes, so does its end of the pipe; where a pipe's last end goes, so does the pipe: its pages
 //! are charged no more, and it is handed out, since its slots still have frames.
 
-ghost use Rattle.std.specs.Prelude.{◌≡◌, ◌≢◌, ℕ, ◌-◌, ◌<◌, ◌≤◌, Err, None, IsSome, IfSome, OnErr, is_some, length, slice_set};
+ghost use Rattle.std.specs.Prelude.{◌≡◌, ◌≢◌, ℕ, ◌-◌, ◌<◌, ◌≤◌, Err, None, IsSome, IfSome, OnErr, is_some, length};
+ghost use Rattle.std.specs.Prelude.{slice_set};
 ghost use Rattle.pf_base.specs.declared.TheConstants.{MAX_DESCRIPTORS};
 ghost use Rattle.pf_machine.specs.Descriptors.{close, dup, set_nonblock};
 ghost use Rattle.pf_machine.specs.Numbered.{at, one_if};

@@ -1,7 +1,8 @@
 //! Opens of FIFOs (open(2), fifo(7)): a FIFO has a pipe while somebody has it open, which its first opener is charged
 //! with.
 
-ghost use Rattle.std.specs.Prelude.{◌≡◌, ◌+◌, ◌-◌, ◌^◌, ◌<◌, ◌≤◌, [], false, true, None, Some, Ok, Err, IfSome, IsOk, IfOk, OnOk, OnErr, length, nat_lt};
+ghost use Rattle.std.specs.Prelude.{◌≡◌, ◌+◌, ◌-◌, ◌^◌, ◌<◌, ◌≤◌, [], false, true, None, Some, Ok, Err, IfSome, IsOk};
+ghost use Rattle.std.specs.Prelude.{IfOk, OnOk, OnErr, length, nat_lt};
 ghost use Rattle.pf_machine.specs.Opens.{has_flag, access_of, fifo_pipe, fifo_readers, open_path};
 ghost use Rattle.pf_machine.specs.Numbered.{one_if};
 ghost use Rattle.pf_machine.specs.State.{itself, of_ready, ready};
@@ -9,7 +10,8 @@ ghost use Rattle.pf_machine.specs.Counts.{total};
 ghost use Rattle.pf_limits.specs.UserPages.{charged_to, Charges};
 ghost use Rattle.pf_pipe.specs.Pipe.{unopened};
 ghost use Rattle.pf_tables.specs.Rows.{ready_in};
-ghost use Rattle.pf_tables.specs.Opened.{access_seen, counted, waits, before, other_opens, lacks_readers, end_of};
+ghost use Rattle.pf_tables.specs.Opened.{access_seen, counted, IsFew, waits, before, other_opens, lacks_readers};
+ghost use Rattle.pf_tables.specs.Opened.{end_of};
 ghost use Rattle.pf_tables.specs.Opened.{fifo_named, may_open, fifo_capacity, opening};
 ghost use Rattle.pf_tables.specs.Opened.{HasFree, Describes, SameKeys, MakesFifo, IsOver, Reopens};
 ghost use Rattle.pf_tables.specs.Tables.{Makes, Says, waits_in_open};
@@ -100,10 +102,7 @@ pub(super) fn other_opens(pipe: &Pipe, reads: bool) -> u64
 
 // Counts the ends that an open makes.
 fn count(pipe: &mut Pipe, access: Access)
-    requires readers { pipe.old.readers < 2 ^ 64 - 1 }
-    requires writers { pipe.old.writers < 2 ^ 64 - 1 }
-    requires read_opens { pipe.old.opens.read < 2 ^ 64 - 1 }
-    requires write_opens { pipe.old.opens.write < 2 ^ 64 - 1 }
+    requires { IsFew pipe.old }
     ensures { pipe.new ≡ counted access pipe.old }
 {
     if access.reads {
@@ -241,7 +240,12 @@ impl<A: Allocator> Tables<A> {
     }
 
     // Opens a FIFO that somebody has open; none where nobody has. Where memory is refused, nothing has changed.
-    fn open_found(&mut self, pid: u32, file: u64, access: Access) -> Result<Option<Reply>, AllocError>
+    fn open_found(
+        &mut self,
+        pid: u32,
+        file: u64,
+        access: Access,
+    ) -> Result<Option<Reply>, AllocError>
         requires may { may_open self.old.state pid (access_seen access) file ≡ Ok tt }
         requires sided { 0 < one_if access.reads + one_if access.writes }
         ensures opens { IfOk result (λ opened. IfSome opened (Makes self.old self.new
@@ -260,8 +264,8 @@ impl<A: Allocator> Tables<A> {
         Ok(Some(describe(processes, descriptions, pid, access.end(key), kept)))
     }
 
-    // Opens a FIFO that nobody has open: its first opener is charged with its pipe. Where memory is refused, nothing has
-    // changed.
+    // Opens a FIFO that nobody has open: its first opener is charged with its pipe. Where memory is refused, nothing
+    // has changed.
     fn open_new(
         &mut self,
         alloc: Global,

@@ -68,8 +68,8 @@ impl<A: Allocator> Tables<A> {
         self.processes.park(pid, call);
     }
 
-    /// The call in which a process waits is over, and is given out. A description that an open made gets the lowest free
-    /// descriptor.
+    /// The call in which a process waits is over, and is given out. A description that an open made gets the lowest
+    /// free descriptor.
     pub fn wake(&mut self, pid: u32) -> Option<Call<Key>>
         requires lives { IsOk (living self.old.state pid) }
         ensures call { option_map call_of result ≡ machine.call_of self.old.state pid }

@@ -1,6 +1,7 @@
 //! Pipes: what makes one with its two ends.
 
-ghost use Rattle.std.specs.Prelude.{◌≡◌, ◌≢◌, ◌+◌, ◌-◌, ◌^◌, ◌<◌, ◌≤◌, Err, Some, None, IsOk, IfOk, OnErr, slice_set, length, [], ◌∷◌, ◌++◌, not, ◌&&◌, ◌||◌, nat_lt};
+ghost use Rattle.std.specs.Prelude.{◌≡◌, ◌≢◌, ◌+◌, ◌-◌, ◌^◌, ◌<◌, ◌≤◌, Err, Some, None, IsOk, IfOk, OnErr, slice_set};
+ghost use Rattle.std.specs.Prelude.{length, [], ◌∷◌, ◌++◌, not, ◌&&◌, ◌||◌, nat_lt};
 ghost use Rattle.pf_base.specs.Capacities.{new_capacity, told_as};
 ghost use Rattle.pf_base.specs.Permissions.{is_privileged};
 ghost use Rattle.pf_base.specs.declared.TheConstants.{MAX_DESCRIPTORS};

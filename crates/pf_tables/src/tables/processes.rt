@@ -95,8 +95,8 @@ impl<A: Allocator> Tables<A> {
         if i >= MAX_PROCESSES {
             return Err(Errno::EAGAIN.into());
         }
-        // What may be refused comes first. All descriptions are named before the child stands, which is put down with all of
-        // its descriptors at once: so what is said of this call is said of one loop over counts.
+        // What may be refused comes first. All descriptions are named before the child stands, which is put down with
+        // all of its descriptors at once: so what is said of this call is said of one loop over counts.
         let cred = parent.cred.copy(alloc)?;
         let descriptors = parent.descriptors.copy(alloc)?;
         name_all(&mut self.descriptions, &descriptors);
@@ -109,8 +109,8 @@ impl<A: Allocator> Tables<A> {
         Ok(Reply::Pid(i as u32 + 1))
     }
 
-    /// An exit begins: its process waits in no call any more. Its descriptors go one by one, by `empty`, and then it does
-    /// itself.
+    /// An exit begins: its process waits in no call any more. Its descriptors go one by one, by `empty`, and then it
+    /// does itself.
     pub fn begin_exit(&mut self, pid: u32) -> Result<(), Errno>
         ensures begins { Begins self.old self.new pid result }
         ensures refused { OnErr result (self.new ≡ self.old) }

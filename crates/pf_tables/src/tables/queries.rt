@@ -10,8 +10,8 @@ use pf_parked::Call;
 use std::alloc::Allocator;
 
 impl<A: Allocator> Tables<A> {
-    /// Whether the call in which a process waits comes further when it is tried again: a Resume is told something else than
-    /// Parked, or more bytes of a write go in. False where it waits in no call.
+    /// Whether the call in which a process waits comes further when it is tried again: a Resume is told something else
+    /// than Parked, or more bytes of a write go in. False where it waits in no call.
     pub fn can_go_on(&self, pid: u32) -> bool
         ensures { GoesOn self.now pid result }
     {
@@ -80,8 +80,8 @@ impl<A: Allocator> Tables<A> {
         }
     }
 
-    /// The least pid above `after` whose process can go on, if there is one. It looks at those that wait in a call, each in
-    /// constant time.
+    /// The least pid above `after` whose process can go on, if there is one. It looks at those that wait in a call,
+    /// each in constant time.
     pub fn next_to_go_on(&self, after: u32) -> Option<u32>
         ensures { GoesOnNext self.now after result }
     {

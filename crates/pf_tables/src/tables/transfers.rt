@@ -1,14 +1,13 @@
-//! Bytes into pipes, out of them and between them: one look-up for each end, and one borrow of the pipe that is found. Where
-//! there are two, one is taken out for as long.
+//! Bytes into pipes, out of them and between them: one look-up for each end, and one borrow of the pipe that is found.
+//! Where there are two, one is taken out for as long.
 
-ghost use Rattle.std.specs.Prelude.{◌≡◌, ◌≤◌, Ok, Err, None, IfOk, IfSome, IsOk, OnErr, drop, length};
+ghost use Rattle.std.specs.Prelude.{◌≡◌, ◌≤◌, Err, None, IsOk, drop, length};
 ghost use Rattle.pf_machine.specs.Calls.{Reading, Writing, Bringing};
-ghost use Rattle.pf_machine.specs.Progress.{moved};
 ghost use Rattle.pf_machine.specs.State.{ready};
 ghost use Rattle.pf_tables.specs.Buffers.{HasReadInto, HasReadTruncated};
 ghost use Rattle.pf_tables.specs.Meaning.{meaning};
 ghost use Rattle.pf_tables.specs.Owns.{Owns};
-ghost use Rattle.pf_tables.specs.Told.{attempted, is_nonblocking_at, HasRead, HasCrossed, HasWritten, Wrote};
+ghost use Rattle.pf_tables.specs.Told.{is_nonblocking_at, HasRead, HasCrossed, Wrote, WroteWhole};
 
 use super::{Tables, end, reading_end, writing_end};
 use pf_base::{ByteString, Crossing, Errno, Fault, MAX_WRITE, PIPE_BUF, Progress};
@@ -35,8 +34,8 @@ impl<A: Allocator> Tables<A> {
         }
     }
 
-    /// Writes where the write comes to its end at once: all its bytes go in, or nobody reads them. Where it would wait, it
-    /// does nothing.
+    /// Writes where the write comes to its end at once: all its bytes go in, or nobody reads them. Where it would wait,
+    /// it does nothing.
     pub fn write_whole<F: Frames>(
         &mut self,
         door: &mut F,
@@ -48,17 +47,10 @@ impl<A: Allocator> Tables<A> {
         requires owns { Owns (F.live door.old) self.old }
         ensures fact { F.fact door.new }
         ensures rest { F.rest door.new ≡ F.rest door.old }
-        ensures owns { Owns (F.live door.new) self.new }
-        ensures limits { self.new.limits ≡ self.old.limits }
-        // It came to the machine's end, or the machine's would wait, or is refused.
-        ensures written { HasWritten (F.live door.new) self.new bytes.now result
-            (attempted (meaning (F.live door.old) self.old.state) pid (Writing fd bytes.now 0)) }
-        // Where no byte went in, nothing has changed.
-        ensures untouched { IfOk result (λ done. IfSome done
-            (λ progress. moved progress ≡ 0 → (self.new ≡ self.old) × (door.new ≡ door.old))) }
-        // Where it would wait or is refused, nothing has changed.
-        ensures waits { result ≡ Ok None → (self.new ≡ self.old) × (door.new ≡ door.old) }
-        ensures refused { OnErr result ((self.new ≡ self.old) × (door.new ≡ door.old)) }
+        // It came to the machine's end, or the machine's would wait, or is refused. Where no byte went in, nothing has
+        // changed.
+        ensures written { WroteWhole F.live door.old door.new self.old self.new pid (Writing fd bytes.now 0) bytes.now
+            result }
     {
         let end = writing_end(&self.processes, &self.descriptions, pid, fd)?;
         if bytes.len() > MAX_WRITE {
@@ -72,8 +64,8 @@ impl<A: Allocator> Tables<A> {
         Ok(Some(pipe.write_now(door, bytes, whole)))
     }
 
-    /// Puts what is left of a write at the end of the pipe that a process's descriptor writes, as many bytes as go in now;
-    /// so many went in before.
+    /// Puts what is left of a write at the end of the pipe that a process's descriptor writes, as many bytes as go in
+    /// now; so many went in before.
     // Kept apart: a write that goes in at once doesn't come here.
     #[inline(never)]
     pub fn write_now<F: Frames>(
@@ -89,16 +81,9 @@ impl<A: Allocator> Tables<A> {
         requires owns { Owns (F.live door.old) self.old }
         ensures fact { F.fact door.new }
         ensures rest { F.rest door.new ≡ F.rest door.old }
-        ensures owns { Owns (F.live door.new) self.new }
-        ensures limits { self.new.limits ≡ self.old.limits }
-        // It came as far as the machine's write, or is refused as that is.
-        ensures wrote { Wrote (F.live door.new) self.new (drop written bytes.now) result
-            (attempted (meaning (F.live door.old) self.old.state) pid (Writing fd bytes.now written)) }
-
-        // Where no byte went in, nothing has changed.
-        ensures untouched { IfOk result
-            (λ progress. moved progress ≡ 0 → (self.new ≡ self.old) × (door.new ≡ door.old)) }
-        ensures refused { OnErr result ((self.new ≡ self.old) × (door.new ≡ door.old)) }
+        // It came as far as the machine's write, or is refused as that is. Where no byte went in, nothing has changed.
+        ensures wrote { Wrote F.live door.old door.new self.old self.new pid (Writing fd bytes.now written)
+            (drop written bytes.now) result }
     {
         let sink = writing_end(&self.processes, &self.descriptions, pid, fd)?;
         if bytes.len() > MAX_WRITE {
@@ -109,8 +94,8 @@ impl<A: Allocator> Tables<A> {
         Ok(pipe.write_now(door, &bytes[written..], whole))
     }
 
-    /// Takes at most n bytes from the front of the pipe that a process's descriptor reads. What memory they need is made
-    /// first, at its exact size.
+    /// Takes at most n bytes from the front of the pipe that a process's descriptor reads. What memory they need is
+    /// made first, at its exact size.
     #[inline(always)]
     pub fn read_now<F: Frames>(
         &mut self,
@@ -124,19 +109,11 @@ impl<A: Allocator> Tables<A> {
         requires owns { Owns (F.live door.old) self.old }
         ensures fact { F.fact door.new }
         ensures rest { F.rest door.new ≡ F.rest door.old }
-        ensures owns { Owns (F.live door.new) self.new }
-        ensures limits { self.new.limits ≡ self.old.limits }
         // It came as far as the machine's read, or is refused as that is, or memory was wanted for a process that
-        // lives.
-        ensures read { HasRead (F.live door.new) self.new result
-            (attempted (meaning (F.live door.old) self.old.state) pid (Reading fd n)) }
+        // lives. Where no byte came out, nothing has changed.
+        ensures read { HasRead F.live door.old door.new self.old self.new pid (Reading fd n) result }
         ensures ready { result ≡ Err Fault.NoMemory
             → IsOk (ready (meaning (F.live door.old) self.old.state) pid) }
-
-        // Where no byte came out, nothing has changed.
-        ensures untouched { IfOk result
-            (λ t. moved t.progress ≡ 0 → (self.new ≡ self.old) × (door.new ≡ door.old)) }
-        ensures refused { OnErr result ((self.new ≡ self.old) × (door.new ≡ door.old)) }
     {
         let end = reading_end(&self.processes, &self.descriptions, pid, fd)?;
         let pipe = self.pipes.value_mut(end.pipe);
@@ -158,16 +135,8 @@ impl<A: Allocator> Tables<A> {
         requires owns { Owns (F.live door.old) self.old }
         ensures fact { F.fact door.new }
         ensures rest { F.rest door.new ≡ F.rest door.old }
-        ensures owns { Owns (F.live door.new) self.new }
-        ensures limits { self.new.limits ≡ self.old.limits }
-        // It came as far as the machine's read, or is refused as that is.
-        ensures read { HasReadInto (F.live door.new) self.new buffer.old buffer.new result
-            (attempted (meaning (F.live door.old) self.old.state) pid (Reading fd (length buffer.old))) }
-
-        // Where no byte came out, nothing has changed.
-        ensures untouched { IfOk result
-            (λ progress. moved progress ≡ 0 → (self.new ≡ self.old) × (door.new ≡ door.old)) }
-        ensures refused { OnErr result ((self.new ≡ self.old) × (door.new ≡ door.old)) }
+        // It came as far as the machine's read, or is refused as that is. Where no byte came out, nothing has changed.
+        ensures read { HasReadInto F.live door.old door.new self.old self.new pid fd buffer.old buffer.new result }
     {
         let source = reading_end(&self.processes, &self.descriptions, pid, fd)?;
         let pipe = self.pipes.value_mut(source.pipe);
@@ -189,27 +158,20 @@ impl<A: Allocator> Tables<A> {
         requires owns { Owns (F.live door.old) self.old }
         ensures fact { F.fact door.new }
         ensures rest { F.rest door.new ≡ F.rest door.old }
-        ensures owns { Owns (F.live door.new) self.new }
-        ensures limits { self.new.limits ≡ self.old.limits }
-        // It came as far as the machine's read, or is refused as that is.
-        ensures read { HasReadTruncated (F.live door.new) self.new buffer.old buffer.new result
-            (attempted (meaning (F.live door.old) self.old.state) pid (Reading fd n)) }
-
-        // Where no byte came out, nothing has changed.
-        ensures untouched { IfOk result
-            (λ progress. moved progress ≡ 0 → (self.new ≡ self.old) × (door.new ≡ door.old)) }
-        ensures refused { OnErr result ((self.new ≡ self.old) × (door.new ≡ door.old)) }
+        // It came as far as the machine's read, or is refused as that is. Where no byte came out, nothing has changed.
+        ensures read { HasReadTruncated F.live door.old door.new self.old self.new pid (Reading fd n) buffer.old
+            buffer.new result }
     {
         let source = reading_end(&self.processes, &self.descriptions, pid, fd)?;
         let pipe = self.pipes.value_mut(source.pipe);
         Ok(pipe.read_truncated(door, n as usize, buffer))
     }
 
-    /// Brings at most n bytes from the front of the pipe that one descriptor of a process reads to the end of the pipe that
-    /// another one writes: a copy of them, or the bytes themselves.
-    // A tee and a splice differ in what the source holds afterwards, and in nothing else. No count of a frame passes 32 bits:
-    // a frame is named by at most as many slots as all pipes have, which are within the reservation, at most 65,536.
-    // Inlined, it makes a write and a read slower by a third.
+    /// Brings at most n bytes from the front of the pipe that one descriptor of a process reads to the end of the pipe
+    /// that another one writes: a copy of them, or the bytes themselves.
+    // A tee and a splice differ in what the source holds afterwards, and in nothing else. No count of a frame passes 32
+    // bits: a frame is named by at most as many slots as all pipes have, which are within the reservation, at most
+    // 65,536. Inlined, it makes a write and a read slower by a third.
     #[inline(never)]
     pub fn cross_now<F: Frames>(
         &mut self,
@@ -224,17 +186,11 @@ impl<A: Allocator> Tables<A> {
         requires owns { Owns (F.live door.old) self.old }
         ensures fact { F.fact door.new }
         ensures rest { F.rest door.new ≡ F.rest door.old }
-        ensures owns { Owns (F.live door.new) self.new }
-        ensures limits { self.new.limits ≡ self.old.limits }
-        // It came as far as the machine's, or is refused as that is.
-        ensures crossed { HasCrossed (F.live door.new) self.new result
-            (attempted (meaning (F.live door.old) self.old.state) pid (Bringing crossing source sink n)) }
-
-        // No frame is taken or freed. Where no byte came, nothing has changed.
+        // It came as far as the machine's, or is refused as that is. Where no byte came, nothing has changed.
+        ensures crossed { HasCrossed F.live door.old door.new self.old self.new pid (Bringing crossing source sink n)
+            result }
+        // No frame is taken or freed.
         ensures takes { (F.live door.new).held ≡ (F.live door.old).held }
-        ensures untouched { IfOk result
-            (λ progress. moved progress ≡ 0 → (self.new ≡ self.old) × (door.new ≡ door.old)) }
-        ensures refused { OnErr result ((self.new ≡ self.old) × (door.new ≡ door.old)) }
     {
         let from = reading_end(&self.processes, &self.descriptions, pid, source)?;
         let to = writing_end(&self.processes, &self.descriptions, pid, sink)?;

@@ -1,32 +1,12 @@
 -- It chains two changes where it waits: an attempt that moved nothing, and a process that parks; and the question
 -- whether it may wait comes between.
 
-use Rattle.std.proofs.Common.{◌≡◌, length, false, Ok, refl, sym, ap, subst, ◌∙◌}
-use Rattle.pf_machine.specs.Calls.{Reading, Moving}
-use Rattle.pf_machine.specs.Progress.{moved}
-use Rattle.pf_machine.specs.Attempts.{transfer_told}
-use Rattle.pf_base.specs.declared.step.Reply.TheVariants as replies
-use Rattle.pf_tables.specs.Meaning.{Namespace, meaning}
-use Rattle.pf_tables.specs.Told.{Told, tried_call, is_nonblocking_at}
-use Rattle.pf_space.proofs.ParkedTransfers.{parks}
+use Rattle.std.proofs.Common.{refl, sym, ◌∙◌}
+use Rattle.pf_tables.specs.Told.{is_nonblocking_at}
+use Rattle.pf_space.proofs.ParkedTransfers.{waits_first}
 use Rattle.pf_space.proofs.space.Space.fill.Goals as goal
 
 pub returns-clause-told : goal.returns-clause-told
 returns-clause-told g c =
-    let f = g.F.Frames.live c.args.door.now in
-    let after = g.F.Frames.live c.read_into.new.door in
-    let t = Reading c.args.fd (length c.args.buffer.now) in
-    let came = c.in_ok-number.ensures.read.0 in
-    let same = c.in_ok-number.ensures.untouched (ap moved c.in-WouldBlock.is) in
-    let told =
-    parks f after c.self.inside.tables c.read_into.new.self c.park.new.self c.args.pid t came.tried came.is
-    c.in_ok-number.ensures.owns c.in_ok-number.ensures.limits came.state (Moving t) refl
-    (ap (transfer_told t came.tried) (came.progress_is ∙ c.in-WouldBlock.is)) c.park.ensures in
-    let flag : is_nonblocking_at c.self.inside.tables.state c.args.pid c.args.fd ≡ false =
-    ap (λ (o : Namespace). is_nonblocking_at o.state c.args.pid c.args.fd) (sym same.0)
-    ∙ sym c.is_nonblocking.ensures ∙ c.if-is_nonblocking.false in
-    subst (λ (o : Namespace). Told f after o c.park.new.self (Ok replies.Parked)
-    (tried_call (meaning f o.state) c.args.pid (is_nonblocking_at o.state c.args.pid c.args.fd) t))
-    c.self.view_is
-    (subst (λ b. Told f after c.self.inside.tables c.park.new.self (Ok replies.Parked)
-    (tried_call (meaning f c.self.inside.tables.state) c.args.pid b t)) (sym flag) told)
+    waits_first g.F.Frames.live c.in_ok-number.ensures.read.0 c.self.view_is c.in-WouldBlock.is refl c.park.ensures
+    (λ s. is_nonblocking_at s c.args.pid c.args.fd) (sym c.is_nonblocking.ensures ∙ c.if-is_nonblocking.false)

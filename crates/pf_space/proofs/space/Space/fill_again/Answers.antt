@@ -1,7 +1,7 @@
 -- It chains three changes: the call is taken from its process, the read is made as a first one would be, and where it
 -- has to wait the process parks again.
 
-use Rattle.std.proofs.Common.{◌≡◌, Some, None, Ok, Err, refl, sym, ap, subst, rules, ◌∙◌}
+use Rattle.std.proofs.Common.{◌≡◌, Some, Err, refl, sym, ap, subst, rules, ◌∙◌}
 use Rattle.pf_machine.specs.Calls.{Reading, Moving}
 use Rattle.pf_machine.specs.Machine.{call_of}
 use Rattle.pf_tables.specs.Meaning.{Namespace, meaning}
@@ -24,48 +24,36 @@ read_truncated-requires-clause-owns g c =
 
 pub returns-in_err-number-clause-answers : goal.returns-in_err-number-clause-answers
 returns-in_err-number-clause-answers g c =
-    let same = c.in_err-number.ensures.refused in
+    let owns =
+    woken_owns _ c.self.view_is c.requires.owns c.args.pid c.wake.ensures.namespace c.wake.ensures.swept in
     let told =
-    lemmas.is_refused (g.F.Frames.live c.args.door.now) (g.F.Frames.live c.read_truncated.new.door)
-    c.read_truncated.new.self c.self.view_is c.args.pid c.args.fd c.args.n c.requires.waits c.wake.ensures.namespace
-    c.settled.ensures (Err c.in_err-number.field-0.0) c.args.buffer.now c.read_truncated.new.buffer
-    c.in_err-number.field-0.0 c.in_err-number.ensures.read.0 c.in_err-number.ensures.owns c.in_err-number.ensures.limits
-    (λ i. meaning (g.F.Frames.live (same.1 i)) (same.0 i).state) refl c.in_err-number.ensures.read.1 in
+    lemmas.is_refused g.F.Frames.live c.self.view_is _ c.requires.waits c.wake.ensures.namespace c.settled.ensures
+    {told = Err c.in_err-number.field-0.0} _ c.in_err-number.ensures.read.0 owns refl c.in_err-number.ensures.read.1 in
     search rules
 
 pub returns-in-Moved-clause-answers : goal.returns-in-Moved-clause-answers
 returns-in-Moved-clause-answers g c =
-    let made = c.in_ok-number.ensures in
-    lemmas.comes (g.F.Frames.live c.args.door.now) (g.F.Frames.live c.read_truncated.new.door) c.read_truncated.new.self
-    c.self.view_is c.args.pid
-    c.args.fd c.args.n c.requires.waits c.wake.ensures.namespace c.settled.ensures (Ok (Some c.in-Moved.number))
-    c.args.buffer.now c.read_truncated.new.buffer _ made.read made.owns made.limits c.in-Moved.number c.in-Moved.is refl
+    lemmas.comes g.F.Frames.live c.self.view_is _ c.requires.waits c.wake.ensures.namespace c.settled.ensures _
+    c.in_ok-number.ensures.read c.in-Moved.is refl
 
 pub returns-in-EndOfFile-clause-answers : goal.returns-in-EndOfFile-clause-answers
 returns-in-EndOfFile-clause-answers g c =
-    let made = c.in_ok-number.ensures in
-    lemmas.ends (g.F.Frames.live c.args.door.now) (g.F.Frames.live c.read_truncated.new.door) c.read_truncated.new.self
-    c.self.view_is c.args.pid
-    c.args.fd c.args.n c.requires.waits c.wake.ensures.namespace c.settled.ensures (Ok (Some 0)) c.args.buffer.now
-    c.read_truncated.new.buffer _ made.read made.owns made.limits c.in-EndOfFile.is refl
+    lemmas.ends g.F.Frames.live c.self.view_is _ c.requires.waits c.wake.ensures.namespace c.settled.ensures _
+    c.in_ok-number.ensures.read c.in-EndOfFile.is refl
 
 pub returns-clause-answers : goal.returns-clause-answers
 returns-clause-answers g c =
-    let made = c.in_ok-number.ensures in
-    lemmas.waits_on (g.F.Frames.live c.args.door.now) (g.F.Frames.live c.read_truncated.new.door) c.park.new.self
-    c.self.view_is
-    c.args.pid c.args.fd c.args.n c.requires.waits c.wake.ensures.namespace c.settled.ensures (Ok None)
-    c.args.buffer.now c.read_truncated.new.buffer c.read_truncated.new.self _ made.read made.owns made.limits
-    c.in-WouldBlock.is c.park.ensures refl
+    lemmas.waits_on g.F.Frames.live c.self.view_is _ c.requires.waits c.wake.ensures.namespace c.settled.ensures _
+    c.in_ok-number.ensures.read c.in-WouldBlock.is c.park.ensures refl
 
 pub returns-clause-owns : goal.returns-clause-owns
 returns-clause-owns g c =
-    let owns = c.in_ok-number.ensures.owns in
+    let owns = c.in_ok-number.ensures.read.owns in
     subst (Owns (g.F.Frames.live c.read_truncated.new.door)) (sym c.park.ensures)
     (record { joined = owns.joined; reserve = owns.reserve })
 
 pub returns-clause-limits : goal.returns-clause-limits
 returns-clause-limits g c =
-    ap (λ (n : Namespace). n.limits) c.park.ensures ∙ c.in_ok-number.ensures.limits
+    ap (λ (n : Namespace). n.limits) c.park.ensures ∙ c.in_ok-number.ensures.read.limits
     ∙ ap (λ (n : Namespace). n.limits) c.wake.ensures.namespace
     ∙ ap (λ (n : Namespace). n.limits) c.self.view_is

@@ -45,5 +45,4 @@ pub returns-clause-says : goal.returns-clause-says
 returns-clause-says g c =
     let old = c.args.self.now in
     rw (goes_on old.limits old.state c.args.pid c.args.path.now c.new-access.ensures c.in_ok-file.file
-    c.in_ok-file.ensures.told)
-    (rw (c.in_ok-reply.ensures.closed (ap Ok c.in_default.is)).1 at c.open_new.ensures.says)
+    c.in_ok-file.ensures.told) (rw (c.in_ok-reply.ensures.closed (ap Ok c.in_default.is)).1 at c.open_new.ensures.says)

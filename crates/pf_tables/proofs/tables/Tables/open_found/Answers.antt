@@ -20,24 +20,9 @@ value_mut-pipe-requires g c = record {
       (sym c.get.ensures.value ∙ sym c.copied.ensures ∙ c.in-Some.is);
 }
 
-pub count-requires-clause-readers : goal.count-requires-clause-readers
-count-requires-clause-readers g c =
-    lemmas.few_readers c.self.invariant c.self.view_is c.args.pid c.args.access c.args.file c.requires.may _ _
-    c.value_mut-pipe.ensures.value
-
-pub count-requires-clause-writers : goal.count-requires-clause-writers
-count-requires-clause-writers g c =
-    lemmas.few_writers c.self.invariant c.self.view_is c.args.pid c.args.access c.args.file c.requires.may _ _
-    c.value_mut-pipe.ensures.value
-
-pub count-requires-clause-read_opens : goal.count-requires-clause-read_opens
-count-requires-clause-read_opens g c =
-    lemmas.few_read_opens c.self.invariant c.self.view_is c.args.pid c.args.access c.args.file c.requires.may _ _
-    c.value_mut-pipe.ensures.value
-
-pub count-requires-clause-write_opens : goal.count-requires-clause-write_opens
-count-requires-clause-write_opens g c =
-    lemmas.few_write_opens c.self.invariant c.self.view_is c.args.pid c.args.access c.args.file c.requires.may _ _
+pub count-requires : goal.count-requires
+count-requires g c =
+    lemmas.is_few c.self.invariant c.self.view_is c.args.pid c.args.access c.args.file c.requires.may _ _
     c.value_mut-pipe.ensures.value
 
 pub describe-requires-clause-spare : goal.describe-requires-clause-spare
@@ -48,9 +33,8 @@ pub invariant_of-self-2 : goal.invariant_of-self-2
 invariant_of-self-2 g c =
     let drawn = ap (λ (x : Descriptions Description). x.items) c.in_ok-reserve.ensures.rest in
     let z = rw (drawn, c.end.ensures, c.before-kept.ensures) at c.describe.ensures in
-    rw c.count.ensures
-    (lemmas.joined-whole c.self.invariant c.self.view_is c.args.pid c.args.access c.args.file c.requires.may
-    c.in-Some.key _ c.value_mut-pipe.ensures.value c.requires.sided z)
+    rw c.count.ensures (lemmas.joined-whole c.self.invariant c.self.view_is c.args.pid c.args.access c.args.file
+    c.requires.may c.in-Some.key _ c.value_mut-pipe.ensures.value c.requires.sided z)
 
 pub returns-clause-opens : goal.returns-clause-opens
 returns-clause-opens g c =

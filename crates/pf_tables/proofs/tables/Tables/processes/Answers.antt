@@ -18,5 +18,5 @@ returns-clause-none g c zero =
     c.alive.ensures ∙ sym (shown_alive c.self.inside.processes)
     ∙ ap (λ (n : Namespace). alive n.state) c.self.view_is in
     let swept : c.args.self.now.state ≡ sweep itself c.args.self.now.state =
-    rw (← c.self.view_is) (settled _ _ _ _ _ c.self.invariant.kept.tied) in
+    rw (← c.self.view_is) (settled _ _ c.self.invariant.kept.tied) in
     holds_none c.args.self.now swept (sym counted ∙ zero)

@@ -1,54 +1,34 @@
 use Rattle.std.proofs.Common.{sym, Some, rules}
 use Rattle.pf_base.specs.declared.progress.Side.TheVariants.{Read}
 use Rattle.pf_tables.proofs.Transfers as lemmas
-use Rattle.pf_tables.proofs.Fifos.{fifos-put}
 use Rattle.pf_tables.proofs.tables.Tables.read_truncated.Goals as goal
 
 pub returns-in_err-source-clause-read : goal.returns-in_err-source-clause-read
 returns-in_err-source-clause-read g c =
     let refused =
-    lemmas.no_read c.self.invariant.kept c.self.view_is c.requires.owns
-    c.args.pid c.args.fd c.args.n _ (sym c.in_err-source.ensures) in
+    lemmas.no_read c.self.invariant c.self.view_is c.args.pid c.args.fd c.requires.owns c.args.n _
+    (sym c.in_err-source.ensures) in
     search (refused, rules)
 
 pub value_mut-pipe-requires : goal.value_mut-pipe-requires
 value_mut-pipe-requires g c = record {
   stands =
-      lemmas.pipe_there c.self.invariant.kept c.self.view_is c.requires.owns c.args.pid c.args.fd c.in_ok-source.source
+      lemmas.pipe_there c.self.invariant c.self.view_is c.args.pid c.args.fd c.requires.owns c.in_ok-source.source
       (Some Read) (sym c.in_ok-source.ensures);
 }
 
 pub read_truncated-requires-clause-stands : goal.read_truncated-requires-clause-stands
 read_truncated-requires-clause-stands g c =
-    lemmas.stands_in c.self.invariant.kept c.self.view_is c.requires.owns
-    c.in_ok-source.source _ c.value_mut-pipe.ensures.value
+    lemmas.stands_in c.self.invariant.kept c.self.view_is c.requires.owns c.in_ok-source.source
+    c.value_mut-pipe.ensures.value
 
 pub invariant_of-self : goal.invariant_of-self
 invariant_of-self g c =
-    record {
-      kept =
-          lemmas.passed-kept c.self.invariant.kept c.self.view_is c.requires.owns
-          c.in_ok-source.source _ c.value_mut-pipe.ensures.value _ _ _ _ c.read_truncated.ensures.passes;
-      filed =
-          fifos-put _ _ c.in_ok-source.source.pipe _ _ c.value_mut-pipe.ensures.value
-          c.read_truncated.ensures.passes.opens c.self.invariant.filed;
-    }
-
-pub returns-clause-owns : goal.returns-clause-owns
-returns-clause-owns g c =
-    lemmas.passed-owns c.self.invariant.kept c.self.view_is c.requires.owns c.in_ok-source.source _
-    c.value_mut-pipe.ensures.value _ _ _ _ c.read_truncated.ensures.passes
+    lemmas.passed-whole c.self.invariant c.self.view_is c.in_ok-source.source c.value_mut-pipe.ensures.value
+    c.read_truncated.ensures.passes
 
 pub returns-clause-read : goal.returns-clause-read
 returns-clause-read g c =
-    lemmas.was_truncated c.self.invariant.kept c.self.view_is c.requires.owns
-    c.args.pid c.args.fd c.in_ok-source.source _ c.value_mut-pipe.ensures.value _ _ _ c.args.n c.args.buffer.now _
-    (sym c.in_ok-source.ensures) c.read_truncated.ensures.bytes c.read_truncated.ensures.passes
-
-pub returns-clause-untouched : goal.returns-clause-untouched
-returns-clause-untouched g c none =
-    let u = c.read_truncated.ensures.untouched none in (
-      lemmas.same_view c.self.invariant.kept c.self.view_is c.requires.owns c.in_ok-source.source _
-          c.value_mut-pipe.ensures.value _ u.0,
-      u.1,
-    )
+    lemmas.was_truncated c.self.invariant c.self.view_is g.F.Frames.live c.requires.owns c.args.pid c.args.fd
+    c.in_ok-source.source _ c.value_mut-pipe.ensures.value c.read_truncated.ensures.untouched c.args.n
+    c.args.buffer.now _ (sym c.in_ok-source.ensures) c.read_truncated.ensures.bytes c.read_truncated.ensures.passes

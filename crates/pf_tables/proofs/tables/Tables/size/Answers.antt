@@ -5,16 +5,16 @@ use Rattle.pf_tables.proofs.tables.Tables.size.Goals as goal
 pub returns-in_err-end-clause-says : goal.returns-in_err-end-clause-says
 returns-in_err-end-clause-says g c =
     let refused =
-    lemmas.no_size c.self.invariant.kept c.self.view_is c.args.pid c.args.fd (sym c.in_err-end.ensures) in
+    lemmas.no_size c.self.invariant c.self.view_is c.args.pid c.args.fd (sym c.in_err-end.ensures) in
     search rules
 
 pub returns-in_default : goal.returns-in_default
 returns-in_default g c =
     let there =
-    lemmas.pipe_there c.self.invariant.kept c.self.view_is c.args.pid c.args.fd (sym c.in_ok-end.ensures) in
+    lemmas.pipe_there c.self.invariant c.self.view_is c.args.pid c.args.fd (sym c.in_ok-end.ensures) in
     search rules
 
 pub returns-clause-says : goal.returns-clause-says
 returns-clause-says g c =
-    lemmas.tells_size c.self.invariant.kept c.self.view_is c.args.pid c.args.fd (sym c.in_ok-end.ensures)
+    lemmas.tells_size c.self.invariant c.self.view_is c.args.pid c.args.fd (sym c.in_ok-end.ensures)
     (sym c.in-Some.ensures) _ (omega (arith, c.slots.ensures))

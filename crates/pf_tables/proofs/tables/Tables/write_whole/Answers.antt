@@ -5,7 +5,6 @@ use Rattle.pf_base.specs.declared.progress.Side.TheVariants.{Write}
 use Rattle.pf_ring.specs.Ring.{queue_of}
 use Rattle.pf_tables.specs.Told.{IsDone}
 use Rattle.pf_tables.proofs.Transfers as lemmas
-use Rattle.pf_tables.proofs.Fifos.{fifos-put}
 use Rattle.pf_tables.proofs.TransfersWhole.{ends, stops_at}
 use Rattle.pf_tables.proofs.tables.Tables.write_whole.Given.{Over}
 use Rattle.pf_tables.proofs.tables.Tables.write_whole.Goals as goal
@@ -15,77 +14,54 @@ use Rattle.pf_tables.proofs.tables.Tables.write_whole.Goals.{else-readers-gt0-vi
 pub returns-in_err-end-clause-written : goal.returns-in_err-end-clause-written
 returns-in_err-end-clause-written g c =
     let refused =
-    lemmas.no_write c.self.invariant.kept c.self.view_is c.requires.owns
-    c.args.pid c.args.fd c.args.bytes.now 0 _ (sym c.in_err-end.ensures) in
+    lemmas.no_write c.self.invariant c.self.view_is c.args.pid c.args.fd c.requires.owns c.args.bytes.now 0 _
+    (sym c.in_err-end.ensures) in
     search rules
 
 pub returns-then-bytes-gt-MAX_WRITE-clause-written : goal.returns-then-bytes-gt-MAX_WRITE-clause-written
-returns-then-bytes-gt-MAX_WRITE-clause-written g c =
-    lemmas.too_long c.self.invariant.kept c.self.view_is c.requires.owns
-    c.args.pid c.args.fd c.in_ok-end.end c.args.bytes.now 0 (sym c.in_ok-end.ensures) c.if-bytes-gt-MAX_WRITE.true
+returns-then-bytes-gt-MAX_WRITE-clause-written g c = (
+  lemmas.too_long c.self.invariant c.self.view_is c.args.pid c.args.fd c.requires.owns c.in_ok-end.end
+      c.args.bytes.now 0 (sym c.in_ok-end.ensures) c.if-bytes-gt-MAX_WRITE.true,
+  (refl, refl),
+)
 
 pub value_mut-pipe-requires : goal.value_mut-pipe-requires
 value_mut-pipe-requires g c = record {
   stands =
-      lemmas.pipe_there c.self.invariant.kept c.self.view_is c.requires.owns c.args.pid c.args.fd c.in_ok-end.end
+      lemmas.pipe_there c.self.invariant c.self.view_is c.args.pid c.args.fd c.requires.owns c.in_ok-end.end
       (Some Write) (sym c.in_ok-end.ensures);
 }
 
 pub invariant_of-self : goal.invariant_of-self
 invariant_of-self g c =
-    record {
-      kept =
-          lemmas.same_kept c.self.invariant.kept c.self.view_is c.requires.owns c.in_ok-end.end _
-          c.value_mut-pipe.ensures.value _ refl;
-      filed = fifos-put _ _ c.in_ok-end.end.pipe _ _ c.value_mut-pipe.ensures.value refl c.self.invariant.filed;
-    }
-
-pub returns-then-room-bytes-clause-owns : goal.returns-then-room-bytes-clause-owns
-returns-then-room-bytes-clause-owns g c =
-    rw
-    (lemmas.same_view c.self.invariant.kept c.self.view_is c.requires.owns c.in_ok-end.end _
-    c.value_mut-pipe.ensures.value _ refl) c.requires.owns
+    lemmas.same-whole c.self.invariant c.self.view_is c.in_ok-end.end c.value_mut-pipe.ensures.value refl
 
 pub returns-then-room-bytes-clause-written : goal.returns-then-room-bytes-clause-written
-returns-then-room-bytes-clause-written g c =
-    stops_at (g.F.Frames.live c.args.door.now) c.self.invariant.kept c.self.view_is c.args.pid c.args.fd
-    c.in_ok-end.end _ c.args.bytes.now (sym c.in_ok-end.ensures) c.value_mut-pipe.ensures.value
-    c.if-bytes-gt-MAX_WRITE.false
-    (subst (λ k. 0 < k) c.readers.ensures c.if-readers-gt0.true)
-    (subst (λ k. k < length c.args.bytes.now) (c.room.ensures (g.F.Frames.live c.args.door.now)) c.if-room-bytes.true)
-
-pub returns-then-room-bytes-clause-waits : goal.returns-then-room-bytes-clause-waits
-returns-then-room-bytes-clause-waits g c nothing = (
-  lemmas.same_view c.self.invariant.kept c.self.view_is c.requires.owns
-      c.in_ok-end.end _ c.value_mut-pipe.ensures.value _ refl,
-  refl,
+returns-then-room-bytes-clause-written g c = (
+  stops_at (g.F.Frames.live c.args.door.now) c.self.invariant.kept c.self.view_is c.args.pid c.args.fd c.in_ok-end.end _
+      c.args.bytes.now (sym c.in_ok-end.ensures) c.value_mut-pipe.ensures.value c.if-bytes-gt-MAX_WRITE.false
+      (subst (λ k. 0 < k) c.readers.ensures c.if-readers-gt0.true)
+      (subst (λ k. k < length c.args.bytes.now) (c.room.ensures (g.F.Frames.live c.args.door.now))
+      c.if-room-bytes.true),
+  (
+    lemmas.same_view c.self.invariant c.self.view_is c.in_ok-end.end c.value_mut-pipe.ensures.value refl,
+    refl,
+  ),
 )
 
 pub write_now-requires-clause-stands : goal.write_now-requires-clause-stands
 write_now-requires-clause-stands g c =
-    lemmas.stands_in c.self.invariant.kept c.self.view_is c.requires.owns
-    c.in_ok-end.end _ c.value_mut-pipe.ensures.value
+    lemmas.stands_in c.self.invariant.kept c.self.view_is c.requires.owns c.in_ok-end.end c.value_mut-pipe.ensures.value
 
 pub write_now-requires-clause-credits : goal.write_now-requires-clause-credits
 write_now-requires-clause-credits g c =
-    lemmas.credits c.self.invariant.kept c.self.view_is c.requires.owns
-    c.in_ok-end.end _ c.value_mut-pipe.ensures.value (g.met.F.Frames.sound _ c.requires.fact)
+    lemmas.credits c.self.invariant.kept c.self.view_is c.requires.owns c.in_ok-end.end
+    c.value_mut-pipe.ensures.value (g.met.F.Frames.sound _ c.requires.fact)
 
 pub invariant_of-self-2 : goal.invariant_of-self-2
 invariant_of-self-2 g c =
-    record {
-      kept =
-          lemmas.passed-kept c.self.invariant.kept c.self.view_is c.requires.owns c.in_ok-end.end _
-          c.value_mut-pipe.ensures.value _ _ _ _ c.write_now.ensures.passes;
-      filed =
-          fifos-put _ _ c.in_ok-end.end.pipe _ _ c.value_mut-pipe.ensures.value c.write_now.ensures.passes.opens
-          c.self.invariant.filed;
-    }
-
-pub returns-clause-owns : goal.returns-clause-owns
-returns-clause-owns g c =
-    lemmas.passed-owns c.self.invariant.kept c.self.view_is c.requires.owns c.in_ok-end.end _
-    c.value_mut-pipe.ensures.value _ _ _ _ c.write_now.ensures.passes
+    lemmas.passed-whole c.self.invariant c.self.view_is c.in_ok-end.end c.value_mut-pipe.ensures.value
+    c.write_now.ensures.passes
 
 -- somebody reads the pipe only where there is room for all bytes
 fits : (g : Over) (c : goal.After-self-2-1 g) → 0 < c.value_mut-pipe.result.now.readers
@@ -98,17 +74,9 @@ fits g c some = elim c.else-readers-gt0.branch [
 
 pub returns-clause-written : goal.returns-clause-written
 returns-clause-written g c = (
-  lemmas.wrote c.self.invariant.kept c.self.view_is c.requires.owns
-      c.args.pid c.args.fd c.in_ok-end.end _ c.value_mut-pipe.ensures.value _ _ _ c.args.bytes.now 0 _
+  lemmas.wrote c.self.invariant c.self.view_is g.F.Frames.live c.requires.owns c.args.pid c.args.fd
+      c.in_ok-end.end _ c.value_mut-pipe.ensures.value c.write_now.ensures.untouched c.args.bytes.now 0 _
       (sym c.in_ok-end.ensures) c.if-bytes-gt-MAX_WRITE.false refl c.write_now.ensures.passes,
   subst (λ (m : Passed). IsDone m.progress (length c.args.bytes.now)) c.write_now.ensures.passes.told
       (ends _ _ c.args.bytes.now _ (fits g c)),
 )
-
-pub returns-clause-untouched : goal.returns-clause-untouched
-returns-clause-untouched g c none =
-    let u = c.write_now.ensures.untouched none in (
-      lemmas.same_view c.self.invariant.kept c.self.view_is c.requires.owns c.in_ok-end.end _
-          c.value_mut-pipe.ensures.value _ u.0,
-      u.1,
-    )
