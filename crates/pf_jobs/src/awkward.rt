@@ -4,7 +4,7 @@
 
 use crate::host::{Host, spawn};
 use crate::random::{Store, below};
-use pf_base::{ByteString, Groups, Reply, Step};
+use pf_base::{ByteString, Groups, Step};
 use rand_pcg::Pcg32;
 use std::alloc::{AllocError, Global};
 
@@ -24,7 +24,7 @@ fn read(pid: u32, fd: u32, n: u64) -> Step {
 /// From here on no call waits by this descriptor.
 fn wait_no_more(host: &mut Host, ns: u32, pid: u32, fd: u32) {
     let on = true;
-    let _ = host.tell(ns, &Step::SetNonblock { pid, fd, on });
+    host.make(ns, Step::SetNonblock { pid, fd, on });
 }
 
 /// Resumes whoever can go on, as often as somebody can, but so many times at most.
@@ -38,7 +38,7 @@ fn resume_all(host: &mut Host, ns: u32, most: u32) {
             after = 0;
             continue;
         };
-        let _ = host.tell(ns, &Step::Resume { pid });
+        host.make(ns, Step::Resume { pid });
         after = pid;
     }
 }
@@ -53,15 +53,15 @@ fn drip(
     let (reading, writing) = host.pipe(0, 1);
     let (writer, reader) = (host.fork(0, 1), host.fork(0, 1));
     let first = store.cut(alloc, random, 61_000)?;
-    let _ = host.tell(0, &write(1, writing, first));
+    host.make(0, write(1, writing, first));
     let all = store.cut(alloc, random, MIB)?;
-    let _ = host.tell(0, &write(writer, writing, all));
+    host.make(0, write(writer, writing, all));
     for _ in 0..600 {
         let n = 1_024 + u64::from(below(random, 3_072));
-        if let Reply::Parked = host.tell(0, &read(reader, reading, n)) {
+        if host.waits(0, read(reader, reading, n)) {
             break;
         }
-        let _ = host.tell(0, &Step::Resume { pid: writer });
+        host.make(0, Step::Resume { pid: writer });
     }
     host.exit(0, writer);
     host.exit(0, reader);
@@ -80,9 +80,9 @@ fn cross(
     let (reading, writing) = host.pipe(1, 1);
     wait_no_more(host, 1, 1, writing);
     let (other_reading, other_writing) = host.pipe(1, 1);
-    let _ = host.tell(
+    host.make(
         1,
-        &Step::SetSize {
+        Step::SetSize {
             pid: 1,
             fd: other_writing,
             bytes: 1_048_576,
@@ -91,7 +91,7 @@ fn cross(
     for _ in 0..24 {
         let size = 1 + below(random, 6_000) as usize;
         let payload = store.cut(alloc, random, size)?;
-        let _ = host.tell(1, &write(1, writing, payload));
+        host.make(1, write(1, writing, payload));
         for _ in 0..12 {
             let n = 1 + u64::from(below(random, 3));
             let (pid, source, sink, nonblock) = (1, reading, other_writing, true);
@@ -112,12 +112,12 @@ fn cross(
                     nonblock,
                 }
             };
-            let _ = host.tell(1, &step);
+            host.make(1, step);
         }
         let n = u64::from(below(random, 5_000)) + 1;
-        let _ = host.tell(
+        host.make(
             1,
-            &Step::Splice {
+            Step::Splice {
                 pid: 1,
                 source: reading,
                 sink: other_writing,
@@ -127,7 +127,7 @@ fn cross(
         );
         host.ask_readiness(1, 1, other_reading);
         let most = u64::from(below(random, 200)) + 1;
-        let _ = host.tell(1, &read(1, other_reading, most));
+        host.make(1, read(1, other_reading, most));
     }
     for fd in [reading, writing, other_reading, other_writing] {
         host.close(1, 1, fd);
@@ -140,9 +140,9 @@ fn crowd_of_descriptors(host: &mut Host, random: &mut Pcg32) {
     let parent = host.fork(0, 1);
     let (_, writing) = host.pipe(0, parent);
     for _ in 0..260 {
-        if let Reply::Err(_) = host.tell(
+        if host.fails(
             0,
-            &Step::Dup {
+            Step::Dup {
                 pid: parent,
                 fd: writing,
             },
@@ -175,12 +175,12 @@ fn crowd_of_readers(
             break;
         }
         readers.push(pid)?;
-        let _ = host.tell(1, &read(pid, reading, 1 + u64::from(below(random, 8))));
+        host.make(1, read(pid, reading, 1 + u64::from(below(random, 8))));
     }
     for _ in 0..40 {
         let size = 1 + below(random, 30) as usize;
         let payload = store.cut(alloc, random, size)?;
-        let _ = host.tell(1, &write(1, writing, payload));
+        host.make(1, write(1, writing, payload));
         resume_all(host, 1, 20);
         host.ask_readiness(1, 1, reading);
     }
@@ -202,10 +202,10 @@ fn greedy(
     let (reading, writing) = host.pipe(0, 1);
     let reader = host.fork(0, 1);
     for _ in 0..100 {
-        let _ = host.tell(0, &read(reader, reading, u64::MAX));
+        host.make(0, read(reader, reading, u64::MAX));
         let size = 1 + below(random, 9_000) as usize;
         let payload = store.cut(alloc, random, size)?;
-        let _ = host.tell(0, &write(1, writing, payload));
+        host.make(0, write(1, writing, payload));
         resume_all(host, 0, 4);
     }
     host.exit(0, reader);
@@ -235,22 +235,22 @@ fn use_up(
     for (_, writing) in &ends {
         let size = 20_000 + below(random, 45_000) as usize;
         let payload = store.cut(alloc, random, size)?;
-        let _ = host.tell(0, &write(owner, *writing, payload));
+        host.make(0, write(owner, *writing, payload));
     }
     for (reading, writing) in &ends {
         for bytes in [131_072, 4_096, 65_536] {
-            let _ = host.tell(
+            host.make(
                 0,
-                &Step::SetSize {
+                Step::SetSize {
                     pid: owner,
                     fd: *writing,
                     bytes,
                 },
             );
         }
-        let _ = host.tell(
+        host.make(
             0,
-            &read(owner, *reading, 1 + u64::from(below(random, 70_000))),
+            read(owner, *reading, 1 + u64::from(below(random, 70_000))),
         );
     }
     host.exit(0, owner);
@@ -262,20 +262,21 @@ fn list(alloc: Global, host: &mut Host, random: &mut Pcg32, names: u32) -> Resul
     let first = below(random, 1_000_000);
     for place in 0..names {
         let path = format!(in alloc; "/{}", first.wrapping_add(place.wrapping_mul(7)))?;
-        let _ = host.tell(
+        host.make(
             0,
-            &Step::Mkfifo {
+            Step::Mkfifo {
                 pid: 1,
                 path: ByteString::from_slice(alloc, path.as_str().as_bytes())?,
                 mode: 0o600,
             },
         );
+        drop(path);
         if place % 250 == 0 {
-            let _ = host.tell(
+            host.make(
                 0,
-                &Step::List {
+                Step::List {
                     pid: 1,
-                    path: ByteString::from_slice(alloc, b"/")?,
+                    path: ByteString::in_place([b'/'; 14], 1),
                 },
             );
         }
@@ -284,33 +285,46 @@ fn list(alloc: Global, host: &mut Host, random: &mut Pcg32, names: u32) -> Resul
 }
 
 /// Plays so many rounds of all of these over one hub.
+fn play_rounds(
+    alloc: Global,
+    host: &mut Host,
+    random: &mut Pcg32,
+    store: &Store,
+    rounds: u32,
+) -> Result<(), AllocError> {
+    for ns in 0..2 {
+        host.make(ns, spawn(1_000, Groups::none()));
+    }
+    for _ in 0..rounds {
+        drip(alloc, host, random, store)?;
+        for _ in 0..8 {
+            cross(alloc, host, random, store)?;
+        }
+        for _ in 0..4 {
+            crowd_of_descriptors(host, random);
+        }
+        crowd_of_readers(alloc, host, random, store)?;
+        greedy(alloc, host, random, store)?;
+        use_up(alloc, host, random, store)?;
+    }
+    let names = if rounds > 1 { 10_000 } else { 300 };
+    list(alloc, host, random, names)
+}
+
+/// The same over a hub of its own, and how many steps were made, and the digest.
 fn play_hub(
     alloc: Global,
     random: &mut Pcg32,
     store: &Store,
     rounds: u32,
-) -> Result<Option<Host>, AllocError> {
+) -> Result<Option<(u64, u64)>, AllocError> {
     let Some(mut host) = Host::new(alloc, 2, RESERVE)? else {
         return Ok(None);
     };
-    for ns in 0..2 {
-        let _ = host.tell(ns, &spawn(1_000, Groups::none()));
-    }
-    for _ in 0..rounds {
-        drip(alloc, &mut host, random, store)?;
-        for _ in 0..8 {
-            cross(alloc, &mut host, random, store)?;
-        }
-        for _ in 0..4 {
-            crowd_of_descriptors(&mut host, random);
-        }
-        crowd_of_readers(alloc, &mut host, random, store)?;
-        greedy(alloc, &mut host, random, store)?;
-        use_up(alloc, &mut host, random, store)?;
-    }
-    let names = if rounds > 1 { 10_000 } else { 300 };
-    list(alloc, &mut host, random, names)?;
-    Ok(Some(host))
+    let played = play_rounds(alloc, &mut host, random, store, rounds);
+    let told = host.end();
+    played?;
+    Ok(Some(told))
 }
 
 /// Plays so many hubs, each with so many rounds, and gives how many steps were made, and the digest.
@@ -325,11 +339,11 @@ pub(crate) fn play(
     let mut steps: u64 = 0;
     let mut value: u64 = 0;
     for _ in 0..hubs {
-        let Some(host) = play_hub(alloc, &mut random, &store, rounds)? else {
+        let Some((made, digest)) = play_hub(alloc, &mut random, &store, rounds)? else {
             return Ok(None);
         };
-        steps = steps.saturating_add(host.steps);
-        value = value.rotate_left(9) ^ host.digest.value();
+        steps = steps.saturating_add(made);
+        value = value.rotate_left(9) ^ digest;
     }
     Ok(Some((steps, value)))
 }

@@ -4,9 +4,10 @@
 
 use crate::host::{Host, limits, spawn};
 use crate::random::{Store, below};
-use pf_base::{ByteString, Groups, Reply, Step};
+use pf_base::{BYTES_IN_PLACE, ByteString, Groups, Reply, Step};
 use rand_pcg::Pcg32;
 use std::alloc::{AllocError, Global};
+use std::mem::replace;
 
 /// How many tenants there are at once.
 const TENANTS: u32 = 64;
@@ -68,9 +69,18 @@ fn read(pid: u32, fd: u32) -> Step {
     Step::Read { pid, fd, n: 65_536 }
 }
 
+/// A shell gives back a token of its pipe.
+fn token() -> Step {
+    Step::Write {
+        pid: 1,
+        fd: 1,
+        payload: ByteString::in_place([b'+'; BYTES_IN_PLACE], 1),
+    }
+}
+
 impl Build {
-    fn new(alloc: Global, ns: u32, seed: u64, stream: u64) -> Build {
-        let mut random = Pcg32::new(seed, stream);
+    fn new(alloc: Global, ns: u32, seed: u64) -> Build {
+        let mut random = Pcg32::new(seed, u64::from(ns));
         let pipelines = 1 + below(&mut random, 6);
         Build {
             ns,
@@ -81,10 +91,33 @@ impl Build {
         }
     }
 
+    /// The build is over, and its tenant goes. Another one comes in its place, where not yet so many have been there.
+    fn change(&mut self, alloc: Global, host: &mut Host, seed: u64, tenants: u32) {
+        if host.hub.retire(self.ns).is_err() {
+            host.digest.add(15);
+            return;
+        }
+        if host.hub.namespaces() as u32 >= tenants {
+            return;
+        }
+        let Some((config, tree)) = limits(alloc, RESERVE) else {
+            return;
+        };
+        let Ok(ns) = host.hub.admit(config, tree) else {
+            host.digest.add(16);
+            return;
+        };
+        host.digest.add(u64::from(ns));
+        drop(replace(self, Build::new(alloc, ns, seed)));
+    }
+
     /// Goes on by one phase.
     fn go_on(&mut self, alloc: Global, host: &mut Host, store: &Store) -> Result<(), AllocError> {
         match self.phase {
-            Phase::Begins => self.begin(alloc, host),
+            Phase::Begins => {
+                self.begin(host);
+                Ok(())
+            }
             Phase::Starts => self.start(host),
             Phase::Flows(0) => {
                 self.phase = Phase::Ends;
@@ -94,25 +127,20 @@ impl Build {
                 self.phase = Phase::Flows(rounds - 1);
                 self.flow(alloc, host, store)
             }
-            Phase::Ends => self.end(host),
+            Phase::Ends => {
+                self.end(host);
+                Ok(())
+            }
             Phase::IsOver => Ok(()),
         }
     }
 
     /// The shell, with a pipe of tokens, and processes of its own beside: few, and of some tenants many.
-    fn begin(&mut self, alloc: Global, host: &mut Host) -> Result<(), AllocError> {
-        let _ = host.tell(self.ns, &spawn(1_000 + self.ns % 1_000, Groups::none()));
+    fn begin(&mut self, host: &mut Host) {
+        host.make(self.ns, spawn(1_000 + self.ns % 1_000, Groups::none()));
         let _ = host.pipe(self.ns, 1);
         for _ in 0..4 {
-            let token = ByteString::from_slice(alloc, b"+")?;
-            let _ = host.tell(
-                self.ns,
-                &Step::Write {
-                    pid: 1,
-                    fd: 1,
-                    payload: token,
-                },
-            );
+            host.make(self.ns, token());
         }
         let beside = if self.ns % 16 == 0 {
             60 + below(&mut self.random, 40)
@@ -123,14 +151,13 @@ impl Build {
             let _ = host.fork(self.ns, 1);
         }
         self.phase = Phase::Starts;
-        Ok(())
     }
 
     /// A pipeline: a pipe between each process and the next one. A child keeps the ends that it needs.
     fn start(&mut self, host: &mut Host) -> Result<(), AllocError> {
-        let _ = host.tell(
+        host.make(
             self.ns,
-            &Step::Read {
+            Step::Read {
                 pid: 1,
                 fd: 0,
                 n: 1,
@@ -164,7 +191,7 @@ impl Build {
         }
         for stage in &self.stages {
             if stage.input != NONE {
-                let _ = host.tell(self.ns, &read(stage.pid, stage.input));
+                host.make(self.ns, read(stage.pid, stage.input));
             }
         }
         self.phase = Phase::Flows(3 + below(&mut self.random, 14));
@@ -189,9 +216,9 @@ impl Build {
         let size = size(&mut self.random);
         let payload = store.cut(alloc, &mut self.random, size)?;
         host.ask_readiness(self.ns, first.pid, first.output);
-        let _ = host.tell(
+        host.make(
             self.ns,
-            &Step::Write {
+            Step::Write {
                 pid: first.pid,
                 fd: first.output,
                 payload,
@@ -207,9 +234,10 @@ impl Build {
             let Some(pid) = host.next_to_go_on(self.ns, 0) else {
                 return;
             };
-            let reply = host.tell(self.ns, &Step::Resume { pid });
-            if let Some(stage) = self.stage(pid) {
-                self.follow(host, stage, reply);
+            let reply = host.tell(self.ns, Step::Resume { pid });
+            match self.stage(pid) {
+                Some(stage) => self.follow(host, stage, reply),
+                None => drop(reply),
             }
         }
     }
@@ -217,122 +245,122 @@ impl Build {
     /// What a process does after its call: at the end of its input it exits.
     fn follow(&self, host: &mut Host, stage: Stage, reply: Reply) {
         match reply {
-            Reply::Bytes(bytes) => {
-                if bytes.as_slice().is_empty() {
-                    host.exit(self.ns, stage.pid);
-                    return;
-                }
-                if stage.output != NONE {
-                    let told = host.tell(
-                        self.ns,
-                        &Step::Write {
-                            pid: stage.pid,
-                            fd: stage.output,
-                            payload: bytes,
-                        },
-                    );
-                    if let Reply::Parked = told {
-                        return;
-                    }
-                }
-                let _ = host.tell(self.ns, &read(stage.pid, stage.input));
-            }
+            Reply::Bytes(bytes) => self.pass_on(host, stage, bytes),
             Reply::Num(_) if stage.input != NONE => {
-                let _ = host.tell(self.ns, &read(stage.pid, stage.input));
+                host.make(self.ns, read(stage.pid, stage.input));
             }
-            _ => {}
+            _ => drop(reply),
         }
+    }
+
+    /// What a process has read goes to the next one.
+    fn pass_on(&self, host: &mut Host, stage: Stage, bytes: ByteString) {
+        if bytes.as_slice().is_empty() {
+            drop(bytes);
+            host.exit(self.ns, stage.pid);
+            return;
+        }
+        if stage.output == NONE {
+            drop(bytes);
+        } else {
+            let write = Step::Write {
+                pid: stage.pid,
+                fd: stage.output,
+                payload: bytes,
+            };
+            if host.waits(self.ns, write) {
+                return;
+            }
+        }
+        host.make(self.ns, read(stage.pid, stage.input));
     }
 
     /// The first process exits, and with the end of its input each after it; the token goes back. After its last pipeline the
     /// tenant's processes exit.
-    fn end(&mut self, host: &mut Host) -> Result<(), AllocError> {
+    fn end(&mut self, host: &mut Host) {
         if let Some(first) = self.stages.as_slice().first().copied() {
             host.exit(self.ns, first.pid);
         }
         self.resume_all(host);
         self.stages.clear();
-        let token = ByteString::in_place([43; 14], 1);
-        let _ = host.tell(
-            self.ns,
-            &Step::Write {
-                pid: 1,
-                fd: 1,
-                payload: token,
-            },
-        );
+        host.make(self.ns, token());
         self.pipelines = self.pipelines.saturating_sub(1);
         self.phase = Phase::Starts;
         if self.pipelines == 0 {
             for pid in 1..=110 {
-                if let Reply::Err(_) = host.tell(self.ns, &Step::Exit { pid }) {
+                if host.fails(self.ns, Step::Exit { pid }) {
                     break;
                 }
             }
             self.phase = Phase::IsOver;
         }
-        Ok(())
     }
 }
 
-/// Plays the builds of one hub. Whoever is done goes, and another tenant comes in its place, until so many have been there.
-fn play_hub(
+/// The builds of the tenants that a hub opens with.
+fn all_begin(alloc: Global, seed: u64) -> Result<Vec<Build>, AllocError> {
+    (0..TENANTS)
+        .map(|ns| Build::new(alloc, ns, seed))
+        .collect(alloc)
+}
+
+/// Each build goes on by one phase, by turns, and whoever is done is followed by another tenant, until so many have
+/// been there.
+fn play_builds(
     alloc: Global,
+    host: &mut Host,
     seed: u64,
     store: &Store,
+    builds: &mut [Build],
     tenants: u32,
-) -> Result<Option<Host>, AllocError> {
-    let Some(mut host) = Host::new(alloc, TENANTS, RESERVE)? else {
-        return Ok(None);
-    };
-    let mut builds = Vec::new(alloc);
-    for ns in 0..TENANTS {
-        builds.push(Build::new(alloc, ns, seed, u64::from(ns)))?;
-    }
+) -> Result<(), AllocError> {
     let mut over: u32 = 0;
     for _ in 0..100_000 {
         if over >= TENANTS {
             break;
         }
         over = 0;
-        for build in builds.as_mut_slice() {
-            build.go_on(alloc, &mut host, store)?;
+        for build in builds.iter_mut() {
+            build.go_on(alloc, host, store)?;
             if build.phase == Phase::IsOver {
-                *build = succeeded(alloc, &mut host, seed, build.ns, tenants);
+                build.change(alloc, host, seed, tenants);
             }
             if build.phase == Phase::IsOver {
                 over = over.saturating_add(1);
             }
         }
     }
-    Ok(Some(host))
+    Ok(())
 }
 
-/// The build of the tenant that comes in the place of one that goes; the same one, which is over, where enough have come.
-fn succeeded(alloc: Global, host: &mut Host, seed: u64, ns: u32, tenants: u32) -> Build {
-    let mut build = Build::new(alloc, ns, seed, u64::from(ns));
-    build.phase = Phase::IsOver;
-    if host.hub.retire(ns).is_err() {
-        host.digest.add(15);
-        return build;
-    }
-    let given = host.hub.namespaces() as u32;
-    if given >= tenants {
-        return build;
-    }
-    let Some((config, tree)) = limits(alloc, RESERVE) else {
-        return build;
+/// Plays the builds of one hub.
+fn play_tenants(
+    alloc: Global,
+    host: &mut Host,
+    seed: u64,
+    store: &Store,
+    tenants: u32,
+) -> Result<(), AllocError> {
+    let mut builds = all_begin(alloc, seed)?;
+    let played = play_builds(alloc, host, seed, store, &mut builds, tenants);
+    drop(builds);
+    played
+}
+
+/// The same over a hub of its own, and gives how many steps were made, and the digest.
+fn play_hub(
+    alloc: Global,
+    seed: u64,
+    store: &Store,
+    tenants: u32,
+) -> Result<Option<(u64, u64)>, AllocError> {
+    let Some(mut host) = Host::new(alloc, TENANTS, RESERVE)? else {
+        return Ok(None);
     };
-    match host.hub.admit(config, tree) {
-        Ok(ns) => {
-            host.digest.add(u64::from(ns));
-            Build::new(alloc, ns, seed, u64::from(ns))
-        }
-        Err(_) => {
-            host.digest.add(16);
-            build
-        }
-    }
+    let played = play_tenants(alloc, &mut host, seed, store, tenants);
+    let told = host.end();
+    played?;
+    Ok(Some(told))
 }
 
 /// Plays so many hubs one after the other, and gives how many steps were made, and the digest.
@@ -348,11 +376,12 @@ pub(crate) fn play(
     let mut value: u64 = 0;
     for hub in 0..hubs {
         let part = seed.wrapping_mul(1_000).wrapping_add(u64::from(hub));
-        let Some(host) = play_hub(alloc, part, &store, tenants.min(MOST_TENANTS))? else {
+        let told = play_hub(alloc, part, &store, tenants.min(MOST_TENANTS))?;
+        let Some((made, digest)) = told else {
             return Ok(None);
         };
-        steps = steps.saturating_add(host.steps);
-        value = value.rotate_left(9) ^ host.digest.value();
+        steps = steps.saturating_add(made);
+        value = value.rotate_left(9) ^ digest;
     }
     Ok(Some((steps, value)))
 }

@@ -5,7 +5,7 @@
 use crate::host::{Host, spawn};
 use crate::random::{Store, below, shuffled};
 use bitflags::Flags;
-use pf_base::{ByteString, Groups, OpenFlags, Reply, Step};
+use pf_base::{ByteString, Groups, OpenFlags, Step};
 use rand_pcg::Pcg32;
 use std::alloc::{AllocError, Global};
 
@@ -97,10 +97,10 @@ fn begin(alloc: Global, host: &mut Host) -> Result<(), AllocError> {
     for id in 0..32 {
         ids.push(2_000 + id)?;
     }
-    let _ = host.tell(0, &spawn(0, Groups::none()));
-    let _ = host.tell(0, &spawn(1_000, Groups::none()));
-    let _ = host.tell(0, &spawn(1_001, Groups::new(alloc, ids)?));
-    let _ = host.tell(0, &spawn(1_002, Groups::none()));
+    host.make(0, spawn(0, Groups::none()));
+    host.make(0, spawn(1_000, Groups::none()));
+    host.make(0, spawn(1_001, Groups::new(alloc, ids)?));
+    host.make(0, spawn(1_002, Groups::none()));
     Ok(())
 }
 
@@ -127,6 +127,14 @@ fn unlink(alloc: Global, pid: u32, path: &ByteString) -> Result<Step, AllocError
     })
 }
 
+fn open(alloc: Global, pid: u32, path: &ByteString, flags: u32) -> Result<Step, AllocError> {
+    Ok(Step::Open {
+        pid,
+        path: path.copy(alloc)?,
+        flags: OpenFlags::from_bits_retain(flags),
+    })
+}
+
 /// Makes all directories, which all may search and write to, and all FIFOs, in this order.
 fn make(
     alloc: Global,
@@ -141,14 +149,14 @@ fn make(
             path: directory.copy(alloc)?,
             mode: 0o755,
         };
-        let _ = host.tell(0, &made);
+        host.make(0, made);
         let mode = if below(random, 16) == 0 { 0o750 } else { 0o777 };
-        let _ = host.tell(0, &chmod(alloc, 1, directory, mode)?);
+        host.make(0, chmod(alloc, 1, directory, mode)?);
     }
     for at in order {
         if let Some(path) = paths.fifos.as_slice().get(*at as usize) {
             let pid = if below(random, 8) == 0 { 1 } else { 2 };
-            let _ = host.tell(0, &mkfifo(alloc, pid, path)?);
+            host.make(0, mkfifo(alloc, pid, path)?);
         }
     }
     Ok(())
@@ -163,34 +171,18 @@ fn send(
     path: &ByteString,
 ) -> Result<(), AllocError> {
     let pid = 1 + below(random, USERS);
-    let reading = host.tell(
-        0,
-        &Step::Open {
-            pid,
-            path: path.copy(alloc)?,
-            flags: OpenFlags::from_bits_retain(5),
-        },
-    );
-    let Reply::Num(reader) = reading else {
+    let Some(reader) = host.number(0, open(alloc, pid, path, 5)?) else {
         return Ok(());
     };
-    let writing = host.tell(
-        0,
-        &Step::Open {
-            pid,
-            path: path.copy(alloc)?,
-            flags: OpenFlags::from_bits_retain(2),
-        },
-    );
     let reader = (reader % 256) as u32;
-    if let Reply::Num(writer) = writing {
+    if let Some(writer) = host.number(0, open(alloc, pid, path, 2)?) {
         let fd = (writer % 256) as u32;
         let size = 20 + below(random, 100) as usize;
         let payload = store.cut(alloc, random, size)?;
-        let _ = host.tell(0, &Step::Write { pid, fd, payload });
-        let _ = host.tell(
+        host.make(0, Step::Write { pid, fd, payload });
+        host.make(
             0,
-            &Step::Read {
+            Step::Read {
                 pid,
                 fd: reader,
                 n: 4_096,
@@ -200,6 +192,13 @@ fn send(
     }
     host.close(0, pid, reader);
     Ok(())
+}
+
+/// A path at which nothing is.
+fn missing(alloc: Global, path: &ByteString) -> Result<ByteString, AllocError> {
+    let mut missing = Vec::from_slice(alloc, path.as_slice())?;
+    missing.push(b'~')?;
+    ByteString::new(alloc, missing)
 }
 
 /// One call or a few on a FIFO or a directory.
@@ -222,9 +221,9 @@ fn use_one(
     let pid = 1 + below(random, USERS);
     match below(random, 100) {
         0..50 => {
-            let _ = host.tell(
+            host.make(
                 0,
-                &Step::Stat {
+                Step::Stat {
                     pid,
                     path: path.copy(alloc)?,
                 },
@@ -232,7 +231,7 @@ fn use_one(
         }
         50..60 => {
             let mode = 0o600 + below(random, 64);
-            let _ = host.tell(0, &chmod(alloc, pid, path, mode)?);
+            host.make(0, chmod(alloc, pid, path, mode)?);
         }
         60..80 => send(alloc, host, random, store, path)?,
         80..84 => {
@@ -243,9 +242,9 @@ fn use_one(
                 below(random, few - 3).saturating_add(3)
             };
             if let Some(directory) = directories.get(at as usize) {
-                let _ = host.tell(
+                host.make(
                     0,
-                    &Step::List {
+                    Step::List {
                         pid,
                         path: directory.copy(alloc)?,
                     },
@@ -253,19 +252,12 @@ fn use_one(
             }
         }
         84..90 => {
-            let mut missing = Vec::from_slice(alloc, path.as_slice())?;
-            missing.push(b'~')?;
-            let _ = host.tell(
-                0,
-                &Step::Stat {
-                    pid,
-                    path: ByteString::new(alloc, missing)?,
-                },
-            );
+            let path = missing(alloc, path)?;
+            host.make(0, Step::Stat { pid, path });
         }
         _ => {
-            let _ = host.tell(0, &unlink(alloc, 1 + pid % 2, path)?);
-            let _ = host.tell(0, &mkfifo(alloc, 2, path)?);
+            host.make(0, unlink(alloc, 1 + pid % 2, path)?);
+            host.make(0, mkfifo(alloc, 2, path)?);
         }
     }
     Ok(())
@@ -292,31 +284,62 @@ fn order(
     Ok(order)
 }
 
-/// Plays one tree: all is made in one order, used, and unlinked in another.
+/// All paths of a tree are made in one order, used, and unlinked in another.
+fn play_paths(
+    alloc: Global,
+    host: &mut Host,
+    random: &mut Pcg32,
+    store: &Store,
+    paths: &Paths,
+    tree: u32,
+    scale: u32,
+) -> Result<(), AllocError> {
+    let count = paths.fifos.len().min(1_000_000) as u32;
+    let first = order(alloc, random, count, tree)?;
+    make(alloc, host, random, paths, first.as_slice())?;
+    drop(first);
+    for _ in 0..scale.saturating_mul(1_000) {
+        use_one(alloc, host, random, store, paths)?;
+    }
+    for at in order(alloc, random, count, tree.wrapping_add(1))? {
+        if let Some(path) = paths.fifos.as_slice().get(at as usize) {
+            host.make(0, unlink(alloc, 1, path)?);
+        }
+    }
+    Ok(())
+}
+
+/// The same by the users, over paths of its own.
 fn play_tree(
+    alloc: Global,
+    host: &mut Host,
+    random: &mut Pcg32,
+    store: &Store,
+    tree: u32,
+    scale: u32,
+) -> Result<(), AllocError> {
+    begin(alloc, host)?;
+    let paths = Paths::new(alloc, random, scale.saturating_mul(22))?;
+    let played = play_paths(alloc, host, random, store, &paths, tree, scale);
+    drop(paths);
+    played
+}
+
+/// The same over a hub of its own, and how many steps were made, and the digest.
+fn play_hub(
     alloc: Global,
     random: &mut Pcg32,
     store: &Store,
     tree: u32,
     scale: u32,
-) -> Result<Option<Host>, AllocError> {
+) -> Result<Option<(u64, u64)>, AllocError> {
     let Some(mut host) = Host::new(alloc, 1, 64)? else {
         return Ok(None);
     };
-    begin(alloc, &mut host)?;
-    let paths = Paths::new(alloc, random, scale.saturating_mul(22))?;
-    let count = paths.fifos.len().min(1_000_000) as u32;
-    let first = order(alloc, random, count, tree)?;
-    make(alloc, &mut host, random, &paths, first.as_slice())?;
-    for _ in 0..scale.saturating_mul(1_000) {
-        use_one(alloc, &mut host, random, store, &paths)?;
-    }
-    for at in order(alloc, random, count, tree.wrapping_add(1))? {
-        if let Some(path) = paths.fifos.as_slice().get(at as usize) {
-            let _ = host.tell(0, &unlink(alloc, 1, path)?);
-        }
-    }
-    Ok(Some(host))
+    let played = play_tree(alloc, &mut host, random, store, tree, scale);
+    let told = host.end();
+    played?;
+    Ok(Some(told))
 }
 
 /// Plays so many trees, and gives how many steps were made, and the digest.
@@ -331,11 +354,11 @@ pub(crate) fn play(
     let mut steps: u64 = 0;
     let mut value: u64 = 0;
     for tree in 0..trees {
-        let Some(host) = play_tree(alloc, &mut random, &store, tree, scale)? else {
+        let Some((made, digest)) = play_hub(alloc, &mut random, &store, tree, scale)? else {
             return Ok(None);
         };
-        steps = steps.saturating_add(host.steps);
-        value = value.rotate_left(9) ^ host.digest.value();
+        steps = steps.saturating_add(made);
+        value = value.rotate_left(9) ^ digest;
     }
     Ok(Some((steps, value)))
 }

@@ -11,7 +11,7 @@ use std::alloc::{AllocError, Global};
 pub(crate) struct Host {
     pub(crate) hub: Hub<Global>,
     pub(crate) digest: Digest,
-    pub(crate) steps: u64,
+    steps: u64,
 }
 
 /// The limits of a tenant that reserves so many pages, with the allocator for its files.
@@ -71,8 +71,53 @@ impl Host {
         }
     }
 
+    /// How many steps were made, and the digest.
+    pub(crate) fn end(self) -> (u64, u64) {
+        let told = (self.steps, self.digest.value());
+        drop(self);
+        told
+    }
+
     /// Makes a step, and digests its reply. That there is no such tenant, or no memory, counts as an error.
-    pub(crate) fn tell(&mut self, ns: u32, step: &Step) -> Reply {
+    pub(crate) fn tell(&mut self, ns: u32, step: Step) -> Reply {
+        let reply = self.reply(ns, &step);
+        drop(step);
+        reply
+    }
+
+    /// The same where no more is done with the reply.
+    pub(crate) fn make(&mut self, ns: u32, step: Step) {
+        drop(self.tell(ns, step));
+    }
+
+    /// Makes a step, and tells whether its call waits.
+    pub(crate) fn waits(&mut self, ns: u32, step: Step) -> bool {
+        let reply = self.tell(ns, step);
+        let waits = matches!(&reply, Reply::Parked);
+        drop(reply);
+        waits
+    }
+
+    /// Makes a step, and tells whether it is refused.
+    pub(crate) fn fails(&mut self, ns: u32, step: Step) -> bool {
+        let reply = self.tell(ns, step);
+        let fails = matches!(&reply, Reply::Err(_));
+        drop(reply);
+        fails
+    }
+
+    /// Makes a step, and gives the number that it is told.
+    pub(crate) fn number(&mut self, ns: u32, step: Step) -> Option<u64> {
+        let reply = self.tell(ns, step);
+        let number = match &reply {
+            Reply::Num(number) => Some(*number),
+            _ => None,
+        };
+        drop(reply);
+        number
+    }
+
+    fn reply(&mut self, ns: u32, step: &Step) -> Reply {
         self.steps = self.steps.saturating_add(1);
         if !self.hub.lives(ns) {
             self.digest.add(8);
@@ -115,30 +160,34 @@ impl Host {
 
     /// A pipe of a process, as its descriptors for reading and for writing.
     pub(crate) fn pipe(&mut self, ns: u32, pid: u32) -> (u32, u32) {
-        match self.tell(
-            ns,
-            &Step::Pipe {
-                pid,
-                nonblock: false,
-            },
-        ) {
-            Reply::Fds(read, write) => (read, write),
+        let step = Step::Pipe {
+            pid,
+            nonblock: false,
+        };
+        let reply = self.tell(ns, step);
+        let ends = match &reply {
+            Reply::Fds(read, write) => (*read, *write),
             _ => (255, 255),
-        }
+        };
+        drop(reply);
+        ends
     }
 
     /// A child of a process.
     pub(crate) fn fork(&mut self, ns: u32, pid: u32) -> u32 {
-        match self.tell(ns, &Step::Fork { pid }) {
-            Reply::Pid(child) => child,
+        let reply = self.tell(ns, Step::Fork { pid });
+        let child = match &reply {
+            Reply::Pid(child) => *child,
             _ => 0,
-        }
+        };
+        drop(reply);
+        child
     }
 
     /// Another descriptor for what one names, which goes: as dup2() moves it.
     pub(crate) fn moved(&mut self, ns: u32, pid: u32, fd: u32) -> u32 {
-        let to = match self.tell(ns, &Step::Dup { pid, fd }) {
-            Reply::Num(to) if to < 256 => to as u32,
+        let to = match self.number(ns, Step::Dup { pid, fd }) {
+            Some(to) if to < 256 => to as u32,
             _ => fd,
         };
         self.close(ns, pid, fd);
@@ -146,10 +195,10 @@ impl Host {
     }
 
     pub(crate) fn close(&mut self, ns: u32, pid: u32, fd: u32) {
-        let _ = self.tell(ns, &Step::Close { pid, fd });
+        self.make(ns, Step::Close { pid, fd });
     }
 
     pub(crate) fn exit(&mut self, ns: u32, pid: u32) {
-        let _ = self.tell(ns, &Step::Exit { pid });
+        self.make(ns, Step::Exit { pid });
     }
 }
