@@ -5,7 +5,7 @@ ghost use Rattle.pf_base.specs.declared.TheConstants.{MAX_NAMESPACES};
 
 use crate::tenants::{Row, asks_for_more, fills_and_exits, fills_and_stays, has_one_page};
 use crate::watch::Watch;
-use pf_base::{Answer, Config, MAX_NAMESPACES};
+use pf_base::{Answer, Config, MAX_NAMESPACES, Reply};
 use pf_depot::DepotBook;
 use pf_frame::Frame;
 use pf_worker::{Gate, Worker, open};
@@ -56,8 +56,17 @@ fn configs(alloc: Global, reserves: [u32; 2]) -> Option<Vec<(Config, Global)>> {
     Some(configs)
 }
 
+// Whether an answer is what is wanted. It is let go here, as a tenant is by `drop`: what goes at several ways out of a
+// function is dear to prove.
+pub(crate) fn is(answer: Answer, told: &Reply) -> bool {
+    match &answer {
+        Answer::Done(reply) => reply == told,
+        Answer::NoMemory => false,
+    }
+}
+
 // Whether a step is told what is wanted. Where a growth is refused it is made once more: it is to find all as it was.
-pub(crate) fn is_told<R: Wait, G: Gate, C: Ledger, H: Ledger>(
+fn is_told<R: Wait, G: Gate, C: Ledger, H: Ledger>(
     rt: &R,
     book: &Mutex<DepotBook<C, H>>,
     gate: &G,
@@ -65,16 +74,30 @@ pub(crate) fn is_told<R: Wait, G: Gate, C: Ledger, H: Ledger>(
     row: &Row,
 ) -> bool {
     let mut answer = worker.step(rt, book, gate, &row.step);
-    if answer == Answer::NoMemory {
+    if matches!(&answer, Answer::NoMemory) {
+        drop(answer);
         answer = worker.step(rt, book, gate, &row.step);
     }
-    match answer {
-        Answer::Done(reply) => reply == row.told,
-        Answer::NoMemory => false,
-    }
+    is(answer, &row.told)
 }
 
-// Makes a tenant's steps in turn. How many frames the tenant holds in the end, where each was told what is wanted.
+// Makes a tenant's steps in turn. Says whether each was told what is wanted.
+pub(crate) fn does<R: Wait, G: Gate, C: Ledger, H: Ledger>(
+    rt: &R,
+    book: &Mutex<DepotBook<C, H>>,
+    gate: &G,
+    worker: &mut Tenant<C, H>,
+    rows: &[Row],
+) -> bool {
+    for row in rows {
+        if !is_told(rt, book, gate, worker, row) {
+            return false;
+        }
+    }
+    true
+}
+
+// The same, and how many frames the tenant holds in the end.
 fn play<R: Wait, G: Gate, C: Ledger, H: Ledger>(
     rt: &R,
     book: &Mutex<DepotBook<C, H>>,
@@ -82,12 +105,10 @@ fn play<R: Wait, G: Gate, C: Ledger, H: Ledger>(
     mut worker: Tenant<C, H>,
     rows: &[Row],
 ) -> Option<u32> {
-    for row in rows {
-        if !is_told(rt, book, gate, &mut worker, row) {
-            return None;
-        }
-    }
-    Some(worker.held())
+    let right = does(rt, book, gate, &mut worker, rows);
+    let held = worker.held();
+    drop(worker);
+    if right { Some(held) } else { None }
 }
 
 // The first tenant. How many frames it holds in the end, and how many are free then, while the second is held: the gate
@@ -187,7 +208,7 @@ fn beside_by_name<R: Threads + Wait + Sync>(
 #[test]
 fn a_frame_passes_from_one_tenant_to_the_other(rt: HostRuntime) -> Result<(), Fail> {
     let alloc = rt.alloc();
-    let (red, blue) = (fills_and_exits(alloc)?, asks_for_more(alloc)?);
+    let (red, blue) = (fills_and_exits(alloc)?, asks_for_more());
     let watch = Watch::new();
     let held = beside_by_name(
         &rt,

@@ -4,7 +4,7 @@
 ghost use Rattle.std.specs.Prelude.{◌≡◌, ◌≤◌};
 ghost use Rattle.pf_base.specs.declared.TheConstants.{MAX_NAMESPACES};
 
-use crate::beside::{Tenant, blank, config, is_told, old_frames};
+use crate::beside::{Tenant, blank, config, does, old_frames};
 use crate::tenants::{Row, asks_for_more, fills_and_exits, works};
 use pf_base::{AdmitFault, Config, MAX_NAMESPACES, RetireFault};
 use pf_depot::DepotBook;
@@ -46,33 +46,95 @@ fn admit<R: Wait, C: Ledger, H: Ledger>(
     let Some(config) = config(reserve) else {
         return Err(AdmitFault::NoMemory);
     };
-    match Worker::admit(rt, alloc, book, config, alloc) {
-        Err(AdmitFault::NoMemory) => Worker::admit(rt, alloc, book, config, alloc),
-        admitted => admitted,
-    }
+    let admitted = Worker::admit(rt, alloc, book, config, alloc);
+    let Err(AdmitFault::NoMemory) = &admitted else {
+        return admitted;
+    };
+    drop(admitted);
+    Worker::admit(rt, alloc, book, config, alloc)
 }
 
-// Makes a tenant's steps in turn. Says whether each was told what is wanted.
-fn does<R: Wait, C: Ledger, H: Ledger>(
+// Whether a tenant goes.
+fn goes<R: Wait, C: Ledger, H: Ledger>(
     rt: &R,
     book: &Mutex<DepotBook<C, H>>,
-    tenant: &mut Tenant<C, H>,
+    tenant: Tenant<C, H>,
+) -> bool {
+    tenant.retire(rt, book).is_ok()
+}
+
+// Whether a tenant does its job, and goes.
+fn does_and_goes<R: Wait, C: Ledger, H: Ledger>(
+    rt: &R,
+    book: &Mutex<DepotBook<C, H>>,
+    mut tenant: Tenant<C, H>,
     rows: &[Row],
 ) -> bool {
-    for row in rows {
-        if !is_told(rt, book, &NoGate, tenant, row) {
-            return false;
-        }
-    }
-    true
+    let right = does(rt, book, &NoGate, &mut tenant, rows);
+    goes(rt, book, tenant) && right
 }
 
 // What a tenant with a process is told that is to go, and another that is to come before it has gone; how many frames are
 // free while it holds 32, and once it has gone.
 type Left = (RetireFault, Option<AdmitFault>, [u32; 2]);
 
+// A tenant that has filled its frames and is to go while it has a process stays, and another one is to come. Then its
+// process exits, and it goes. Nothing, where it didn't stay or was told anything else.
+fn stays_and_goes<R: Wait, C: Ledger, H: Ledger>(
+    rt: &R,
+    alloc: Global,
+    book: &Mutex<DepotBook<C, H>>,
+    tenant: Tenant<C, H>,
+    exits: &[Row],
+) -> Option<Left> {
+    let (tenant, alive) = tenant.retire(rt, book).err()?;
+    let refused = admit(rt, alloc, book, 2).err();
+    let full = book.lock(rt).free();
+    let gone = does_and_goes(rt, book, tenant, exits);
+    let back = book.lock(rt).free();
+    if gone {
+        Some((alive, refused, [full, back]))
+    } else {
+        None
+    }
+}
+
+// A tenant with all frames: whether it is told what is wanted.
+fn asks_alone<R: Wait, C: Ledger, H: Ledger>(
+    rt: &R,
+    alloc: Global,
+    book: &Mutex<DepotBook<C, H>>,
+    rows: &[Row],
+) -> bool {
+    let Ok(mut tenant) = admit(rt, alloc, book, 33) else {
+        return false;
+    };
+    let right = does(rt, book, &NoGate, &mut tenant, rows);
+    drop(tenant);
+    right
+}
+
 // A tenant fills 32 frames of 33 and is to go, and another one is to come. The first one's process exits, and it goes. Then
 // another comes that reserves all frames, and is shown nothing but its own bytes.
+fn leaves<R: Wait, C: Ledger, H: Ledger>(
+    rt: &R,
+    alloc: Global,
+    book: &Mutex<DepotBook<C, H>>,
+    fills: &[Row],
+    exits: &[Row],
+    asks: &[Row],
+) -> Option<Left> {
+    let mut red = admit(rt, alloc, book, 32).ok()?;
+    let right = does(rt, book, &NoGate, &mut red, fills);
+    let left = stays_and_goes(rt, alloc, book, red, exits)?;
+    if right && asks_alone(rt, alloc, book, asks) {
+        Some(left)
+    } else {
+        None
+    }
+}
+
+// The same at a depot that nobody has used.
 fn one_leaves<C: Ledger, H: Ledger, R: Wait>(
     rt: &R,
     alloc: Global,
@@ -87,23 +149,9 @@ fn one_leaves<C: Ledger, H: Ledger, R: Wait>(
     requires parts { (MAX_NAMESPACES ≤ credits.parts) × (MAX_NAMESPACES ≤ held.parts) }
 {
     let book = Mutex::new(bare::<C, H>(alloc, 33, credits, held)?);
-    let mut red = admit(rt, alloc, &book, 32).ok()?;
-    let mut right = does(rt, &book, &mut red, fills);
-    let Err((mut red, alive)) = red.retire(rt, &book) else {
-        return None;
-    };
-    let refused = admit(rt, alloc, &book, 2).err();
-    let full = book.lock(rt).free();
-    right = does(rt, &book, &mut red, exits) && right;
-    red.retire(rt, &book).ok()?;
-    let back = book.lock(rt).free();
-    let mut blue = admit(rt, alloc, &book, 33).ok()?;
-    right = does(rt, &book, &mut blue, asks) && right;
-    if right {
-        Some((alive, refused, [full, back]))
-    } else {
-        None
-    }
+    let left = leaves(rt, alloc, &book, fills, exits, asks);
+    drop(book);
+    left
 }
 
 fn one_leaves_by_name<R: Wait>(
@@ -119,7 +167,7 @@ fn one_leaves_by_name<R: Wait>(
 #[test]
 fn one_goes_when_its_process_has_exited(rt: HostRuntime) -> Result<(), Fail> {
     let alloc = rt.alloc();
-    let (job, asks) = (fills_and_exits(alloc)?, asks_for_more(alloc)?);
+    let (job, asks) = (fills_and_exits(alloc)?, asks_for_more());
     let (fills, exits) = job.as_slice().split_at(5);
     let left = one_leaves_by_name(&rt, alloc, fills, exits, asks.as_slice());
     let no_room = Some(AdmitFault::NoRoom { slack: 1 });
@@ -139,14 +187,27 @@ fn comes<R: Wait, C: Ledger, H: Ledger>(
     rows: &[Row],
 ) -> Option<Tenant<C, H>> {
     let mut tenant = admit(rt, alloc, book, 1).ok()?;
-    if tenant.number() == number && does(rt, book, &mut tenant, rows) {
+    if tenant.number() == number && does(rt, book, &NoGate, &mut tenant, rows) {
         Some(tenant)
     } else {
+        drop(tenant);
         None
     }
 }
 
-// The tenants of these numbers come one after the other, and where 64 live the oldest goes first.
+// Whether the oldest of those that live goes.
+fn oldest_goes<R: Wait, C: Ledger, H: Ledger>(
+    rt: &R,
+    book: &Mutex<DepotBook<C, H>>,
+    living: &mut VecDeque<Tenant<C, H>>,
+) -> bool {
+    match living.pop_front() {
+        Some(tenant) => goes(rt, book, tenant),
+        None => false,
+    }
+}
+
+// Whether the tenants of these numbers come one after the other, where 64 live the oldest going first.
 fn come_and_go<R: Wait, C: Ledger, H: Ledger>(
     rt: &R,
     alloc: Global,
@@ -154,27 +215,33 @@ fn come_and_go<R: Wait, C: Ledger, H: Ledger>(
     living: &mut VecDeque<Tenant<C, H>>,
     numbers: [u32; 2],
     rows: &[Row],
-) -> Option<()> {
+) -> bool {
     for number in numbers[0]..numbers[1] {
-        if living.len() == MAX_NAMESPACES {
-            living.pop_front()?.retire(rt, book).ok()?;
+        if living.len() == MAX_NAMESPACES && !oldest_goes(rt, book, living) {
+            return false;
         }
-        let tenant = comes(rt, alloc, book, number, rows)?;
-        living.push_back(tenant).ok()?;
+        let Some(tenant) = comes(rt, alloc, book, number, rows) else {
+            return false;
+        };
+        if living.push_back(tenant).is_err() {
+            return false;
+        }
     }
-    Some(())
+    true
 }
 
-// All that are left go.
+// Whether all that are left go.
 fn all_go<R: Wait, C: Ledger, H: Ledger>(
     rt: &R,
     book: &Mutex<DepotBook<C, H>>,
-    living: VecDeque<Tenant<C, H>>,
-) -> Option<()> {
-    for tenant in living {
-        tenant.retire(rt, book).ok()?;
+    living: &mut VecDeque<Tenant<C, H>>,
+) -> bool {
+    for _ in 0..living.len() {
+        if !oldest_goes(rt, book, living) {
+            return false;
+        }
     }
-    Some(())
+    true
 }
 
 // What the 65th is told that comes while 64 live, and who comes when all 1,024 numbers are given and nobody lives; and how
@@ -182,6 +249,28 @@ fn all_go<R: Wait, C: Ledger, H: Ledger>(
 type Counted = ([Option<AdmitFault>; 2], u32);
 
 // 1,024 tenants of one frame each come and go over 64 frames.
+fn counts<R: Wait, C: Ledger, H: Ledger>(
+    rt: &R,
+    alloc: Global,
+    book: &Mutex<DepotBook<C, H>>,
+    living: &mut VecDeque<Tenant<C, H>>,
+    rows: &[Row],
+) -> Option<Counted> {
+    let first = come_and_go(rt, alloc, book, living, [0, 64], rows);
+    let too_many = admit(rt, alloc, book, 0).err();
+    let all = first
+        && come_and_go(rt, alloc, book, living, [64, 1_024], rows)
+        && all_go(rt, book, living);
+    let spent = admit(rt, alloc, book, 0).err();
+    let free = book.lock(rt).free();
+    if all {
+        Some(([too_many, spent], free))
+    } else {
+        None
+    }
+}
+
+// The same at a depot that nobody has used.
 fn all_numbers<C: Ledger, H: Ledger, R: Wait>(
     rt: &R,
     alloc: Global,
@@ -194,14 +283,11 @@ fn all_numbers<C: Ledger, H: Ledger, R: Wait>(
     requires parts { (MAX_NAMESPACES ≤ credits.parts) × (MAX_NAMESPACES ≤ held.parts) }
 {
     let book = Mutex::new(bare::<C, H>(alloc, 64, credits, held)?);
-    let mut living = VecDeque::with_capacity(alloc, MAX_NAMESPACES).ok()?;
-    come_and_go(rt, alloc, &book, &mut living, [0, 64], rows)?;
-    let too_many = admit(rt, alloc, &book, 0).err();
-    come_and_go(rt, alloc, &book, &mut living, [64, 1_024], rows)?;
-    all_go(rt, &book, living)?;
-    let spent = admit(rt, alloc, &book, 0).err();
-    let free = book.lock(rt).free();
-    Some(([too_many, spent], free))
+    let mut living = VecDeque::new(alloc);
+    let counted = counts(rt, alloc, &book, &mut living, rows);
+    drop(living);
+    drop(book);
+    counted
 }
 
 fn all_numbers_by_name<R: Wait>(rt: &R, alloc: Global, rows: &[Row]) -> Option<Counted> {
@@ -211,7 +297,7 @@ fn all_numbers_by_name<R: Wait>(rt: &R, alloc: Global, rows: &[Row]) -> Option<C
 #[test]
 fn a_thousand_come_and_go_over_64_places(rt: HostRuntime) -> Result<(), Fail> {
     let alloc = rt.alloc();
-    let job = works(alloc)?;
+    let job = works();
     let counted = all_numbers_by_name(&rt, alloc, job.as_slice());
     assert_eq!(rt; counted, Some(([TOO_MANY, TOO_MANY], 64)));
     Ok(())
@@ -219,6 +305,19 @@ fn a_thousand_come_and_go_over_64_places(rt: HostRuntime) -> Result<(), Fail> {
 
 // How often a tenant comes, does its job and goes on one of two threads.
 const TURNS: u32 = 200;
+
+// Whether a tenant comes, does its job and goes.
+fn comes_and_goes<R: Wait, C: Ledger, H: Ledger>(
+    rt: &R,
+    alloc: Global,
+    book: &Mutex<DepotBook<C, H>>,
+    rows: &[Row],
+) -> bool {
+    match admit(rt, alloc, book, 1) {
+        Ok(tenant) => does_and_goes(rt, book, tenant, rows),
+        Err(_) => false,
+    }
+}
 
 // How many of them did.
 fn by_turns<R: Wait, C: Ledger, H: Ledger>(
@@ -228,10 +327,7 @@ fn by_turns<R: Wait, C: Ledger, H: Ledger>(
     rows: &[Row],
 ) -> u32 {
     for done in 0..TURNS {
-        let Ok(mut tenant) = admit(rt, alloc, book, 1) else {
-            return done;
-        };
-        if !does(rt, book, &mut tenant, rows) || tenant.retire(rt, book).is_err() {
+        if !comes_and_goes(rt, alloc, book, rows) {
             return done;
         }
     }
@@ -259,6 +355,7 @@ fn on_two_threads<C: Ledger + Send + Sync, H: Ledger + Send + Sync, R: Threads +
         move || by_turns(rt, alloc, shared, rows),
     );
     let free = book.lock(rt).free();
+    drop(book);
     Some([red, blue, free])
 }
 
@@ -273,7 +370,7 @@ fn two_threads_by_name<R: Threads + Wait + Sync>(
 #[test]
 fn tenants_come_and_go_on_two_threads(rt: HostRuntime) -> Result<(), Fail> {
     let alloc = rt.alloc();
-    let job = works(alloc)?;
+    let job = works();
     let done = two_threads_by_name(&rt, alloc, job.as_slice());
     assert_eq!(rt; done, Some([TURNS, TURNS, 2]));
     Ok(())

@@ -3,9 +3,9 @@
 ghost use Rattle.std.specs.Prelude.{◌≡◌, ◌≤◌};
 ghost use Rattle.pf_base.specs.declared.TheConstants.{MAX_NAMESPACES};
 
-use crate::beside::{Tenant, blank, config, is_told, old_frames};
+use crate::beside::{Tenant, blank, config, does, is, old_frames};
 use crate::tenants::{Row, begins};
-use pf_base::{Answer, MAX_NAMESPACES, Reply};
+use pf_base::{MAX_NAMESPACES, Reply};
 use pf_depot::DepotBook;
 use pf_worker::{NoGate, open};
 use std::alloc::Global;
@@ -26,15 +26,10 @@ fn passes<R: Wait, C: Ledger, H: Ledger>(
     let parks = worker.read_into(rt, book, gate, 1, 0, &mut many) == Ok(None);
     let waits = worker.resume_into(rt, book, gate, 1, &mut few) == Ok(None);
     let hello = worker.write_from(rt, book, gate, 2, 1, b"hello, world");
+    let hello = is(hello, &Reply::Num(12));
     let comes = worker.resume_into(rt, book, gate, 1, &mut few) == Ok(Some(10));
     let rest = worker.read_into(rt, book, gate, 1, 0, &mut many) == Ok(Some(2));
-    parks
-        && waits
-        && hello == Answer::Done(Reply::Num(12))
-        && comes
-        && rest
-        && few == *b"hell"
-        && many == *b"ld........"
+    parks && waits && hello && comes && rest && few == *b"hell" && many == *b"ld........"
 }
 
 // Whether a worker of its own is told so.
@@ -53,14 +48,14 @@ fn is_passed<C: Ledger, H: Ledger, R: Wait>(
     let mut configs = Vec::with_capacity(alloc, 1).ok()?;
     configs.push((config(16)?, alloc)).ok()?;
     let (book, mut workers) = open::<Global, C, H>(alloc, frames, configs, credits, held).ok()?;
-    let mut worker = workers.pop()?;
     let book = Mutex::new(book);
-    for row in rows {
-        if !is_told(rt, &book, &NoGate, &mut worker, row) {
-            return None;
-        }
-    }
-    Some(passes(rt, &book, &mut worker))
+    let passed = match workers.first_mut() {
+        Some(worker) => { does(rt, &book, &NoGate, worker, rows) && passes(rt, &book, worker) }
+        None => false,
+    };
+    drop(workers);
+    drop(book);
+    Some(passed)
 }
 
 fn is_passed_by_name<R: Wait>(rt: &R, alloc: Global, rows: &[Row]) -> Option<bool> {

@@ -1,6 +1,6 @@
 //! What two tenants ask, and what each of them is told alone.
 
-use pf_base::{ByteString, Errno, Groups, Reply, Step};
+use pf_base::{BYTES_IN_PLACE, ByteString, Errno, Groups, Reply, Step};
 use std::alloc::{AllocError, Global};
 
 /// A step, and what it is told.
@@ -31,24 +31,40 @@ fn pipe(told: Reply) -> Row {
     Row { step, told }
 }
 
-fn bytes(alloc: Global, byte: u8, count: usize) -> Result<ByteString, AllocError> {
-    ByteString::new(alloc, Vec::from_elem(alloc, byte, count)?)
-}
-
+// So many bytes are written.
 fn write(alloc: Global, fd: u32, byte: u8, count: usize) -> Result<Row, AllocError> {
+    let payload = ByteString::new(alloc, Vec::from_elem(alloc, byte, count)?)?;
     let step = Step::Write {
         pid: 1,
         fd,
-        payload: bytes(alloc, byte, count)?,
+        payload,
     };
     let told = Reply::Num(count as u64);
     Ok(Row { step, told })
 }
 
-fn read(alloc: Global, n: u64, byte: u8, count: usize) -> Result<Row, AllocError> {
-    let step = Step::Read { pid: 1, fd: 0, n };
-    let told = Reply::Bytes(bytes(alloc, byte, count)?);
-    Ok(Row { step, told })
+// A byte 7a.
+fn one() -> ByteString {
+    ByteString::in_place([0x7A; BYTES_IN_PLACE], 1)
+}
+
+// It is written.
+fn write_one() -> Row {
+    Row {
+        step: Step::Write {
+            pid: 1,
+            fd: 1,
+            payload: one(),
+        },
+        told: Reply::Num(1),
+    }
+}
+
+fn read(n: u64, bytes: ByteString) -> Row {
+    Row {
+        step: Step::Read { pid: 1, fd: 0, n },
+        told: Reply::Bytes(bytes),
+    }
 }
 
 fn exit() -> Row {
@@ -82,25 +98,23 @@ pub(crate) fn fills_and_exits(alloc: Global) -> Result<[Row; 6], AllocError> {
 }
 
 /// A process makes a file and a pipe, writes a byte, and asks for a hundred; it exits, and its file is left.
-pub(crate) fn works(alloc: Global) -> Result<[Row; 6], AllocError> {
+pub(crate) fn works() -> [Row; 6] {
     let file = Row {
         step: Step::Mkfifo {
             pid: 1,
-            path: ByteString::from_slice(alloc, b"/f")?,
+            path: ByteString::in_place(*b"/f            ", 2),
             mode: 0o644,
         },
         told: Reply::Num(0),
     };
-    let write = write(alloc, 1, 0x7A, 1)?;
-    let read = read(alloc, 100, 0x7A, 1)?;
-    Ok([spawn(), file, pipe(Reply::Fds(0, 1)), write, read, exit()])
+    let pipe = pipe(Reply::Fds(0, 1));
+    [spawn(), file, pipe, write_one(), read(100, one()), exit()]
 }
 
 /// Another writes a byte 7a, and asks for a hundred.
-pub(crate) fn asks_for_more(alloc: Global) -> Result<[Row; 4], AllocError> {
-    let write = write(alloc, 1, 0x7A, 1)?;
-    let read = read(alloc, 100, 0x7A, 1)?;
-    Ok([spawn(), pipe(Reply::Fds(0, 1)), write, read])
+pub(crate) fn asks_for_more() -> [Row; 4] {
+    let pipe = pipe(Reply::Fds(0, 1));
+    [spawn(), pipe, write_one(), read(100, one())]
 }
 
 /// A process fills its pipe, all pages of its namespace, and is refused another pipe.
@@ -112,11 +126,11 @@ pub(crate) fn fills_and_stays(alloc: Global) -> Result<[Row; 4], AllocError> {
 
 /// Another, of a namespace with one page, fills it.
 pub(crate) fn has_one_page(alloc: Global) -> Result<[Row; 5], AllocError> {
+    let write = write(alloc, 1, 0x62, 4096)?;
     let size = Row {
         step: Step::GetSize { pid: 1, fd: 0 },
         told: Reply::Num(4096),
     };
-    let write = write(alloc, 1, 0x62, 4096)?;
-    let read = read(alloc, 2, 0x62, 2)?;
+    let read = read(2, ByteString::in_place([0x62; BYTES_IN_PLACE], 2));
     Ok([spawn(), pipe(Reply::Fds(0, 1)), size, write, read])
 }
