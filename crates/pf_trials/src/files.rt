@@ -87,9 +87,24 @@ fn leave(bump: &Bump, filler: &[u8], spare: usize) -> Result<(), AllocError> {
     Ok(())
 }
 
-// A step's answer, and whether memory was refused. Then nothing has changed, and the step is asked for again;
-// an arena, if the files stand in one, has all its memory then.
-fn answered<A: Allocator + Clone>(
+// Whether the files are shown as they were.
+fn is_unchanged<A: Allocator + Clone>(
+    alloc: Global,
+    probes: &Script,
+    space: &mut Space<A>,
+    frames: &mut OwnFrames,
+    before: &[Answer],
+) -> Result<bool, AllocError>
+    requires owns { Owns (own_live frames.old) space.old }
+    ensures owns { Owns (own_live frames.new) space.new }
+{
+    let now = seen(alloc, probes, space, frames)?;
+    Ok(now.as_slice() == before)
+}
+
+// Makes a step, and puts its answer to the others. Tells whether memory was refused: then nothing has changed, and the
+// step is asked for again; an arena, if the files stand in one, has all its memory then.
+fn makes<A: Allocator + Clone>(
     rt: &impl Abort,
     alloc: Global,
     arena: Option<&Bump>,
@@ -97,24 +112,31 @@ fn answered<A: Allocator + Clone>(
     space: &mut Space<A>,
     frames: &mut OwnFrames,
     step: &Step,
-) -> Result<(Answer, bool), Fail>
+    answers: &mut Vec<EventAnswer>,
+) -> Result<bool, Fail>
     requires owns { Owns (own_live frames.old) space.old }
     ensures owns { Owns (own_live frames.new) space.new }
 {
     let before = seen(alloc, probes, space, frames)?;
     let answer = space.step(frames, step);
-    if answer != Answer::NoMemory {
-        return Ok((answer, false));
+    let is_refused = matches!(&answer, Answer::NoMemory);
+    if !is_refused {
+        drop(before);
+        answers.push(EventAnswer::Answer(answer))?;
+        return Ok(is_refused);
     }
-    assert!(rt; seen(alloc, probes, space, frames)?.as_slice() == before.as_slice());
+    let is_unchanged = is_unchanged(alloc, probes, space, frames, &before);
+    drop((before, answer));
+    assert!(rt; is_unchanged?);
     if let Some(bump) = arena {
         bump.set_allocation_limit(None);
     }
-    Ok((space.step(frames, step), true))
+    answers.push(EventAnswer::Answer(space.step(frames, step)))?;
+    Ok(is_refused)
 }
 
-// Plays the script in a namespace whose files are empty, and tells how often memory was refused.
-fn play_steps<A: Allocator + Clone>(
+// Makes all steps of a script, and tells how often memory was refused.
+fn makes_all<A: Allocator + Clone>(
     rt: &impl Abort,
     alloc: Global,
     arena: Option<&Bump>,
@@ -122,23 +144,21 @@ fn play_steps<A: Allocator + Clone>(
     probes: &Script,
     space: &mut Space<A>,
     frames: &mut OwnFrames,
+    answers: &mut Vec<EventAnswer>,
 ) -> Result<u32, Fail>
     requires owns { Owns (own_live frames.old) space.old }
 {
-    let mut answers = Vec::new(alloc);
     let mut refusals: u32 = 0;
     for (_, line) in script.steps() {
         if let Line::Step(step) = line {
-            let (answer, is_refused) = answered(rt, alloc, arena, probes, space, frames, step)?;
-            answers.push(EventAnswer::Answer(answer))?;
+            let is_refused = makes(rt, alloc, arena, probes, space, frames, step, answers)?;
             refusals = refusals.saturating_add(u32::from(is_refused));
         }
     }
-    assert!(rt; has_text(alloc, script, &answers, TEXT));
     Ok(refusals)
 }
 
-// The same over a tree in memory of this allocator.
+// The same in a namespace whose tree stands in memory of this allocator. It has the text.
 fn play_over<A: Allocator + Clone>(
     rt: &impl Abort,
     alloc: Global,
@@ -155,11 +175,25 @@ fn play_over<A: Allocator + Clone>(
     )?;
     let mut frames = OwnFrames::new(alloc, Vec::new(alloc))?;
     let mut space = Space::new(alloc, tree, config)?;
-    play_steps(rt, alloc, arena, script, probes, &mut space, &mut frames)
+    let mut answers = Vec::new(alloc);
+    let refusals = makes_all(
+        rt,
+        alloc,
+        arena,
+        script,
+        probes,
+        &mut space,
+        &mut frames,
+        &mut answers,
+    );
+    drop(space);
+    drop(frames);
+    assert!(rt; refusals.is_err() || has_text(alloc, script, &answers, TEXT));
+    drop(answers);
+    refusals
 }
 
-// The same with the script, behind what shows the files. What owns a script or a namespace hands it on, with one way
-// out: each drops it, which is dear to prove.
+// The same with the script, behind what shows the files.
 fn play_shown<A: Allocator + Clone>(
     rt: &impl Abort,
     alloc: Global,
@@ -168,23 +202,34 @@ fn play_shown<A: Allocator + Clone>(
     probes: &Script,
 ) -> Result<u32, Fail> {
     let script = script_of(alloc, SCRIPT)?;
-    play_over(rt, alloc, tree, arena, &script, probes)
+    let refusals = play_over(rt, alloc, tree, arena, &script, probes);
+    drop(script);
+    refusals
 }
 
 #[test]
 fn files_under_global(rt: HostRuntime) -> Result<(), Fail> {
     let alloc = rt.alloc();
     let probes = script_of(alloc, PROBES)?;
-    play_shown(&rt, alloc, alloc, None, &probes)?;
+    let refusals = play_shown(&rt, alloc, alloc, None, &probes);
+    drop(probes);
+    refusals?;
     Ok(())
 }
 
 // How often memory is refused with so many bytes of an arena.
-fn refusals(rt: &impl Abort, alloc: Global, spare: usize) -> Result<u32, Fail> {
+fn refusals_of(rt: &impl Abort, alloc: Global, probes: &Script, spare: usize) -> Result<u32, Fail> {
     let bump = Bump::try_with_capacity(alloc, 2000)?;
     leave(&bump, &Vec::from_elem(alloc, 0, 4096)?, spare)?;
+    play_shown(rt, alloc, &bump, Some(&bump), probes)
+}
+
+// The same with what shows the files.
+fn refusals(rt: &impl Abort, alloc: Global, spare: usize) -> Result<u32, Fail> {
     let probes = script_of(alloc, PROBES)?;
-    play_shown(rt, alloc, &bump, Some(&bump), &probes)
+    let refusals = refusals_of(rt, alloc, &probes, spare);
+    drop(probes);
+    refusals
 }
 
 // With ever more bytes a later growth is the first that is refused; with enough of them none is.

@@ -2,7 +2,8 @@
 
 use crate::replay::{Full, OPTIONS, is_refused};
 use pf_play::{Collected, MemoryBytes, Options, ReplayFault, replay};
-use std::alloc::Global;
+use std::alloc::{AllocError, Global};
+use std::process::Abort;
 use std::test::Fail;
 
 /// A script by its lines, each with the line of the text that it adds.
@@ -56,63 +57,91 @@ fn is_cut_short(alloc: Global, front: &str, line: &str, number: u32) -> Result<b
     Ok(true)
 }
 
+/// A front of the script has its text, and with the next line cut short it is refused. Then that line is added, and its
+/// text.
+fn add_line(
+    rt: &impl Abort,
+    alloc: Global,
+    script: &mut String,
+    text: &mut String,
+    number: u32,
+    line: (&str, &str),
+) -> Result<(), Fail> {
+    let (line, told) = line;
+    assert!(rt; has_text(alloc, script.as_str(), text.as_str()), "{script}");
+    assert!(rt;
+        is_cut_short(alloc, script.as_str(), line, number)?,
+        "{line}"
+    );
+    script.push_str(line)?;
+    text.push_str(told)?;
+    Ok(())
+}
+
 #[test]
 fn a_front_of_a_script(rt: HostRuntime) -> Result<(), Fail> {
     let alloc = rt.alloc();
     let mut script = String::new(alloc);
     let mut text = String::new(alloc);
-    for (number, (line, told)) in (1..).zip(HELLO) {
-        assert!(rt; has_text(alloc, script.as_str(), text.as_str()), "{script}");
-        assert!(rt;
-            is_cut_short(alloc, script.as_str(), line, number)?,
-            "{line}"
-        );
-        script.push_str(line)?;
-        text.push_str(told)?;
+    for (number, line) in (1..).zip(HELLO) {
+        add_line(&rt, alloc, &mut script, &mut text, number, line)?;
     }
     assert!(rt; has_text(alloc, script.as_str(), text.as_str()));
     assert!(rt; text.as_bytes() == HELLO_TEXT);
     Ok(())
 }
 
-#[test]
-fn a_writer_that_takes_a_front(rt: HostRuntime) -> Result<(), Fail> {
-    let alloc = rt.alloc();
+/// The whole script.
+fn hello(alloc: Global) -> Result<String, AllocError> {
     let mut script = String::new(alloc);
     for (line, _) in HELLO {
         script.push_str(line)?;
     }
+    Ok(script)
+}
+
+/// A writer that takes so many bytes takes as many of the text, and is not asked again.
+fn assert_front(rt: &impl Abort, alloc: Global, script: &str, room: u32, fails: bool) {
+    let mut reader = MemoryBytes::new(script.as_bytes());
+    let mut writer = Full::new(HELLO_TEXT, room, fails);
+    let result = replay(alloc, &mut reader, &mut writer, &OPTIONS);
+    assert_eq!(rt; matches!(result, Err(ReplayFault::WriteFault)), room < 101);
+    assert_eq!(rt; result.is_ok(), room == 101);
+    assert_eq!(rt; writer.asked, if room < 101 { room + 1 } else { 101 });
+    assert_eq!(rt; writer.strays, 0);
+}
+
+#[test]
+fn a_writer_that_takes_a_front(rt: HostRuntime) -> Result<(), Fail> {
+    let script = hello(rt.alloc())?;
     for room in 0..102 {
         for fails in [true, false] {
-            let mut reader = MemoryBytes::new(script.as_bytes());
-            let mut writer = Full::new(HELLO_TEXT, room, fails);
-            let result = replay(alloc, &mut reader, &mut writer, &OPTIONS);
-            assert_eq!(rt; matches!(result, Err(ReplayFault::WriteFault)), room < 101);
-            assert_eq!(rt; result.is_ok(), room == 101);
-            assert_eq!(rt; writer.asked, if room < 101 { room + 1 } else { 101 });
-            assert_eq!(rt; writer.strays, 0);
+            assert_front(&rt, rt.alloc(), script.as_str(), room, fails);
         }
     }
     Ok(())
 }
 
+/// There is no text where this name is chosen.
+fn assert_no_name(rt: &impl Abort, alloc: Global, script: &str, name: &str) {
+    let options = Options {
+        only: Some(name),
+        tree_heap: None,
+        fill: 165,
+    };
+    let mut reader = MemoryBytes::new(script.as_bytes());
+    let mut writer = Collected::new(alloc);
+    let result = replay(alloc, &mut reader, &mut writer, &options);
+    assert!(rt; matches!(result, Err(ReplayFault::NoSuchName)), "{name}");
+    assert!(rt; writer.as_slice().is_empty());
+}
+
 #[test]
-fn a_name_that_no_namespace_has(rt: HostRuntime) -> Result<(), Fail> {
-    let alloc = rt.alloc();
+fn a_name_that_no_namespace_has(rt: HostRuntime) {
     let script = "pool 32\nspace red 16\nspace blue 16\nred spawn 5 5 022\n";
     for name in ["green", "Red", "", "pool", "red "] {
-        let options = Options {
-            only: Some(name),
-            tree_heap: None,
-            fill: 165,
-        };
-        let mut reader = MemoryBytes::new(script.as_bytes());
-        let mut writer = Collected::new(alloc);
-        let result = replay(alloc, &mut reader, &mut writer, &options);
-        assert!(rt; matches!(result, Err(ReplayFault::NoSuchName)), "{name}");
-        assert!(rt; writer.as_slice().is_empty());
+        assert_no_name(&rt, rt.alloc(), script, name);
     }
-    Ok(())
 }
 
 /// A faulty script is refused for its line, whatever name is chosen.

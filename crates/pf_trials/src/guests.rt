@@ -1,7 +1,7 @@
 //! Namespaces that come to a hub and go: what each event is answered, what an admitted one sees of the frames of one
 //! that is retired, and how many may come.
 
-use crate::scripts::spawn;
+use crate::scripts::{is_told, spawn};
 use pf_base::{AdmitFault, Answer, ByteString, Config, EventAnswer, Reply, RetireFault, Step};
 use pf_frame::{Frame, PoolFault};
 use pf_hub::{Event, Hub};
@@ -62,7 +62,7 @@ fn opened(alloc: Global, lent: u32, count: u32, limits: Config) -> Result<Hub<Gl
 // Whether a namespace lives and is told what it is to be told.
 fn does(hub: &mut Hub<Global>, ns: u32, rows: &[Row]) -> bool {
     for (step, answer) in rows {
-        if !hub.lives(ns) || hub.step(ns, step) != *answer {
+        if !is_told(hub, ns, step, answer) {
             return false;
         }
     }
@@ -204,21 +204,24 @@ fn admits(alloc: Global, hub: &mut Hub<Global>, limits: Config) -> bool {
     true
 }
 
+// Whether the first namespace has a process and a child of it.
+fn two_live(hub: &mut Hub<Global>) -> bool {
+    let fork = (Step::Fork { pid: 1 }, done(Reply::Pid(2)));
+    does(hub, 0, &[(spawn(), done(Reply::Pid(1))), fork])
+}
+
 #[test]
 fn faults_of_those_who_come_and_go_are_told_in_order(rt: HostRuntime) -> Result<(), Fail> {
     let alloc = rt.alloc();
-    let fork = (Step::Fork { pid: 1 }, done(Reply::Pid(2)));
-    let two_live = vec![in alloc; (spawn(), done(Reply::Pid(1))), fork]?;
     let (none, one) = (reserving(0)?, reserving(1)?);
     let (two, three) = (reserving(2)?, reserving(3)?);
     let mut hub = opened(alloc, 3, 1, one)?;
     assert!(rt; hub.admit(three, alloc) == no_room(2));
-    assert!(rt;
-        does(&mut hub, 0, &two_live) && hub.retire(0) == alive(2) && hub.retire(1) == NOBODY
-    );
+    assert!(rt; two_live(&mut hub) && hub.retire(0) == alive(2) && hub.retire(1) == NOBODY);
     assert!(rt; admits(alloc, &mut hub, none) && hub.admit(three, alloc) == TOO_MANY);
     assert!(rt; hub.retire(1) == Ok(()) && hub.retire(1) == NOBODY);
     assert!(rt; hub.admit(three, alloc) == no_room(2) && hub.admit(two, alloc) == Ok(PLACES));
+    drop(hub);
     Ok(())
 }
 

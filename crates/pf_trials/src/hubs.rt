@@ -1,7 +1,7 @@
 //! How a hub is opened, and how it runs events.
 
 use crate::scripts::{has_text, script_of, spawn};
-use pf_base::{Config, EventAnswer, Step};
+use pf_base::{Answer, Config, EventAnswer, Step};
 use pf_frame::{Frame, PoolFault};
 use pf_hub::{Hub, RunFault};
 use pf_script::{Line, Script};
@@ -62,15 +62,12 @@ fn held(hub: &Hub<Global>) -> (u32, u32, u32) {
     (hub.held(RED), hub.held(BLUE), hub.free())
 }
 
-// Plays a script whose steps take no frame, and says whether it has this text. What owns a script or a hub hands it on,
-// with one way out: each drops it, which is dear to prove.
-fn plays(
-    alloc: Global,
+// Whether a script's steps are made and take no frame. Their answers are put to the others.
+fn makes_all(
     hub: &mut Hub<Global>,
     script: &Script,
-    text: &str,
+    answers: &mut Vec<EventAnswer>,
 ) -> Result<bool, AllocError> {
-    let mut answers = Vec::new(alloc);
     for (ns, line) in script.steps() {
         let Line::Step(step) = line else {
             return Ok(false);
@@ -83,7 +80,17 @@ fn plays(
             return Ok(false);
         }
     }
-    Ok(has_text(alloc, script, &answers, text))
+    Ok(true)
+}
+
+// Plays a script whose steps take no frame, and says whether it has this text.
+fn plays(alloc: Global, hub: &mut Hub<Global>, lines: &str, text: &str) -> Result<bool, Fail> {
+    let script = script_of(alloc, lines)?;
+    let mut answers = Vec::new(alloc);
+    let made = makes_all(hub, &script, &mut answers);
+    let plays = made == Ok(true) && has_text(alloc, &script, &answers, text);
+    drop((script, answers));
+    Ok(plays)
 }
 
 // Copies of a script's steps.
@@ -97,31 +104,38 @@ fn steps_of(alloc: Global, script: &Script) -> Result<Vec<(u32, Step)>, AllocErr
     Ok(steps)
 }
 
-// What a hub tells of these steps as it runs them, or nothing where it stops.
+// These answers as those to events.
+fn as_events(alloc: Global, answers: Vec<Answer>) -> Result<Vec<EventAnswer>, AllocError> {
+    answers
+        .into_iter()
+        .map(|answer| EventAnswer::Answer(answer))
+        .collect(alloc)
+}
+
+// What a hub tells of a script's steps as it runs them, or nothing where it stops.
 fn told(
     alloc: Global,
     hub: &mut Hub<Global>,
-    steps: &[(u32, Step)],
+    script: &Script,
 ) -> Result<Vec<EventAnswer>, AllocError> {
-    let mut told = Vec::new(alloc);
-    if let Ok(answers) = hub.run(steps) {
-        for answer in answers {
-            told.push(EventAnswer::Answer(answer))?;
-        }
+    let steps = steps_of(alloc, script)?;
+    let told = hub.run(&steps);
+    drop(steps);
+    match told {
+        Ok(answers) => as_events(alloc, answers),
+        Err(_) => Ok(Vec::new(alloc)),
     }
-    Ok(told)
 }
 
 // Runs a script's steps, and says whether it has this text.
-fn runs(
-    alloc: Global,
-    hub: &mut Hub<Global>,
-    script: &Script,
-    text: &str,
-) -> Result<bool, AllocError> {
-    let steps = steps_of(alloc, script)?;
-    let answers = told(alloc, hub, &steps)?;
-    Ok(has_text(alloc, script, &answers, text))
+fn runs(alloc: Global, hub: &mut Hub<Global>, lines: &str, text: &str) -> Result<bool, Fail> {
+    let script = script_of(alloc, lines)?;
+    let runs = match told(alloc, hub, &script) {
+        Ok(answers) => has_text(alloc, &script, &answers, text),
+        Err(AllocError) => false,
+    };
+    drop(script);
+    Ok(runs)
 }
 
 // How many frames, which reservations, and why there is no hub of both.
@@ -167,10 +181,11 @@ const RUN_TEXT: &str = "== red
 
 #[test]
 fn runs_answer_in_order(rt: HostRuntime) -> Result<(), Fail> {
-    let script = script_of(rt.alloc(), RUN)?;
     let mut hub = open(rt.alloc(), frames(rt.alloc(), 32)?, &[16, 16])?;
-    assert!(rt; runs(rt.alloc(), &mut hub, &script, RUN_TEXT) == Ok(true));
+    let runs = runs(rt.alloc(), &mut hub, RUN, RUN_TEXT);
     assert!(rt; held(&hub) == (1, 0, 31));
+    drop(hub);
+    assert!(rt; runs?);
     Ok(())
 }
 
@@ -185,11 +200,12 @@ fn stray(alloc: Global, hub: &mut Hub<Global>) -> Result<Option<usize>, AllocErr
 
 #[test]
 fn no_step_is_made_where_an_event_names_no_namespace(rt: HostRuntime) -> Result<(), Fail> {
-    let script = script_of(rt.alloc(), PIPES)?;
     let mut hub = open(rt.alloc(), frames(rt.alloc(), 32)?, &[16, 16])?;
     assert!(rt; stray(rt.alloc(), &mut hub) == Ok(Some(1)));
     assert!(rt; held(&hub) == (0, 0, 32) && hub.held(2) == 0);
     // The first process of the namespace is still to come.
-    assert!(rt; plays(rt.alloc(), &mut hub, &script, PIPES_TEXT) == Ok(true));
+    let plays = plays(rt.alloc(), &mut hub, PIPES, PIPES_TEXT);
+    drop(hub);
+    assert!(rt; plays?);
     Ok(())
 }

@@ -1,6 +1,6 @@
 //! Paths that no script can write: the empty one, one with a byte 0, and the longest.
 
-use crate::scripts::spawn;
+use crate::scripts::{is, is_told, spawn};
 use pf_base::{Answer, ByteString, Config, Errno, Kind, Meta, Mode, Reply, Step};
 use pf_hub::Hub;
 use pf_plain::Plain;
@@ -55,10 +55,25 @@ fn is_answered(
     step: &Step,
     answer: &Answer,
 ) -> bool {
-    if !hub.lives(0) || !plain.lives(0) {
-        return false;
-    }
-    hub.step(0, step) == *answer && plain.step(0, step) == *answer
+    is_told(hub, 0, step, answer) && plain.lives(0) && is(plain.step(0, step), answer)
+}
+
+/// Whether both have a first process then.
+fn begins(hub: &mut Hub<Global>, plain: &mut Plain<Global>) -> bool {
+    is_answered(hub, plain, &spawn(), &Answer::Done(Reply::Pid(1)))
+}
+
+/// Whether both answer this to whoever asks for such a path.
+fn is_found(
+    alloc: Global,
+    hub: &mut Hub<Global>,
+    plain: &mut Plain<Global>,
+    path: (usize, u8, Option<Errno>),
+) -> Result<bool, Fail> {
+    let (count, byte, error) = path;
+    let answer = answer(error)?;
+    let step = stat(alloc, count, byte)?;
+    Ok(is_answered(hub, plain, &step, &answer))
 }
 
 /// Asks both for each path. Tells the first that is answered otherwise.
@@ -67,13 +82,12 @@ fn first_otherwise(
     hub: &mut Hub<Global>,
     plain: &mut Plain<Global>,
 ) -> Result<Option<(usize, u8)>, Fail> {
-    if !is_answered(hub, plain, &spawn(), &Answer::Done(Reply::Pid(1))) {
+    if !begins(hub, plain) {
         return Ok(Some((0, 0)));
     }
-    for (count, byte, error) in PATHS {
-        let answer = answer(error)?;
-        if !is_answered(hub, plain, &stat(alloc, count, byte)?, &answer) {
-            return Ok(Some((count, byte)));
+    for path in PATHS {
+        if !is_found(alloc, hub, plain, path)? {
+            return Ok(Some((path.0, path.1)));
         }
     }
     Ok(None)

@@ -5,7 +5,7 @@ use pf_play::{
     Collected, Failed, INPUT_LIMIT, MemoryBytes, Options, Reading, ReplayFault, Replayed, Sink,
     Source, Writing, frames_of, replay,
 };
-use std::alloc::Global;
+use std::alloc::{AllocError, Global};
 use std::io::{self, ErrorKind, Read};
 use std::test::Fail;
 
@@ -160,23 +160,21 @@ pub(crate) fn is_refused(alloc: Global, script: &str, text: &str) -> Result<bool
     Ok(writer.as_slice().is_empty() && refusal.to_string(alloc)?.as_str() == text)
 }
 
-#[test]
-fn too_many_namespaces(rt: HostRuntime) -> Result<(), Fail> {
-    let alloc = rt.alloc();
+/// A script of one namespace too many.
+fn one_too_many(alloc: Global) -> Result<String, AllocError> {
     let mut script = String::from_str(alloc, "pool 65536\n")?;
     for i in 0..MAX_NAMESPACES {
         script.push_str(format!(in alloc; "space n{i} 1\n")?.as_str())?;
     }
     script.push_str("space last x\n")?;
-    let mut reader = MemoryBytes::new(script.as_bytes());
-    let mut writer = Collected::new(alloc);
-    match replay(alloc, &mut reader, &mut writer, &OPTIONS) {
-        Err(ReplayFault::Script(refusal)) => {
-            let text = format!(in alloc; "line {}: too many namespaces", MAX_NAMESPACES + 2)?;
-            assert_eq!(rt; refusal.to_string(alloc)?.as_str(), text.as_str());
-        }
-        _ => assert!(rt; false, "accepted"),
-    }
+    Ok(script)
+}
+
+#[test]
+fn too_many_namespaces(rt: HostRuntime) -> Result<(), Fail> {
+    let script = one_too_many(rt.alloc())?;
+    let text = format!(in rt.alloc(); "line {}: too many namespaces", MAX_NAMESPACES + 2)?;
+    assert!(rt; is_refused(rt.alloc(), script.as_str(), text.as_str())?);
     Ok(())
 }
 

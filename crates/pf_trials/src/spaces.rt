@@ -1,16 +1,16 @@
 //! Worked examples in a namespace that is alone over frames of its own, each with how many of them it holds after each
 //! step. Where an allocation is made to fail, the step that wanted it is asked for again.
 
-ghost use Rattle.std.specs.Prelude.{◌≡◌, length, IfOk};
 ghost use Rattle.pf_frame.specs.Own.{own_live};
 ghost use Rattle.pf_tables.specs.Owns.{Owns};
 
-use crate::scripts::{has_text, script_of};
+use crate::scripts::{has_text, is, script_of};
 use pf_base::{Answer, BYTES_IN_PLACE, ByteString, Config, EventAnswer, Reply, Step};
-use pf_frame::{Frame, Frames, OwnFrames};
+use pf_frame::{Frames, OwnFrames};
+use pf_play::frames_of;
 use pf_script::{Line, Script};
 use pf_space::{Space, laws};
-use std::alloc::{AllocError, Global};
+use std::alloc::Global;
 use std::process::Abort;
 use std::test::Fail;
 
@@ -119,39 +119,33 @@ red read 1 0 10
     held: &[0, 0, 1, 1, 1, 1, 1, 0],
 };
 
-// So many frames that hold this byte throughout.
-fn filled(alloc: Global, count: u32, fill: u8) -> Result<Vec<Frame>, AllocError>
-    ensures { IfOk result (λ frames. length frames.items ≡ count) }
-{
-    let mut frames = Vec::with_capacity(alloc, count as usize)?;
-    for _ in 0..count {
-        frames.push_reserved(Frame::filled(alloc, fill)?);
-    }
-    Ok(frames)
-}
-
-// Which of the first descriptors of the first two processes may write, and how many frames could still be
-// taken. It takes no memory, and changes nothing.
-fn probed(alloc: Global, space: &mut Space<Global>, frames: &mut OwnFrames) -> ([bool; 12], u32)
+// Whether a descriptor may write. It takes no memory, and changes nothing.
+fn may_write(space: &mut Space<Global>, frames: &mut OwnFrames, pid: u32, fd: u32) -> bool
     requires owns { Owns (own_live frames.old) space.old }
     ensures owns { Owns (own_live frames.new) space.new }
 {
-    let mut may_write = [false; 12];
+    let payload = ByteString::in_place([0; BYTES_IN_PLACE], 0);
+    let nothing = Step::Write { pid, fd, payload };
+    let answer = space.step(frames, &nothing);
+    drop(nothing);
+    is(answer, &Answer::Done(Reply::Num(0)))
+}
+
+// Which of the first descriptors of the first two processes may write, and how many frames could still be taken.
+fn probed(space: &mut Space<Global>, frames: &mut OwnFrames) -> ([bool; 12], u32)
+    requires owns { Owns (own_live frames.old) space.old }
+    ensures owns { Owns (own_live frames.new) space.new }
+{
+    let mut open = [false; 12];
     for i in 0..12usize {
-        let nothing = Step::Write {
-            pid: i as u32 / 6 + 1,
-            fd: i as u32 % 6,
-            payload: ByteString::in_place([0; BYTES_IN_PLACE], 0),
-        };
-        may_write[i] = space.step(frames, &nothing) == Answer::Done(Reply::Num(0));
+        open[i] = may_write(space, frames, i as u32 / 6 + 1, i as u32 % 6);
     }
-    (may_write, frames.credits())
+    (open, frames.credits())
 }
 
 // A step's answer. Where memory is refused, nothing has changed, and the step is asked for again.
 fn answered(
     rt: &impl Abort,
-    alloc: Global,
     space: &mut Space<Global>,
     frames: &mut OwnFrames,
     step: &Step,
@@ -159,40 +153,45 @@ fn answered(
     requires owns { Owns (own_live frames.old) space.old }
     ensures owns { Owns (own_live frames.new) space.new }
 {
-    let before = probed(alloc, space, frames);
-    let answer = space.step(frames, step);
-    if answer != Answer::NoMemory {
-        return answer;
+    let before = probed(space, frames);
+    match space.step(frames, step) {
+        Answer::NoMemory => {
+            assert!(rt; probed(space, frames) == before);
+            space.step(frames, step)
+        }
+        answer => answer,
     }
-    assert!(rt; probed(alloc, space, frames) == before);
-    space.step(frames, step)
 }
 
-// Plays an example's steps: each leaves so many frames held.
-fn play_steps(
+// Makes an example's steps: each leaves so many frames held.
+fn answer_all(
     rt: &impl Abort,
-    alloc: Global,
-    script: &Script,
-    example: &Example,
     space: &mut Space<Global>,
     frames: &mut OwnFrames,
+    script: &Script,
+    held: &[u32],
+    answers: &mut Vec<EventAnswer>,
 ) -> Result<(), Fail>
     requires owns { Owns (own_live frames.old) space.old }
 {
     let all = frames.credits();
-    let mut answers = Vec::new(alloc);
-    for ((_, line), held) in script.steps().iter().zip(example.held) {
+    for ((_, line), held) in script.steps().iter().zip(held) {
         if let Line::Step(step) = line {
-            let answer = answered(rt, alloc, space, frames, step);
-            answers.push(EventAnswer::Answer(answer))?;
+            answers.push(EventAnswer::Answer(answered(rt, space, frames, step)))?;
         }
         assert!(rt; frames.credits() == all.saturating_sub(*held));
     }
-    assert!(rt; has_text(alloc, script, &answers, example.text));
     Ok(())
 }
 
 // Plays an example in a namespace that is alone, over frames that hold this byte throughout.
+fn play(rt: &impl Abort, alloc: Global, example: &Example, fill: u8) -> Result<(), Fail> {
+    let script = script_of(alloc, example.script)?;
+    let told = play_over(rt, alloc, &script, example, fill);
+    drop(script);
+    told
+}
+
 fn play_over(
     rt: &impl Abort,
     alloc: Global,
@@ -202,16 +201,22 @@ fn play_over(
 ) -> Result<(), Fail> {
     assert!(rt; script.count_spaces() == 1 && script.steps().len() == example.held.len());
     let config = script.config(0);
-    let mut frames = OwnFrames::new(alloc, filled(alloc, config.reserve(), fill)?)?;
+    let mut frames = OwnFrames::new(alloc, frames_of(alloc, config.reserve(), fill)?)?;
     let mut space = Space::new(alloc, alloc, config)?;
-    play_steps(rt, alloc, script, example, &mut space, &mut frames)
-}
-
-// The same with its script. What owns a script or a namespace hands it on, with one way out: each drops it, which is
-// dear to prove.
-fn play(rt: &impl Abort, alloc: Global, example: &Example, fill: u8) -> Result<(), Fail> {
-    let script = script_of(alloc, example.script)?;
-    play_over(rt, alloc, &script, example, fill)
+    let mut answers = Vec::new(alloc);
+    let told = answer_all(
+        rt,
+        &mut space,
+        &mut frames,
+        script,
+        example.held,
+        &mut answers,
+    );
+    assert!(rt; told.is_err() || has_text(alloc, script, &answers, example.text));
+    drop(answers);
+    drop(space);
+    drop(frames);
+    told
 }
 
 // A namespace's crate hands on the law of its streams, which computes nothing.

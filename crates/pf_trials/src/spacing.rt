@@ -21,20 +21,24 @@ fn line(alloc: Global, front: &str, back: &str, length: usize) -> Result<String,
     Ok(line)
 }
 
+/// Whether these are all words of a line.
+fn are_all(words: &[&[u8]], line: &str) -> bool {
+    let mut put = words.iter();
+    for word in line.split(' ') {
+        if put.next() != Some(&word.as_bytes()) {
+            return false;
+        }
+    }
+    put.next().is_none()
+}
+
 /// Whether a line isn't taken, and all its words are put.
 fn has_its_words(alloc: Global, line: &str) -> Result<bool, AllocError> {
     let mut script = Script::blank(alloc)?;
     let mut words = Vec::new(alloc);
-    if script.line(alloc, &mut words, line.as_bytes()).is_ok() {
-        return Ok(false);
-    }
-    let mut put = words.iter();
-    for word in line.split(' ') {
-        if put.next() != Some(&word.as_bytes()) {
-            return Ok(false);
-        }
-    }
-    Ok(put.next().is_none())
+    let is_taken = script.line(alloc, &mut words, line.as_bytes()).is_ok();
+    drop(script);
+    Ok(!is_taken && are_all(&words, line))
 }
 
 #[test]
