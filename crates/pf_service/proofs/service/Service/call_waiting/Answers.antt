@@ -1,5 +1,5 @@
--- Nothing was made where the namespace isn't there.
-use Rattle.std.proofs.Common.{ℕ, [], sym, refl, append-nil, arith}
+-- Nothing was made where the namespace isn't there, and else what its place says.
+use Rattle.std.proofs.Common.{rules, ℕ, [], sym, refl, append-nil, arith}
 use Rattle.pf_base.specs.declared.step.Step.{Step}
 use Rattle.pf_base.specs.declared.step.Reply.{Reply}
 use Rattle.pf_service.specs.Told.{Told}
@@ -13,3 +13,11 @@ returns-in_err-place-clause-waited g c =
     let none = nothing (λ (s : Step) (p : ℕ) (r : Reply). Told s p r × g.G.Gate.passed gate c.args.seat.now.ns p) c.args.step.now c.args.seat.now c.args.seat.now
     c.args.receipts.now.items c.args.receipts.now.items (record { ns = refl; number = refl; events = sym (append-nil c.args.seat.now.events) }) refl in
     (gate, [], none, on_ok _ c.from_residual.result c.from_residual.ensures.0, on_err _ c.from_residual.result (λ k d l. absurd (omega arith)))
+
+pub returns-clause-waited : goal.returns-clause-waited
+returns-clause-waited g c =
+    let w = c.call_waiting.ensures.waited in
+    (c.self.inside.gate, w.0, w.1, w.2, w.3)
+
+pub call_waiting-requires : goal.call_waiting-requires
+call_waiting-requires g c = search rules steps 1000000
