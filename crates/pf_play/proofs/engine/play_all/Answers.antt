@@ -1,5 +1,5 @@
 -- The hub opens with as many names as the script has space lines.
-use Rattle.std.proofs.Common.{ap, arith, sym, subst, ◌≡◌, ◌∙◌, ℕ, List, length, take}
+use Rattle.std.proofs.Common.{rules, ap, arith, sym, subst, ◌≡◌, ◌∙◌, ℕ, List, length, take}
 use Rattle.std.proofs.lemmas.List.{length-map, length-take}
 use Rattle.pf_base.specs.Limits.{Limits}
 use Rattle.pf_play.specs.Houses.{opening_limits}
@@ -24,3 +24,9 @@ play_lines-requires-clause-theirs g c =
     subst (λ ns. AreTheirs c.args.trees.now ns c.in_ok-hub.hub)
     (sym (c.in_ok-numbers.ensures.numbers ∙ ap (numbers_from 0) (c.opening.ensures.opening ∙ many)))
     c.in_ok-hub.ensures.theirs
+
+pub returns-clause-told : goal.returns-clause-told
+returns-clause-told g c = search rules steps 2000000
+
+pub returns-clause-run : goal.returns-clause-run
+returns-clause-run g c = search rules steps 2000000
