@@ -62,8 +62,8 @@ pub fn maker(step: &Step) -> Option<u32>
     }
 }
 
-// What the tables told of a call. It is moved once, into the step's answer: where a call puts it there itself, the compiler
-// keeps that answer in memory for a write and a read too.
+// What the tables told of a call. It is moved once, into the step's answer: where a call puts it there itself, the
+// compiler keeps that answer in memory for a write and a read too.
 #[inline(always)]
 fn handed(told: Result<Reply, Fault>) -> Result<Reply, Fault>
     ensures { result ≡ told }
@@ -83,8 +83,8 @@ impl<A: Allocator + Clone> Space<A> {
     ghost use Rattle.pf_tables.specs.Owns.{Owns};
     ghost use Rattle.pf_tables.specs.Told.{Told};
 
-    /// A namespace at its opening state, with its files in memory of an allocator of their own. Nothing else stands there.
-    /// No clause names this allocator: `Placed` is a namespace beside one that clauses name.
+    /// A namespace at its opening state, with its files in memory of an allocator of their own. Nothing else stands
+    /// there. No clause names this allocator: `Placed` is a namespace beside one that clauses name.
     pub fn new(alloc: Global, tree: A, config: Config) -> Result<Self, AllocError>
         ensures { IfOk result (λ s. s ≡ record { limits = config; state = opening }) }
     {
@@ -94,8 +94,8 @@ impl<A: Allocator + Clone> Space<A> {
 
     /// One step: its answer and the state that it leaves are the lone machine's, or it is `NoMemory` and nothing has
     /// changed. The frames that it takes and gives back are those of its door.
-    // It and `call` are inlined, so that what a transfer replies is put into the answer where it is made. What the tables
-    // tell is moved there (`handed`).
+    // It and `call` are inlined, so that what a transfer replies is put into the answer where it is made. What the
+    // tables tell is moved there (`handed`).
     #[inline(always)]
     pub fn step<F: Frames>(&mut self, door: &mut F, step: &Step) -> Answer
         requires fact { F.fact door.old }

@@ -1,6 +1,6 @@
 -- Tee and Splice are one method with a word for which of the two it is: its clause becomes that of the step once the
--- kind is known. What the tables do at their own state is told by one lemma, with the one of that kind, that the machine
--- does the same where a window shows a segment.
+-- kind is known. What the tables do at their own state is told by one lemma, with the one of that kind, that the
+-- machine does the same where a window shows a segment.
 
 use Rattle.std.proofs.Common.{◌+◌, length, refl, subst, sym, ap, ◌∙◌}
 use Rattle.pf_machine.specs.Machine.{call}
