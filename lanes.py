@@ -189,8 +189,7 @@ def library(folder):
 
 
 def parts_of(groups):
-    """Groups shared out for lanes, in each the large ones first: the untouched text of the last one's functions is proved
-    again behind it."""
+    """Groups shared out for lanes, in each the large ones first: what the last one edited is proved again behind it."""
     number = -(-len(groups) // CHECKS)
     return [sorted(groups, key=len, reverse=True)[at::number] for at in range(number)]
 

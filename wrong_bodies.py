@@ -20,11 +20,11 @@ which part of its contract isn't proved, or finds another fault in the file.
 
 A check says when it is done with a function. So what each wrong body took is known, but for those that the kit judged.
 
-Each check begins with what the crate's out/ held when its untouched text was proved, which is put back before it: behind
-another check the functions that this one edited would be proved again, wherever they are called. So the untouched text
-of these functions must check before the first wrong body (lanes.py sees to that) and, over what the last one left,
-behind it: else a check would refuse anything. Where the kit judged one, which it does by the whole crate, all of the
-crate must check there.
+Each check begins with what the crate's out/ held when its untouched text was proved, which is put back before it: else
+the functions that an earlier check edited would be proved again, wherever they are called. (`rt must-fail` begins with
+what the last check left.) So the untouched text of these functions must check before the first wrong body (lanes.py
+sees to that) and, over what the last check left, behind it: else a check would refuse anything. Where the kit judged
+one, which it does by the whole crate, all of the crate must check there.
 """
 import contextlib
 import os
@@ -377,7 +377,7 @@ class Trial:
     def put_back(self):
         """Puts back what out/ held, where a check has been since."""
         if self.is_left:
-            shutil.rmtree(self.out)
+            shutil.rmtree(self.out, ignore_errors=True)
             shutil.copytree(self.proved, self.out, symlinks=True)
         self.is_left = True
 

@@ -1,6 +1,6 @@
-//! What is awkward for pipes: a payload of 1 MiB to a full pipe, which goes on page by page; pages of one byte and pages
-//! that two pipes share, read and spliced in small pieces; fork and exit of a process with all descriptors; all processes
-//! parked on one pipe; a read that asks for as much as can be asked for; a pool that is used up.
+//! What is awkward for pipes: a payload of 1 MiB to a full pipe, which goes on page by page; pages of one byte and
+//! pages that two pipes share, read and spliced in small pieces; fork and exit of a process with all descriptors; all
+//! processes parked on one pipe; a read that asks for as much as can be asked for; a pool that is used up.
 
 use crate::host::{Host, spawn};
 use crate::random::{Store, below};
@@ -214,8 +214,8 @@ fn greedy(
     Ok(())
 }
 
-/// Pipes until the reservation is used up, each of which is filled, in part or wholly; then they are grown and shrunk, which
-/// most often is refused.
+/// Pipes until the reservation is used up, each of which is filled, in part or wholly; then they are grown and shrunk,
+/// which most often is refused.
 fn use_up(
     alloc: Global,
     host: &mut Host,

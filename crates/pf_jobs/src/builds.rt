@@ -1,6 +1,6 @@
-//! A host's event loop over 64 tenants by turns, each a build: a shell that forks pipelines of two to six processes, which
-//! move a byte, a line, a block and now and then more, and wait for each other. Who can go on is asked for and resumed.
-//! Tenants come and go.
+//! A host's event loop over 64 tenants by turns, each a build: a shell that forks pipelines of two to six processes,
+//! which move a byte, a line, a block and now and then more, and wait for each other. Who can go on is asked for and
+//! resumed. Tenants come and go.
 
 use crate::host::{Host, limits, spawn};
 use crate::random::{Store, below};
@@ -275,8 +275,8 @@ impl Build {
         host.make(self.ns, read(stage.pid, stage.input));
     }
 
-    /// The first process exits, and with the end of its input each after it; the token goes back. After its last pipeline the
-    /// tenant's processes exit.
+    /// The first process exits, and with the end of its input each after it; the token goes back. After its last
+    /// pipeline the tenant's processes exit.
     fn end(&mut self, host: &mut Host) {
         if let Some(first) = self.stages.as_slice().first().copied() {
             host.exit(self.ns, first.pid);

@@ -1,6 +1,6 @@
-//! Files as a sandbox has them: some directories of thousands of names, many of a few dozens, and one path of more than a
-//! hundred directories. They are made, asked for, opened by both sides, listed and unlinked, in the order of their names,
-//! backwards and mixed, by users of whom some may not, one of them in 32 groups.
+//! Files as a sandbox has them: some directories of thousands of names, many of a few dozens, and one path of more than
+//! a hundred directories. They are made, asked for, opened by both sides, listed and unlinked, in the order of their
+//! names, backwards and mixed, by users of whom some may not, one of them in 32 groups.
 
 use crate::host::{Host, spawn};
 use crate::random::{Store, below, shuffled};

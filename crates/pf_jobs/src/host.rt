@@ -117,6 +117,7 @@ impl Host {
         number
     }
 
+    // What a step is told, which is digested: ESRCH where its tenant doesn't live, and EAGAIN where memory was wanted.
     fn reply(&mut self, ns: u32, step: &Step) -> Reply {
         self.steps = self.steps.saturating_add(1);
         if !self.hub.lives(ns) {

@@ -96,15 +96,17 @@ Answers c NoMemory old step new = new ≡ old
 
 -- Want of memory
 
-abbrev pub maker : Deed → Option ℕ
-maker (OfNobody does) = None
-maker (OfLiving pid does) = Some pid
-maker (OfReady pid does) = Some pid
+-- the process that does a deed
+abbrev pub doer : Deed → Option ℕ
+doer (OfNobody does) = None
+doer (OfLiving pid does) = Some pid
+doer (OfReady pid does) = Some pid
 
 -- the process that makes a step; nobody makes a Spawn
 abbrev pub pid_of : Step → Option ℕ
-pid_of step = maker (deed step)
+pid_of step = doer (deed step)
 
+-- whether it is one of a process that may wait in a call
 abbrev pub is_of_living : Deed → Bool
 is_of_living (OfLiving pid does) = true
 is_of_living _ = false

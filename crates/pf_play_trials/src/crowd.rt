@@ -1,5 +1,5 @@
-//! A gate that holds 63 namespaces at their first step until the 64th has been told its first answer, and that one until
-//! all others are held: a replay ends only where each has a thread of its own.
+//! A gate that holds 63 namespaces at their first step until the 64th has been told its first answer, and that one
+//! until all others are held: a replay ends only where each has a thread of its own.
 
 use crate::patience::Patience;
 use crate::texts::OPTIONS;

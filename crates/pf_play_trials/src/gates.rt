@@ -1,5 +1,5 @@
-//! A gate that holds two namespaces' steps, so that a replay ends only where both are run at once, and where neither keeps the
-//! depot's lock between its steps; and one that counts the frames of each namespace.
+//! A gate that holds two namespaces' steps, so that a replay ends only where both are run at once, and where neither
+//! keeps the depot's lock between its steps; and one that counts the frames of each namespace.
 
 use crate::patience::Patience;
 use crate::texts::played;
@@ -86,9 +86,9 @@ const TEXT: &str = "== red
 6: bytes 1 62
 ";
 
-/// The first namespace's first step is held until the second's first write was answered, and its last one, behind the frame
-/// that it took, until the second's other write was, which is held for it: so no thread keeps the depot's lock while its
-/// gate is told of a step.
+/// The first namespace's first step is held until the second's first write was answered, and its last one, behind the
+/// frame that it took, until the second's other write was, which is held for it: so no thread keeps the depot's lock
+/// while its gate is told of a step.
 #[test]
 fn two_namespaces_at_once(rt: HostRuntime) -> Result<(), Fail> {
     let gate = Meeting::new();
@@ -174,7 +174,8 @@ const WRITTEN: &str = "== red
 3: num 1
 ";
 
-/// The first namespace takes two frames, the first of them before the gate is told of its fourth step, and the second one.
+/// The first namespace takes two frames, the first of them before the gate is told of its fourth step, and the second
+/// one.
 #[test]
 fn a_gate_is_told_of_each_frame(rt: HostRuntime) -> Result<(), Fail> {
     let gate = Frames::new();

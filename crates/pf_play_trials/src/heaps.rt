@@ -1,5 +1,5 @@
-//! A namespace that makes a thousand FIFOs in a heap of 1,024 bytes: it is told of want of memory, and then the FIFO isn't
-//! there; each other one is.
+//! A namespace that makes a thousand FIFOs in a heap of 1,024 bytes: it is told of want of memory, and then the FIFO
+//! isn't there; each other one is.
 
 use crate::words::words_of;
 use pf_play::{Collected, MemoryBytes, NoGate, Status, obey};

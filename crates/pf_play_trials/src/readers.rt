@@ -1,6 +1,7 @@
-//! Readers that give a byte at a time and stop once, at each byte of a script, and then go on as if nothing had been. One
-//! that fails is a read fault, whatever the failure is called, and nothing is written; where one gives none, the input is
-//! over. Neither is asked again. A reader that claims more bytes than there was room for keeps no contract of a reader.
+//! Readers that give a byte at a time and stop once, at each byte of a script, and then go on as if nothing had been.
+//! One that fails is a read fault, whatever the failure is called, and nothing is written; where one gives none, the
+//! input is over. Neither is asked again. A reader that claims more bytes than there was room for keeps no contract of
+//! a reader.
 
 use crate::hello::{SCRIPT, TEXT};
 use crate::texts::OPTIONS;

@@ -1,5 +1,5 @@
-//! The program on words that ask for threads or heaps and on words that don't: the same text, and a gate that is told of
-//! each step or of none; and on words that aren't taken.
+//! The program on words that ask for threads or heaps and on words that don't: the same text, and a gate that is told
+//! of each step or of none; and on words that aren't taken.
 
 use crate::texts::Compared;
 use pf_play::{Gate, MemoryBytes, obey};

@@ -1,6 +1,6 @@
-//! Writers of std that take a few bytes at a time and stop once, at each byte of a text, and then go on as if nothing had
-//! been: it is a write fault, whatever the failure is called, exactly the bytes before it were taken, and the writer isn't
-//! asked again.
+//! Writers of std that take a few bytes at a time and stop once, at each byte of a text, and then go on as if nothing
+//! had been: it is a write fault, whatever the failure is called, exactly the bytes before it were taken, and the
+//! writer isn't asked again.
 
 use crate::hello::{SCRIPT, TEXT};
 use crate::texts::OPTIONS;

@@ -15,7 +15,6 @@ use Rattle.pf_machine.specs.State as machine
 use Rattle.pf_machine.specs.State.{State}
 use Rattle.pf_base.specs.declared.step.Reply.{Reply}
 use Rattle.pf_machine.specs.Opens as opens
-use Rattle.pf_machine.specs.Opens.{fifo_pipe}
 use Rattle.pf_base.specs.declared.TheConstants.{MAX_DESCRIPTORS}
 use Rattle.pf_base.specs.declared.errno.Errno.{Errno}
 use Rattle.pf_fds.specs.Registry.{find}

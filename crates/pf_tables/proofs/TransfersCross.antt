@@ -15,7 +15,7 @@ use Rattle.pf_machine.proofs.NumberedLaws.{at_within, at-put_same}
 use Rattle.pf_machine.specs.Calls.{Bringing}
 use Rattle.pf_machine.specs.Progress.{Crossed, moved, cross_now}
 use Rattle.pf_machine.specs.State as machine
-use Rattle.pf_machine.specs.State.{itself, State, End, ready, reading_end, writing_end, with_queue, holding}
+use Rattle.pf_machine.specs.State.{itself, State, End, ready, reading_end, writing_end, with_queue}
 use Rattle.pf_machine.specs.Counts.{readers, writers}
 use Rattle.pf_machine.specs.Transfers.{Tried, Ends, try_cross}
 use Rattle.pf_machine.specs.Sweep.{sweep}

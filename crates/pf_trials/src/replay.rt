@@ -46,8 +46,8 @@ impl Source for Breaking {
     }
 }
 
-/// Gives lines of comment as long as what it is asked for, but for its first byte and the last ones of the lines, as far
-/// as it has bytes left.
+/// Gives lines of comment as long as what it is asked for, but for its first byte and the last ones of the lines, as
+/// far as it has bytes left.
 #[derive(Debug, Drop)]
 struct Comments {
     first: u8,

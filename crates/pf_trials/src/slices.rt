@@ -49,8 +49,8 @@ type Read = (u32, u32, usize, Result<Option<usize>, Errno>);
 // Each place of a slice before a read.
 pub(crate) const BEFORE: u8 = 253;
 
-// Out of 65,000 bytes of two writes: parts of a page, over its end, a page, and more than there is. Then what is refused,
-// and what waits.
+// Out of 65,000 bytes of two writes: parts of a page, over its end, a page, and more than there is. Then what is
+// refused, and what waits.
 fn all_reads() -> [Read; 16] {
     [
         (1, 0, 0, Ok(Some(0))),
@@ -292,8 +292,8 @@ fn sevens(alloc: Global, count: usize) -> Result<Arc<Vec<u8>>, AllocError> {
     Ok(Arc::new(alloc, Vec::from_elem(alloc, 7, count)?)?)
 }
 
-// Whether what a write keeps that waits is its step's own, where the step alone has so many bytes, and else a copy: then
-// who has them too finds itself their one owner again, and a step its own alone.
+// Whether what a write keeps that waits is its step's own, where the step alone has so many bytes, and else a copy:
+// then who has them too finds itself their one owner again, and a step its own alone.
 fn keeps(alloc: Global, hub: &mut Hub<Global>) -> Result<bool, AllocError> {
     let mut mine = sevens(alloc, 131_072)?;
     let theirs = Arc::try_clone(&mine)?;

@@ -1,5 +1,5 @@
-//! Lines of a script with a word that has no byte, on both sides of the length up to which a line's spaces are marked at
-//! once: all their words are put, as those of a line that is taken.
+//! Lines of a script with a word that has no byte, on both sides of the length up to which a line's spaces are marked
+//! at once: all their words are put, as those of a line that is taken.
 
 use pf_script::Script;
 use std::alloc::{AllocError, Global};

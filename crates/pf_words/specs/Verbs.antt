@@ -1,6 +1,7 @@
 -- The calls of a script: what a verb and the words behind it stand for, and how a step is written.
 
-use Rattle.std.specs.Prelude.{ℕ, Bool, List, [], ◌∷◌, codes, bytes_eq, Option, Some, None, Result, Ok, Err, if◌then◌else◌}
+use Rattle.std.specs.Prelude.{ℕ, Bool, List, [], ◌∷◌, codes, bytes_eq, Option, Some, None, Result, Ok, Err}
+use Rattle.std.specs.Prelude.{if◌then◌else◌}
 use Rattle.pf_words.specs.declared.cause.Cause.{Cause}
 use Rattle.pf_words.specs.declared.cause.Cause.TheVariants as causes
 use Rattle.pf_base.specs.declared.step.Step.{Step}
@@ -122,7 +123,7 @@ call_of verb words =
 
 -- The same the other way round
 
--- a field of a step, by how it is written
+-- a field of a step, by how it is written: a small number is one of 32 bits, a large one of 64
 pub data Field : Type 0 where
   Small : ℕ → Field
   Large : ℕ → Field

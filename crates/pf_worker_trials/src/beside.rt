@@ -203,8 +203,8 @@ fn beside_by_name<R: Threads + Wait + Sync>(
 }
 
 // The first tenant gives back 32 frames, of which 16 stay in its stock. The second takes one of the other 16, which the
-// first has filled: it is shown nothing of that, and has it in its own stock in the end. As long as the second is held it is
-// free: the gate is told of it before it is taken.
+// first has filled: it is shown nothing of that, and has it in its own stock in the end. As long as the second is held
+// it is free: the gate is told of it before it is taken.
 #[test]
 fn a_frame_passes_from_one_tenant_to_the_other(rt: HostRuntime) -> Result<(), Fail> {
     let alloc = rt.alloc();
@@ -223,8 +223,8 @@ fn a_frame_passes_from_one_tenant_to_the_other(rt: HostRuntime) -> Result<(), Fa
     Ok(())
 }
 
-// The second tenant finds its one frame, though the first holds all that it may hold. It is free as long as the second is
-// held before it.
+// The second tenant finds its one frame, though the first holds all that it may hold. It is free as long as the second
+// is held before it.
 #[test]
 fn a_frame_is_there_for_each_credit(rt: HostRuntime) -> Result<(), Fail> {
     let alloc = rt.alloc();

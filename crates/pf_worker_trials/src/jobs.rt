@@ -1,5 +1,5 @@
-//! Tenants that come for a job and go when it has ended: one that still has a process, more than there is room for, as many
-//! as there are numbers, and on two threads by turns.
+//! Tenants that come for a job and go when it has ended: one that still has a process, more than there is room for, as
+//! many as there are numbers, and on two threads by turns.
 
 ghost use Rattle.std.specs.Prelude.{◌≡◌, ◌≤◌};
 ghost use Rattle.pf_base.specs.declared.TheConstants.{MAX_NAMESPACES};
@@ -74,8 +74,8 @@ fn does_and_goes<R: Wait, C: Ledger, H: Ledger>(
     goes(rt, book, tenant) && right
 }
 
-// What a tenant with a process is told that is to go, and another that is to come before it has gone; how many frames are
-// free while it holds 32, and once it has gone.
+// What a tenant with a process is told that is to go, and another that is to come before it has gone; how many frames
+// are free while it holds 32, and once it has gone.
 type Left = (RetireFault, Option<AdmitFault>, [u32; 2]);
 
 // A tenant that has filled its frames and is to go while it has a process stays, and another one is to come. Then its
@@ -114,8 +114,8 @@ fn asks_alone<R: Wait, C: Ledger, H: Ledger>(
     right
 }
 
-// A tenant fills 32 frames of 33 and is to go, and another one is to come. The first one's process exits, and it goes. Then
-// another comes that reserves all frames, and is shown nothing but its own bytes.
+// A tenant fills 32 frames of 33 and is to go, and another one is to come. The first one's process exits, and it goes.
+// Then another comes that reserves all frames, and is shown nothing but its own bytes.
 fn leaves<R: Wait, C: Ledger, H: Ledger>(
     rt: &R,
     alloc: Global,
@@ -244,8 +244,8 @@ fn all_go<R: Wait, C: Ledger, H: Ledger>(
     true
 }
 
-// What the 65th is told that comes while 64 live, and who comes when all 1,024 numbers are given and nobody lives; and how
-// many frames are free then.
+// What the 65th is told that comes while 64 live, and who comes when all 1,024 numbers are given and nobody lives; and
+// how many frames are free then.
 type Counted = ([Option<AdmitFault>; 2], u32);
 
 // 1,024 tenants of one frame each come and go over 64 frames.
@@ -334,8 +334,8 @@ fn by_turns<R: Wait, C: Ledger, H: Ledger>(
     TURNS
 }
 
-// On each of two threads tenants of one frame come and go, over two frames. How many did their job, and how many frames are
-// free in the end.
+// On each of two threads tenants of one frame come and go, over two frames. How many did their job, and how many frames
+// are free in the end.
 fn on_two_threads<C: Ledger + Send + Sync, H: Ledger + Send + Sync, R: Threads + Wait + Sync>(
     rt: &R,
     alloc: Global,

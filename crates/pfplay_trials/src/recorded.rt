@@ -1,6 +1,6 @@
 //! Recorded programs: each script is played, and what it prints is compared with the text beside it. Then its tenant
-//! moves: half of its steps are made on one hub, and the other half on another, with another neighbour and other bytes in
-//! the frames, where its steps so far are played again first.
+//! moves: half of its steps are made on one hub, and the other half on another, with another neighbour and other bytes
+//! in the frames, where its steps so far are played again first.
 
 use crate::file;
 use crate::moving::moved;
