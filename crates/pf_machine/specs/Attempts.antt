@@ -1,8 +1,10 @@
 -- Calls that may wait, attempted: a call is finished with a reply, or it waits. The first attempt is a step of its own;
 -- where it waits, its process parks, and each Resume makes the attempt again.
 --
--- Eight definitions a Read passes, in this order, from its step to its reply:
---     call       (Machine)    who calls: ESRCH, then EBUSY of a process that waits (`ready` in State)
+-- Ten definitions a Read passes, in this order, from its step to its reply:
+--     call       (Machine)    the deed of a step is done
+--     deed       (Machine)    whose it is, of a process that waits in no call, and what it does: a transfer
+--     done_at    (Machine)    who calls: ESRCH, then EBUSY of a process that waits (`ready` in State)
 --     transfer   (here)       the first attempt, and whether it may wait
 --     attempt    (here)       what is tried, and what is told of how far it came
 --     tried      (Transfers)  the end that the descriptor names: EBADF (`reading_end` in State)

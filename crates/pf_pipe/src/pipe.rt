@@ -5,9 +5,11 @@ ghost use Rattle.pf_base.specs.declared.progress.Progress.TheVariants.{WouldBloc
 ghost use Rattle.pf_machine.specs.Queue.{room_of, bytes_of, taken};
 ghost use Rattle.pf_machine.specs.Queries.{read_goes_on, write_goes_on, cross_goes_on};
 ghost use Rattle.pf_frame.specs.Live.{Live, IsSound};
+ghost use Rattle.pf_ring.specs.Calls.{Appends, Empties, SameFrames};
+ghost use Rattle.pf_ring.specs.Door.{Holds, HoldsBoth, Affords, Leaves};
 ghost use Rattle.pf_ring.specs.Laid.{laid};
 ghost use Rattle.pf_ring.specs.Ring.{queue_of};
-ghost use Rattle.pf_ring.specs.Windows.{Stands, Keeps, SameBytes, PutsBehind, bytes_in};
+ghost use Rattle.pf_ring.specs.Windows.{Stands, SameBytes, bytes_in};
 ghost use Rattle.pf_pipe.specs.Pipe.{ends, with_ends, opens_for, opened_for, unopened, Passes, Crosses, Stops, Goes, Resizes};
 
 use pf_base::{BYTES_IN_PLACE, ByteString, Crossing, Errno, Fault, Progress, Side};
@@ -250,22 +252,12 @@ impl Pipe {
     // It and `read_onto` are inlined into the step, as what they call is.
     #[inline(always)]
     pub fn write_now<F: Frames>(&mut self, door: &mut F, bytes: &[u8], whole: bool) -> Progress
-        requires fact { F.fact door.old }
-        requires stands { Stands (F.live door.old) self.old.ring.segments }
-        // A credit for each free slot: nothing can fail.
-        requires credits { let free = self.old.ring.capacity - length self.old.ring.segments in
-            (F.live door.old).held + free ≤ (F.live door.old).reserved }
-        ensures fact { F.fact door.new }
-        ensures rest { F.rest door.new ≡ F.rest door.old }
+        requires door { Affords F.Frames door.old self.old.ring.capacity self.old.ring.segments }
+        ensures door { Leaves F.Frames door.old door.new
+            (Appends self.old.ring.segments self.new.ring.segments (moved result)) }
         ensures passes { Passes self.old self.new (F.live door.old) (F.live door.new) result
             (write_now (queue_of (F.live door.old) self.old.ring) self.old.readers whole bytes.now) }
-        // As many frames are taken as slots.
-        ensures takes { (F.live door.new).held + length self.old.ring.segments
-            ≡ (F.live door.old).held + length self.new.ring.segments }
-        // A frame that was live is written to behind the last slot's end alone, and where no byte goes nothing is
-        // touched.
-        ensures puts_behind { PutsBehind self.old.ring.segments (moved result)
-            (F.live door.old) (F.live door.new) }
+        // Where no byte goes nothing is touched.
         ensures untouched { moved result ≡ 0 → (self.new ≡ self.old) × (door.new ≡ door.old) }
     {
         if bytes.is_empty() {
@@ -284,16 +276,13 @@ impl Pipe {
 
     /// Reads what there is now into a buffer (read(2)), as many bytes as it has room for.
     pub fn read_now<F: Frames>(&mut self, door: &mut F, buffer: &mut [u8]) -> Progress
-        requires fact { F.fact door.old }
-        requires stands { Stands (F.live door.old) self.old.ring.segments }
-        ensures fact { F.fact door.new }
-        ensures rest { F.rest door.new ≡ F.rest door.old }
+        requires door { Holds F.Frames door.old self.old.ring.segments }
+        ensures door { Leaves F.Frames door.old door.new SameBytes }
         ensures passes { Passes self.old self.new (F.live door.old) (F.live door.new) result
             (read_now (queue_of (F.live door.old) self.old.ring) self.old.writers (length buffer.old)) }
         ensures bytes { let number = moved result in
             buffer.new ≡ taken (queue_of (F.live door.old) self.old.ring) number ++ drop number buffer.old }
-        // Nothing is written, and where no byte comes out nothing is touched.
-        ensures bytes_stay { SameBytes (F.live door.old) (F.live door.new) }
+        // Where no byte comes out nothing is touched.
         ensures untouched { moved result ≡ 0 → (self.new ≡ self.old) × (door.new ≡ door.old) }
     {
         if buffer.is_empty() {
@@ -314,16 +303,13 @@ impl Pipe {
         limit: usize,
         buffer: &mut [u8],
     ) -> Progress
-        requires fact { F.fact door.old }
-        requires stands { Stands (F.live door.old) self.old.ring.segments }
-        ensures fact { F.fact door.new }
-        ensures rest { F.rest door.new ≡ F.rest door.old }
+        requires door { Holds F.Frames door.old self.old.ring.segments }
+        ensures door { Leaves F.Frames door.old door.new SameBytes }
         ensures passes { Passes self.old self.new (F.live door.old) (F.live door.new) result
             (read_now (queue_of (F.live door.old) self.old.ring) self.old.writers limit) }
         ensures bytes { buffer.new
             ≡ laid (taken (queue_of (F.live door.old) self.old.ring) (moved result)) buffer.old }
-        // Nothing is written, and where no byte comes out nothing is touched.
-        ensures bytes_stay { SameBytes (F.live door.old) (F.live door.new) }
+        // Where no byte comes out nothing is touched.
         ensures untouched { moved result ≡ 0 → (self.new ≡ self.old) × (door.new ≡ door.old) }
     {
         if limit == 0 {
@@ -339,17 +325,14 @@ impl Pipe {
     /// Reads what there is now onto the end of a vector that has room for it (read(2)), but at most so many bytes.
     #[inline(always)]
     pub fn read_onto<F: Frames>(&mut self, door: &mut F, most: usize, out: &mut Vec<u8>) -> Progress
-        requires fact { F.fact door.old }
-        requires stands { Stands (F.live door.old) self.old.ring.segments }
+        requires door { Holds F.Frames door.old self.old.ring.segments }
         requires room { vec_len out.old + min most (bytes_in self.old.ring.segments) ≤ vec_capacity out.old }
-        ensures fact { F.fact door.new }
-        ensures rest { F.rest door.new ≡ F.rest door.old }
+        ensures door { Leaves F.Frames door.old door.new SameBytes }
         ensures passes { Passes self.old self.new (F.live door.old) (F.live door.new) result
             (read_now (queue_of (F.live door.old) self.old.ring) self.old.writers most) }
         ensures bytes { out.new.items
             ≡ out.old.items ++ taken (queue_of (F.live door.old) self.old.ring) (moved result) }
-        // Nothing is written, and where no byte comes out nothing is touched.
-        ensures bytes_stay { SameBytes (F.live door.old) (F.live door.new) }
+        // Where no byte comes out nothing is touched.
         ensures untouched { moved result ≡ 0
             → (self.new ≡ self.old) × (door.new ≡ door.old) × (out.new ≡ out.old) }
     {
@@ -371,15 +354,12 @@ impl Pipe {
         door: &mut F,
         most: usize,
     ) -> Result<(Progress, ByteString), AllocError>
-        requires fact { F.fact door.old }
-        requires stands { Stands (F.live door.old) self.old.ring.segments }
-        ensures fact { F.fact door.new }
-        ensures rest { F.rest door.new ≡ F.rest door.old }
+        requires door { Holds F.Frames door.old self.old.ring.segments }
+        ensures door { Leaves F.Frames door.old door.new SameBytes }
         ensures passes { IfOk result (λ r. Passes self.old self.new (F.live door.old) (F.live door.new) r.0
             (read_now (queue_of (F.live door.old) self.old.ring) self.old.writers most)) }
         ensures bytes { IfOk result (λ r. r.1 ≡ taken (queue_of (F.live door.old) self.old.ring) (moved r.0)) }
-        // Nothing is written, and where no byte comes out nothing is touched.
-        ensures bytes_stay { SameBytes (F.live door.old) (F.live door.new) }
+        // Where no byte comes out nothing is touched.
         ensures untouched { IfOk result (λ r. moved r.0 ≡ 0 → (self.new ≡ self.old) × (door.new ≡ door.old)) }
         ensures refused { OnErr result ((self.new ≡ self.old) × (door.new ≡ door.old)) }
     {
@@ -401,19 +381,14 @@ impl Pipe {
     /// Puts a copy of the first bytes into another pipe (tee(2)): at most `n`, and at most as many slots as are free
     /// there, at least a byte where it moves any. No byte is copied: each slot that is put names a frame once more.
     pub fn tee_now<F: Frames>(&self, door: &mut F, sink: &mut Pipe, n: usize) -> Progress
-        requires fact { F.fact door.old }
-        // The two pipes are two in the same frames, and no count can pass the end of its type.
-        requires stands { Stands (F.live door.old) (self.now.ring.segments ++ sink.old.ring.segments) }
-        requires few { (F.live door.old).shares + sink.old.ring.capacity < 2 ^ 32 }
-        ensures fact { F.fact door.new }
-        ensures rest { F.rest door.new ≡ F.rest door.old }
+        requires door { HoldsBoth F.Frames door.old self.now.ring.segments sink.old.ring.segments
+            sink.old.ring.capacity }
+        ensures door { Leaves F.Frames door.old door.new SameFrames }
         ensures crosses { let source = queue_of (F.live door.old) self.now.ring in
             let queue = queue_of (F.live door.old) sink.old.ring in
             Crosses self.now self.now sink.old sink.new (F.live door.old) (F.live door.new) result
             (cross_now Tee source queue self.now.writers sink.old.readers n) }
-        // No frame is taken or freed, nothing is written, and where no byte goes nothing is touched.
-        ensures takes { (F.live door.new).held ≡ (F.live door.old).held }
-        ensures bytes_stay { SameBytes (F.live door.old) (F.live door.new) }
+        // Where no byte goes nothing is touched.
         ensures untouched { moved result ≡ 0 → (sink.new ≡ sink.old) × (door.new ≡ door.old) }
     {
         if let Some(progress) = self.stopped(sink, n) {
@@ -426,19 +401,14 @@ impl Pipe {
     /// Moves the first bytes into another pipe (splice(2)): as many as `tee_now` puts there. No byte is copied: each
     /// slot whose bytes all go goes itself, and one that is cut has its frame named once more.
     pub fn splice_now<F: Frames>(&mut self, door: &mut F, sink: &mut Pipe, n: usize) -> Progress
-        requires fact { F.fact door.old }
-        // The two pipes are two in the same frames, and no count can pass the end of its type.
-        requires stands { Stands (F.live door.old) (self.old.ring.segments ++ sink.old.ring.segments) }
-        requires few { (F.live door.old).shares + sink.old.ring.capacity < 2 ^ 32 }
-        ensures fact { F.fact door.new }
-        ensures rest { F.rest door.new ≡ F.rest door.old }
+        requires door { HoldsBoth F.Frames door.old self.old.ring.segments sink.old.ring.segments
+            sink.old.ring.capacity }
+        ensures door { Leaves F.Frames door.old door.new SameFrames }
         ensures crosses { let source = queue_of (F.live door.old) self.old.ring in
             let queue = queue_of (F.live door.old) sink.old.ring in
             Crosses self.old self.new sink.old sink.new (F.live door.old) (F.live door.new) result
             (cross_now Splice source queue self.old.writers sink.old.readers n) }
-        // No frame is taken or freed, nothing is written, and where no byte goes nothing is touched.
-        ensures takes { (F.live door.new).held ≡ (F.live door.old).held }
-        ensures bytes_stay { SameBytes (F.live door.old) (F.live door.new) }
+        // Where no byte goes nothing is touched.
         ensures untouched { moved result ≡ 0
             → (self.new ≡ self.old) × (sink.new ≡ sink.old) × (door.new ≡ door.old) }
     {
@@ -457,19 +427,14 @@ impl Pipe {
         sink: &mut Pipe,
         n: usize,
     ) -> Progress
-        requires fact { F.fact door.old }
-        // The two pipes are two in the same frames, and no count can pass the end of its type.
-        requires stands { Stands (F.live door.old) (self.old.ring.segments ++ sink.old.ring.segments) }
-        requires few { (F.live door.old).shares + sink.old.ring.capacity < 2 ^ 32 }
-        ensures fact { F.fact door.new }
-        ensures rest { F.rest door.new ≡ F.rest door.old }
+        requires door { HoldsBoth F.Frames door.old self.old.ring.segments sink.old.ring.segments
+            sink.old.ring.capacity }
+        ensures door { Leaves F.Frames door.old door.new SameFrames }
         ensures crosses { let source = queue_of (F.live door.old) self.old.ring in
             let queue = queue_of (F.live door.old) sink.old.ring in
             Crosses self.old self.new sink.old sink.new (F.live door.old) (F.live door.new) result
             (cross_now crossing source queue self.old.writers sink.old.readers n) }
-        // No frame is taken or freed, nothing is written, and where no byte goes nothing is touched.
-        ensures takes { (F.live door.new).held ≡ (F.live door.old).held }
-        ensures bytes_stay { SameBytes (F.live door.old) (F.live door.new) }
+        // Where no byte goes nothing is touched.
         ensures untouched { moved result ≡ 0
             → (self.new ≡ self.old) × (sink.new ≡ sink.old) × (door.new ≡ door.old) }
     {
@@ -512,15 +477,10 @@ impl Pipe {
 
     /// Empties all slots, and releases the frame of each. The ends stay counted.
     pub fn clear<F: Frames>(&mut self, door: &mut F)
-        requires fact { F.fact door.old }
-        requires stands { Stands (F.live door.old) self.old.ring.segments }
-        ensures fact { F.fact door.new }
-        ensures rest { F.rest door.new ≡ F.rest door.old }
+        requires door { Holds F.Frames door.old self.old.ring.segments }
+        ensures door { Leaves F.Frames door.old door.new (Empties self.old.ring.segments []) }
         ensures pipe { self.new
             ≡ record self.old { ring = record { capacity = self.old.ring.capacity; segments = [] } } }
-        // Other rings show what they showed, and nothing is written.
-        ensures keeps { Keeps [] self.old.ring.segments [] (F.live door.old) (F.live door.new) }
-        ensures bytes_stay { SameBytes (F.live door.old) (F.live door.new) }
     {
         self.ring.clear(door);
     }

@@ -182,7 +182,7 @@ topped_behind f g front w n xs sound s grows u ends least = record {
 }
 
 pub topped_puts : (f g : Live) (front : List Window) (w : Window) (n : ℕ) (xs : List ℕ) → IsSound f → Stands f (front ++ w ∷ []) → w.grows ≡ true → Fills f g w.frame (w.from + w.len) xs
-    → w.from + w.len + n ≤ PAGE_SIZE → length xs ≡ n → Puts (front ++ w ∷ []) (front ++ w ∷ []) (front ++ longer w n ∷ []) n f g
+    → w.from + w.len + n ≤ PAGE_SIZE → length xs ≡ n → Puts n (front ++ w ∷ []) (front ++ w ∷ []) (front ++ longer w n ∷ []) f g
 topped_puts f g front w n xs sound s grows u fits size = record {
   keeps = topped_keeps f g front w n xs sound s grows u fits;
   puts_behind = topped_behind f g front w n xs sound s grows u (omega (arith, fits)) (omega (arith, size));
@@ -192,7 +192,7 @@ topped_puts f g front w n xs sound s grows u fits size = record {
 }
 
 -- nothing is put
-pub puts_nothing : (f : Live) (ws : List Window) → Stands f ws → Puts ws ws ws 0 f f
+pub puts_nothing : (f : Live) (ws : List Window) → Stands f ws → Puts 0 ws ws ws f f
 puts_nothing f ws s = record {
   keeps = drops_keep f f ws ws s (drops_nothing f ws s.some);
   puts_behind = behind_nothing f ws;
@@ -203,7 +203,7 @@ puts_nothing f ws s = record {
 
 -- a piece of its own
 pub piece_puts : (f g h : Live) (ws : List Window) (frame n : ℕ) (xs : List ℕ) → Stands f ws → Takes f g frame → Fills g h frame 0 xs → length xs ≡ n → 0 < n → n ≤ PAGE_SIZE
-    → Puts [] ws (ws ++ fresh frame n ∷ []) n f h
+    → Puts n [] ws (ws ++ fresh frame n ∷ []) f h
 piece_puts f g h ws frame n xs s t u e some fits =
     let other_frame : (q : ℕ) → 0 < f.count q → q ≡ frame → ⊥ = λ q a d. let z : f.count q ≡ 0 = ap f.count d ∙ t.fresh in omega (arith, z, a) in
     let stay : (q : ℕ) → 0 < f.count q → h.bytes q ≡ f.bytes q = λ q a. u.bytes q (other_frame q a) (omega (arith, t.counts q (other_frame q a), a)) ∙ t.bytes q a in

@@ -4,6 +4,7 @@ pub mod WindowsShare
 pub mod Loops
 pub mod Queues
 pub mod Segments
+pub mod StepsLaws
 pub mod WindowsShift
 pub mod TableLaws
 pub mod LaidLaws

@@ -2,13 +2,14 @@
 
 use Rattle.std.proofs.Common.{◌≡◌, ℕ, zero, suc, ◌+◌, ◌-◌, ◌*◌, ◌<◌, ◌≤◌, min, List, [], ◌∷◌, ◌++◌, length, take, drop, get_or, refl, sym, ◌∙◌, ap, subst, inl, inr, append_assoc, arith}
 use Rattle.std.proofs.lemmas.Bool.{cases_lt}
-use Rattle.std.proofs.lemmas.List.{append-nil, take-append-le, take_all, drop_all, take_at, take_min, drop_at, drop_min, drop-drop, length-take, length-drop}
+use Rattle.std.proofs.lemmas.List.{append-nil, take-append-le, take_min, drop_min, length-take, length-drop}
 use Rattle.pf_base.specs.declared.TheConstants.{PAGE_SIZE}
-use Rattle.pf_machine.specs.Queue.{Segment, joined, pieces, without_front, after_take}
+use Rattle.pf_machine.specs.Queue.{Segment, joined, pieces, without_front}
 use Rattle.pf_machine.proofs.QueueLaws.{joined-without_front}
 use Rattle.pf_frame.specs.Live.{Live, IsSound}
 use Rattle.pf_ring.specs.declared.ring.Window.{Window}
-use Rattle.pf_ring.specs.Ring.{Ring, segment_of, shown, queue_of}
+use Rattle.pf_ring.specs.Ring.{Ring, segment_of, shown}
+use Rattle.pf_ring.specs.Calls.{Gives}
 use Rattle.pf_ring.specs.Steps.{Puts, Cut}
 use Rattle.pf_ring.specs.Windows.{bytes_in, Stands, Drops}
 use Rattle.pf_ring.proofs.WindowLaws.{segments_length, window_whole, keeps_stands, keeps_then, behind_then, drops_keep, drops_then, drops_nothing}
@@ -27,10 +28,10 @@ take_both (suc a) b [] = nil_take b ∙ sym (nil_take (suc a + b))
 take_both (suc a) b (x ∷ xs) = let e : suc (a + b) ≡ suc a + b = omega arith in ap (λ (l : List ℕ). x ∷ l) (take_both a b xs) ∙ ap (λ (n : ℕ). take n (x ∷ xs)) e
 
 -- bytes have gone from the front, and then more
-pub cut_nothing : (f : Live) (ws : List Window) → IsSound f → Stands f ws → Cut ws ws 0 f f
+pub cut_nothing : (f : Live) (ws : List Window) → IsSound f → Stands f ws → Cut 0 ws ws f f
 cut_nothing f ws sound s = record { drops = drops_nothing f ws s.some; segments = sym (without_none f ws sound s); bytes = omega arith }
 
-pub cut_then : (f g h : Live) (old mid new : List Window) (m n : ℕ) → Cut old mid m f g → Cut mid new n g h → Cut old new (m + n) f h
+pub cut_then : (f g h : Live) (old mid new : List Window) (m n : ℕ) → Cut m old mid f g → Cut n mid new g h → Cut (m + n) old new f h
 cut_then f g h old mid new m n c d = record {
   drops = drops_then f g h old mid new c.drops d.drops;
   segments = d.segments ∙ (ap (without_front n) c.segments ∙ without_more m n (shown f old));
@@ -58,7 +59,7 @@ part_of f ws w most part sound stands some here any p =
     )
 
 -- bytes that were taken, and then more of what was left
-pub taken_then : (f g : Live) (old mid : List Window) (m n : ℕ) (before out after : List ℕ) → Cut old mid m f g → out ≡ before ++ take m (joined (shown f old))
+pub taken_then : (f g : Live) (old mid : List Window) (m n : ℕ) (before out after : List ℕ) → Cut m old mid f g → out ≡ before ++ take m (joined (shown f old))
     → after ≡ out ++ take n (joined (shown g mid)) → after ≡ before ++ take (m + n) (joined (shown f old))
 taken_then f g old mid m n before out after c first then =
     let all : List ℕ = joined (shown f old) in
@@ -72,22 +73,32 @@ taken_all f ws most n sound s e =
     let least : n ≡ min most (length (joined (shown f ws))) = omega (arith, e, segments_length f ws sound s) in
     ap (λ (k : ℕ). take k (joined (shown f ws))) least ∙ take_min most (joined (shown f ws))
 
-pub taken_number : (f : Live) (ws : List Window) (most n : ℕ) → IsSound f → Stands f ws → n ≡ min (bytes_in ws) most
-    → n ≡ length (take most (joined (shown f ws)))
-taken_number f ws most n sound s e = omega (arith, e, segments_length f ws sound s, length-take most (joined (shown f ws)))
-
-pub cut_queue : (f g : Live) (old new : Ring) (most n : ℕ) → IsSound f → Stands f old.segments → n ≡ min (bytes_in old.segments) most → new.capacity ≡ old.capacity
-    → Cut old.segments new.segments n f g → queue_of g new ≡ after_take (queue_of f old) most
-cut_queue f g old new most n sound s e same c =
-    let left : shown g new.segments ≡ without_front most (shown f old.segments) = elim (cases_lt n most) [
-      | inl l ↦ c.segments ∙ (without_rest n (shown f old.segments) (omega (arith, e, l, segments_length f old.segments sound s))
-          ∙ sym (without_rest most (shown f old.segments) (omega (arith, e, l, segments_length f old.segments sound s))))
-      | inr g ↦ c.segments ∙ ap (λ (k : ℕ). without_front k (shown f old.segments)) (omega (arith, e, g))
+-- and the ring of these slots and windows gives them
+pub gives : (f g : Live) (slots : ℕ) (ws new : List Window) (old : Ring) (most n : ℕ)
+    → record { capacity = slots; segments = ws } ≡ old → IsSound f → Stands f old.segments → length ws ≤ slots
+    → n ≡ min (bytes_in old.segments) most → Cut n ws new f g
+    → Gives f g old (record { capacity = slots; segments = new }) most n
+gives f g slots ws new old most n is sound s few e cut =
+    let c : Cut n old.segments new f g = subst (λ (r : Ring). Cut n r.segments new f g) is cut in
+    let before : List Segment = shown f old.segments in
+    let all : length (joined before) ≡ bytes_in old.segments = segments_length f old.segments sound s in
+    let left : shown g new ≡ without_front most before = elim (cases_lt n most) [
+      | inl l ↦ c.segments ∙ (without_rest n before (omega (arith, e, l, all))
+          ∙ sym (without_rest most before (omega (arith, e, l, all))))
+      | inr g ↦ c.segments ∙ ap (λ (k : ℕ). without_front k before) (omega (arith, e, g))
     ] in
-    λ i. record { capacity = same i; segments = left i }
+    let same : slots ≡ old.capacity = ap (λ (r : Ring). r.capacity) is in
+    record {
+      number_is = omega (arith, e, all, length-take most (joined before));
+      left = record {
+        capacity = same;
+        fits = omega (arith, cut.drops.used, few);
+        queue = λ i. record { capacity = same i; segments = left i };
+      };
+    }
 
 -- bytes put at the end of windows, and then more in windows of their own
-pub puts_then : (f g h : Live) (behind old mid new : List Window) (m n : ℕ) → Puts behind old mid m f g → Puts [] mid new n g h → Puts behind old new (m + n) f h
+pub puts_then : (f g h : Live) (behind old mid new : List Window) (m n : ℕ) → Puts m behind old mid f g → Puts n [] mid new g h → Puts (m + n) behind old new f h
 puts_then f g h behind old mid new m n p r = record {
   keeps = keeps_then f g h [] old mid new p.more p.keeps r.keeps;
   puts_behind = behind_then f g h behind m n p.puts_behind p.more r.puts_behind;
@@ -101,13 +112,13 @@ pub record Appending (f0 f : Live) (ws0 ws : List Window) (slots used : ℕ) (ta
   pub number : length ws ≡ used
   pub done : ℕ
   pub split : done + length rest ≡ length x
-  pub puts : Puts ws0 ws0 ws done f0 f
+  pub puts : Puts done ws0 ws0 ws f0 f
   pub segments : shown f ws ++ pieces (slots - used) rest ≡ target
   pub room : length rest ≤ PAGE_SIZE * (slots - used)
 
 pub appending_more : (f0 f g : Live) (ws0 ws new : List Window) (slots used m : ℕ) (target : List Segment) (x rest piece left : List ℕ) → Appending f0 f ws0 ws slots used target x rest
     → used < slots → 0 < length rest → m ≡ min (length rest) PAGE_SIZE → piece ≡ take m rest → left ≡ drop m rest → length new ≡ used + 1
-    → shown g new ≡ shown f ws ++ record { bytes = piece; room = PAGE_SIZE - length piece } ∷ [] → Puts [] ws new (length piece) f g
+    → shown g new ≡ shown f ws ++ record { bytes = piece; room = PAGE_SIZE - length piece } ∷ [] → Puts (length piece) [] ws new f g
     → Appending f0 g ws0 new slots (used + 1) target x left
 appending_more f0 f g ws0 ws new slots used m target x rest piece left a free some least front back one segs p =
     let size : length piece ≡ m = ap (λ (b : List ℕ). length b) front ∙ omega (arith, length-take m rest, least) in
@@ -133,8 +144,8 @@ appending_more f0 f g ws0 ws new slots used m target x rest piece left a free so
 
 -- and one that has come to its end
 pub appending_end : (f0 f : Live) (ws0 ws : List Window) (slots used : ℕ) (target : List Segment) (x rest : List ℕ) → Appending f0 f ws0 ws slots used target x rest
-    → length rest ≡ 0 → (shown f ws ≡ target) × Puts ws0 ws0 ws (length x) f0 f
+    → length rest ≡ 0 → (shown f ws ≡ target) × Puts (length x) ws0 ws0 ws f0 f
 appending_end f0 f ws0 ws slots used target x rest a none = (
   sym (append-nil (shown f ws)) ∙ (ap (λ (s : List Segment). shown f ws ++ s) (sym (pieces_none (slots - used) rest none)) ∙ a.segments),
-  subst (λ (n : ℕ). Puts ws0 ws0 ws n f0 f) (omega (arith, a.split, none)) a.puts,
+  subst (λ (n : ℕ). Puts n ws0 ws0 ws f0 f) (omega (arith, a.split, none)) a.puts,
 )

@@ -84,10 +84,10 @@ gone_segments f w ws n s t e =
     sym (without_all n (segment_of f w) (map (segment_of f) ws) (omega arith) ∙ (ap (λ (k : ℕ). without_front k (map (segment_of f) ws)) (omega arith) ∙ without_none f ws s (stands_rest f w ws t)))
 
 -- the first window loses some of its bytes, or goes with all
-pub cut_first : (f : Live) (w : Window) (ws : List Window) (n : ℕ) → IsSound f → Stands f (w ∷ ws) → n < w.len → Cut (w ∷ ws) (shorter w n ∷ ws) n f f
+pub cut_first : (f : Live) (w : Window) (ws : List Window) (n : ℕ) → IsSound f → Stands f (w ∷ ws) → n < w.len → Cut n (w ∷ ws) (shorter w n ∷ ws) f f
 cut_first f w ws n s t l = record { drops = cut_drops f w ws n t l; segments = cut_segments f w ws n s t l; bytes = omega (arith, l) }
 
-pub gone_first : (f g : Live) (old new : List Window) (w : Window) (n : ℕ) → IsSound f → Stands f old → First f old w → n ≡ w.len → new ≡ drop 1 old → Drops old new f g → Cut old new n f g
+pub gone_first : (f g : Live) (old new : List Window) (w : Window) (n : ℕ) → IsSound f → Stands f old → First f old w → n ≡ w.len → new ≡ drop 1 old → Drops old new f g → Cut n old new f g
 gone_first f g old new w n s t first e is d = record {
   drops = d;
   segments = drops_show f g old new t d ∙ (ap (shown f) is ∙ (gone_segments f w (drop 1 old) n s first.stands e ∙ ap (λ (ws : List Window). without_front n (shown f ws)) (sym first.split)));

@@ -5,10 +5,11 @@ use Rattle.std.proofs.lemmas.Bool.{cases_eq, cases_lt}
 use Rattle.std.proofs.lemmas.Bool.Decides.{nat_tests}
 use Rattle.std.proofs.lemmas.List.{map-append, append-nil, get_or-drop, drop_all, drop-drop, take-take, take_min, length-drop, length-append, length-map}
 use Rattle.pf_base.specs.declared.TheConstants.{PAGE_SIZE}
-use Rattle.pf_machine.specs.Queue.{Segment, joined, free_of, copied, tee_number}
+use Rattle.pf_machine.specs.Queue.{Segment, joined, free_of, copied, tee_number, after_tee}
 use Rattle.pf_machine.proofs.QueueLaws.{joined-append}
 use Rattle.pf_frame.specs.Live.{Live, IsSound, Shares}
 use Rattle.pf_ring.specs.declared.ring.Window.{Window}
+use Rattle.pf_ring.specs.Calls.{Gets}
 use Rattle.pf_ring.specs.Ring.{Ring, segment_of, shown, queue_of}
 use Rattle.pf_ring.specs.Steps.{Copies}
 use Rattle.pf_ring.specs.Windows.{named, reach, opens, limit, bytes_in, Stands, Keeps, Moves}
@@ -64,7 +65,7 @@ copy_keeps f g src old w n s h live some ends =
     }
 
 copy_one : (f g : Live) (src old : List Window) (w : Window) (n : ℕ) → Stands f (src ++ old) → Shares f g w.frame → 0 < f.count w.frame → 0 < n → w.from + n ≤ reach w.frame src
-    → Copies src old (old ++ copy_of w n ∷ []) n f g
+    → Copies n src old (old ++ copy_of w n ∷ []) f g
 copy_one f g src old w n s h live some ends = record {
   keeps = copy_keeps f g src old w n s h live some ends;
   more = λ q. elim (cases_eq q w.frame) [
@@ -80,7 +81,7 @@ copy_one f g src old w n s h live some ends = record {
   bytes = omega (arith, bytes_in-append old (copy_of w n ∷ []));
 }
 
-copies_nothing : (f : Live) (src old : List Window) → Stands f old → Copies src old old 0 f f
+copies_nothing : (f : Live) (src old : List Window) → Stands f old → Copies 0 src old old f f
 copies_nothing f src old s = record {
   keeps = keeps_same f src old s;
   more = λ q. omega arith;
@@ -90,7 +91,7 @@ copies_nothing f src old s = record {
   bytes = omega arith;
 }
 
-copies_then : (f g h : Live) (src old mid new : List Window) (m n : ℕ) → Copies src old mid m f g → Copies src mid new n g h → Copies src old new (m + n) f h
+copies_then : (f g h : Live) (src old mid new : List Window) (m n : ℕ) → Copies m src old mid f g → Copies n src mid new g h → Copies (m + n) src old new f h
 copies_then f g h src old mid new m n c d = record {
   keeps = keeps_then f g h src old mid new c.more c.keeps d.keeps;
   more = λ q. omega (arith, c.more q, d.more q);
@@ -142,7 +143,7 @@ is_source f src place w sound s l h =
 pub record Sharing (f0 f : Live) (src ws0 ws : List Window) (slots n place done : ℕ) (target : List Segment) : Type 0 where
   pub number : length ws ≡ length ws0 + place
   pub within : done ≤ n
-  pub copies : Copies src ws0 ws done f0 f
+  pub copies : Copies done src ws0 ws f0 f
   pub stands : Stands f (src ++ ws)
   pub segments : shown f ws ++ copied (slots - length ws) (n - done) (shown f0 (drop place src)) ≡ target
 
@@ -176,7 +177,7 @@ sharing_more f0 f g src ws0 ws new slots n place done m target w sound stood a h
     let v : Window = copy_of w m in
     let live : 0 < f.count w.frame = omega (arith, at.live, a.copies.more w.frame) in
     let ends : w.from + m ≤ reach w.frame src = omega (arith, at.ends, least) in
-    let one : Copies src ws (ws ++ v ∷ []) m f g = copy_one f g src ws w m a.stands shares live (omega (arith, at.some, least, left)) ends in
+    let one : Copies m src ws (ws ++ v ∷ []) f g = copy_one f g src ws w m a.stands shares live (omega (arith, at.some, least, left)) ends in
     let size : length (ws ++ v ∷ []) ≡ length ws + 1 = omega (arith, length-append ws (v ∷ [])) in
     let stay : shown g ws ≡ shown f ws = segments_same f g ws (λ q named. shares.bytes q (omega (arith, named, (stands_second f src ws a.stands).counted q))) in
     let bytes : g.bytes w.frame ≡ f0.bytes w.frame = shares.bytes w.frame live ∙ a.copies.same w.frame at.live in
@@ -223,17 +224,43 @@ all_or_full src ws0 ws slots place e most = elim (cases_lt ws slots) [
   | inr full ↦ inl full
 ]
 
--- how many bytes the windows show that were put
-pub tee_number_is : (f g : Live) (source sink : Ring) (new : List Window) (used n m : ℕ) → IsSound f → IsSound g → Stands f sink.segments → Stands g new → used ≡ length sink.segments → bytes_in new ≡ bytes_in sink.segments + m
-    → shown g new ≡ shown f sink.segments ++ copied (sink.capacity - used) n (shown f source.segments) → m ≡ tee_number (queue_of f source) (queue_of f sink) n
-tee_number_is f g source sink new used n m before after stands stand e bytes shows =
+-- a ring that gets windows on the first bytes of another shows them, and this is their number
+pub gets : (f g : Live) (source sink source' sink' : Ring) (new : List Window) (used n m : ℕ)
+    → source ≡ source' → sink ≡ sink' → IsSound f → IsSound g → Stands f (source'.segments ++ sink'.segments)
+    → (Stands f (source.segments ++ sink.segments) → Stands g new) → used ≡ length sink.segments
+    → length new ≤ sink.capacity → bytes_in new ≡ bytes_in sink.segments + m
+    → shown g new ≡ shown f sink.segments ++ copied (sink.capacity - used) n (shown f source.segments)
+    → Gets f g source' sink' (record { capacity = sink.capacity; segments = new }) n m
+gets f g source sink source' sink' new used n m source_is sink_is before after s stand e fits bytes shows =
+    let both : Stands f (source.segments ++ sink.segments) =
+    subst (λ (r : Ring). Stands f (r.segments ++ sink.segments)) (sym source_is)
+    (subst (λ (r : Ring). Stands f (source'.segments ++ r.segments)) (sym sink_is) s) in
     let old : List Segment = shown f sink.segments in
-    let put : List Segment = copied (sink.capacity - used) n (shown f source.segments) in
-    let free : sink.capacity - used ≡ free_of (queue_of f sink) = omega (arith, e, length-map sink.segments (segment_of f)) in
-    let all : length (joined (shown g new)) ≡ length (joined old ++ joined put) = ap (λ (ss : List Segment). length (joined ss)) shows ∙ ap (λ (b : List ℕ). length b) (joined-append old put) in
+    let free : sink.capacity - used ≡ free_of (queue_of f sink) =
+    omega (arith, e, length-map sink.segments (segment_of f)) in
+    let put : List Segment = copied (free_of (queue_of f sink)) n (shown f source.segments) in
+    let now : shown g new ≡ old ++ put =
+    shows ∙ ap (λ (k : ℕ). old ++ copied k n (shown f source.segments)) free in
+    let all : length (joined (shown g new)) ≡ length (joined old ++ joined put) =
+    ap (λ (ss : List Segment). length (joined ss)) now ∙ ap (λ (b : List ℕ). length b) (joined-append old put) in
     let number : m ≡ length (joined put) =
-    omega (arith, bytes, all, length-append (joined old) (joined put), segments_length f sink.segments before stands, segments_length g new after stand) in
-    number ∙ ap (λ (k : ℕ). length (joined (copied k n (shown f source.segments)))) free
+    omega (
+      arith,
+      bytes,
+      all,
+      length-append (joined old) (joined put),
+      segments_length f sink.segments before (stands_second f source.segments sink.segments both),
+      segments_length g new after (stand both),
+    ) in
+    record {
+      number_is = number ∙ (λ i. tee_number (queue_of f (source_is i)) (queue_of f (sink_is i)) n);
+      put = record {
+        capacity = ap (λ (r : Ring). r.capacity) sink_is;
+        fits = fits;
+        queue = (λ i. record { capacity = sink.capacity; segments = now i })
+            ∙ (λ i. after_tee (queue_of f (source_is i)) (queue_of f (sink_is i)) n);
+      };
+    }
 
 -- windows that came stand, once the source has lost what they show
 pub moves_stand : (f g : Live) (src src' old new : List Window) → Stands f (src ++ old) → Moves src src' old new f g → Stands g new

@@ -342,7 +342,7 @@ module _ (f g : Live) (src0 src ws0 ws : List Window) (slots n place done : ℕ)
   pub sink_shown : shown g ws ≡ shown f ws
   sink_shown = shows_same ws (λ q x. a.lived q (omega (arith, x, a.counts q, both.counted q, named-append q src0 ws0)))
 
-  pub shifted : Shifts src0 src ws0 ws done f g
+  pub shifted : Shifts done src0 src ws0 ws f g
   shifted = record {
     moves = record { between = middle; copied = put_keeps; dropped = drops_keep middle g src0 src source_in_middle dropped };
     left = shows_same src (λ q x. omega (arith, x, a.less.fewer q, sources.counted q)) ∙ a.source;

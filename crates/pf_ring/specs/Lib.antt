@@ -1,4 +1,7 @@
+pub mod Calls
+pub mod Door
 pub mod Laid
+pub mod Receive
 pub mod Ring
 pub mod Steps
 pub mod Table

@@ -1,11 +1,12 @@
-ghost use Rattle.std.specs.Prelude.{◌≡◌, ℕ, ◌+◌, ◌-◌, ◌<◌, ◌≤◌, ◌^◌, [], ◌++◌, length, take, drop, min, vec_len, vec_capacity, IfOk, IsOk, OnOk, OnErr};
-ghost use Rattle.pf_machine.specs.Queue.{Queue, room_of, bytes_of, put, taken, after_take, tee_number, after_tee, after_splice, with_capacity, empty};
+ghost use Rattle.std.specs.Prelude.{◌≡◌, ◌+◌, ◌<◌, ◌≤◌, ◌^◌, [], ◌++◌, length, drop, min, vec_len, vec_capacity, IfOk, IsOk, OnOk, OnErr};
+ghost use Rattle.pf_machine.specs.Queue.{room_of, bytes_of, put, taken, after_splice, with_capacity};
 ghost use Rattle.pf_frame.specs.Live.{Live, IsSound};
+ghost use Rattle.pf_ring.specs.Calls.{Appends, Empties, Tees, Splices, Shows, Gives, Gets};
+ghost use Rattle.pf_ring.specs.Door.{Holds, HoldsBoth, Affords, Leaves};
 ghost use Rattle.pf_ring.specs.Laid.{laid};
 ghost use Rattle.pf_ring.specs.Ring.{segment_of, queue_of};
 ghost use Rattle.pf_base.specs.declared.TheConstants.{PAGE_SIZE};
-ghost use Rattle.pf_ring.specs.Windows.{Stands, Keeps, Moves, SameBytes, PutsBehind, bytes_in};
-ghost use Rattle.pf_ring.specs.Steps.{Cut};
+ghost use Rattle.pf_ring.specs.Windows.{Stands, bytes_in};
 
 use crate::windows;
 use pf_base::PAGE_SIZE;
@@ -120,26 +121,12 @@ impl SlotRing {
     // each window.
     #[inline(always)]
     pub fn append<F: Frames>(&mut self, door: &mut F, bytes: &[u8])
-        requires fact { F.fact door.old }
-        requires stands { Stands (F.live door.old) self.old.segments }
-        // There is room for all the bytes, and a credit for each free slot: nothing can fail.
+        requires door { Affords F.Frames door.old self.old.capacity self.old.segments }
         requires room { length bytes.now ≤ room_of (queue_of (F.live door.old) self.old) }
-        requires credits { (F.live door.old).held + (self.old.capacity - length self.old.segments)
-            ≤ (F.live door.old).reserved }
-        ensures fact { F.fact door.new }
-        ensures rest { F.rest door.new ≡ F.rest door.old }
-        ensures capacity { self.new.capacity ≡ self.old.capacity }
-        ensures fits { length self.new.segments ≤ self.new.capacity }
-        ensures queue { queue_of (F.live door.new) self.new
-            ≡ put (queue_of (F.live door.old) self.old) bytes.now }
-        // As many frames are taken as slots.
-        ensures takes { (F.live door.new).held + length self.old.segments
-            ≡ (F.live door.old).held + length self.new.segments }
-        // Other rings show what they showed, and a frame that was live is written to behind the last slot's
-        // end alone.
-        ensures keeps { Keeps [] self.old.segments self.new.segments (F.live door.old) (F.live door.new) }
-        ensures puts_behind { PutsBehind self.old.segments (length bytes.now)
-            (F.live door.old) (F.live door.new) }
+        ensures door { Leaves F.Frames door.old door.new
+            (Appends self.old.segments self.new.segments (length bytes.now)) }
+        ensures ring { Shows (F.live door.new) self.old self.new
+            (put (queue_of (F.live door.old) self.old) bytes.now) }
     {
         windows::append(&mut self.windows, self.slots, door, bytes);
         self.bytes += bytes.len();
@@ -148,21 +135,11 @@ impl SlotRing {
     /// Moves bytes from the front into the buffer, as many as there are and as it has room for, and answers how many.
     /// The frame of a slot that is emptied is released.
     pub fn take_into<F: Frames>(&mut self, door: &mut F, buffer: &mut [u8]) -> usize
-        requires fact { F.fact door.old }
-        requires stands { Stands (F.live door.old) self.old.segments }
-        ensures fact { F.fact door.new }
-        ensures rest { F.rest door.new ≡ F.rest door.old }
-        ensures capacity { self.new.capacity ≡ self.old.capacity }
-        ensures fits { length self.new.segments ≤ self.new.capacity }
-        // What is moved, and what is left.
-        ensures number { result ≡ length (taken (queue_of (F.live door.old) self.old) (length buffer.old)) }
+        requires door { Holds F.Frames door.old self.old.segments }
+        ensures door { Leaves F.Frames door.old door.new (Empties self.old.segments self.new.segments) }
+        ensures ring { Gives (F.live door.old) (F.live door.new) self.old self.new (length buffer.old) result }
         ensures bytes { buffer.new
             ≡ taken (queue_of (F.live door.old) self.old) (length buffer.old) ++ drop result buffer.old }
-        ensures queue { queue_of (F.live door.new) self.new
-            ≡ after_take (queue_of (F.live door.old) self.old) (length buffer.old) }
-        // Other rings show what they showed, and nothing is written.
-        ensures keeps { Keeps [] self.old.segments self.new.segments (F.live door.old) (F.live door.new) }
-        ensures bytes_stay { SameBytes (F.live door.old) (F.live door.new) }
     {
         let number = self.len().min(buffer.len());
         windows::move_into(&mut self.windows, door, &mut buffer[..number]);
@@ -179,20 +156,10 @@ impl SlotRing {
         most: usize,
         buffer: &mut [u8],
     ) -> usize
-        requires fact { F.fact door.old }
-        requires stands { Stands (F.live door.old) self.old.segments }
-        ensures fact { F.fact door.new }
-        ensures rest { F.rest door.new ≡ F.rest door.old }
-        ensures capacity { self.new.capacity ≡ self.old.capacity }
-        ensures fits { length self.new.segments ≤ self.new.capacity }
-        // What is taken, and what is left.
-        ensures number { result ≡ length (taken (queue_of (F.live door.old) self.old) most) }
+        requires door { Holds F.Frames door.old self.old.segments }
+        ensures door { Leaves F.Frames door.old door.new (Empties self.old.segments self.new.segments) }
+        ensures ring { Gives (F.live door.old) (F.live door.new) self.old self.new most result }
         ensures bytes { buffer.new ≡ laid (taken (queue_of (F.live door.old) self.old) most) buffer.old }
-        ensures queue { queue_of (F.live door.new) self.new
-            ≡ after_take (queue_of (F.live door.old) self.old) most }
-        // Other rings show what they showed, and nothing is written.
-        ensures keeps { Keeps [] self.old.segments self.new.segments (F.live door.old) (F.live door.new) }
-        ensures bytes_stay { SameBytes (F.live door.old) (F.live door.new) }
     {
         let number = self.len().min(most);
         let room = number.min(buffer.len());
@@ -205,21 +172,11 @@ impl SlotRing {
     /// many, and answers how many. The frame of a slot that is emptied is released.
     #[inline(always)]
     pub fn take_onto<F: Frames>(&mut self, door: &mut F, most: usize, out: &mut Vec<u8>) -> usize
-        requires fact { F.fact door.old }
-        requires stands { Stands (F.live door.old) self.old.segments }
+        requires door { Holds F.Frames door.old self.old.segments }
         requires room { vec_len out.old + min most (bytes_in self.old.segments) ≤ vec_capacity out.old }
-        ensures fact { F.fact door.new }
-        ensures rest { F.rest door.new ≡ F.rest door.old }
-        ensures capacity { self.new.capacity ≡ self.old.capacity }
-        ensures fits { length self.new.segments ≤ self.new.capacity }
-        // What is moved, and what is left.
-        ensures number { result ≡ length (taken (queue_of (F.live door.old) self.old) most) }
+        ensures door { Leaves F.Frames door.old door.new (Empties self.old.segments self.new.segments) }
+        ensures ring { Gives (F.live door.old) (F.live door.new) self.old self.new most result }
         ensures bytes { out.new.items ≡ out.old.items ++ taken (queue_of (F.live door.old) self.old) most }
-        ensures queue { queue_of (F.live door.new) self.new
-            ≡ after_take (queue_of (F.live door.old) self.old) most }
-        // Other rings show what they showed, and nothing is written.
-        ensures keeps { Keeps [] self.old.segments self.new.segments (F.live door.old) (F.live door.new) }
-        ensures bytes_stay { SameBytes (F.live door.old) (F.live door.new) }
     {
         let taken = self.len().min(most);
         windows::move_onto(&mut self.windows, door, taken, out);
@@ -233,25 +190,11 @@ impl SlotRing {
     /// No byte is copied or looked at, and no frame is taken: each slot that is put names a frame of this ring once
     /// more, and never grows. It takes constant time for each.
     pub fn tee_into<F: Frames>(&self, door: &mut F, sink: &mut SlotRing, n: usize) -> usize
-        requires fact { F.fact door.old }
-        // The two rings are two in the same frames, and no count can pass the end of its type.
-        requires stands { Stands (F.live door.old) (self.now.segments ++ sink.old.segments) }
-        requires few { (F.live door.old).shares + sink.old.capacity < 2 ^ 32 }
-        ensures fact { F.fact door.new }
-        ensures rest { F.rest door.new ≡ F.rest door.old }
-        ensures capacity { sink.new.capacity ≡ sink.old.capacity }
-        ensures fits { length sink.new.segments ≤ sink.new.capacity }
-        // What is put, and what this ring has then: what it had.
-        ensures number { result
-            ≡ tee_number (queue_of (F.live door.old) self.now) (queue_of (F.live door.old) sink.old) n }
-        ensures queue { queue_of (F.live door.new) sink.new
-            ≡ after_tee (queue_of (F.live door.old) self.now) (queue_of (F.live door.old) sink.old) n }
+        requires door { HoldsBoth F.Frames door.old self.now.segments sink.old.segments sink.old.capacity }
+        ensures door { Leaves F.Frames door.old door.new
+            (Tees self.now.segments sink.old.segments sink.new.segments) }
+        ensures sink { Gets (F.live door.old) (F.live door.new) self.now sink.old sink.new n result }
         ensures source { queue_of (F.live door.new) self.now ≡ queue_of (F.live door.old) self.now }
-        // No frame is taken. Other rings show what they showed, and nothing is written.
-        ensures takes { (F.live door.new).held ≡ (F.live door.old).held }
-        ensures keeps { Keeps self.now.segments sink.old.segments sink.new.segments
-            (F.live door.old) (F.live door.new) }
-        ensures bytes_stay { SameBytes (F.live door.old) (F.live door.new) }
     {
         let number = windows::share(&self.windows, &mut sink.windows, sink.slots, door, n);
         sink.bytes += number;
@@ -264,28 +207,12 @@ impl SlotRing {
     /// No byte is copied or looked at, and no frame is taken or freed. A slot whose bytes all go goes itself, without its
     /// room; one that is cut keeps its room, and its frame is named once more. It takes constant time for each slot.
     pub fn splice_into<F: Frames>(&mut self, door: &mut F, sink: &mut SlotRing, n: usize) -> usize
-        requires fact { F.fact door.old }
-        // The two rings are two in the same frames, and no count can pass the end of its type.
-        requires stands { Stands (F.live door.old) (self.old.segments ++ sink.old.segments) }
-        requires few { (F.live door.old).shares + sink.old.capacity < 2 ^ 32 }
-        ensures fact { F.fact door.new }
-        ensures rest { F.rest door.new ≡ F.rest door.old }
-        ensures capacity { self.new.capacity ≡ self.old.capacity }
-        ensures fits { length self.new.segments ≤ self.new.capacity }
-        ensures sink_capacity { sink.new.capacity ≡ sink.old.capacity }
-        ensures sink_fits { length sink.new.segments ≤ sink.new.capacity }
-        // What is put, and what is left.
-        ensures number { result
-            ≡ tee_number (queue_of (F.live door.old) self.old) (queue_of (F.live door.old) sink.old) n }
-        ensures queue { queue_of (F.live door.new) sink.new
-            ≡ after_tee (queue_of (F.live door.old) self.old) (queue_of (F.live door.old) sink.old) n }
-        ensures source { queue_of (F.live door.new) self.new
-            ≡ after_splice (queue_of (F.live door.old) self.old) (queue_of (F.live door.old) sink.old) n }
-        // No frame is taken or freed. Other rings show what they showed, and nothing is written.
-        ensures takes { (F.live door.new).held ≡ (F.live door.old).held }
-        ensures moves { Moves self.old.segments self.new.segments sink.old.segments sink.new.segments
-            (F.live door.old) (F.live door.new) }
-        ensures bytes_stay { SameBytes (F.live door.old) (F.live door.new) }
+        requires door { HoldsBoth F.Frames door.old self.old.segments sink.old.segments sink.old.capacity }
+        ensures door { Leaves F.Frames door.old door.new
+            (Splices self.old.segments self.new.segments sink.old.segments sink.new.segments) }
+        ensures sink { Gets (F.live door.old) (F.live door.new) self.old sink.old sink.new n result }
+        ensures source { Shows (F.live door.new) self.old self.new
+            (after_splice (queue_of (F.live door.old) self.old) (queue_of (F.live door.old) sink.old) n) }
     {
         let moved = windows::shift(&mut self.windows, &mut sink.windows, sink.slots, door, n);
         self.bytes -= moved;
@@ -317,14 +244,9 @@ impl SlotRing {
 
     /// Empties all slots, and releases the frame of each.
     pub fn clear<F: Frames>(&mut self, door: &mut F)
-        requires fact { F.fact door.old }
-        requires stands { Stands (F.live door.old) self.old.segments }
-        ensures fact { F.fact door.new }
-        ensures rest { F.rest door.new ≡ F.rest door.old }
+        requires door { Holds F.Frames door.old self.old.segments }
+        ensures door { Leaves F.Frames door.old door.new (Empties self.old.segments []) }
         ensures ring { self.new ≡ record { capacity = self.old.capacity; segments = [] } }
-        // Other rings show what they showed, and nothing is written.
-        ensures keeps { Keeps [] self.old.segments [] (F.live door.old) (F.live door.new) }
-        ensures bytes_stay { SameBytes (F.live door.old) (F.live door.new) }
     {
         windows::clear(&mut self.windows, door);
         self.bytes = 0;

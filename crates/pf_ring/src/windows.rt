@@ -1,11 +1,13 @@
-ghost use Rattle.std.specs.Prelude.{◌≡◌, ◌+◌, ◌-◌, ◌*◌, ◌<◌, ◌≤◌, ◌^◌, [], ◌∷◌, ◌++◌, length, take, drop, min, get_or};
+ghost use Rattle.std.specs.Prelude.{◌≡◌, ◌+◌, ◌-◌, ◌*◌, ◌<◌, ◌≤◌, [], ◌∷◌, ◌++◌, length, take, drop, min, get_or};
 ghost use Rattle.std.specs.VecDeque.{deque_len, deque_capacity};
 ghost use Rattle.pf_base.specs.declared.TheConstants.{PAGE_SIZE};
 ghost use Rattle.pf_machine.specs.Queue.{Segment, joined, last_room, topped_up, pieces, copied};
 ghost use Rattle.pf_frame.specs.Live.{Live};
+ghost use Rattle.pf_ring.specs.Door.{Holds, HoldsBoth, Affords};
+ghost use Rattle.pf_ring.specs.Receive.{Receives};
 ghost use Rattle.pf_ring.specs.Ring.{segment_of, shown};
-ghost use Rattle.pf_ring.specs.Windows.{Stands, Drops, bytes_in};
-ghost use Rattle.pf_ring.specs.Steps.{Puts, Copies, Cut, Shifts};
+ghost use Rattle.pf_ring.specs.Steps.{HasPlaces, Steps, IsPart, Puts, Copies, Cut, Shifts};
+ghost use Rattle.pf_ring.specs.Windows.{Drops, bytes_in};
 
 use crate::receive::{Laid, Receive};
 use crate::ring::Window;
@@ -28,25 +30,19 @@ pub fn last_window_room(windows: &VecDeque<Window>) -> usize
 /// page.
 #[inline(always)]
 pub fn append<F: Frames>(windows: &mut VecDeque<Window>, slots: usize, door: &mut F, bytes: &[u8])
-    requires fact { F.fact door.old }
-    requires stands { Stands (F.live door.old) windows.old.items }
-    // There is room for all the bytes, and a place and a credit for each free slot.
-    requires fits { deque_len windows.old ≤ slots }
+    requires door { Affords F.Frames door.old slots windows.old.items }
+    requires places { HasPlaces windows.old slots }
+    // There is room for all the bytes.
     requires room { let free = slots - deque_len windows.old in
         length bytes.now ≤ last_room (shown (F.live door.old) windows.old.items) + PAGE_SIZE * free }
-    requires space { slots ≤ deque_capacity windows.old }
-    requires credits { (F.live door.old).held + (slots - deque_len windows.old) ≤ (F.live door.old).reserved }
-    ensures fact { F.fact door.new }
-    ensures rest { F.rest door.new ≡ F.rest door.old }
-    ensures space { deque_capacity windows.new ≡ deque_capacity windows.old }
+    ensures puts { Steps F.Frames door.old door.new windows.old windows.new
+        (λ old. Puts (length bytes.now) old old) }
     ensures fits { deque_len windows.new ≤ slots }
     ensures most { bytes_in windows.new.items ≤ PAGE_SIZE * deque_len windows.new }
     ensures segments { let before = shown (F.live door.old) windows.old.items in
         let free = slots - deque_len windows.old in
         shown (F.live door.new) windows.new.items
         ≡ topped_up before bytes.now ++ pieces free (drop (last_room before) bytes.now) }
-    ensures puts { let before = windows.old.items in
-        Puts before before windows.new.items (length bytes.now) (F.live door.old) (F.live door.new) }
 {
     let topped = top_up(windows, door, bytes);
     let mut rest = &bytes[topped..];
@@ -63,17 +59,12 @@ pub fn append<F: Frames>(windows: &mut VecDeque<Window>, slots: usize, door: &mu
 /// Writes bytes behind the last window, where it grows, as far as its page goes, and answers how many.
 #[inline(always)]
 pub fn top_up<F: Frames>(windows: &mut VecDeque<Window>, door: &mut F, bytes: &[u8]) -> usize
-    requires fact { F.fact door.old }
-    requires stands { Stands (F.live door.old) windows.old.items }
-    ensures fact { F.fact door.new }
-    ensures rest { F.rest door.new ≡ F.rest door.old }
-    ensures space { deque_capacity windows.new ≡ deque_capacity windows.old }
+    requires door { Holds F.Frames door.old windows.old.items }
+    ensures puts { Steps F.Frames door.old door.new windows.old windows.new (λ old. Puts result old old) }
     ensures used { deque_len windows.new ≡ deque_len windows.old }
     ensures number { result ≡ min (last_room (shown (F.live door.old) windows.old.items)) (length bytes.now) }
     ensures segments { shown (F.live door.new) windows.new.items
         ≡ topped_up (shown (F.live door.old) windows.old.items) bytes.now }
-    ensures puts { let before = windows.old.items in
-        Puts before before windows.new.items result (F.live door.old) (F.live door.new) }
 {
     let number = last_window_room(windows).min(bytes.len());
     if number > 0 {
@@ -95,22 +86,16 @@ pub fn top_up<F: Frames>(windows: &mut VecDeque<Window>, door: &mut F, bytes: &[
 /// Puts a window at the end that grows, with these bytes at the start of a frame of its own.
 #[inline(always)]
 fn push_piece<F: Frames>(windows: &mut VecDeque<Window>, door: &mut F, bytes: &[u8])
-    requires fact { F.fact door.old }
-    requires stands { Stands (F.live door.old) windows.old.items }
-    requires some { 0 < length bytes.now }
-    requires fits { length bytes.now ≤ PAGE_SIZE }
+    requires door { Holds F.Frames door.old windows.old.items }
+    requires piece { IsPart (length bytes.now) PAGE_SIZE }
     requires space { deque_len windows.old < deque_capacity windows.old }
     requires credit { (F.live door.old).held < (F.live door.old).reserved }
-    ensures fact { F.fact door.new }
-    ensures rest { F.rest door.new ≡ F.rest door.old }
-    ensures space { deque_capacity windows.new ≡ deque_capacity windows.old }
+    // Behind no window: no byte of a frame that was live changes.
+    ensures puts { Steps F.Frames door.old door.new windows.old windows.new (Puts (length bytes.now) []) }
     ensures used { deque_len windows.new ≡ deque_len windows.old + 1 }
     ensures segments { let piece : Segment =
         record { bytes = bytes.now; room = PAGE_SIZE - length bytes.now } in
         shown (F.live door.new) windows.new.items ≡ shown (F.live door.old) windows.old.items ++ piece ∷ [] }
-    // Behind no window: no byte of a frame that was live changes.
-    ensures puts { Puts [] windows.old.items windows.new.items (length bytes.now)
-        (F.live door.old) (F.live door.new) }
 {
     let frame = door.take();
     door.fill(frame, 0, bytes);
@@ -125,14 +110,9 @@ fn push_piece<F: Frames>(windows: &mut VecDeque<Window>, door: &mut F, bytes: &[
 /// Moves the first bytes of the windows into the buffer, so many as it is long. A window that is emptied goes, and its frame
 /// is released.
 pub fn move_into<F: Frames>(windows: &mut VecDeque<Window>, door: &mut F, buffer: &mut [u8])
-    requires fact { F.fact door.old }
-    requires stands { Stands (F.live door.old) windows.old.items }
+    requires door { Holds F.Frames door.old windows.old.items }
     requires has { length buffer.old ≤ bytes_in windows.old.items }
-    ensures fact { F.fact door.new }
-    ensures rest { F.rest door.new ≡ F.rest door.old }
-    ensures space { deque_capacity windows.new ≡ deque_capacity windows.old }
-    ensures cut { Cut windows.old.items windows.new.items (length buffer.old)
-        (F.live door.old) (F.live door.new) }
+    ensures cut { Steps F.Frames door.old door.new windows.old windows.new (Cut (length buffer.old)) }
     ensures bytes { buffer.new
         ≡ take (length buffer.old) (joined (shown (F.live door.old) windows.old.items)) }
 {
@@ -149,14 +129,10 @@ pub fn move_truncated<F: Frames>(
     number: usize,
     buffer: &mut [u8],
 )
-    requires fact { F.fact door.old }
-    requires stands { Stands (F.live door.old) windows.old.items }
+    requires door { Holds F.Frames door.old windows.old.items }
     requires has { number ≤ bytes_in windows.old.items }
     requires fits { length buffer.old ≤ number }
-    ensures fact { F.fact door.new }
-    ensures rest { F.rest door.new ≡ F.rest door.old }
-    ensures space { deque_capacity windows.new ≡ deque_capacity windows.old }
-    ensures cut { Cut windows.old.items windows.new.items number (F.live door.old) (F.live door.new) }
+    ensures cut { Steps F.Frames door.old door.new windows.old windows.new (Cut number) }
     ensures bytes { buffer.new
         ≡ take (length buffer.old) (joined (shown (F.live door.old) windows.old.items)) }
 {
@@ -167,13 +143,9 @@ pub fn move_truncated<F: Frames>(
 
 /// Drops so many bytes from the front of the windows. A window that is emptied goes, and its frame is released.
 fn discard<F: Frames>(windows: &mut VecDeque<Window>, door: &mut F, number: usize)
-    requires fact { F.fact door.old }
-    requires stands { Stands (F.live door.old) windows.old.items }
+    requires door { Holds F.Frames door.old windows.old.items }
     requires has { number ≤ bytes_in windows.old.items }
-    ensures fact { F.fact door.new }
-    ensures rest { F.rest door.new ≡ F.rest door.old }
-    ensures space { deque_capacity windows.new ≡ deque_capacity windows.old }
-    ensures cut { Cut windows.old.items windows.new.items number (F.live door.old) (F.live door.new) }
+    ensures cut { Steps F.Frames door.old door.new windows.old windows.new (Cut number) }
 {
     let mut done = 0;
     while done < number {
@@ -184,17 +156,11 @@ fn discard<F: Frames>(windows: &mut VecDeque<Window>, door: &mut F, number: usiz
 /// Drops bytes from the front of the first window: as many as it has, but at most so many. Where these are all, it
 /// goes, and its frame is released.
 fn discard_front<F: Frames>(windows: &mut VecDeque<Window>, door: &mut F, most: usize) -> usize
-    requires fact { F.fact door.old }
-    requires stands { Stands (F.live door.old) windows.old.items }
+    requires door { Holds F.Frames door.old windows.old.items }
     requires some { 0 < deque_len windows.old }
     requires any { 0 < most }
-    ensures fact { F.fact door.new }
-    ensures rest { F.rest door.new ≡ F.rest door.old }
-    ensures space { deque_capacity windows.new ≡ deque_capacity windows.old }
-    // How many they are, and what is left.
-    ensures any { 0 < result }
-    ensures most { result ≤ most }
-    ensures cut { Cut windows.old.items windows.new.items result (F.live door.old) (F.live door.new) }
+    ensures number { IsPart result most }
+    ensures cut { Steps F.Frames door.old door.new windows.old windows.new (Cut result) }
 {
     let first = windows[0];
     let number = (first.len as usize).min(most);
@@ -211,17 +177,12 @@ pub fn move_onto<F: Frames, O: Receive>(
     number: usize,
     out: &mut O,
 )
-    requires fact { F.fact door.old }
-    requires stands { Stands (F.live door.old) windows.old.items }
+    requires door { Holds F.Frames door.old windows.old.items }
     requires has { number ≤ bytes_in windows.old.items }
     requires room { number ≤ O.room out.old 0 }
-    ensures fact { F.fact door.new }
-    ensures rest { F.rest door.new ≡ F.rest door.old }
-    ensures space { deque_capacity windows.new ≡ deque_capacity windows.old }
-    ensures cut { Cut windows.old.items windows.new.items number (F.live door.old) (F.live door.new) }
-    ensures kept { O.kept out.new ≡ O.kept out.old }
-    ensures bytes { O.received out.new number
-        ≡ O.received out.old 0 ++ take number (joined (shown (F.live door.old) windows.old.items)) }
+    ensures cut { Steps F.Frames door.old door.new windows.old windows.new (Cut number) }
+    ensures received { Receives O.Receive out.old out.new 0 number
+        (take number (joined (shown (F.live door.old) windows.old.items))) }
 {
     let mut done = 0;
     while done < number {
@@ -240,23 +201,14 @@ fn move_front_onto<F: Frames, O: Receive>(
     place: usize,
     out: &mut O,
 ) -> usize
-    requires fact { F.fact door.old }
-    requires stands { Stands (F.live door.old) windows.old.items }
+    requires door { Holds F.Frames door.old windows.old.items }
     requires some { 0 < deque_len windows.old }
     requires any { 0 < most }
     requires room { most ≤ O.room out.old place }
-    ensures fact { F.fact door.new }
-    ensures rest { F.rest door.new ≡ F.rest door.old }
-    ensures space { deque_capacity windows.new ≡ deque_capacity windows.old }
-    // How many they are, what is left, and the bytes.
-    ensures any { 0 < result }
-    ensures most { result ≤ most }
-    ensures cut { Cut windows.old.items windows.new.items result (F.live door.old) (F.live door.new) }
-    ensures kept { O.kept out.new ≡ O.kept out.old }
-    ensures bytes { O.received out.new (place + result)
-        ≡ O.received out.old place ++ take result (joined (shown (F.live door.old) windows.old.items)) }
-    // There is still room for the others.
-    ensures room { O.room out.old place ≤ O.room out.new (place + result) + result }
+    ensures number { IsPart result most }
+    ensures cut { Steps F.Frames door.old door.new windows.old windows.new (Cut result) }
+    ensures received { Receives O.Receive out.old out.new place (place + result)
+        (take result (joined (shown (F.live door.old) windows.old.items))) }
 {
     let first = windows[0];
     let part = front(door, first, most);
@@ -281,15 +233,11 @@ fn front<F: Frames>(door: &F, window: Window, most: usize) -> &[u8]
 /// and its frame is released.
 #[inline(always)]
 fn cut_first<F: Frames>(windows: &mut VecDeque<Window>, door: &mut F, first: Window, number: usize)
-    requires fact { F.fact door.old }
-    requires stands { Stands (F.live door.old) windows.old.items }
+    requires door { Holds F.Frames door.old windows.old.items }
     requires some { 0 < deque_len windows.old }
     requires first { first ≡ get_or windows.old.items 0 first }
     requires has { number ≤ first.len }
-    ensures fact { F.fact door.new }
-    ensures rest { F.rest door.new ≡ F.rest door.old }
-    ensures space { deque_capacity windows.new ≡ deque_capacity windows.old }
-    ensures cut { Cut windows.old.items windows.new.items number (F.live door.old) (F.live door.new) }
+    ensures cut { Steps F.Frames door.old door.new windows.old windows.new (Cut number) }
 {
     if number < first.len as usize {
         windows[0] = Window {
@@ -304,14 +252,10 @@ fn cut_first<F: Frames>(windows: &mut VecDeque<Window>, door: &mut F, first: Win
 
 /// Drops the first window, and releases its frame.
 fn drop_front<F: Frames>(windows: &mut VecDeque<Window>, door: &mut F)
-    requires fact { F.fact door.old }
-    requires stands { Stands (F.live door.old) windows.old.items }
+    requires door { Holds F.Frames door.old windows.old.items }
     requires some { 0 < deque_len windows.old }
-    ensures fact { F.fact door.new }
-    ensures rest { F.rest door.new ≡ F.rest door.old }
-    ensures space { deque_capacity windows.new ≡ deque_capacity windows.old }
+    ensures drops { Steps F.Frames door.old door.new windows.old windows.new Drops }
     ensures windows { windows.new.items ≡ drop 1 windows.old.items }
-    ensures drops { Drops windows.old.items windows.new.items (F.live door.old) (F.live door.new) }
 {
     if let Some(window) = windows.pop_front() {
         door.release(window.frame);
@@ -320,13 +264,9 @@ fn drop_front<F: Frames>(windows: &mut VecDeque<Window>, door: &mut F)
 
 /// Drops all windows, and releases the frame of each.
 pub fn clear<F: Frames>(windows: &mut VecDeque<Window>, door: &mut F)
-    requires fact { F.fact door.old }
-    requires stands { Stands (F.live door.old) windows.old.items }
-    ensures fact { F.fact door.new }
-    ensures rest { F.rest door.new ≡ F.rest door.old }
-    ensures space { deque_capacity windows.new ≡ deque_capacity windows.old }
+    requires door { Holds F.Frames door.old windows.old.items }
+    ensures drops { Steps F.Frames door.old door.new windows.old windows.new Drops }
     ensures empty { windows.new.items ≡ [] }
-    ensures drops { Drops windows.old.items windows.new.items (F.live door.old) (F.live door.new) }
 {
     while !windows.is_empty() {
         drop_front(windows, door);
@@ -344,20 +284,13 @@ pub fn share<F: Frames>(
     door: &mut F,
     n: usize,
 ) -> usize
-    requires fact { F.fact door.old }
-    requires stands { Stands (F.live door.old) (source.now.items ++ sink.old.items) }
-    requires fits { deque_len sink.old ≤ slots }
-    requires space { slots ≤ deque_capacity sink.old }
-    requires few { (F.live door.old).shares + slots < 2 ^ 32 }
-    ensures fact { F.fact door.new }
-    ensures rest { F.rest door.new ≡ F.rest door.old }
-    ensures space { deque_capacity sink.new ≡ deque_capacity sink.old }
+    requires door { HoldsBoth F.Frames door.old source.now.items sink.old.items slots }
+    requires places { HasPlaces sink.old slots }
+    ensures copies { Steps F.Frames door.old door.new sink.old sink.new (Copies result source.now.items) }
     ensures fits { deque_len sink.new ≤ slots }
     ensures segments { let free = slots - deque_len sink.old in
         shown (F.live door.new) sink.new.items
         ≡ shown (F.live door.old) sink.old.items ++ copied free n (shown (F.live door.old) source.now.items) }
-    ensures copies { Copies source.now.items sink.old.items sink.new.items result
-        (F.live door.old) (F.live door.new) }
 {
     let mut done = 0;
     let most = source.len().min(slots - sink.len());
@@ -390,21 +323,15 @@ pub fn shift<F: Frames>(
     door: &mut F,
     n: usize,
 ) -> usize
-    requires fact { F.fact door.old }
-    requires stands { Stands (F.live door.old) (source.old.items ++ sink.old.items) }
-    requires fits { deque_len sink.old ≤ slots }
-    requires space { slots ≤ deque_capacity sink.old }
-    requires few { (F.live door.old).shares + slots < 2 ^ 32 }
-    ensures fact { F.fact door.new }
-    ensures rest { F.rest door.new ≡ F.rest door.old }
-    ensures space { deque_capacity sink.new ≡ deque_capacity sink.old }
+    requires door { HoldsBoth F.Frames door.old source.old.items sink.old.items slots }
+    requires places { HasPlaces sink.old slots }
+    ensures shifts { Steps F.Frames door.old door.new sink.old sink.new
+        (Shifts result source.old.items source.new.items) }
     ensures source_space { deque_capacity source.new ≡ deque_capacity source.old }
     ensures fits { deque_len sink.new ≤ slots }
     ensures segments { let free = slots - deque_len sink.old in
         shown (F.live door.new) sink.new.items
         ≡ shown (F.live door.old) sink.old.items ++ copied free n (shown (F.live door.old) source.old.items) }
-    ensures shifts { Shifts source.old.items source.new.items sink.old.items sink.new.items result
-        (F.live door.old) (F.live door.new) }
 {
     let mut done = 0;
     let places = source.len().min(slots - sink.len());

@@ -16,4 +16,4 @@ returns-clause-bytes g c =
     let number : ℕ = c.take_truncated-number.result in
     let taken = c.take_truncated-number.ensures in
     subst (λ (p : CountedPipe). c.take_truncated-number.new.buffer ≡ laid (take number (bytes_of (queue_of f p.ring))) c.args.buffer.now) c.self.view_is
-    (taken.bytes ∙ ap (λ (xs : List ℕ). laid xs c.args.buffer.now) (as_many c.args.limit number (bytes_of (queue_of f c.self.inside.ring)) taken.number))
+    (taken.bytes ∙ ap (λ (xs : List ℕ). laid xs c.args.buffer.now) (as_many c.args.limit number (bytes_of (queue_of f c.self.inside.ring)) taken.ring.number_is))

@@ -13,7 +13,7 @@ use Rattle.pf_pipe.proofs.pipe.Pipe.tee_now.Goals as goal
 
 pub returns-in-Some-clause-crosses : goal.returns-in-Some-clause-crosses
 returns-in-Some-clause-crosses g c =
-    stopped_crosses (g.F.Frames.live c.args.door.now) Tee c.args.self.now c.args.sink.now c.args.n c.in-Some.progress (g.met.F.Frames.sound _ c.requires.fact) c.requires.stands c.in-Some.ensures.stops
+    stopped_crosses (g.F.Frames.live c.args.door.now) Tee c.args.self.now c.args.sink.now c.args.n c.in-Some.progress (g.met.F.Frames.sound _ c.requires.door.fact) c.requires.door.stands c.in-Some.ensures.stops
 
 pub returns-clause-crosses : goal.returns-clause-crosses
 returns-clause-crosses g c =
@@ -23,19 +23,19 @@ returns-clause-crosses g c =
     let sink : CountedPipe = record { ring = c.sink.inside.ring; owner = c.sink.inside.owner; readers = c.sink.inside.readers; writers = c.sink.inside.writers; opens = record { file = c.sink.inside.file; read = c.sink.inside.read_opens; write = c.sink.inside.write_opens } } in
     let sink' : CountedPipe = record { ring = c.tee_into-number.new.sink; owner = c.sink.inside.owner; readers = c.sink.inside.readers; writers = c.sink.inside.writers; opens = record { file = c.sink.inside.file; read = c.sink.inside.read_opens; write = c.sink.inside.write_opens } } in
     let stands : Stands f (source.ring.segments ++ sink.ring.segments) =
-    subst (λ (p : CountedPipe). Stands f (p.ring.segments ++ sink.ring.segments)) (sym c.self.view_is) (subst (λ (p : CountedPipe). Stands f (c.args.self.now.ring.segments ++ p.ring.segments)) (sym c.sink.view_is) c.requires.stands) in
+    subst (λ (p : CountedPipe). Stands f (p.ring.segments ++ sink.ring.segments)) (sym c.self.view_is) (subst (λ (p : CountedPipe). Stands f (c.args.self.now.ring.segments ++ p.ring.segments)) (sym c.sink.view_is) c.requires.door.stands) in
     let will : Goes source sink c.args.n = subst (λ (p : CountedPipe). Goes p sink c.args.n) (sym c.self.view_is) (subst (λ (p : CountedPipe). Goes c.args.self.now p c.args.n) (sym c.sink.view_is) c.in_default.ensures.goes) in
-    let goes : GoesIn f Tee source sink c.args.n = will f Tee (g.met.F.Frames.sound _ c.requires.fact) (stands_first f source.ring.segments sink.ring.segments stands) in
+    let goes : GoesIn f Tee source sink c.args.n = will f Tee (g.met.F.Frames.sound _ c.requires.door.fact) (stands_first f source.ring.segments sink.ring.segments stands) in
     let inner : Crosses source source sink sink' f after (Moved c.tee_into-number.result) (cross_now Tee (queue_of f source.ring) (queue_of f sink.ring) source.writers sink.readers c.args.n) =
     moved_crosses f after Tee source source sink sink' c.args.n c.tee_into-number.result goes (record { owner = refl; readers = refl; writers = refl; opens = refl; capacity = refl; fits = λ h. h })
-    (record { owner = refl; readers = refl; writers = refl; opens = refl; capacity = c.tee_into-number.ensures.capacity; fits = λ _. c.tee_into-number.ensures.fits })
-    c.tee_into-number.ensures.number c.tee_into-number.ensures.queue c.tee_into-number.ensures.source (tee_moves f after source.ring.segments sink.ring.segments sink'.ring.segments stands c.tee_into-number.ensures.keeps) in
+    (record { owner = refl; readers = refl; writers = refl; opens = refl; capacity = c.tee_into-number.ensures.sink.put.capacity; fits = λ _. c.tee_into-number.ensures.sink.put.fits })
+    c.tee_into-number.ensures.sink.number_is c.tee_into-number.ensures.sink.put.queue c.tee_into-number.ensures.source (tee_moves f after source.ring.segments sink.ring.segments sink'.ring.segments stands c.tee_into-number.ensures.door.frames.keeps) in
     subst (λ (q : CountedPipe). Crosses c.args.self.now c.args.self.now q sink' f after (Moved c.tee_into-number.result) (cross_now Tee (queue_of f c.args.self.now.ring) (queue_of f q.ring) c.args.self.now.writers q.readers c.args.n)) c.sink.view_is (subst (λ (p : CountedPipe). Crosses p p sink sink' f after (Moved c.tee_into-number.result) (cross_now Tee (queue_of f p.ring) (queue_of f sink.ring) p.writers sink.readers c.args.n)) c.self.view_is inner)
 
 pub returns-clause-untouched : goal.returns-clause-untouched
 returns-clause-untouched g c none =
     let f : Live = g.F.Frames.live c.args.door.now in
-    let goes : GoesIn f Tee c.args.self.now c.args.sink.now c.args.n = c.in_default.ensures.goes f Tee (g.met.F.Frames.sound _ c.requires.fact) (stands_first f c.args.self.now.ring.segments c.args.sink.now.ring.segments c.requires.stands) in
+    let goes : GoesIn f Tee c.args.self.now c.args.sink.now c.args.n = c.in_default.ensures.goes f Tee (g.met.F.Frames.sound _ c.requires.door.fact) (stands_first f c.args.self.now.ring.segments c.args.sink.now.ring.segments c.requires.door.stands) in
     let number : c.tee_into-number.result ≡ tee_number (queue_of f c.args.self.now.ring) (queue_of f c.args.sink.now.ring) c.args.n =
-    c.tee_into-number.ensures.number ∙ (λ i. tee_number (queue_of f (c.self.view_is i).ring) (queue_of f (c.sink.view_is i).ring) c.args.n) in
+    c.tee_into-number.ensures.sink.number_is ∙ (λ i. tee_number (queue_of f (c.self.view_is i).ring) (queue_of f (c.sink.view_is i).ring) c.args.n) in
     absurd (omega (arith, none, number, goes.some))
