@@ -1,39 +1,23 @@
 -- What the tables say of a call at their own state, the lone machine says of what that state means: one lemma for all
 -- kinds of step that move no bytes and let nothing go.
 
-use Rattle.std.proofs.Common.{◌≡◌, ℕ, List, [], ◌∷◌, Option, Some, None, Result, Ok, Err, OnErr, refl, sym, ap, subst}
-use Rattle.std.proofs.Common.{◌∙◌}
-use Rattle.std.specs.Option.{option_map}
-use Rattle.pf_base.specs.Limits.{Limits}
-use Rattle.pf_base.specs.declared.errno.Errno.{Errno}
-use Rattle.pf_base.specs.declared.fault.Fault.{Fault}
+use Rattle.std.proofs.Common.{◌≡◌, ℕ, Option, Some, None, Result, Ok, Err, OnErr, refl, sym, ap, subst, ◌∙◌}
+use Rattle.pf_tables.proofs.TablesShown.{each-same}
+use Rattle.pf_space.proofs.Common.{option_map, Limits, Errno, Fault, Reply, Step, Call, Moving, call, Segment, ◌>>=◌}
+use Rattle.pf_space.proofs.Common.{itself, State, Process, Outcome, ready, Live, Window, Namespace, meaning, Owns, Told}
+use Rattle.pf_space.proofs.Common.{settled}
 use Rattle.pf_base.specs.declared.fault.Fault.TheVariants as faults
-use Rattle.pf_base.specs.declared.step.Reply.{Reply}
-use Rattle.pf_base.specs.declared.step.Step.{Step}
 use Rattle.pf_machine.specs.Attempts.{has_nonblock, is_nonblocking}
-use Rattle.pf_machine.specs.Calls.{Call, Opening, Moving}
-use Rattle.pf_machine.specs.Machine.{call}
-use Rattle.pf_machine.specs.Maps.{if_ok, each, call_as, process_as, description_as, state_as, outcome_as}
-use Rattle.pf_machine.specs.Queue.{Segment}
-use Rattle.pf_machine.specs.Refusals.{◌>>=◌}
-use Rattle.pf_machine.specs.State.{itself, State, Process, Outcome, ready, of_ready, told}
+use Rattle.pf_machine.specs.Calls.{Opening}
+use Rattle.pf_machine.specs.Maps.{if_ok, call_as, process_as, description_as, state_as, outcome_as}
+use Rattle.pf_machine.specs.State.{of_ready, told}
 use Rattle.pf_machine.proofs.Natural.{call-as}
 use Rattle.pf_machine.proofs.NaturalWaits.{has_nonblock-as}
-use Rattle.pf_frame.specs.Live.{Live}
 use Rattle.pf_ring.specs.Ring.{segment_of}
-use Rattle.pf_ring.specs.declared.ring.Window.{Window}
-use Rattle.pf_tables.specs.Meaning.{Namespace, meaning}
-use Rattle.pf_tables.specs.Owns.{Owns}
 use Rattle.pf_tables.specs.Tables.{Says}
-use Rattle.pf_tables.specs.Told.{Told, settled}
 use Rattle.pf_tables.proofs.MeaningLaws.{settled-meaning}
 
 -- what is mapped to itself
-
-each-same : {A : Type 0} (h : A → A) → ((a : A) → h a ≡ a) → (xs : List (Option A)) → each h xs ≡ xs
-each-same h same [] = refl
-each-same h same (None ∷ xs) = ap (λ ys. None ∷ ys) (each-same h same xs)
-each-same h same (Some x ∷ xs) = λ i. Some (same x i) ∷ each-same h same xs i
 
 call-same : (o : Option (Call ℕ)) → option_map (call_as itself) o ≡ o
 call-same None = refl

@@ -3,39 +3,32 @@
 
 use Rattle.std.proofs.Common.{◌≡◌, ℕ, ◌+◌, ◌-◌, ◌<◌, ◌≤◌, List, [], map, length, length-set, Option, Some, None, Result}
 use Rattle.std.proofs.Common.{Ok, IfSome, refl, sym, ap, subst, ◌∙◌, inl, inr, arith}
-use Rattle.std.specs.Option.{option_map, option_and_then}
+use Rattle.std.specs.Option.{option_and_then}
 use Rattle.std.proofs.lemmas.Bool.{cases_eq, cases_lt}
 use Rattle.std.proofs.lemmas.List.{map-set, set-set}
-use Rattle.pf_base.specs.Limits.{Limits}
-use Rattle.pf_base.specs.declared.errno.Errno.{Errno}
+use Rattle.pf_space.proofs.Common.{option_map, Limits, Errno, call, at, change_at, Segment, ◌>>=◌, itself, State}
+use Rattle.pf_space.proofs.Common.{Process, Outcome, sweep, Live, Window, Namespace, meaning, Owns, Told, settled}
 use Rattle.pf_base.specs.declared.TheConstants.{MAX_DESCRIPTORS}
 use Rattle.pf_base.specs.declared.step.Reply.TheVariants.{Num}
 use Rattle.pf_base.specs.declared.step.Step.TheVariants as steps
 use Rattle.pf_machine.specs.Counts.{named_in, names_of}
 use Rattle.pf_machine.specs.Descriptors.{close, without_descriptor}
-use Rattle.pf_machine.specs.Machine.{call}
-use Rattle.pf_machine.specs.Numbered.{at, clear_at, change_at}
+use Rattle.pf_machine.specs.Numbered.{clear_at}
 use Rattle.pf_machine.specs.Processes.{exit}
-use Rattle.pf_machine.specs.Queue.{Segment}
-use Rattle.pf_machine.specs.Refusals.{◌>>=◌}
-use Rattle.pf_machine.specs.State.{itself, State, Process, Outcome, of_ready, without_process, done}
+use Rattle.pf_machine.specs.State.{of_ready, without_process, done}
 use Rattle.pf_machine.specs.State as machine
-use Rattle.pf_machine.specs.Sweep.{sweep}
 use Rattle.pf_machine.proofs.ExitLaws.{sum_of-falls}
 use Rattle.pf_machine.proofs.NaturalCalls.{close-call}
 use Rattle.pf_machine.proofs.NumberedLaws.{at_past, at_within, at-put_same, at-put_other}
 use Rattle.pf_machine.proofs.SweepLaws.{with_processes, sweep-sweep}
-use Rattle.pf_frame.specs.Live.{Live}
-use Rattle.pf_ring.specs.declared.ring.Window.{Window}
 use Rattle.pf_ring.specs.Ring.{Ring}
 use Rattle.pf_ring.specs.Table.{Joined}
 use Rattle.pf_ring.specs.Windows.{Keeps, Stands}
 use Rattle.pf_ring.proofs.TableLaws.{no_source}
-use Rattle.pf_tables.specs.Meaning.{Namespace, meaning, pipe_meaning, ring_or, rings_of}
-use Rattle.pf_tables.specs.Owns.{Owns}
+use Rattle.pf_tables.specs.Meaning.{pipe_meaning, ring_or, rings_of}
 use Rattle.pf_tables.specs.Rows.{Pipe, pipe_shown}
 use Rattle.pf_tables.specs.Tables.{descriptor, emptied, woken, Begun, Closes, IsBare, Leaves, Makes}
-use Rattle.pf_tables.specs.Told.{Becomes, Told, settled}
+use Rattle.pf_tables.specs.Told.{Becomes}
 use Rattle.pf_tables.proofs.MeaningLaws.{pipes-left, pipes-without, settled-meaning, sweep-meaning, woken-left}
 use Rattle.pf_tables.proofs.OwnsLaws.{joined_gone, others_written, stands_at}
 use Rattle.pf_space.proofs.Books.{made-as}
@@ -182,12 +175,7 @@ module _ (f : Live) (old : Namespace) (pid : ℕ) where
         record { owns = y.owns; limits = y.limits; ends = y.ends; bare = passed y.bare next none }
 
     pub all_bare : MAX_DESCRIPTORS ≤ fd → IsBare m.state (pid - 1) MAX_DESCRIPTORS
-    all_bare past = record {
-      p = x.bare.p;
-      stands = x.bare.stands;
-      awake = x.bare.awake;
-      bare = λ d l. x.bare.bare d (omega (arith, l, past));
-    }
+    all_bare past = passed x.bare MAX_DESCRIPTORS (λ d from l. absurd (omega (arith, from, l, past)))
 
     -- the process goes
     pub exited : {begun o : Namespace} → Begun old begun pid → Makes m o (exit m.state pid) (Num 0)

@@ -1,5 +1,6 @@
 mod Books
 mod Closes
+mod Common
 mod ParkedResume
 pub mod Sendable
 mod Steps

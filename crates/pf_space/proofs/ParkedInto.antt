@@ -1,38 +1,29 @@
 -- A call that is tried again into a buffer: what is told of it stands for the machine's reply, whose first bytes lie
 -- there.
 
-use Rattle.std.proofs.Common.{◌≡◌, ◌⊎◌, inl, inr, ℕ, ◌≤◌, true, false, List, [], ◌∷◌, length, Option, Some, None, is_ok}
-use Rattle.std.proofs.Common.{IsOk, Result, Ok, Err, refl, sym, ap, subst, ◌∙◌, arith}
-use Rattle.pf_machine.specs.Calls.{Reading, Writing, Bringing, Call, Opening, Moving}
-use Rattle.pf_machine.specs.Attempts.{Finished, transfer_told}
-use Rattle.pf_machine.specs.Machine.{Answers, call, call_of, hands_out, step_of}
+use Rattle.std.proofs.lemmas.List.{nil_from_length}
+use Rattle.std.proofs.Common.{◌≡◌, ◌⊎◌, inl, inr, ℕ, ◌≤◌, true, false, List, [], Option, Some, None, is_ok, IsOk}
+use Rattle.std.proofs.Common.{Result, Ok, Err, refl, sym, ap, subst, ◌∙◌, arith}
+use Rattle.pf_space.proofs.Common.{Reading, Writing, Bringing, Call, Moving, Finished, transfer_told, call, Segment}
+use Rattle.pf_space.proofs.Common.{or_refuse, itself, State, Process, Outcome, sweep, Tried, Errno, ESRCH, Fault}
+use Rattle.pf_space.proofs.Common.{Progress, Moved, WouldBlock, EndOfFile, NoReader, Reply, Live, Namespace, meaning}
+use Rattle.pf_space.proofs.Common.{Owns, Told, tried_call, waits_in, ended}
+use Rattle.pf_machine.specs.Calls.{Opening}
+use Rattle.pf_machine.specs.Machine.{Answers, call_of, hands_out, step_of}
 use Rattle.pf_machine.specs.Progress.{moved}
-use Rattle.pf_machine.specs.Queue.{Segment}
-use Rattle.pf_machine.specs.Refusals.{or_refuse}
 use Rattle.pf_machine.specs.Replies.{reply_length}
-use Rattle.pf_machine.specs.State.{itself, State, Process, Outcome, living}
-use Rattle.pf_machine.specs.Sweep.{sweep}
-use Rattle.pf_machine.specs.Transfers.{Tried}
+use Rattle.pf_machine.specs.State.{living}
 use Rattle.pf_machine.proofs.ReplyLaws.{resume-few, few}
-use Rattle.pf_base.specs.declared.errno.Errno.{Errno}
-use Rattle.pf_base.specs.declared.errno.Errno.TheVariants.{ESRCH}
-use Rattle.pf_base.specs.declared.fault.Fault.{Fault}
 use Rattle.pf_base.specs.declared.fault.Fault.TheVariants as faults
-use Rattle.pf_base.specs.declared.progress.Progress.{Progress}
-use Rattle.pf_base.specs.declared.progress.Progress.TheVariants.{Moved, WouldBlock, EndOfFile, NoReader}
 use Rattle.pf_base.specs.declared.step.Answer.TheVariants.{Done}
-use Rattle.pf_base.specs.declared.step.Reply.{Reply}
 use Rattle.pf_base.specs.declared.step.Reply.TheVariants as replies
 use Rattle.pf_base.specs.declared.step.Step.TheVariants as steps
-use Rattle.pf_frame.specs.Live.{Live}
 use Rattle.pf_ring.specs.Laid.{laid}
 use Rattle.pf_ring.proofs.LaidLaws.{no_byte_lies}
 use Rattle.pf_tables.specs.declared.tables.parked.ParkedRead.{ParkedRead}
 use Rattle.pf_tables.specs.Buffers.{read_in, Truncates, Replied, number_told, bytes_told}
-use Rattle.pf_tables.specs.Meaning.{Namespace, meaning}
-use Rattle.pf_tables.specs.Owns.{Owns}
 use Rattle.pf_tables.specs.Tables.{awoken}
-use Rattle.pf_tables.specs.Told.{Told, Came, Refused, tried_call, waits_in, ended}
+use Rattle.pf_tables.specs.Told.{Came, Refused}
 use Rattle.pf_space.proofs.ParkedResume.{waiter, resumed}
 use Rattle.pf_space.proofs.ParkedTransfers.{parks, finishes, refuses}
 use Rattle.pf_space.proofs.Steps.{made_step, refused_step}
@@ -71,15 +62,11 @@ lives_there s pid fd n waits =
 
 -- A read
 
-none : (xs : List ℕ) → length xs ≡ 0 → xs ≡ []
-none [] e = refl
-none (x ∷ xs) e = absurd (omega (arith, e))
-
 -- where no byte came, none lies there
 nothing : (progress : Progress) (before after : List ℕ) (r : Tried) → Truncates progress before after r
     → moved progress ≡ 0 → after ≡ laid [] before
 nothing progress before after r lie zero =
-    lie.1 ∙ ap (λ (xs : List ℕ). laid xs before) (none r.bytes (lie.0 ∙ zero))
+    lie.1 ∙ ap (λ (xs : List ℕ). laid xs before) (nil_from_length r.bytes (lie.0 ∙ zero))
 
 module _ {D : Type 0} (live : D → Live) {x y : D} {tables old mid new : Namespace} (view : tables ≡ old) (pid : ℕ)
     {fd n : ℕ} (waits : call_of (meaning (live x) old.state) pid ≡ Some (Moving (Reading fd n)))
@@ -154,7 +141,7 @@ no_bytes : (reply : Reply) → reply_length reply ≤ 0 → bytes_told reply ≡
 no_bytes (replies.Num n) short = refl
 no_bytes (replies.Pid pid) short = refl
 no_bytes (replies.Fds reading writing) short = refl
-no_bytes (replies.Bytes bytes) short = none bytes (omega (arith, short))
+no_bytes (replies.Bytes bytes) short = nil_from_length bytes (omega (arith, short))
 no_bytes (replies.Names names) short = refl
 no_bytes (replies.Meta meta) short = refl
 no_bytes replies.Parked short = refl

@@ -1,37 +1,31 @@
 -- A transfer that waits is tried again: its process is woken, and the transfer tried as a call of its own, which waits
 -- where it has to.
 
+use Rattle.std.proofs.lemmas.Option.{option_and_then_some}
 use Rattle.std.proofs.Common.{◌≡◌, ℕ, zero, suc, ◌+◌, ◌-◌, Bool, true, false, List, length, set, Option, Some, None}
 use Rattle.std.proofs.Common.{is_some, Result, Ok, Err, refl, sym, ap, subst, ◌∙◌, arith, nat_eq, nat_lt, if◌then◌else◌}
-use Rattle.std.specs.Option.{option_map, option_and_then}
 use Rattle.std.proofs.lemmas.List.{set-set}
-use Rattle.pf_machine.specs.Calls.{Transfer, Reading, Writing, Bringing, Call, Moving, made_by}
-use Rattle.pf_base.specs.Limits.{Limits}
-use Rattle.pf_machine.specs.Machine.{call, call_of}
-use Rattle.pf_machine.specs.Numbered.{at, change_at}
+use Rattle.pf_space.proofs.Common.{option_map, Reading, Writing, Bringing, Call, Moving, Limits, call, at, change_at}
+use Rattle.pf_space.proofs.Common.{Segment, ◌>>=◌, or_refuse, itself, State, Process, Outcome, ready, sweep, Tried}
+use Rattle.pf_space.proofs.Common.{Finished, Waits, transfer_told, Errno, ESRCH, Fault, Progress, Moved, WouldBlock}
+use Rattle.pf_space.proofs.Common.{EndOfFile, NoReader, Reply, Live, Namespace, meaning, Owns, Told, tried_call}
+use Rattle.pf_space.proofs.Common.{waits_in, settled, ended}
+use Rattle.pf_machine.specs.Calls.{Transfer, made_by}
+use Rattle.pf_machine.specs.Machine.{call_of}
 use Rattle.pf_machine.proofs.NumberedLaws.{at_within, at-put_same}
-use Rattle.pf_machine.specs.Queue.{Segment}
-use Rattle.pf_machine.specs.Refusals.{◌>>=◌, ◌>>◌, refuse_if, or_refuse}
-use Rattle.pf_machine.specs.State.{itself, State, Process, Outcome, process, ready, reading_end, writing_end}
-use Rattle.pf_machine.specs.State.{change_process, waiting, told}
-use Rattle.pf_machine.specs.Sweep.{sweep}
-use Rattle.pf_machine.specs.Transfers.{Tried, tried, two_ends, try_read, try_write, try_cross}
-use Rattle.pf_machine.specs.Attempts.{Attempt, Finished, Waits, transfer_told, attempt, first, again, resume}
+use Rattle.pf_machine.specs.Refusals.{◌>>◌, refuse_if}
+use Rattle.pf_machine.specs.State.{process, reading_end, writing_end, change_process, waiting, told}
+use Rattle.pf_machine.specs.Transfers.{tried, two_ends, try_read, try_write, try_cross}
+use Rattle.pf_machine.specs.Attempts.{Attempt, attempt, first, again, resume}
 use Rattle.pf_base.specs.declared.TheConstants.{MAX_WRITE}
-use Rattle.pf_base.specs.declared.errno.Errno.{Errno}
-use Rattle.pf_base.specs.declared.errno.Errno.TheVariants.{ESRCH, EBUSY, EINVAL, EPIPE}
-use Rattle.pf_base.specs.declared.fault.Fault.{Fault}
+use Rattle.pf_base.specs.declared.errno.Errno.TheVariants.{EBUSY, EINVAL, EPIPE}
 use Rattle.pf_base.specs.declared.fault.Fault.TheVariants as faults
-use Rattle.pf_base.specs.declared.progress.Progress.{Progress}
-use Rattle.pf_base.specs.declared.progress.Progress.TheVariants.{Moved, WouldBlock, EndOfFile, NoReader}
-use Rattle.pf_base.specs.declared.step.Reply.{Reply}
 use Rattle.pf_base.specs.declared.step.Reply.TheVariants as replies
 use Rattle.pf_base.specs.declared.step.Step.TheVariants as steps
-use Rattle.pf_frame.specs.Live.{Live}
-use Rattle.pf_tables.specs.Meaning.{Namespace, meaning}
-use Rattle.pf_tables.specs.Owns.{Owns}
+use Rattle.pf_frame.specs.declared.frames.Frames.{Ghosts}
+use Rattle.pf_space.specs.Door.{Serves}
 use Rattle.pf_tables.specs.Tables.{over, woken, awoken}
-use Rattle.pf_tables.specs.Told.{Told, Says, tried_call, waits_in, settled, ended}
+use Rattle.pf_tables.specs.Told.{Says}
 use Rattle.pf_machine.specs.Maps.{if_ok}
 use Rattle.pf_machine.proofs.MapLaws.{bind-as, bind-same, then-as}
 use Rattle.pf_machine.proofs.ExitLaws.{change-change}
@@ -112,12 +106,9 @@ pub record WaitsIn (s : State Segment ℕ) (pid : ℕ) (t : Transfer) : Type 0 w
   pub stands : at s.processes (pid - 1) ≡ Some p
 
 pub waiter : (s : State Segment ℕ) (pid : ℕ) (t : Transfer) → call_of s pid ≡ Some (Moving t) → WaitsIn s pid t
-waiter s pid t h = by_row (process s pid) refl h
-  where
-    by_row : (o : Option (Process ℕ)) → process s pid ≡ o
-        → option_and_then (λ (p : Process ℕ). p.parked) o ≡ Some (Moving t) → WaitsIn s pid t
-    by_row None g h = absurd (cc)
-    by_row (Some p) g h = record { p = p; lives = g; waits = h; stands = place_in s pid g }
+waiter s pid t h =
+    option_and_then_some (λ (p : Process ℕ). p.parked) (process s pid) (Moving t) h
+    (λ p g e. record { p = p; lives = g; waits = e; stands = place_in s pid g })
 
 module _ (s : State Segment ℕ) (pid : ℕ) (t : Transfer) (w : WaitsIn s pid t) where
   -- it is woken
@@ -247,3 +238,11 @@ pub woken_owns : (f : Live) {tables old mid : Namespace} → tables ≡ old → 
     → mid ≡ record tables { state = awoken tables.state pid } → mid.state ≡ sweep itself mid.state → Owns f mid
 woken_owns f {tables} {old} {mid} view owns pid is still =
     let woken = woken-left f tables mid pid is still (subst (Owns f) (sym view) owns) in woken.owns
+
+pub woken_served : {D : Type 0} (F : Ghosts D) {d : D} {tables old mid : Namespace} → tables ≡ old → Serves F d old
+    → (pid : ℕ) → mid ≡ record tables { state = awoken tables.state pid } → mid.state ≡ sweep itself mid.state
+    → Serves F d mid
+woken_served F {d} view served pid is still = record {
+  fact = served.fact;
+  owns = woken_owns (F.live d) view served.owns pid is still;
+}

@@ -3,39 +3,31 @@
 use Rattle.std.proofs.Common.{◌≡◌, ◌≢◌, ◌⊎◌, inl, inr, ℕ, ◌+◌, ◌-◌, Bool, true, false, ◌&&◌, ◌||◌, List, length, Option}
 use Rattle.std.proofs.Common.{Some, None, is_some, Result, Ok, Err, refl, sym, ap, subst, ◌∙◌, arith, nat_eq, nat_lt}
 use Rattle.std.proofs.Common.{if◌then◌else◌}
-use Rattle.std.specs.Option.{option_map}
 use Rattle.std.proofs.lemmas.Bool.{ne_eqb}
-use Rattle.pf_machine.specs.Calls.{Transfer, Reading, Writing, Bringing, Call, Moving, made_by}
+use Rattle.pf_tables.proofs.Refusals.{both_came, not_refused, is_there, same_ok, is_none, bind-bind}
+use Rattle.pf_space.proofs.Common.{option_map, Reading, Writing, Bringing, Call, Moving, at, change_at, Segment, ◌>>=◌}
+use Rattle.pf_space.proofs.Common.{or_refuse, itself, State, Process, Outcome, ready, sweep, Tried, Finished, Waits}
+use Rattle.pf_space.proofs.Common.{transfer_told, Errno, ESRCH, Fault, Progress, Moved, WouldBlock, EndOfFile, NoReader}
+use Rattle.pf_space.proofs.Common.{Reply, Live, Window, Namespace, meaning, Owns, Told, tried_call, is_nonblocking_at}
+use Rattle.pf_space.proofs.Common.{waits_in, settled}
+use Rattle.pf_machine.specs.Calls.{Transfer, made_by}
 use Rattle.pf_machine.specs.Counts.{named_in, names_of, names}
 use Rattle.pf_machine.proofs.HoldsLaws.{Holds, carries, passes, of_given}
-use Rattle.pf_machine.specs.Numbered.{at, change_at, sum_of, weight, one_if, keep}
+use Rattle.pf_machine.specs.Numbered.{sum_of, weight, one_if, keep}
 use Rattle.pf_machine.proofs.NumberedLaws.{at_within, sum_of-set}
 use Rattle.pf_machine.specs.Progress.{moved}
-use Rattle.pf_machine.specs.Queue.{Segment}
-use Rattle.pf_machine.specs.Refusals.{◌>>=◌, ◌>>◌, refuse_if, or_refuse}
-use Rattle.pf_machine.specs.State.{itself, State, Process, End, Outcome, process, ready, reading_end, writing_end}
-use Rattle.pf_machine.specs.State.{change_process, waiting}
-use Rattle.pf_machine.specs.Sweep.{sweep, live_descriptions, live_pipes}
-use Rattle.pf_machine.specs.Transfers.{Tried, tried, two_ends, try_read, try_write, try_cross}
-use Rattle.pf_machine.specs.Attempts.{Finished, Waits, transfer_told, attempt, first, is_nonblocking, nonblocking}
-use Rattle.pf_machine.specs.Attempts.{transfer}
+use Rattle.pf_machine.specs.Refusals.{◌>>◌, refuse_if}
+use Rattle.pf_machine.specs.State.{End, process, reading_end, writing_end, change_process, waiting}
+use Rattle.pf_machine.specs.Sweep.{live_descriptions, live_pipes}
+use Rattle.pf_machine.specs.Transfers.{tried, two_ends, try_read, try_write, try_cross}
+use Rattle.pf_machine.specs.Attempts.{Attempt, attempt, first, is_nonblocking, nonblocking, transfer}
 use Rattle.pf_base.specs.declared.TheConstants.{MAX_WRITE}
-use Rattle.pf_base.specs.declared.errno.Errno.{Errno}
-use Rattle.pf_base.specs.declared.errno.Errno.TheVariants.{ESRCH, EBUSY, EINVAL}
-use Rattle.pf_base.specs.declared.fault.Fault.{Fault}
+use Rattle.pf_base.specs.declared.errno.Errno.TheVariants.{EBUSY, EINVAL}
 use Rattle.pf_base.specs.declared.fault.Fault.TheVariants as faults
 use Rattle.pf_base.specs.declared.progress.Crossing.{Crossing}
-use Rattle.pf_base.specs.declared.progress.Progress.{Progress}
-use Rattle.pf_base.specs.declared.progress.Progress.TheVariants.{Moved, WouldBlock, EndOfFile, NoReader}
-use Rattle.pf_base.specs.declared.step.Reply.{Reply}
 use Rattle.pf_base.specs.declared.step.Reply.TheVariants as replies
-use Rattle.pf_frame.specs.Live.{Live}
 use Rattle.pf_parked.specs.UnfinishedWrite.{UnfinishedWrite}
-use Rattle.pf_ring.specs.declared.ring.Window.{Window}
-use Rattle.pf_tables.specs.Meaning.{Namespace, meaning}
-use Rattle.pf_tables.specs.Owns.{Owns}
-use Rattle.pf_tables.specs.Told.{Told, Came, Refused, Still, Stops, IsShort, Parks, attempted, tried_call}
-use Rattle.pf_tables.specs.Told.{flag_of, is_nonblocking_at, transferred, waits_in, settled}
+use Rattle.pf_tables.specs.Told.{Came, Refused, Still, Stops, IsShort, Parks, attempted, flag_of, transferred}
 use Rattle.pf_tables.proofs.TablesShown.{place_in}
 use Rattle.pf_space.proofs.Books.{flag-meaning}
 
@@ -51,13 +43,8 @@ module _ {X : Type 0} (s : State X ℕ) (pid : ℕ) (p : Process ℕ) (stands : 
       ap (λ o. weight h (option_map (waiting c) o)) stands
       ∙ ap (λ o. weight (λ m. one_if (nat_eq m n)) o + sum_of (λ m. one_if (nat_eq m n)) p.descriptors)
       (moving ∙ sym bare) in
-      omega (
-        arith,
-        sum_of-set h s.processes (pid - 1) y (at_within s.processes (pid - 1) p stands),
-        new,
-        ap (weight h)
-            stands,
-      )
+      let changed = sum_of-set h s.processes (pid - 1) y (at_within s.processes (pid - 1) p stands) in
+      omega (arith, changed, new, ap (weight h) stands)
 
   pub sweep-waiting : sweep itself (change_process (waiting c) s pid) ≡ change_process (waiting c) (sweep itself s) pid
   sweep-waiting =
@@ -92,56 +79,25 @@ pub record IsReady (s : State Segment ℕ) (pid : ℕ) (p : Process ℕ) : Type 
   pub awake : p.parked ≡ None
 
 pub is_ready : (s : State Segment ℕ) (pid : ℕ) (p : Process ℕ) → ready s pid ≡ Ok p → IsReady s pid p
-is_ready s pid p h = by_row (process s pid) refl h
-  where
-    by_call : (q : Process ℕ) (o : Option (Call ℕ)) → process s pid ≡ Some q → q.parked ≡ o
-        → (refuse_if (is_some o) EBUSY >> Ok q) ≡ Ok p → IsReady s pid p
-    by_call q None g e h =
-        let same : q ≡ p = cc in
-        record { stands = place_in s pid g ∙ ap Some same; awake = ap (λ (x : Process ℕ). x.parked) (sym same) ∙ e }
-    by_call q (Some c) g e h = absurd (cc)
+is_ready s pid p h =
+    let test : Process ℕ → Result (Process ℕ) Errno = λ q. refuse_if (is_some q.parked) EBUSY >> Ok q in
+    let w = both_came (or_refuse ESRCH (process s pid)) test h in
+    let came = not_refused (is_some w.0.parked) EBUSY (Ok w.0) w.2 in
+    let same : w.0 ≡ p = same_ok came.1 in
+    record {
+      stands = place_in s pid (is_there ESRCH (process s pid) w.1) ∙ ap Some same;
+      awake = ap (λ (q : Process ℕ). q.parked) (sym same) ∙ is_none w.0.parked came.0;
+    }
 
-    by_row : (o : Option (Process ℕ)) → process s pid ≡ o
-        → (or_refuse ESRCH o >>= (λ q. refuse_if (is_some q.parked) EBUSY >> Ok q)) ≡ Ok p → IsReady s pid p
-    by_row None g h = absurd (cc)
-    by_row (Some q) g h = by_call q q.parked g refl h
-
--- a process that is ready, and what its transfer came to
-pub record Tries (s : State Segment ℕ) (pid : ℕ) (t : Transfer) (r : Tried) : Type 0 where
-  pub p : Process ℕ
-  pub caller : ready s pid ≡ Ok p
-  pub is : tried s p t ≡ Ok r
-
-pub tries : (s : State Segment ℕ) (pid : ℕ) (t : Transfer) (r : Tried) → attempted s pid t ≡ Ok r → Tries s pid t r
-tries s pid t r h = by_caller (ready s pid) refl h
-  where
-    by_caller : (q : Result (Process ℕ) Errno) → ready s pid ≡ q → (q >>= (λ p. tried s p t)) ≡ Ok r → Tries s pid t r
-    by_caller (Ok p) c h = record { p = p; caller = c; is = h }
-    by_caller (Err e) c h = absurd (cc)
-
--- so its call goes on from there
-call_is : (s : State Segment ℕ) (pid : ℕ) (nonblock : Bool) (t : Transfer)
-    → tried_call s pid nonblock t
-    ≡ (attempted s pid t >>= (λ r. transfer_told t r r.progress >>= first pid nonblock))
-call_is s pid nonblock t = by_caller (ready s pid)
-  where
-    by_tried : (q : Result Tried Errno)
-        → ((q >>= (λ r. transfer_told t r r.progress)) >>= first pid nonblock)
-        ≡ (q >>= (λ r. transfer_told t r r.progress >>= first pid nonblock))
-    by_tried (Ok r) = refl
-    by_tried (Err e) = refl
-
-    by_caller : (q : Result (Process ℕ) Errno)
-        → (q >>= (λ p. attempt s pid p (Moving t) >>= first pid nonblock))
-        ≡ ((q >>= (λ p. tried s p t)) >>= (λ r. transfer_told t r r.progress >>= first pid nonblock))
-    by_caller (Ok p) = by_tried (tried s p t)
-    by_caller (Err e) = refl
-
+-- a call goes on from what its transfer came to
 pub called : (s : State Segment ℕ) (pid : ℕ) (nonblock : Bool) (t : Transfer) {q : Result Tried Errno}
     → attempted s pid t ≡ q
     → tried_call s pid nonblock t ≡ (q >>= (λ r. transfer_told t r r.progress >>= first pid nonblock))
 called s pid nonblock t h =
-    call_is s pid nonblock t ∙ ap (λ q. q >>= (λ r. transfer_told t r r.progress >>= first pid nonblock)) h
+    let told : Tried → Result (Attempt Segment ℕ) Errno = λ r. transfer_told t r r.progress in
+    (λ i. ready s pid >>= (λ p. sym (bind-bind (tried s p t) told (first pid nonblock)) i))
+    ∙ bind-bind (ready s pid) (λ p. tried s p t) (λ r. told r >>= first pid nonblock)
+    ∙ ap (λ q. q >>= (λ r. told r >>= first pid nonblock)) h
 
 -- What was done over a door
 module _ {D : Type 0} (live : D → Live) {x y : D} where
@@ -150,11 +106,12 @@ module _ {D : Type 0} (live : D → Live) {x y : D} where
     abbrev s : State Segment ℕ
     s = meaning (live x) old.state
 
-    w : Tries (meaning (live x) old.state) pid t came.tried
-    w = tries (meaning (live x) old.state) pid t came.tried came.is
+    -- a process that is ready tried it
+    w : (p : Process ℕ) × (ready s pid ≡ Ok p) × (tried s p t ≡ Ok came.tried)
+    w = both_came (ready s pid) (λ p. tried s p t) came.is
 
-    here : IsReady (meaning (live x) old.state) pid w.p
-    here = is_ready (meaning (live x) old.state) pid w.p w.caller
+    here : IsReady s pid w.0
+    here = is_ready s pid w.0 w.1
 
     -- It parks
     module _ {new : Namespace} (c : Call ℕ) (moving : made_by (Some c) ≡ None)
@@ -163,8 +120,8 @@ module _ {D : Type 0} (live : D → Live) {x y : D} where
       now_waits : sweep itself (change_process (waiting (Some c)) came.tried.state pid)
           ≡ change_process (waiting (Some c)) (sweep itself came.tried.state) pid
       now_waits =
-          let stays : Stays s came.tried = of_given (Stays s) (tried s w.p t) came.tried w.is (tried-stays s w.p t) in
-          sweep-waiting came.tried.state pid w.p (ap (λ ps. at ps (pid - 1)) stays ∙ here.stands)
+          let stays : Stays s came.tried = of_given (Stays s) (tried s w.0 t) came.tried w.2 (tried-stays s w.0 t) in
+          sweep-waiting came.tried.state pid w.0 (ap (λ ps. at ps (pid - 1)) stays ∙ here.stands)
           (ap made_by here.awake) (Some c) moving
 
       pub parks : Told (live x) (live y) old new (Ok replies.Parked) (tried_call s pid false t)
@@ -291,16 +248,14 @@ goes_on r fd x written n rest left is moved =
     ∙ ap (λ (w : UnfinishedWrite). Ok (Waits r.state (Moving (Writing fd w.bytes w.written)))) (sym is)
 
 pub stays_waiting : (r : Tried) (fd : ℕ) (write rest : UnfinishedWrite) → rest ≡ write
-    → (r.progress ≡ WouldBlock) ⊎ (r.progress ≡ EndOfFile)
+    → {q : Progress} → r.progress ≡ q → (q ≡ WouldBlock) ⊎ (q ≡ EndOfFile)
     → transfer_told (Writing fd write.bytes write.written) r r.progress
     ≡ Ok (Waits r.state (Moving (Writing fd rest.bytes rest.written)))
-stays_waiting r fd write rest is blocked =
-    elim blocked [
-      | inl none ↦ ap (transfer_told (Writing fd write.bytes write.written) r) none
-          ∙ ap (λ (w : UnfinishedWrite). Ok (Waits r.state (Moving (Writing fd w.bytes w.written)))) (sym is)
-      | inr none ↦ ap (transfer_told (Writing fd write.bytes write.written) r) none
-          ∙ ap (λ (w : UnfinishedWrite). Ok (Waits r.state (Moving (Writing fd w.bytes w.written)))) (sym is)
-    ]
+stays_waiting r fd write rest is progress blocked =
+    let told : Progress → Result (Attempt Segment ℕ) Errno =
+    transfer_told (Writing fd write.bytes write.written) r in
+    (elim blocked [ inl none ↦ ap told (progress ∙ none) | inr none ↦ ap told (progress ∙ none) ])
+    ∙ ap (λ (w : UnfinishedWrite). Ok (Waits r.state (Moving (Writing fd w.bytes w.written)))) (sym is)
 
 -- a first write that stops short of its end waits, where nobody asked it not to
 pub stops_short : (f : Live) (s : State Window ℕ) (pid fd : ℕ) (x : List ℕ) → is_nonblocking_at s pid fd ≡ false
@@ -325,7 +280,3 @@ stops_short f s pid fd x nobody h =
     by_progress WouldBlock e some = waits 0 (ap (transfer_told (Writing fd x 0) h.tried) e)
     by_progress EndOfFile e none = absurd none
     by_progress NoReader e none = absurd none
-
--- in other words
-pub blocked_as : {p q : Progress} → p ≡ q → (q ≡ WouldBlock) ⊎ (q ≡ EndOfFile) → (p ≡ WouldBlock) ⊎ (p ≡ EndOfFile)
-blocked_as e h = subst (λ p. (p ≡ WouldBlock) ⊎ (p ≡ EndOfFile)) (sym e) h

@@ -79,6 +79,7 @@ impl<A: Allocator + Clone> Placed<A> {
     ghost use Rattle.pf_tables.specs.Buffers.{Lies, Replied, answer_in, number_in};
     ghost use Rattle.pf_tables.specs.Meaning.{meaning};
     ghost use Rattle.pf_tables.specs.Owns.{Owns};
+    ghost use Rattle.pf_space.specs.Door.{Serves, HandsOn};
 
     /// A namespace at its opening state, with its files in memory of this allocator. They get clones of it.
     pub fn new(alloc: Global, allocator: A, config: Config) -> Result<Self, AllocError>
@@ -92,10 +93,8 @@ impl<A: Allocator + Clone> Placed<A> {
     /// One step, as `Space::step` says. The files stay with the same allocator.
     #[inline(always)]
     pub fn step<F: Frames>(&mut self, door: &mut F, step: &Step) -> Answer
-        requires fact { F.fact door.old }
-        requires owns { Owns (F.live door.old) self.old.space }
-        ensures fact { F.fact door.new }
-        ensures rest { F.rest door.new ≡ F.rest door.old }
+        requires door { Serves F.Frames door.old self.old.space }
+        ensures door { HandsOn F.Frames door.old door.new }
         ensures owns { Owns (F.live door.new) self.new.space }
         ensures limits { self.new.space.limits ≡ self.old.space.limits }
         ensures answers { Answers self.old.space.limits result (meaning (F.live door.old) self.old.space.state)
@@ -111,10 +110,8 @@ impl<A: Allocator + Clone> Placed<A> {
     /// The step that writes these bytes, as `Space::write_from` says. The files stay with the same allocator.
     #[inline(always)]
     pub fn write_from<F: Frames>(&mut self, door: &mut F, pid: u32, fd: u32, bytes: &[u8]) -> Answer
-        requires fact { F.fact door.old }
-        requires owns { Owns (F.live door.old) self.old.space }
-        ensures fact { F.fact door.new }
-        ensures rest { F.rest door.new ≡ F.rest door.old }
+        requires door { Serves F.Frames door.old self.old.space }
+        ensures door { HandsOn F.Frames door.old door.new }
         ensures owns { Owns (F.live door.new) self.new.space }
         ensures limits { self.new.space.limits ≡ self.old.space.limits }
         ensures answers { Answers self.old.space.limits result (meaning (F.live door.old) self.old.space.state)
@@ -136,10 +133,8 @@ impl<A: Allocator + Clone> Placed<A> {
         fd: u32,
         buffer: &mut [u8],
     ) -> Result<Option<usize>, Errno>
-        requires fact { F.fact door.old }
-        requires owns { Owns (F.live door.old) self.old.space }
-        ensures fact { F.fact door.new }
-        ensures rest { F.rest door.new ≡ F.rest door.old }
+        requires door { Serves F.Frames door.old self.old.space }
+        ensures door { HandsOn F.Frames door.old door.new }
         ensures owns { Owns (F.live door.new) self.new.space }
         ensures limits { self.new.space.limits ≡ self.old.space.limits }
         ensures answers { Answers self.old.space.limits (answer_in buffer.new result)
@@ -160,10 +155,8 @@ impl<A: Allocator + Clone> Placed<A> {
         pid: u32,
         buffer: &mut [u8],
     ) -> Result<Option<usize>, Errno>
-        requires fact { F.fact door.old }
-        requires owns { Owns (F.live door.old) self.old.space }
-        ensures fact { F.fact door.new }
-        ensures rest { F.rest door.new ≡ F.rest door.old }
+        requires door { Serves F.Frames door.old self.old.space }
+        ensures door { HandsOn F.Frames door.old door.new }
         ensures owns { Owns (F.live door.new) self.new.space }
         ensures limits { self.new.space.limits ≡ self.old.space.limits }
         ensures answers { Replied

@@ -82,6 +82,7 @@ impl<A: Allocator + Clone> Space<A> {
     ghost use Rattle.pf_tables.specs.Meaning.{meaning, occupied, AreEmpty};
     ghost use Rattle.pf_tables.specs.Owns.{Owns};
     ghost use Rattle.pf_tables.specs.Told.{Told};
+    ghost use Rattle.pf_space.specs.Door.{Serves, HandsOn};
 
     /// A namespace at its opening state, with its files in memory of an allocator of their own. Nothing else stands
     /// there. No clause names this allocator: `Placed` is a namespace beside one that clauses name.
@@ -98,11 +99,9 @@ impl<A: Allocator + Clone> Space<A> {
     // tables tell is moved there (`handed`).
     #[inline(always)]
     pub fn step<F: Frames>(&mut self, door: &mut F, step: &Step) -> Answer
-        requires fact { F.fact door.old }
-        requires owns { Owns (F.live door.old) self.old }
+        requires door { Serves F.Frames door.old self.old }
         // The door is left as it is to be, and the live frames are those of this namespace.
-        ensures fact { F.fact door.new }
-        ensures rest { F.rest door.new ≡ F.rest door.old }
+        ensures door { HandsOn F.Frames door.old door.new }
         ensures owns { Owns (F.live door.new) self.new }
 
         // The step is the lone machine's, or want of memory, which has changed nothing.
@@ -130,10 +129,8 @@ impl<A: Allocator + Clone> Space<A> {
     // The call of each kind of step.
     #[inline(always)]
     fn call<F: Frames>(&mut self, door: &mut F, step: &Step) -> Result<Reply, Fault>
-        requires fact { F.fact door.old }
-        requires owns { Owns (F.live door.old) self.old }
-        ensures fact { F.fact door.new }
-        ensures rest { F.rest door.new ≡ F.rest door.old }
+        requires door { Serves F.Frames door.old self.old }
+        ensures door { HandsOn F.Frames door.old door.new }
         ensures told { Told (F.live door.old) (F.live door.new) self.old self.new result
             (call self.old.limits (meaning (F.live door.old) self.old.state) step.now) }
         ensures unchanged { result ≡ Err Fault.NoMemory → (self.new ≡ self.old) × (door.new ≡ door.old) }

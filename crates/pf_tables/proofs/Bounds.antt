@@ -1,46 +1,35 @@
 -- How much a reply hands out, as the tables know it.
 
-use Rattle.std.proofs.Common.{◌≡◌, ℕ, ◌≤◌, not, List, length, Option, Some, None, Result, Ok, Err, refl, sym, is_some}
-use Rattle.std.proofs.Common.{ap, subst, ◌∙◌, arith}
+use Rattle.std.proofs.Common.{◌≡◌, ℕ, ◌≤◌, not, List, length, Option, Some, None, Result, Ok, Err, refl, sym, ap, subst}
+use Rattle.std.proofs.Common.{◌∙◌, arith}
 use Rattle.std.specs.Prelude.{min}
-use Rattle.std.specs.Option.{option_map, option_and_then}
-use Rattle.pf_ring.specs.declared.ring.Window.{Window}
-use Rattle.pf_machine.specs.FileMap.{Files, Path, names_below, listed, is_directory}
+use Rattle.pf_tables.proofs.Common.{◌>>=◌, option_map, option_and_then, Window, Files, Limits, refuse_if, or_refuse}
+use Rattle.pf_tables.proofs.Common.{Segment, bytes_of, at, weight, itself, State, End, ready, end_at, reading_end}
+use Rattle.pf_tables.proofs.Common.{Errno, EBADF, find, Live, IsSound, UserPages, Ring, queue_of, Stands, slots_used}
+use Rattle.pf_tables.proofs.Common.{slots_of, Covers, Namespace, meaning, pipe_meaning, pages, Owns, ProcessRows}
+use Rattle.pf_tables.proofs.Common.{DescriptionRows, PipeRows, Description, Pipe, state_of, end_in, Kept}
+use Rattle.pf_machine.specs.FileMap.{Path, names_below, listed, is_directory}
 use Rattle.pf_machine.specs.Paths.{target}
 use Rattle.pf_base.specs.Permissions.{allows}
 use Rattle.pf_base.specs.declared.permissions.Want.TheVariants as Access
-use Rattle.pf_base.specs.Limits.{Limits}
-use Rattle.pf_machine.specs.Refusals.{refuse_if, or_refuse}
-use Rattle.pf_machine.specs.Queue.{Segment, IsQueue, bytes_of}
+use Rattle.pf_machine.specs.Queue.{IsQueue}
 use Rattle.pf_machine.proofs.QueueLaws.{length-joined-le}
-use Rattle.pf_machine.specs.Numbered.{at, weight}
 use Rattle.pf_machine.proofs.NumberedLaws.{weight-le-sum_of}
 use Rattle.pf_machine.proofs.HoldsLaws.{Holds, goes, carries, passes}
 use Rattle.pf_machine.specs.Calls as calls
 use Rattle.pf_machine.specs.State as machine
-use Rattle.pf_machine.specs.State.{itself, State, End, ready, end_at, end_of, reading_end}
+use Rattle.pf_machine.specs.State.{end_of}
 use Rattle.pf_machine.specs.Machine.{step_of, call, call_of as machine_call_of}
 use Rattle.pf_base.specs.declared.TheConstants.{MAX_RESERVE}
-use Rattle.pf_base.specs.declared.errno.Errno.{Errno}
-use Rattle.pf_base.specs.declared.errno.Errno.TheVariants.{EBADF, ENOTDIR, EACCES}
+use Rattle.pf_base.specs.declared.errno.Errno.TheVariants.{ENOTDIR, EACCES}
 use Rattle.pf_base.specs.declared.progress.Side.TheVariants as sides
 use Rattle.pf_base.specs.declared.step.Step.{Step}
 use Rattle.pf_base.specs.declared.step.Step.TheVariants as steps
-use Rattle.pf_fds.specs.Registry.{find}
-use Rattle.pf_frame.specs.Live.{Live, IsSound}
-use Rattle.pf_limits.specs.UserPages.{UserPages}
-use Rattle.pf_ring.specs.Ring.{Ring, queue_of}
-use Rattle.pf_ring.specs.Windows.{Stands}
-use Rattle.pf_ring.specs.Table.{slots_used, slots_of}
 use Rattle.pf_ring.proofs.TableLaws.{ring_queue}
-use Rattle.pf_tables.specs.Bounds.{Covers}
 use Rattle.pf_machine.specs.Replies.{reply_length}
-use Rattle.pf_tables.specs.Meaning.{Namespace, meaning, pipe_meaning, pages}
-use Rattle.pf_tables.specs.Owns.{Owns}
 use Rattle.pf_tables.proofs.OwnsLaws.{ring_at-pipe, stands_at, pages_within}
-use Rattle.pf_tables.specs.Rows.{ProcessRows, DescriptionRows, PipeRows, Description, Pipe, state_of, end_in, Kept}
 use Rattle.pf_machine.proofs.ReplyLaws.{read_bytes, read-few, resume-few, list-few, quiet, few}
-use Rattle.pf_tables.proofs.Ends.{end_of_rows, refused, reaches, pipe_there}
+use Rattle.pf_tables.proofs.Ends.{end_of_rows, Agree, ends, not_lost, reaches}
 use Rattle.pf_tables.proofs.TablesShown.{was}
 use Rattle.pf_tables.proofs.Transfers as transfers
 
@@ -78,6 +67,10 @@ module _ {files : Files} {files_made : ℕ} {limits : Limits} {charges : UserPag
   abbrev shows : Live → State Segment ℕ
   shows f = meaning f (state_of ps ds pipes files files_made)
 
+  its : (f : Live) → Agree (pipe_meaning f) pipes (end_in (Some sides.Read) ps ds pid fd)
+      (ready (shows f) pid >>= (λ p. reading_end itself (shows f) p fd))
+  its f = ends (pipe_meaning f) (Some sides.Read) files files_made k.tied pid fd
+
   -- nothing where there is no end that reads
   pub no_read : ((d : Description) → end_in (Some sides.Read) ps ds pid fd ≡ Ok d → ⊥)
       → Covers n (steps.Read pid fd count) 0
@@ -90,17 +83,13 @@ module _ {files : Files} {files_made : ℕ} {limits : Limits} {charges : UserPag
       by_end (Ok d) h = absurd (none d h)
       by_end (Err e) h =
           few (shows f) 0 (call limits (shows f) (steps.Read pid fd count)) (read-few (shows f) 0 limits pid fd count
-          (λ x is. let both : ◌≡◌ {A = Result (End Segment ℕ) Errno} (Err e) (Ok x) = sym
-          (refused (pipe_meaning f) (Some sides.Read) files files_made k.tied pid fd e h)
+          (λ x is. let both : ◌≡◌ {A = Result (End Segment ℕ) Errno} (Err e) (Ok x) = sym ((its f).refused h)
           ∙ is in absurd (cc)))
 
   module _ (d : Description) (h : end_in (Some sides.Read) ps ds pid fd ≡ Ok d) where
     -- it has a pipe
     pub no_pipe : find pipes d.pipe.slot d.pipe.serial ≡ None → Covers n (steps.Read pid fd count) 0
-    no_pipe none f sound owns =
-        let there = pipe_there (pipe_meaning f) (Some sides.Read) files files_made k.tied pid fd h in
-        let gone = ap is_some none in
-        absurd (cc)
+    no_pipe none f sound owns = absurd (not_lost (its f) h none)
 
     -- what the pipe holds, up to what is asked for
     pub reads : (r : Pipe) → find pipes d.pipe.slot d.pipe.serial ≡ Some r → (held : ℕ)
@@ -114,7 +103,7 @@ module _ {files : Files} {files_made : ℕ} {limits : Limits} {charges : UserPag
         (read-few (shows f) (min held count) limits pid fd count
         (λ x is.
         let ends : ◌≡◌ {A = Result (End Segment ℕ) Errno} (Ok (end_of_rows (pipe_meaning f) d r)) (Ok x) =
-        sym (reaches (pipe_meaning f) (Some sides.Read) files files_made k.tied pid fd h handed) ∙ is in
+        sym (reaches (its f) h handed) ∙ is in
         let end : end_of_rows (pipe_meaning f) d r ≡ x = cc in
         let bytes : length (bytes_of (queue_of f r.ring)) ≡ length (bytes_of x.pipe.queue) =
         ap (λ (y : End Segment ℕ). length (bytes_of y.pipe.queue)) end in

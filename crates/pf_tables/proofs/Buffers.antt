@@ -4,8 +4,9 @@ use Rattle.std.proofs.Common.{◌≡◌, ℕ, ◌≤◌, Bool, true, false, List
 use Rattle.std.proofs.Common.{if◌then◌else◌, ap, subst, ◌∙◌, arith, length-append, length-drop, length-take}
 use Rattle.std.specs.Prelude.{min}
 use Rattle.std.proofs.lemmas.List.{take_at, drop_at}
-use Rattle.pf_machine.specs.Queue.{Queue, bytes_of, taken, after_take}
-use Rattle.pf_machine.specs.Progress.{Passed, moved, read_now}
+use Rattle.pf_tables.proofs.Common.{Queue, bytes_of, Passed, moved}
+use Rattle.pf_machine.specs.Queue.{taken, after_take}
+use Rattle.pf_machine.specs.Progress.{read_now}
 use Rattle.pf_base.specs.declared.progress.Progress.TheVariants.{Moved, WouldBlock, EndOfFile}
 use Rattle.pf_tables.specs.Buffers.{Lies}
 
@@ -51,13 +52,7 @@ module _ (q : Queue) (writers number : ℕ) (before after : List ℕ)
   lies = record {
     fits = omega (arith, few);
     as_long =
-        omega (
-          arith,
-          ap length lie,
-          length-append (taken q number) (drop number before),
-          length-drop number before,
-          as_many,
-          few,
-        );
+        let long = length-append (taken q number) (drop number before) in
+        omega (arith, ap length lie, long, length-drop number before, as_many, few);
     behind = ap (drop number) lie ∙ drop_at (taken q number) (drop number before) number as_many;
   }

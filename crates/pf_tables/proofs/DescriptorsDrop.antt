@@ -1,31 +1,22 @@
 -- What goes, at the state that the tables keep: a descriptor with whatever nobody can reach any more, and a process.
 
 use Rattle.std.proofs.Common.{◌≡◌, ℕ, zero, suc, ◌-◌, ◌<◌, ◌≤◌, List, set, Option, Some, None, Result, Ok, Err, refl}
-use Rattle.std.proofs.Common.{ap}
-use Rattle.std.proofs.Common.{sym, ◌∙◌, subst, arith, inl, inr}
-use Rattle.std.specs.Option.{option_map}
+use Rattle.std.proofs.Common.{ap, sym, ◌∙◌, subst, arith, inl, inr}
 use Rattle.std.proofs.lemmas.Bool.{cases_lt}
 use Rattle.std.proofs.lemmas.List.{map-set}
-use Rattle.pf_machine.specs.FileMap.{Files}
-use Rattle.pf_base.specs.Limits.{Limits}
-use Rattle.pf_machine.specs.Numbered.{at, clear_at}
+use Rattle.pf_tables.proofs.Common.{option_map, Files, Limits, at, clear_at, State, Outcome, of_ready, with_process}
+use Rattle.pf_tables.proofs.Common.{done, MAX_PROCESSES, MAX_DESCRIPTORS, Errno, Num, Window, UserPages, charged_to}
+use Rattle.pf_tables.proofs.Common.{Charges, Namespace, key_in, pipe_of, ProcessRows, DescriptionRows, PipeRows, Key}
+use Rattle.pf_tables.proofs.Common.{Process, keys_of, process_of, processes_of, pipes_of, state_of, Tied, Kept, Whole}
+use Rattle.pf_tables.proofs.Common.{LetsGo, Makes}
 use Rattle.pf_machine.proofs.NumberedLaws.{at-map, at_past, at_within}
 use Rattle.pf_machine.specs.State as machine
-use Rattle.pf_machine.specs.State.{State, Outcome, of_ready, with_process, done}
 use Rattle.pf_machine.specs.Descriptors.{close, without_descriptor}
 use Rattle.pf_machine.specs.Processes.{exit}
-use Rattle.pf_base.specs.declared.TheConstants.{MAX_PROCESSES, MAX_DESCRIPTORS}
-use Rattle.pf_base.specs.declared.errno.Errno.{Errno}
-use Rattle.pf_base.specs.declared.step.Reply.TheVariants.{Num}
-use Rattle.pf_ring.specs.declared.ring.Window.{Window}
 use Rattle.pf_limits.specs.Sums.{AreSumsOf}
-use Rattle.pf_limits.specs.UserPages.{UserPages, charged_to, Charges}
 use Rattle.pf_limits.proofs.SumLaws.{covers, gone as refunded}
-use Rattle.pf_tables.specs.Meaning.{Namespace}
 use Rattle.pf_tables.specs.Rows as rows
-use Rattle.pf_tables.specs.Rows.{key_in, pipe_of, ProcessRows, DescriptionRows, PipeRows, Key, Process, keys_of}
-use Rattle.pf_tables.specs.Rows.{process_of, processes_of, pipes_of, state_of, Tied, Kept, Whole}
-use Rattle.pf_tables.specs.Tables.{emptied, IsBare, Leaves, Left, LetsGo, Makes}
+use Rattle.pf_tables.specs.Tables.{emptied, IsBare, Leaves, Left}
 use Rattle.pf_tables.proofs.ProcessTableReady.{place_is}
 use Rattle.pf_tables.proofs.DescriptorsNamed.{Has, named_is, names_nothing}
 use Rattle.pf_tables.proofs.TablesShown.{was, shown}
@@ -39,13 +30,9 @@ module _ {charges : UserPages} {ps : ProcessRows} {ds : DescriptionRows} {pipes 
     (there : at (pipes_of pipes) m ≡ Some (pipe_of (0, p))) where
   pub gone_covered : (owner pages : ℕ) → owner ≡ p.owner → pages ≡ p.ring.capacity → pages ≤ charged_to charges owner
   gone_covered owner pages o e =
-      omega (
-        arith,
-        covers (λ (q : machine.Pipe Window). q.owner) (λ (q : machine.Pipe Window). q.queue.capacity)
-            charges (pipes_of pipes) m _ k.charged there,
-        e,
-        ap (charged_to charges) o,
-      )
+      let least = covers (λ (q : machine.Pipe Window). q.owner) (λ (q : machine.Pipe Window). q.queue.capacity) charges
+      (pipes_of pipes) m _ k.charged there in
+      omega (arith, least, e, ap (charged_to charges) o)
 
   pub gone_kept : {ps' : ProcessRows} {ds' : DescriptionRows} {pipes' : PipeRows} → Tied ps' ds' pipes'
       → pipes_of pipes' ≡ clear_at (pipes_of pipes) m → (charges' : UserPages) (owner pages : ℕ) → owner ≡ p.owner

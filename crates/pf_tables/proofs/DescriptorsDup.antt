@@ -3,58 +3,49 @@
 
 use Rattle.std.proofs.Common.{◌≡◌, ℕ, suc, ◌+◌, ◌-◌, ◌*◌, ◌^◌, ◌<◌, ◌≤◌, Bool, true, false, nat_le, nat_eq, List, []}
 use Rattle.std.proofs.Common.{◌∷◌, length, set, Option, Some, None, Result, Ok, Err, refl, sym, ap, subst, ◌∙◌, arith}
-use Rattle.std.specs.Option.{option_map}
 use Rattle.std.proofs.lemmas.Bool.Decides.{nat_tests}
 use Rattle.std.proofs.lemmas.List.{map-set}
-use Rattle.pf_machine.specs.FileMap.{Files}
-use Rattle.pf_base.specs.Limits.{Limits}
-use Rattle.pf_machine.specs.Numbered.{at, put_at, change_at, first_free, sum_of, one_if}
+use Rattle.pf_tables.proofs.TablesShown.{shown_same, find_at}
+use Rattle.pf_tables.proofs.Common.{option_map, Files, Limits, at, put_at, change_at, first_free, sum_of, one_if, ◌>>◌}
+use Rattle.pf_tables.proofs.Common.{refuse_if, State, Outcome, of_ready, with_process, with_descriptor, done}
+use Rattle.pf_tables.proofs.Common.{MAX_DESCRIPTORS, Errno, EMFILE, Num, names_of, one_more, find, UserPages, Window}
+use Rattle.pf_tables.proofs.Common.{Namespace, ProcessRows, DescriptionRows, PipeRows, Key, Named, Process, Description}
+use Rattle.pf_tables.proofs.Common.{ready_in, key_in, process_of, description_of, descriptions_of, pipes_of, state_of}
+use Rattle.pf_tables.proofs.Common.{keys_of, names_it, held, NamedRow, TiedWith, Tied, Kept, Makes}
 use Rattle.pf_machine.proofs.NumberedLaws.{at-first_free, first_free-map}
-use Rattle.pf_machine.specs.Refusals.{◌>>◌, refuse_if}
-use Rattle.pf_machine.specs.State.{State, Outcome, of_ready, with_process, with_descriptor, done}
 use Rattle.pf_machine.specs.Descriptors.{dup}
-use Rattle.pf_base.specs.declared.TheConstants.{MAX_DESCRIPTORS}
-use Rattle.pf_base.specs.declared.errno.Errno.{Errno}
-use Rattle.pf_base.specs.declared.errno.Errno.TheVariants.{EMFILE}
-use Rattle.pf_base.specs.declared.step.Reply.TheVariants.{Num}
-use Rattle.pf_fds.specs.Descriptions.{names_of, one_more}
-use Rattle.pf_fds.specs.Registry.{find}
-use Rattle.pf_limits.specs.UserPages.{UserPages}
-use Rattle.pf_ring.specs.declared.ring.Window.{Window}
-use Rattle.pf_tables.specs.Meaning.{Namespace}
-use Rattle.pf_tables.specs.Rows.{ProcessRows, DescriptionRows, PipeRows, Key, Named, Process, Description, call_of}
-use Rattle.pf_tables.specs.Rows.{ready_in, key_in, with_key, process_of, description_of, descriptions_of, pipes_of}
-use Rattle.pf_tables.specs.Rows.{state_of, keys_of, names_it, named, held, NamedRow, TiedWith, Tied, Kept}
-use Rattle.pf_tables.specs.Tables.{Makes}
+use Rattle.pf_tables.specs.Rows.{call_of, with_key, named}
 use Rattle.pf_tables.proofs.TablesSettled.{makes}
 use Rattle.pf_tables.proofs.ProcessTableReady.{place_is}
 use Rattle.pf_tables.proofs.DescriptorsNamed.{Has, has_by, key_row, named_is}
-use Rattle.pf_tables.proofs.TablesShown.{shown, find_at, set_same}
 use Rattle.pf_tables.proofs.TablesTied.{found, names_one, names_none, redescribed, place_and_end, names_row, put}
 
+-- A sum of ones and of none is no more than there are places
+
+pub at_most_one : (b : Bool) → one_if b ≤ 1
+at_most_one true = omega arith
+at_most_one false = omega arith
+
+pub sum-le-length : {X : Type 0} (h : X → ℕ) (xs : List (Option X)) → ((x : X) → h x ≤ 1) → sum_of h xs ≤ length xs
+sum-le-length h [] one = omega arith
+sum-le-length h (None ∷ xs) one = omega (arith, sum-le-length h xs one)
+sum-le-length h (Some x ∷ xs) one = omega (arith, sum-le-length h xs one, one x)
+
 -- All names of a description are descriptors, of which 256 processes have 256 each, and keys in the hand
-
-one_at_most : (b : Bool) → one_if b ≤ 1
-one_at_most true = omega arith
-one_at_most false = omega arith
-
-few_of_list : (n : ℕ) (ks : List (Option Key)) → sum_of (names_it n) ks ≤ length ks
-few_of_list n [] = omega arith
-few_of_list n (None ∷ ks) = omega (arith, few_of_list n ks)
-few_of_list n (Some k ∷ ks) = omega (arith, one_at_most (nat_eq k.serial n), few_of_list n ks)
 
 few_of_all : (n : ℕ) (ps : ProcessRows) → ((i : ℕ) (p : Process) → at ps i ≡ Some p → length p.descriptors ≡ 256)
     → named ps n ≤ 257 * length ps
 few_of_all n [] wide = omega arith
 few_of_all n (None ∷ ps) wide = omega (arith, few_of_all n ps (λ i. wide (suc i)))
 few_of_all n (Some p ∷ ps) wide =
-    omega (arith, few_of_list n (keys_of p), wide 0 p refl, few_of_all n ps (λ i. wide (suc i)))
+    let few = sum-le-length (names_it n) (keys_of p) (λ k. at_most_one (nat_eq k.serial n)) in
+    omega (arith, few, wide 0 p refl, few_of_all n ps (λ i. wide (suc i)))
 
 few_held : (n : ℕ) (ks : List Key) → held (names_it n) ks ≤ length ks
 few_held n [] = omega arith
-few_held n (k ∷ ks) = omega (arith, one_at_most (nat_eq k.serial n), few_held n ks)
+few_held n (k ∷ ks) = omega (arith, at_most_one (nat_eq k.serial n), few_held n ks)
 
-module _ (K : List Key) (ps : ProcessRows) (ds : DescriptionRows) (pipes : PipeRows)
+module _ {K : List Key} {ps : ProcessRows} {ds : DescriptionRows} {pipes : PipeRows}
     (t : TiedWith K [] ps ds pipes) where
   pub few_names : (n : ℕ) (e : ℕ × Named Description) → at ds n ≡ Some e → e.1.names ≤ 65792 + length K
   few_names n e stands =
@@ -69,29 +60,22 @@ module _ (ds : DescriptionRows) (k : Key) (e : Named Description) (stands : at d
 
   pub recounted_shown : (m : ℕ) → descriptions_of (put_at ds k.serial (k.slot, record e { names = m }))
       ≡ descriptions_of ds
-  recounted_shown m =
-      map-set (option_map description_of) ds k.serial (Some (k.slot, record e { names = m }))
-      ∙ set_same (descriptions_of ds) k.serial (Some (description_of (k.slot, e)))
-      (sym (shown description_of ds k.serial (k.slot, e) stands))
+  recounted_shown m = shown_same description_of ds k.serial (k.slot, e) (k.slot, record e { names = m }) stands refl
 
   pub names_are : names_of (find ds k.slot k.serial) ≡ e.names
   names_are = ap names_of (find_at ds k.slot k.serial e stands)
 
-module _ (K : List Key) (E : List Description) (ps : ProcessRows) (ds : DescriptionRows) (pipes : PipeRows) where
+module _ {K : List Key} {E : List Description} {ps : ProcessRows} {ds : DescriptionRows} {pipes : PipeRows} where
   module _ (k : Key) (d : Named Description) (stands : at ds k.serial ≡ Some (k.slot, d)) where
     -- one name more, of a key in the hand
     pub named_again : TiedWith K E ps ds pipes → TiedWith (k ∷ K) E ps
         (put_at ds k.serial (k.slot, record d { names = d.names + 1 })) pipes
     named_again t =
-        redescribed K E ps ds pipes t k.serial (k.slot, d) stands (Some (
-          k.slot,
-          record d {
-            names = d.names + 1;
-          },
-        )) (k ∷ K) E
-        (place_and_end K E ps ds pipes k d stands t (d.names + 1)) (found ds k d stands, t.in_hand)
+        let more = record d { names = d.names + 1 } in
+        redescribed t k.serial (k.slot, d) stands (Some (k.slot, more)) (k ∷ K) E
+        (place_and_end k d stands t (d.names + 1)) (found ds k d stands, t.in_hand)
         (λ n ne. omega (arith, names_none n k (λ e. ne (sym e))))
-        (let r = names_row K E ps ds pipes k d stands t in let one = names_one k in
+        (let r = names_row k d stands t in let one = names_one k in
         (omega (arith, r.0, one), omega (arith, r.1))) t.ends_in_hand (λ n. refl) (λ n. refl)
 
 -- The call
@@ -110,7 +94,7 @@ module _ {charges : UserPages} {limits : Limits} {ps : ProcessRows} {ds : Descri
   -- its description has fewer names than can be counted
   pub has_few : names_of (find ds k.slot k.serial) < 2 ^ 32 - 1
   has_few =
-      let few = few_names [] ps ds pipes kept.tied k.serial (k.slot, row.0) row.1 in
+      let few = few_names kept.tied k.serial (k.slot, row.0) row.1 in
       omega (arith, few, names_are ds k row.0 row.1)
 
   abbrev s : State Window ℕ
@@ -146,9 +130,8 @@ module _ {charges : UserPages} {limits : Limits} {ps : ProcessRows} {ds : Descri
 
     now_tied : Tied (put_at ps (pid - 1) p') ds' pipes
     now_tied =
-        put [] [] ps ds' pipes (pid - 1) to p (place_is ps pid p caller) to_in k
-        (ap (at p.descriptors) lowest ∙ at-first_free p.descriptors)
-        (named_again [] [] ps ds pipes k row.0 row.1 kept.tied)
+        put (pid - 1) to p (place_is ps pid p caller) to_in k
+        (ap (at p.descriptors) lowest ∙ at-first_free p.descriptors) (named_again k row.0 row.1 kept.tied)
 
     now_shown : state_of (put_at ps (pid - 1) p') ds' pipes files files_made
         ≡ with_process s pid (with_descriptor to k.serial (process_of p))
@@ -175,9 +158,7 @@ module _ {charges : UserPages} {limits : Limits} {ps : ProcessRows} {ds : Descri
       counted_is = counted ∙ named_row ds k row.0 row.1
 
       tied : Tied qs es pipes
-      tied =
-          subst (λ x. Tied x es pipes) (sym given_is)
-          (subst (λ y. Tied (put_at ps (pid - 1) p') y pipes) (sym counted_is) now_tied)
+      tied = rw (given_is, counted_is) now_tied
 
       pub duped-kept : Kept charges qs es pipes
       duped-kept = record { tied = tied; charged = kept.charged }

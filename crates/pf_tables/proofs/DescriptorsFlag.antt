@@ -1,26 +1,17 @@
 -- A description gets O_NONBLOCK or loses it, in the meaning of the state that it leaves.
 
 use Rattle.std.proofs.Common.{◌≡◌, ℕ, Bool, [], set, Option, Some, Result, Ok, refl, sym, ap, subst, ◌∙◌}
-use Rattle.std.specs.Option.{option_map}
-use Rattle.std.proofs.lemmas.List.{map-set}
-use Rattle.pf_machine.specs.FileMap.{Files}
-use Rattle.pf_base.specs.Limits.{Limits}
-use Rattle.pf_machine.specs.Numbered.{at, put_at, change_at}
+use Rattle.pf_tables.proofs.TablesShown.{shown_change, find_at}
+use Rattle.pf_tables.proofs.Refusals.{same_some}
+use Rattle.pf_tables.proofs.Common.{option_map, Files, Limits, at, put_at, change_at, itself, State, Outcome, of_ready}
+use Rattle.pf_tables.proofs.Common.{done, Errno, Num, find, UserPages, Window, Namespace, ProcessRows, DescriptionRows}
+use Rattle.pf_tables.proofs.Common.{PipeRows, Key, Named, Description, description_of, descriptions_of, state_of}
+use Rattle.pf_tables.proofs.Common.{TiedWith, Kept, Makes}
 use Rattle.pf_machine.specs.Descriptors.{with_nonblocking, with_flag, set_nonblock}
-use Rattle.pf_machine.specs.State.{itself, State, Outcome, of_ready, done}
-use Rattle.pf_base.specs.declared.errno.Errno.{Errno}
-use Rattle.pf_base.specs.declared.step.Reply.TheVariants.{Num}
 use Rattle.pf_fds.specs.Descriptions.{revalued}
-use Rattle.pf_fds.specs.Registry.{find}
-use Rattle.pf_limits.specs.UserPages.{UserPages}
-use Rattle.pf_ring.specs.declared.ring.Window.{Window}
-use Rattle.pf_tables.specs.Meaning.{Namespace}
-use Rattle.pf_tables.specs.Rows.{ProcessRows, DescriptionRows, PipeRows, Key, Named, Description, description_of}
-use Rattle.pf_tables.specs.Rows.{descriptions_of, state_of, IsEnd, TiedWith, Kept}
-use Rattle.pf_tables.specs.Tables.{Makes}
+use Rattle.pf_tables.specs.Rows.{IsEnd}
 use Rattle.pf_tables.proofs.TablesTied.{redescribed, names_row}
 use Rattle.pf_tables.proofs.DescriptorsNamed.{Has, key_row, named_is}
-use Rattle.pf_tables.proofs.TablesShown.{shown, find_at}
 use Rattle.pf_tables.proofs.TablesSettled.{makes}
 
 -- the same end with the flag, or without
@@ -37,9 +28,8 @@ module _ {charges : UserPages} {limits : Limits} {ps : ProcessRows} {ds : Descri
 
   same : row.0.value ≡ d
   same =
-      let one : ◌≡◌ {A = Option Description} (Some row.0.value) (Some d) =
-      sym (ap (option_map (λ (e : Named Description). e.value)) (find_at ds k.slot k.serial row.0 row.1)) ∙ handed in
-      cc
+      same_some (sym (ap (option_map (λ (e : Named Description). e.value)) (find_at ds k.slot k.serial row.0 row.1))
+      ∙ handed)
 
   abbrev after : DescriptionRows
   after = change_at (revalued (flag on d)) ds k.serial
@@ -55,21 +45,20 @@ module _ {charges : UserPages} {limits : Limits} {ps : ProcessRows} {ds : Descri
   pub flagged-kept : Kept charges ps after pipes
   flagged-kept = record {
     tied = subst (λ x. TiedWith [] [] ps x pipes) (sym after_is)
-        (redescribed [] [] ps ds pipes kept.tied k.serial (k.slot, row.0) row.1 (Some row') [] []
-        (λ e h. let it : ◌≡◌ {A = ℕ × Named Description} row' e = cc in (
+        (redescribed kept.tied k.serial (k.slot, row.0) row.1 (Some row') [] []
+        (λ e h. let it = same_some h in (
           ap (λ (x : ℕ × Named Description). x.0) (sym it),
           subst (λ (x : ℕ × Named Description). IsEnd pipes x.1.value) it
               (kept.tied.is_end k.serial (k.slot, row.0) row.1),
         ))
-        tt (λ m ne. refl) (names_row [] [] ps ds pipes k row.0 row.1 kept.tied) tt (λ m. refl) (λ m. refl));
+        tt (λ m ne. refl) (names_row k row.0 row.1 kept.tied) tt (λ m. refl) (λ m. refl));
     charged = kept.charged;
   }
 
   flagged-shown : descriptions_of after ≡ change_at (with_nonblocking on) (descriptions_of ds) k.serial
   flagged-shown =
-      ap descriptions_of after_is ∙ map-set (option_map description_of) ds k.serial (Some row')
-      ∙ ap (λ o. set (descriptions_of ds) k.serial (option_map (with_nonblocking on) o))
-      (sym (shown description_of ds k.serial (k.slot, row.0) row.1))
+      ap descriptions_of after_is
+      ∙ shown_change description_of (with_nonblocking on) ds k.serial (k.slot, row.0) row' row.1 refl
 
   abbrev call : State Window ℕ → Result (Outcome Window ℕ) Errno
   call t = of_ready t pid (λ q. set_nonblock itself t q fd on)

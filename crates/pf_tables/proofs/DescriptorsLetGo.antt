@@ -2,83 +2,73 @@
 -- Each step of the code moves something into the hand or out of it.
 
 use Rattle.std.proofs.Common.{◌≡◌, ◌≢◌, ℕ, suc, ◌+◌, ◌-◌, ◌<◌, ◌≤◌, Bool, true, false, List, [], ◌∷◌, map, set, Option}
-use Rattle.std.proofs.Common.{Some}
-use Rattle.std.proofs.Common.{None, IsSome, is_some, IfSome, refl, sym, ap, subst, ◌∙◌, arith, if◌then◌else◌}
-use Rattle.std.specs.Option.{option_map, option_and_then}
+use Rattle.std.proofs.Common.{Some, None, IsSome, is_some, IfSome, refl, sym, ap, subst, ◌∙◌, arith, if◌then◌else◌}
 use Rattle.std.proofs.lemmas.Bool.{ltb-true, ltb-false}
 use Rattle.std.proofs.lemmas.List.{map-set}
-use Rattle.pf_machine.specs.State.{itself}
-use Rattle.pf_machine.specs.FileMap.{Files}
-use Rattle.pf_machine.specs.Numbered.{at, put_at, clear_at, change_at, one_if}
+use Rattle.pf_tables.proofs.Refusals.{same_some}
+use Rattle.pf_tables.proofs.TablesShown.{shown_same, shown, find_at, set_same}
+use Rattle.pf_tables.proofs.Common.{Limits, Namespace, option_map, option_and_then, itself, Files, at, put_at, clear_at}
+use Rattle.pf_tables.proofs.Common.{change_at, one_if, sweep, MAX_DESCRIPTORS, find, names_of, ProcessRows}
+use Rattle.pf_tables.proofs.Common.{DescriptionRows, PipeRows, Key, Named, Process, Description, Pipe, process_of}
+use Rattle.pf_tables.proofs.Common.{description_of, pipe_of, processes_of, descriptions_of, pipes_of, state_of}
+use Rattle.pf_tables.proofs.Common.{reads_it, writes_it, held, TiedWith, Tied, descriptor, LetsGo}
 use Rattle.pf_machine.proofs.NumberedLaws.{at-map, at_within}
 use Rattle.pf_machine.specs.State as machine
 use Rattle.pf_machine.specs.Descriptors.{without_descriptor}
-use Rattle.pf_machine.specs.Sweep.{sweep}
 use Rattle.pf_machine.proofs.SweepLaws.{with_processes}
-use Rattle.pf_base.specs.declared.TheConstants.{MAX_DESCRIPTORS}
-use Rattle.pf_fds.specs.Registry.{find}
-use Rattle.pf_fds.specs.Descriptions.{names_of, one_less}
-use Rattle.pf_tables.specs.Rows.{ProcessRows, DescriptionRows, PipeRows, Key, Named, Process, Description, Pipe}
-use Rattle.pf_tables.specs.Rows.{call_of, key_at, without_key, with_fewer, is_used, left, gone, process_of}
-use Rattle.pf_tables.specs.Rows.{description_of, pipe_of, processes_of, descriptions_of, pipes_of, state_of, reads_it}
-use Rattle.pf_tables.specs.Rows.{writes_it, held, holding, TiedWith, Tied}
-use Rattle.pf_tables.specs.Tables.{descriptor, Left, LetsGo}
+use Rattle.pf_fds.specs.Descriptions.{one_less}
+use Rattle.pf_tables.specs.Rows.{call_of, key_at, without_key, with_fewer, is_used, left, gone, holding}
+use Rattle.pf_tables.specs.Tables.{Left}
 use Rattle.pf_tables.proofs.TablesTied.{finds, miss, names_one, names_none, sides, once, moved, redescribed, repiped}
-use Rattle.pf_tables.proofs.TablesTied.{place_and_end, names_row, pipe_row, same_place}
-use Rattle.pf_tables.proofs.TablesShown.{shown, find_at, set_same}
+use Rattle.pf_tables.proofs.TablesTied.{place_and_end, names_row, pipe_row, in_place}
 use Rattle.pf_tables.proofs.TablesSettled.{Within, within_row, within_same, changed-swept}
 
 -- What goes keeps the counters tied
 
-module _ (K : List Key) (E : List Description) (ps : ProcessRows) (ds : DescriptionRows) (pipes : PipeRows) where
+module _ {K : List Key} {E : List Description} {ps : ProcessRows} {ds : DescriptionRows} {pipes : PipeRows} where
   module _ (k : Key) (d : Named Description) (stands : at ds k.serial ≡ Some (k.slot, d)) where
     -- one name less: others are left
     unnamed : TiedWith (k ∷ K) E ps ds pipes → d.names ≢ 1
         → TiedWith K E ps (put_at ds k.serial (k.slot, record d { names = d.names - 1 })) pipes
     unnamed t more =
-        redescribed (k ∷ K) E ps ds pipes t k.serial (k.slot, d) stands (Some (
-          k.slot,
-          record d {
-            names = d.names - 1;
-          },
-        )) K E
-        (place_and_end K E ps ds pipes k d stands t (d.names - 1)) t.in_hand.1
-        (λ n ne. omega (arith, names_none n k (λ e. ne (sym e))))
-        (let r = names_row K E ps ds pipes k d stands t in let one = names_one k in
+        let fewer = record d { names = d.names - 1 } in
+        redescribed t k.serial (k.slot, d) stands (Some (k.slot, fewer)) K E
+        (place_and_end k d stands t (d.names - 1)) t.in_hand.1 (λ n ne. omega (arith, names_none n k (λ e. ne (sym e))))
+        (let r = names_row k d stands t in let one = names_one k in
         (omega (arith, r.0, one, more), omega (arith, r.0, one, more))) t.ends_in_hand (λ n. refl) (λ n. refl)
 
     -- the last name: the description comes into the hand
     unnamed_last : TiedWith (k ∷ K) E ps ds pipes → d.names ≡ 1
         → TiedWith K (d.value ∷ E) ps (clear_at ds k.serial) pipes
     unnamed_last t last =
-        redescribed (k ∷ K) E ps ds pipes t k.serial (k.slot, d) stands None K (d.value ∷ E)
+        redescribed t k.serial (k.slot, d) stands None K (d.value ∷ E)
         (λ e h. absurd (cc)) t.in_hand.1 (λ n ne. omega (arith, names_none n k (λ e. ne (sym e))))
-        (let r = names_row K E ps ds pipes k d stands t in let one = names_one k in omega (arith, r.0, one, last))
+        (let r = names_row k d stands t in let one = names_one k in omega (arith, r.0, one, last))
         (t.is_end k.serial (k.slot, d) stands, t.ends_in_hand) (λ n. omega arith) (λ n. omega arith)
 
   -- an end less, and the pipe goes with its last
   module _ (d : Description) (p : Pipe) (stands : at pipes d.pipe.serial ≡ Some (d.pipe.slot, p)) where
-    others : (n : ℕ) → n ≢ d.pipe.serial → (held (reads_it n) (d ∷ E) ≡ held (reads_it n) E)
-        × (held (writes_it n) (d ∷ E) ≡ held (writes_it n) E)
-    others n ne =
-        let other : d.pipe.serial ≢ n = λ e. ne (sym e) in
-        (omega (arith, miss d.pipe.serial n d.reads other), omega (arith, miss d.pipe.serial n d.writes other))
-
     -- its sides are among those that the pipe counts
     enough : TiedWith K (d ∷ E) ps ds pipes → (one_if d.reads ≤ p.readers) × (one_if d.writes ≤ p.writers)
     enough t =
-        let c = pipe_row K E ps ds pipes d.pipe p stands t in
+        let c = pipe_row d.pipe p stands t in
         (omega (arith, c.0, (sides d).0), omega (arith, c.1, (sides d).1))
 
     end_gone : TiedWith K (d ∷ E) ps ds pipes → TiedWith K E ps ds (set pipes d.pipe.serial (left d p))
     end_gone t = by_used (is_used (with_fewer d p)) refl
       where
+        others : (n : ℕ) → n ≢ d.pipe.serial → (held (reads_it n) (d ∷ E) ≡ held (reads_it n) E)
+            × (held (writes_it n) (d ∷ E) ≡ held (writes_it n) E)
+        others n ne =
+            let other : d.pipe.serial ≢ n = λ e. ne (sym e) in
+            (omega (arith, miss d.pipe.serial n d.reads other), omega (arith, miss d.pipe.serial n d.writes other))
+
         by_used : (b : Bool) → is_used (with_fewer d p) ≡ b
             → TiedWith K E ps ds (set pipes d.pipe.serial (if b then Some (d.pipe.slot, with_fewer d p) else None))
         by_used true u =
-            repiped K (d ∷ E) ps ds pipes t d.pipe.serial (d.pipe.slot, p) stands (Some (d.pipe.slot, with_fewer d p)) E
-            (same_place K E ps ds pipes d.pipe p stands (with_fewer d p)) t.ends_in_hand.1 others
-            (let c = pipe_row K E ps ds pipes d.pipe p stands t in let l = ltb-true 0
+            repiped t d.pipe.serial (d.pipe.slot, p) stands (Some (d.pipe.slot, with_fewer d p)) E
+            (λ e h. in_place h) t.ends_in_hand.1 others
+            (let c = pipe_row d.pipe p stands t in let l = ltb-true 0
             ((p.readers - one_if d.reads) + (p.writers - one_if d.writes)) u in (
               omega (arith, c.0, (sides d).0),
               omega (arith, c.1, (sides d).1),
@@ -86,9 +76,8 @@ module _ (K : List Key) (E : List Description) (ps : ProcessRows) (ds : Descript
                   (arith, l, c.0, c.1, (sides d).0, (sides d).1),
             ))
         by_used false u =
-            repiped K (d ∷ E) ps ds pipes t d.pipe.serial (d.pipe.slot, p) stands None E (λ e h. absurd (cc))
-            t.ends_in_hand.1 others
-            (let c = pipe_row K E ps ds pipes d.pipe p stands t in let l = ltb-false 0
+            repiped t d.pipe.serial (d.pipe.slot, p) stands None E (λ e h. absurd (cc)) t.ends_in_hand.1 others
+            (let c = pipe_row d.pipe p stands t in let l = ltb-false 0
             ((p.readers - one_if d.reads) + (p.writers - one_if d.writes)) u in (
               omega (arith, l, c.0, c.1, (sides d).0, (sides d).1),
               omega
@@ -101,7 +90,7 @@ module _ (K : List Key) (E : List Description) (ps : ProcessRows) (ds : Descript
         → TiedWith (k ∷ K) E (put_at ps i (record p { descriptors = clear_at p.descriptors fd })) ds pipes
     taken k e t =
         subst (λ o. TiedWith (holding o K) E (put_at ps i (record p { descriptors = clear_at p.descriptors fd })) ds
-        pipes) e (moved K E ps ds pipes i (suc fd) p (record p { descriptors = clear_at p.descriptors fd }) stands
+        pipes) e (moved K i (suc fd) p (record p { descriptors = clear_at p.descriptors fd }) stands
         (omega arith) None refl t)
 
 -- what the tables show of a descriptor
@@ -117,11 +106,13 @@ descriptor_shown ps ds pipes files files_made i fd =
     by_place (Some p) = at-map (λ (k : Key). k.serial) p.descriptors fd
 
 -- there is one where there is a key
-pub open_shown : (ps : ProcessRows) (ds : DescriptionRows) (pipes : PipeRows) (files : Files) (files_made : ℕ)
-    (i fd : ℕ)
-    → is_some (key_at fd (at ps i)) ≡ is_some (descriptor (state_of ps ds pipes files files_made) i fd)
-open_shown ps ds pipes files files_made i fd =
+pub open_shown : (ps : ProcessRows) (ds : DescriptionRows) (pipes : PipeRows) {files : Files} {files_made : ℕ}
+    {limits : Limits} {n : Namespace}
+    → record { limits = limits; state = state_of ps ds pipes files files_made } ≡ n → (i fd : ℕ)
+    → is_some (key_at fd (at ps i)) ≡ is_some (descriptor n.state i fd)
+open_shown ps ds pipes {files} {files_made} view i fd =
     by_key (key_at fd (at ps i)) ∙ sym (ap is_some (descriptor_shown ps ds pipes files files_made i fd))
+    ∙ ap (λ (m : Namespace). is_some (descriptor m.state i fd)) view
   where
     by_key : (o : Option Key) → is_some o ≡ is_some (option_map (λ (k : Key). k.serial) o)
     by_key None = refl
@@ -174,8 +165,7 @@ module _ (ps : ProcessRows) (ds : DescriptionRows) (pipes : PipeRows) (t : Tied 
         by_place : (o : Option Process) → at ps i ≡ o → key_at fd o ≡ Some key
             → TiedWith (key ∷ []) [] (set ps i (without_key fd o)) ds pipes
         by_place None h g = absurd (cc)
-        by_place (Some p) h g =
-            taken [] [] ps ds pipes i fd p h (omega (arith, at_within p.descriptors fd key g, t.wide i p h)) key g t
+        by_place (Some p) h g = taken i fd p h (omega (arith, at_within p.descriptors fd key g, t.wide i p h)) key g t
 
     row : (d : Named Description) × (at ds key.serial ≡ Some (key.slot, d))
     row = finds ds key key_held.in_hand.0
@@ -184,33 +174,27 @@ module _ (ps : ProcessRows) (ds : DescriptionRows) (pipes : PipeRows) (t : Tied 
     row_found = find_at ds key.slot key.serial row.0 row.1
 
     pub has_names : 0 < names_of (find ds key.slot key.serial)
-    has_names = let r = names_row [] [] ps' ds pipes key row.0 row.1 key_held in rw row_found (omega (arith, r.0, r.1))
+    has_names = let r = names_row key row.0 row.1 key_held in rw row_found (omega (arith, r.0, r.1))
 
     -- others name the description
     pub still_named : (ds' : DescriptionRows) → 1 < names_of (find ds key.slot key.serial)
         → ds' ≡ change_at one_less ds key.serial → Left ps ds pipes ps' ds' pipes i fd
     still_named ds' more less =
-        let at_row : ds' ≡ put_at ds key.serial (
-          key.slot,
-          record row.0 {
-            names = row.0.names - 1;
-          },
-        ) = less ∙ ap (λ (o : Option (ℕ × Named Description)). set ds key.serial
-        (option_map one_less o)) row.1 in
+        let fewer = record row.0 { names = row.0.names - 1 } in
+        let at_row : ds' ≡ put_at ds key.serial (key.slot, fewer) =
+        less ∙ ap (λ (o : Option (ℕ × Named Description)). set ds key.serial (option_map one_less o)) row.1 in
         let several : 1 < row.0.names = subst (λ (o : Option (Named Description)). 1 < names_of o) row_found more in
         subst (λ x. Left ps ds pipes ps' x pipes i fd) (sym at_row)
-        (leaves _ pipes (unnamed [] [] ps' ds pipes key row.0 row.1 key_held (λ one. omega (arith, one, several)))
+        (leaves _ pipes (unnamed key row.0 row.1 key_held (λ one. omega (arith, one, several)))
         (within_row description_of ds key.serial (key.slot, row.0) _ row.1
-        (λ z h. let it : ◌≡◌ {A = ℕ × Named Description} (key.slot, record row.0 { names = row.0.names - 1 }) z = cc in
-        ap description_of (sym it))) (within_same (pipes_of pipes)))
+        (λ z h. ap description_of (sym (same_some h)))) (within_same (pipes_of pipes)))
 
     -- it was the last name: the description is in the hand
     module _ (d : Description) (last : at ds key.serial ≡ Some (key.slot, once d)) (ds' : DescriptionRows)
         (cleared : ds' ≡ clear_at ds key.serial) where
       end_held : TiedWith [] (d ∷ []) ps' ds' pipes
       end_held =
-          subst (λ x. TiedWith [] (d ∷ []) ps' x pipes) (sym cleared)
-          (unnamed_last [] [] ps' ds pipes key (once d) last key_held refl)
+          subst (λ x. TiedWith [] (d ∷ []) ps' x pipes) (sym cleared) (unnamed_last key (once d) last key_held refl)
 
       pipe : (p : Pipe) × (at pipes d.pipe.serial ≡ Some (d.pipe.slot, p))
       pipe = finds pipes d.pipe end_held.ends_in_hand.0.0
@@ -223,7 +207,7 @@ module _ (ps : ProcessRows) (ds : DescriptionRows) (pipes : PipeRows) (t : Tied 
 
       pub pipe_counts : IfSome (find pipes d.pipe.slot d.pipe.serial)
           (λ p. (one_if d.reads ≤ p.readers) × (one_if d.writes ≤ p.writers))
-      pipe_counts = rw pipe_found (enough [] [] ps' ds' pipes d pipe.0 pipe.1 end_held)
+      pipe_counts = rw pipe_found (enough d pipe.0 pipe.1 end_held)
 
       module _ (pipes' : PipeRows) (items : IfSome (find pipes d.pipe.slot d.pipe.serial)
           (λ p. pipes' ≡ set pipes d.pipe.serial (left d p))) where
@@ -233,7 +217,7 @@ module _ (ps : ProcessRows) (ds : DescriptionRows) (pipes : PipeRows) (t : Tied 
         pub ended : Left ps ds pipes ps' ds' pipes' i fd
         ended =
             leaves ds' pipes' (subst (λ x. Tied ps' ds' x) (sym items_are)
-            (end_gone [] [] ps' ds' pipes d pipe.0 pipe.1 end_held))
+            (end_gone d pipe.0 pipe.1 end_held))
             (subst (λ x. Within (descriptions_of x) (descriptions_of ds)) (sym cleared)
             (within_row description_of ds key.serial (key.slot, once d) None last (λ z h. absurd (cc))))
             (subst (λ x. Within (pipes_of x) (pipes_of pipes)) (sym items_are)
@@ -242,7 +226,7 @@ module _ (ps : ProcessRows) (ds : DescriptionRows) (pipes : PipeRows) (t : Tied 
           where
             same : (b : Bool) (z : ℕ × Pipe) → (if b then Some (d.pipe.slot, with_fewer d pipe.0) else None) ≡ Some z
                 → pipe_of z ≡ pipe_of (d.pipe.slot, pipe.0)
-            same true z h = let it : ◌≡◌ {A = ℕ × Pipe} (d.pipe.slot, with_fewer d pipe.0) z = cc in ap pipe_of (sym it)
+            same true z h = ap pipe_of (sym (same_some h))
             same false z h = absurd (cc)
 
         -- the pipe goes where nobody uses it any more, with whatever is shown of it but its counts
@@ -266,9 +250,8 @@ module _ (ps : ProcessRows) (ds : DescriptionRows) (pipes : PipeRows) (t : Tied 
                 (if b then None else Some (with_fewer d pipe.0))
             by_use true u =
                 ap (map (option_map show)) (set_to true u)
-                ∙ map-set (option_map show) pipes d.pipe.serial (Some (d.pipe.slot, with_fewer d pipe.0))
-                ∙ set_same (map (option_map show) pipes) d.pipe.serial (Some (show (d.pipe.slot, with_fewer d pipe.0)))
-                (ap Some (same d.pipe.slot pipe.0) ∙ sym (shown show pipes d.pipe.serial (d.pipe.slot, pipe.0) pipe.1))
+                ∙ shown_same show pipes d.pipe.serial (d.pipe.slot, pipe.0) (d.pipe.slot, with_fewer d pipe.0) pipe.1
+                (same d.pipe.slot pipe.0)
             by_use false u = (
               d.pipe.serial,
               d.pipe.slot,

@@ -1,18 +1,13 @@
 -- The description that a descriptor names, as the tables find it and as the machine does.
 
-use Rattle.std.proofs.Common.{◌≡◌, ℕ, suc, ◌-◌, Option, Some, None, IsSome, is_some, Result, Ok, Err, refl, sym, ap}
-use Rattle.std.proofs.Common.{◌∙◌}
-use Rattle.std.specs.Option.{option_map}
-use Rattle.pf_machine.specs.Refusals.{◌>>=◌, or_refuse}
-use Rattle.pf_machine.specs.Numbered.{at}
+use Rattle.std.proofs.Common.{◌≡◌, ℕ, suc, ◌-◌, Option, Some, None, IsSome, is_some, Result, Ok, Err, sym, ap, ◌∙◌}
+use Rattle.pf_tables.proofs.Refusals.{both_came, is_there, same_ok}
+use Rattle.pf_tables.proofs.Common.{option_map, ◌>>=◌, or_refuse, at, Errno, EBADF, find, ProcessRows, DescriptionRows}
+use Rattle.pf_tables.proofs.Common.{PipeRows, Key, Named, Process, Description, process_of, processes_of, ready_in}
+use Rattle.pf_tables.proofs.Common.{key_in, Tied}
 use Rattle.pf_machine.proofs.NumberedLaws.{at-map}
 use Rattle.pf_machine.specs.State as machine
 use Rattle.pf_machine.specs.Descriptors.{named}
-use Rattle.pf_base.specs.declared.errno.Errno.{Errno}
-use Rattle.pf_base.specs.declared.errno.Errno.TheVariants.{EBADF}
-use Rattle.pf_fds.specs.Registry.{find}
-use Rattle.pf_tables.specs.Rows.{ProcessRows, DescriptionRows, PipeRows, Key, Named, Process, Description, process_of}
-use Rattle.pf_tables.specs.Rows.{processes_of, ready_in, key_in, Tied}
 use Rattle.pf_tables.proofs.ProcessTableReady.{shown_in, ready_shown, readies, place_is}
 use Rattle.pf_tables.proofs.TablesTied.{finds}
 use Rattle.pf_tables.proofs.TablesShown.{find_at}
@@ -24,16 +19,9 @@ pub record Has (ps : ProcessRows) (pid fd : ℕ) (k : Key) : Type 0 where
   pub names : at p.descriptors fd ≡ Some k
 
 pub has : (ps : ProcessRows) (pid fd : ℕ) {k : Key} → key_in ps pid fd ≡ Ok k → Has ps pid fd k
-has ps pid fd {k} is = by_row (ready_in ps pid) refl is
-  where
-    some : (o : Option Key) → or_refuse EBADF o ≡ Ok k → o ≡ Some k
-    some None h = absurd (cc)
-    some (Some j) h = cc
-
-    by_row : (r : Result Process Errno) → ready_in ps pid ≡ r
-        → (r >>= (λ p. or_refuse EBADF (at p.descriptors fd))) ≡ Ok k → Has ps pid fd k
-    by_row (Err e) c h = absurd (cc)
-    by_row (Ok p) c h = record { p = p; caller = c; names = some (at p.descriptors fd) h }
+has ps pid fd is =
+    let w = both_came (ready_in ps pid) (λ (p : Process). or_refuse EBADF (at p.descriptors fd)) is in
+    record { p = w.0; caller = w.1; names = is_there EBADF (at w.0.descriptors fd) w.2 }
 
 -- a call that goes on with who has the descriptor and what it names
 module _ {A : Type 0} (go : machine.Process ℕ → ℕ → Result A Errno) (fd : ℕ) where
@@ -47,11 +35,9 @@ module _ {A : Type 0} (go : machine.Process ℕ → ℕ → Result A Errno) (fd 
 -- the same where it is known who calls
 pub has_key : (ps : ProcessRows) (pid fd : ℕ) {p : Process} {k : Key} → ready_in ps pid ≡ Ok p → key_in ps pid fd ≡ Ok k
     → at p.descriptors fd ≡ Some k
-has_key ps pid fd {p} {k} caller is =
+has_key ps pid fd caller is =
     let w = has ps pid fd is in
-    let one : ◌≡◌ {A = Result Process Errno} (Ok p) (Ok w.p) = sym caller ∙ w.caller in
-    let same : p ≡ w.p = cc in
-    ap (λ (q : Process). at q.descriptors fd) same ∙ w.names
+    ap (λ (q : Process). at q.descriptors fd) (same_ok (sym caller ∙ w.caller)) ∙ w.names
 
 abbrev pub has_by : (ps : ProcessRows) (pid fd : ℕ) {p : Process} {k : Key} → ready_in ps pid ≡ Ok p
     → key_in ps pid fd ≡ Ok k → Has ps pid fd k

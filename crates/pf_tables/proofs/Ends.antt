@@ -1,29 +1,22 @@
 -- The end of a pipe that a descriptor names, as the tables find it and as the machine does.
 
-use Rattle.std.proofs.Common.{◌≡◌, ℕ, suc, List, [], ◌∷◌, map, ◌+◌, ◌-◌, Bool, true, false, not, Option, Some, None}
-use Rattle.std.proofs.Common.{IsSome, is_some, IsOk, is_ok, Result, Ok, Err, refl, sym, ap, subst, ◌∙◌, arith}
-use Rattle.std.specs.Option.{option_map, option_and_then}
-use Rattle.pf_machine.specs.FileMap.{Files}
-use Rattle.pf_machine.specs.Refusals.{◌>>=◌, ◌>>◌, refuse_if, or_refuse}
-use Rattle.pf_machine.specs.Numbered.{at}
+use Rattle.std.proofs.Common.{◌≡◌, ℕ, suc, List, map, ◌+◌, ◌-◌, Bool, true, false, not, Option, Some, None, IsSome}
+use Rattle.std.proofs.Common.{is_some, Result, Ok, Err, refl, sym, ap, subst, ◌∙◌, arith}
+use Rattle.pf_tables.proofs.TablesShown.{each-same, shown, find_at, find_was}
+use Rattle.pf_tables.proofs.Refusals.{same_some}
+use Rattle.pf_tables.proofs.Common.{option_map, option_and_then, Files, ◌>>=◌, ◌>>◌, refuse_if, or_refuse, at, itself}
+use Rattle.pf_tables.proofs.Common.{State, End, ready, end_at, reading_end, writing_end, readers, writers, Errno, EBADF}
+use Rattle.pf_tables.proofs.Common.{Side, value_of, find, Open, Window, ProcessRows, DescriptionRows, PipeRows, Key}
+use Rattle.pf_tables.proofs.Common.{Named, Process, Description, Pipe, process_of, description_of, pipe_of}
+use Rattle.pf_tables.proofs.Common.{processes_of, descriptions_of, pipes_of, state_of, made_by, ready_in, end_in}
+use Rattle.pf_tables.proofs.Common.{read_by, written_by, UsedRow, Tied}
 use Rattle.pf_machine.proofs.NumberedLaws.{at-map}
 use Rattle.pf_machine.specs.State as machine
-use Rattle.pf_machine.specs.State.{itself, State, End, ready, end_at, end_of, reading_end, writing_end}
-use Rattle.pf_machine.specs.Counts.{readers, writers}
-use Rattle.pf_base.specs.declared.errno.Errno.{Errno}
-use Rattle.pf_base.specs.declared.errno.Errno.TheVariants.{EBADF}
-use Rattle.pf_base.specs.declared.progress.Side.{Side}
+use Rattle.pf_machine.specs.State.{end_of}
 use Rattle.pf_base.specs.declared.progress.Side.TheVariants as sides
-use Rattle.pf_fds.specs.Descriptions.{value_of}
-use Rattle.pf_fds.specs.Registry.{find}
-use Rattle.pf_parked.specs.declared.call.Call.TheVariants.{Open}
-use Rattle.pf_ring.specs.declared.ring.Window.{Window}
-use Rattle.pf_tables.specs.Rows.{ProcessRows, DescriptionRows, PipeRows, Key, Named, Process, Description, Pipe}
-use Rattle.pf_tables.specs.Rows.{process_of, description_of, pipe_of, processes_of, descriptions_of, pipes_of, state_of}
-use Rattle.pf_tables.specs.Rows.{made_by, ready_in, has, description_in, end_in, read_by, written_by, UsedRow, Tied}
+use Rattle.pf_tables.specs.Rows.{has, description_in, end_of_row}
 use Rattle.pf_tables.proofs.ProcessTableReady.{shown_in, ready_shown, place_is}
 use Rattle.pf_tables.proofs.TablesTied.{finds}
-use Rattle.pf_tables.proofs.TablesShown.{shown, find_at, find_was}
 use Rattle.pf_tables.proofs.TablesSettled.{readers_shown, writers_shown}
 
 -- the machine's end of a side, or any where none is asked for
@@ -54,13 +47,33 @@ state_seen f ps ds pipes files files_made = record {
 }
 
 -- what is known of an end that the tables found: its pipe, and that the machine finds the same
-pub record Found {X : Type 0} (f : Sight X) (side : Option Side) (ps : ProcessRows) (ds : DescriptionRows)
-    (pipes : PipeRows) (files : Files) (files_made : ℕ) (pid fd : ℕ) (d : Description) : Type 0 where
+pub record Found {X : Type 0} (f : Sight X) (pipes : PipeRows) (d : Description) (machine : Result (End X ℕ) Errno)
+    : Type 0 where
   pub pipe : Pipe
   pub stands : at pipes d.pipe.serial ≡ Some (d.pipe.slot, pipe)
-  pub is : (ready (state_seen f ps ds pipes files files_made) pid
-      >>= (λ p. side_end side (state_seen f ps ds pipes files files_made) p fd)) ≡ Ok (end_of_rows f d pipe)
-  pub caller : IsOk (ready_in ps pid)
+  pub is : machine ≡ Ok (end_of_rows f d pipe)
+
+-- the machine refuses what the tables refuse, and finds what they find
+pub record Agree {X : Type 0} (f : Sight X) (pipes : PipeRows) (tables : Result Description Errno)
+    (machine : Result (End X ℕ) Errno) : Type 0 where
+  pub refused : {e : Errno} → tables ≡ Err e → machine ≡ Err e
+  pub found : {d : Description} → tables ≡ Ok d → Found f pipes d machine
+
+module _ {X : Type 0} {f : Sight X} {pipes : PipeRows} {tables : Result Description Errno}
+    {machine : Result (End X ℕ) Errno} (a : Agree f pipes tables machine) {d : Description} (h : tables ≡ Ok d) where
+  -- its pipe stands
+  pub pipe_there : IsSome (find pipes d.pipe.slot d.pipe.serial)
+  pipe_there = let w = a.found h in ap is_some (find_at pipes d.pipe.slot d.pipe.serial w.pipe w.stands)
+
+  pub not_lost : find pipes d.pipe.slot d.pipe.serial ≡ None → ⊥
+  not_lost none = let there = pipe_there in let gone = ap is_some none in absurd (cc)
+
+  -- and is the one that is handed out
+  pub reaches : {r : Pipe} → find pipes d.pipe.slot d.pipe.serial ≡ Some r → machine ≡ Ok (end_of_rows f d r)
+  reaches handed =
+      let w = a.found h in
+      let same = same_some (sym (find_at pipes d.pipe.slot d.pipe.serial w.pipe w.stands) ∙ handed) in
+      w.is ∙ ap (λ (q : Pipe). Ok (end_of_rows f d q)) same
 
 module _ {X : Type 0} (f : Sight X) (side : Option Side) {ps : ProcessRows} {ds : DescriptionRows} {pipes : PipeRows}
     (files : Files) (files_made : ℕ) (t : Tied ps ds pipes) (pid fd : ℕ) where
@@ -113,23 +126,29 @@ module _ {X : Type 0} (f : Sight X) (side : Option Side) {ps : ProcessRows} {ds 
       ∙ ap (option_map f) (shown pipe_of pipes e.value.pipe.serial (e.value.pipe.slot, r) g))
 
   -- what the tables find and what the machine finds: one refusal, or the end that the rows show
-  abbrev pub Agrees : Result Description Errno → Result (End X ℕ) Errno → Type 0
+  abbrev Agrees : Result Description Errno → Result (End X ℕ) Errno → Type 0
   Agrees (Err e) machine = machine ≡ Err e
-  Agrees (Ok d) machine =
-      (r : Pipe) × (at pipes d.pipe.serial ≡ Some (d.pipe.slot, r)) × (machine ≡ Ok (end_of_rows f d r))
+  Agrees (Ok d) machine = Found f pipes d machine
 
-  abbrev pub if_sided : Description → Result Description Errno
+  agree : (r : Result Description Errno) (machine : Result (End X ℕ) Errno) → Agrees r machine
+      → Agree f pipes r machine
+  agree r machine a = record {
+    refused = λ h. subst (λ x. Agrees x machine) h a;
+    found = λ h. subst (λ x. Agrees x machine) h a;
+  }
+
+  abbrev if_sided : Description → Result Description Errno
   if_sided d = refuse_if (not (has side d)) EBADF >> Ok d
 
-  abbrev pub of_key : Option Key → Result Description Errno
+  abbrev of_key : Option Key → Result Description Errno
   of_key o = or_refuse EBADF o >>= (λ k. or_refuse EBADF (description_in ds k) >>= if_sided)
 
   by_sides : (b : Bool) (d : Description) (r : Pipe) → at pipes d.pipe.serial ≡ Some (d.pipe.slot, r)
       → Agrees (refuse_if (not b) EBADF >> Ok d) (sided b (end_of_rows f d r))
-  by_sides true d r h = (r, h, refl)
+  by_sides true d r h = record { pipe = r; stands = h; is = refl }
   by_sides false d r h = refl
 
-  pub by_key : (i : ℕ) (p : Process) → at ps i ≡ Some p → (o : Option Key) → at p.descriptors fd ≡ o
+  by_key : (i : ℕ) (p : Process) → at ps i ≡ Some p → (o : Option Key) → at p.descriptors fd ≡ o
       → Agrees (of_key o) (side_end side s (process_of p) fd)
   by_key i p h None g = no_side (process_of p) (shown_key p None g)
   by_key i p h (Some k) g =
@@ -147,48 +166,16 @@ module _ {X : Type 0} (f : Sight X) (side : Option Side) {ps : ProcessRows} {ds 
   by_caller (Err e) h = refl
   by_caller (Ok p) h = by_key (pid - 1) p (place_is ps pid p h) (at p.descriptors fd) refl
 
-  both_find : (r : Result Description Errno) → end_in side ps ds pid fd ≡ r
-      → Agrees r (ready s pid >>= (λ p. side_end side s p fd))
-  both_find r h =
-      subst (λ x. Agrees x (ready s pid >>= (λ p. side_end side s p fd))) h
-      (subst (λ x. Agrees (end_in side ps ds pid fd) (x >>= (λ p. side_end side s p fd))) (sym (ready_shown ps pid))
-      (by_caller (ready_in ps pid) refl))
+  -- an end of the process in a place
+  pub row_ends : (i : ℕ) (p : Process) → at ps i ≡ Some p
+      → Agree f pipes (end_of_row side p ds fd) (side_end side s (process_of p) fd)
+  row_ends i p h = agree _ _ (by_key i p h (at p.descriptors fd) refl)
 
-  -- The machine refuses what the tables refuse
-  pub refused : (err : Errno) → end_in side ps ds pid fd ≡ Err err
-      → (ready s pid >>= (λ p. side_end side s p fd)) ≡ Err err
-  refused err h = both_find (Err err) h
-
-  -- and finds what they find
-  pub found : (d : Description) → end_in side ps ds pid fd ≡ Ok d → Found f side ps ds pipes files files_made pid fd d
-  found d h =
-      let w = both_find (Ok d) h in record {
-        pipe = w.0;
-        stands = w.1;
-        is = w.2;
-        caller = by_row (ready_in ps pid) refl
-            h;
-      }
-    where
-      by_row : (r : Result Process Errno) → ready_in ps pid ≡ r → (r >>= (λ p. of_key (at p.descriptors fd))) ≡ Ok d
-          → IsOk (ready_in ps pid)
-      by_row (Err e) c g = absurd (cc)
-      by_row (Ok p) c g = ap is_ok c
-
-  module _ {d : Description} (h : end_in side ps ds pid fd ≡ Ok d) where
-    -- its pipe stands
-    pub pipe_there : IsSome (find pipes d.pipe.slot d.pipe.serial)
-    pipe_there = let w = found d h in ap is_some (find_at pipes d.pipe.slot d.pipe.serial w.pipe w.stands)
-
-    -- and is the one that is handed out
-    pub reaches : {r : Pipe} → find pipes d.pipe.slot d.pipe.serial ≡ Some r
-        → (ready s pid >>= (λ p. side_end side s p fd)) ≡ Ok (end_of_rows f d r)
-    reaches {r} handed =
-        let w = found d h in
-        let both : ◌≡◌ {A = Option Pipe} (Some w.pipe) (Some r) =
-        sym (find_at pipes d.pipe.slot d.pipe.serial w.pipe w.stands) ∙ handed in
-        let same : w.pipe ≡ r = cc in
-        w.is ∙ ap (λ (q : Pipe). Ok (end_of_rows f d q)) same
+  -- and of the one that has a pid and waits in no call
+  pub ends : Agree f pipes (end_in side ps ds pid fd) (ready s pid >>= (λ p. side_end side s p fd))
+  ends =
+      agree _ _ (subst (λ x. Agrees (end_in side ps ds pid fd) (x >>= (λ p. side_end side s p fd)))
+      (sym (ready_shown ps pid)) (by_caller (ready_in ps pid) refl))
 
   -- the counts of a pipe are the machine's
   pub counted : (n place : ℕ) (r : Pipe) → at pipes n ≡ Some (place, r)
@@ -231,19 +218,13 @@ module _ {X : Type 0} (f : Sight X) (side : Option Side) {ps : ProcessRows} {ds 
       pub open_reaches : {d : Description} → Some d ≡ option_map value_of (find ds j.slot j.serial)
           → None ≡ find pipes d.pipe.slot d.pipe.serial → ⊥
       open_reaches {d} is none =
-          let both : ◌≡◌ {A = Option Description} (Some row.0.value) (Some d) = sym row_found ∙ sym is in
-          let same : row.0.value ≡ d = cc in
+          let same : row.0.value ≡ d = same_some (sym row_found ∙ sym is) in
           let r = finds pipes row.0.value.pipe (t.is_end j.serial (j.slot, row.0) row.1).0 in
           let there = find_at pipes row.0.value.pipe.slot row.0.value.pipe.serial r.0 r.1 in
           let gone = ap (λ (x : Description). find pipes x.pipe.slot x.pipe.serial) same ∙ sym none in
           absurd (cc)
 
 -- Pipes with their rings are seen as they are
-
-as_it_is : {A : Type 0} (xs : List (Option A)) → map (option_map (λ x. x)) xs ≡ xs
-as_it_is [] = refl
-as_it_is (None ∷ xs) = ap (λ ys. None ∷ ys) (as_it_is xs)
-as_it_is (Some x ∷ xs) = ap (λ ys. Some x ∷ ys) (as_it_is xs)
 
 abbrev pub as_kept : Sight Window
 as_kept p = p
@@ -252,4 +233,12 @@ pub seen_as_kept : (ps : ProcessRows) (ds : DescriptionRows) (pipes : PipeRows) 
     → state_seen as_kept ps ds pipes files files_made ≡ state_of ps ds pipes files files_made
 seen_as_kept ps ds pipes files files_made =
     ap (λ (xs : List (Option (machine.Pipe Window))). record (state_of ps ds pipes files files_made) { pipes = xs })
-    (as_it_is (pipes_of pipes))
+    (each-same as_kept (λ p. refl) (pipes_of pipes))
+
+pub kept_ends : (side : Option Side) {ps : ProcessRows} {ds : DescriptionRows} {pipes : PipeRows} (files : Files)
+    (files_made : ℕ) → Tied ps ds pipes → (pid fd : ℕ)
+    → Agree as_kept pipes (end_in side ps ds pid fd) (ready (state_of ps ds pipes files files_made) pid
+    >>= (λ p. side_end side (state_of ps ds pipes files files_made) p fd))
+kept_ends side {ps} {ds} {pipes} files files_made t pid fd =
+    subst (λ s. Agree as_kept pipes (end_in side ps ds pid fd) (ready s pid >>= (λ p. side_end side s p fd)))
+    (seen_as_kept ps ds pipes files files_made) (ends as_kept side files files_made t pid fd)

@@ -1,14 +1,11 @@
 -- What a call on files leaves keeps their limits, whether it was made or not.
 
 use Rattle.std.proofs.Common.{ℕ, List, Result, Ok, Err, sym, subst}
-use Rattle.pf_base.specs.declared.cred.Cred.{Cred}
-use Rattle.pf_base.specs.declared.errno.Errno.{Errno}
-use Rattle.pf_base.specs.declared.fault.Fault.{Fault}
+use Rattle.pf_tables.proofs.Common.{Cred, Errno, Fault, Files}
 use Rattle.pf_base.specs.declared.fault.Fault.TheVariants as faults
 use Rattle.pf_base.specs.declared.meta.Kind.{Kind}
 use Rattle.pf_machine.specs.FileCalls as calls
 use Rattle.pf_machine.specs.FileLimits.{IsWithin}
-use Rattle.pf_machine.specs.FileMap.{Files}
 use Rattle.pf_machine.proofs.FileLimitLaws.{make-within, unlink-within, rmdir-within, chmod-within}
 use Rattle.pf_machine.proofs.HoldsLaws.{Holds}
 use Rattle.pf_walk.specs.Told.{Changed}

@@ -2,23 +2,15 @@
 -- calls.
 
 use Rattle.std.proofs.Common.{◌≡◌, ℕ, Result, Ok, Err, refl, sym, ap, subst, ◌∙◌}
-use Rattle.pf_machine.specs.FileMap.{Files}
-use Rattle.pf_base.specs.Limits.{Limits}
-use Rattle.pf_machine.specs.Refusals.{◌>>=◌}
+use Rattle.pf_tables.proofs.Common.{Files, Limits, ◌>>=◌, State, Outcome, of_ready, done, told, Errno, Fault, Reply}
+use Rattle.pf_tables.proofs.Common.{Num, Window, Namespace, ProcessRows, DescriptionRows, PipeRows, Process, process_of}
+use Rattle.pf_tables.proofs.Common.{state_of, ready_in, Tied, Makes, Says, Told}
 use Rattle.pf_machine.specs.State as machine
-use Rattle.pf_machine.specs.State.{State, Outcome, of_ready, done, told}
-use Rattle.pf_base.specs.declared.errno.Errno.{Errno}
-use Rattle.pf_base.specs.declared.fault.Fault.{Fault}
 use Rattle.pf_base.specs.declared.fault.Fault.TheVariants as faults
-use Rattle.pf_base.specs.declared.step.Reply.{Reply}
-use Rattle.pf_base.specs.declared.step.Reply.TheVariants.{Num}
-use Rattle.pf_ring.specs.declared.ring.Window.{Window}
-use Rattle.pf_tables.specs.Meaning.{Namespace}
-use Rattle.pf_tables.specs.Rows.{ProcessRows, DescriptionRows, PipeRows, Process, process_of, state_of, ready_in, Tied}
-use Rattle.pf_tables.specs.Tables.{Makes, Says, made_reply}
+use Rattle.pf_tables.specs.Tables.{made_reply}
 use Rattle.pf_tables.proofs.ProcessTableReady.{readies}
 use Rattle.pf_tables.proofs.TablesSettled.{settled, makes}
-use Rattle.pf_walk.specs.Told.{Changed, Told}
+use Rattle.pf_walk.specs.Told.{Changed}
 
 -- a call on files, as a step of the machine's
 abbrev pub Step : Type 0

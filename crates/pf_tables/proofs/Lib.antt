@@ -3,6 +3,7 @@ pub mod OwnsLaws
 mod OpensTests
 pub mod Bounds
 mod Buffers
+mod Common
 mod ProcessTableReady
 mod DescriptorsLetGo
 mod TransfersCross
@@ -28,6 +29,7 @@ mod PipesRing
 mod PipesSetSize
 mod OpensResolve
 mod ProcessTable
+pub mod Refusals
 pub mod Sendable
 pub mod TablesShown
 mod TablesSettled

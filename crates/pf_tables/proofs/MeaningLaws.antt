@@ -1,25 +1,18 @@
 -- How the meaning of a state goes through looking up, changing and sweeping.
 
-use Rattle.std.proofs.Common.{◌≡◌, ◌≢◌, ℕ, zero, suc, List, [], ◌∷◌, length, map, set, refl, ap, sym, ◌∙◌, arith}
-use Rattle.std.specs.Prelude.{Option, Some, None, nat_lt, slice_index_or, slice_set, unwrap_or}
+use Rattle.std.proofs.Common.{◌≡◌, ◌≢◌, ℕ, zero, suc, List, [], ◌∷◌, length, map, set, refl, ap, sym, ◌∙◌, arith, subst}
+use Rattle.std.specs.Prelude.{Option, Some, None, nat_lt, slice_index_or, slice_set}
 use Rattle.std.proofs.lemmas.List.{length-map}
-use Rattle.std.proofs.Common.{subst}
-use Rattle.std.specs.Option.{option_map}
-use Rattle.pf_ring.specs.declared.ring.Window.{Window}
-use Rattle.pf_base.specs.Limits.{Limits}
-use Rattle.pf_machine.specs.Queue.{Segment, bytes_of}
-use Rattle.pf_machine.specs.Numbered.{at, change_at, sum_of}
+use Rattle.pf_tables.proofs.TablesShown.{was}
+use Rattle.pf_tables.proofs.Common.{option_map, Window, Limits, Segment, bytes_of, at, change_at, sum_of, total, ends}
+use Rattle.pf_tables.proofs.Common.{itself, State, with_queue, sweep, Live, Ring, queue_of, Joined, Namespace, meaning}
+use Rattle.pf_tables.proofs.Common.{pipe_meaning, ring_or, occupied, Owns, awoken}
 use Rattle.pf_machine.proofs.NumberedLaws.{at-map, sum_of-map}
 use Rattle.pf_machine.proofs.MapLaws.{keep_from-map, set-agree}
-use Rattle.pf_machine.specs.Counts.{total, ends}
-use Rattle.pf_machine.specs.State.{itself, State, Pipe, with_queue, holding}
-use Rattle.pf_machine.specs.Sweep.{sweep, live_descriptions}
-use Rattle.pf_frame.specs.Live.{Live}
-use Rattle.pf_ring.specs.Ring.{Ring, queue_of, no_ring, segment_of}
-use Rattle.pf_ring.specs.Table.{Joined}
-use Rattle.pf_tables.specs.Meaning.{Namespace, meaning, pipe_meaning, ring_or, occupied, AreEmpty}
-use Rattle.pf_tables.specs.Owns.{Owns}
-use Rattle.pf_tables.specs.Tables.{awoken}
+use Rattle.pf_machine.specs.State.{Pipe, holding}
+use Rattle.pf_machine.specs.Sweep.{live_descriptions}
+use Rattle.pf_ring.specs.Ring.{no_ring, segment_of}
+use Rattle.pf_tables.specs.Meaning.{AreEmpty}
 use Rattle.pf_tables.specs.Told.{Becomes}
 
 module _ (f : Live) where
@@ -37,13 +30,9 @@ module _ (f : Live) where
   -- where no ring shows a byte, no queue has one
   pub empty-meaning : (s : State Window ℕ) → AreEmpty f s → (n : ℕ) (p : Pipe Segment)
       → at (meaning f s).pipes n ≡ Some p → bytes_of p.queue ≡ []
-  empty-meaning s empty n p there = found (at s.pipes n) refl (sym (at-map (pipe_meaning f) s.pipes n) ∙ there)
-    where
-      found : (o : Option (Pipe Window)) → at s.pipes n ≡ o → option_map (pipe_meaning f) o ≡ Some p
-          → bytes_of p.queue ≡ []
-      found None is none = absurd (cc)
-      found (Some q) is some =
-          ap (λ (o : Option (Pipe Segment)). bytes_of (unwrap_or o p).queue) (sym some) ∙ empty n q is
+  empty-meaning s empty n p there =
+      let w = was (pipe_meaning f) s.pipes n p there in
+      ap (λ (q : Pipe Segment). bytes_of q.queue) (sym w.2) ∙ empty n w.0 w.1
 
   pub total-meaning : (s : State Window ℕ) → total (meaning f s) ≡ sum_of (λ p. p.queue.capacity) s.pipes
   total-meaning s = sum_of-map (pipe_meaning f) (λ p. p.queue.capacity) s.pipes

@@ -1,29 +1,23 @@
 -- An open of a FIFO: its ends are counted, and its description is made.
 
 use Rattle.std.proofs.Common.{◌≡◌, ◌≢◌, ℕ, ◌+◌, ◌-◌, ◌<◌, ◌≤◌, Bool, true, false, List, [], ◌∷◌, ◌++◌, length, set}
-use Rattle.std.proofs.Common.{Option, Some, None, nat_eq, refl, sym, ap, subst, ◌∙◌, arith}
-use Rattle.std.specs.Option.{option_map}
-use Rattle.std.specs.Map.{lookup}
+use Rattle.std.proofs.Common.{Option, Some, None, refl, sym, ap, subst, ◌∙◌, arith}
 use Rattle.std.proofs.lemmas.List.{map-set}
-use Rattle.pf_ring.specs.declared.ring.Window.{Window}
-use Rattle.pf_machine.specs.Numbered.{at, put_at, first_free, one_if}
+use Rattle.pf_tables.proofs.TablesTied.{in_place, by_set, found, finds-new, miss, sides, once, repiped, described}
+use Rattle.pf_tables.proofs.TablesTied.{piped, moved, put, pipe_row}
+use Rattle.pf_tables.specs.Rows.{AreKeys, file_at, holding}
+use Rattle.pf_tables.proofs.Refusals.{same_some}
+use Rattle.pf_tables.proofs.TablesShown.{shown_same, shown}
+use Rattle.pf_tables.proofs.Common.{option_map, Window, at, put_at, first_free, one_if, MAX_DESCRIPTORS, Reply}
+use Rattle.pf_tables.proofs.Common.{UserPages, AreCharged, counted, Describes, ProcessRows, DescriptionRows, PipeRows}
+use Rattle.pf_tables.proofs.Common.{Key, Description, Pipe, made_by, reads_it, writes_it, opens_at, opens_of, pipe_of}
+use Rattle.pf_tables.proofs.Common.{pipes_of, NoMore, AreFifos, TiedWith, Tied}
 use Rattle.pf_machine.proofs.NumberedLaws.{at_within, at-first_free}
 use Rattle.pf_machine.specs.State as machine
-use Rattle.pf_base.specs.declared.TheConstants.{MAX_DESCRIPTORS}
-use Rattle.pf_base.specs.declared.step.Reply.{Reply}
-use Rattle.pf_limits.specs.UserPages.{UserPages}
 use Rattle.pf_limits.proofs.SumLaws.{kept}
 use Rattle.pf_tables.specs.declared.tables.opens.Access.{Access as Stored}
-use Rattle.pf_tables.specs.Meaning.{AreCharged}
-use Rattle.pf_tables.specs.Opened.{counted, end_of, taking, Describes}
-use Rattle.pf_tables.specs.Rows.{ProcessRows, DescriptionRows, PipeRows, Key, Description, Pipe, Opens, made_by}
-use Rattle.pf_tables.specs.Rows.{reads_it, writes_it, holding, opens_at, opens_of, pipe_of, pipes_of, NoMore, AreFifos}
-use Rattle.pf_tables.specs.Rows.{TiedWith, Tied}
+use Rattle.pf_tables.specs.Opened.{end_of, taking}
 use Rattle.pf_tables.proofs.ProcessTableReady.{place_of}
-use Rattle.pf_tables.proofs.Fifos.{same_file, same_place}
-use Rattle.pf_tables.proofs.TablesTied.{by_set, found, finds-new, miss, sides, once, repiped, described, piped, moved}
-use Rattle.pf_tables.proofs.TablesTied.{put, pipe_row}
-use Rattle.pf_tables.proofs.TablesShown.{shown}
 
 -- an open is for a side at least
 abbrev pub IsSided : Stored → Type 0
@@ -43,9 +37,8 @@ module _ (a : Stored) (sided : IsSided a) (k : Key) where
         → TiedWith [] (end_of a k ∷ []) ps ds (put_at pipes k.serial (k.slot, counted a p))
     entered p stands =
         let s = sides (end_of a k) in
-        let r = pipe_row [] [] ps ds pipes k p stands t in
-        repiped [] [] ps ds pipes t k.serial (k.slot, p) stands (Some (k.slot, counted a p)) (end_of a k ∷ [])
-        (λ e h. let it : ◌≡◌ {A = ℕ × Pipe} (k.slot, counted a p) e = cc in ap (λ (x : ℕ × Pipe). x.0) (sym it))
+        let r = pipe_row k p stands t in
+        repiped t k.serial (k.slot, p) stands (Some (k.slot, counted a p)) (end_of a k ∷ []) (λ e h. in_place h)
         ((found pipes k p stands, sided), tt) apart
         (omega (arith, r.0, s.0), omega (arith, r.1, s.1), omega (arith, s.0, s.1, sided))
 
@@ -54,8 +47,7 @@ module _ (a : Stored) (sided : IsSided a) (k : Key) where
         → TiedWith [] (end_of a k ∷ []) ps ds (pipes ++ Some (k.slot, counted a p) ∷ [])
     founded p k_is none nobody =
         let s = sides (end_of a k) in
-        piped [] [] ps ds pipes k (counted a p) (end_of a k ∷ []) k_is
-        ((finds-new pipes (counted a p) k k_is, sided), tt) apart
+        piped k (counted a p) (end_of a k ∷ []) k_is ((finds-new pipes (counted a p) k k_is, sided), tt) apart
         (omega (arith, none, s.0)) (omega (arith, nobody, s.1)) (omega (arith, none, nobody, sided)) t
 
 -- The description is made, with one name: a descriptor, or the open that waits
@@ -70,25 +62,22 @@ module _ {ps ps' : ProcessRows} {ds ds' : DescriptionRows} (pipes : PipeRows) {p
   opener = place_of ps pid z.p z.is
 
   in_hand : TiedWith (z.k ∷ []) [] ps after pipes
-  in_hand = described [] [] ps ds pipes z.k d z.k_is t
+  in_hand = described z.k d z.k_is t
 
   by_waiting : (b : Option ℕ) → Tied (put_at ps (pid - 1) (taking b z.k z.p)) after pipes
   by_waiting None =
-      put [] [] ps after pipes (pid - 1) (first_free z.p.descriptors) z.p opener within z.k
-      (at-first_free z.p.descriptors) in_hand
+      put (pid - 1) (first_free z.p.descriptors) z.p opener within z.k (at-first_free z.p.descriptors) in_hand
   by_waiting (Some n) =
       subst (λ o. TiedWith (holding o []) [] (put_at ps (pid - 1) (taking (Some n) z.k z.p)) after pipes)
       (ap made_by awake)
-      (moved [] [] ps after pipes (pid - 1) 0 z.p (taking (Some n) z.k z.p) opener (omega arith) (Some z.k) refl
+      (moved [] (pid - 1) 0 z.p (taking (Some n) z.k z.p) opener (omega arith) (Some z.k) refl
       in_hand)
 
   pub seated_is : ps' ≡ put_at ps (pid - 1) (taking before z.k z.p)
   seated_is = z.seated ∙ ap (λ o. set ps (pid - 1) (option_map (taking before z.k) o)) opener
 
   pub admitted : Tied ps' ds' pipes
-  admitted =
-      subst (λ x. Tied x ds' pipes) (sym seated_is)
-      (subst (λ y. Tied (put_at ps (pid - 1) (taking before z.k z.p)) y pipes) (sym z.described) (by_waiting before))
+  admitted = rw (seated_is, z.described) (by_waiting before)
 
 -- The counters of pages stay the sums, as no ring changes
 pub entered-charged : (charges : UserPages) (a : Stored) (pipes : PipeRows) (k : Key) (p : Pipe)
@@ -105,38 +94,27 @@ pub entered-fifos : (es : List (ℕ × Key)) {drawn more : ℕ} (a : Stored) (pi
     → at pipes k.serial ≡ Some (k.slot, p) → more ≡ drawn + 1 → AreFifos es drawn (opens_of pipes)
     → AreFifos es more (opens_of (put_at pipes k.serial (k.slot, counted a p)))
 entered-fifos es {drawn} {more} a pipes k p stands more_is f =
-    subst (AreFifos es more) (sym (map-set (option_map opens_at) pipes k.serial (Some (k.slot, counted a p)))) changed
+    subst (AreFifos es more) (sym (map-set (option_map opens_at) pipes k.serial (Some (k.slot, counted a p))))
+    (record {
+      keys =
+          subst (AreKeys es)
+          (sym (shown_same file_at (opens_of pipes) k.serial (k.slot, p.opens) (opens_at (k.slot, counted a p)) was
+          refl)) f.keys;
+      few = λ m o. by_set (λ _ y. y ≡ Some o → NoMore more o) (opens_of pipes) k.serial
+          (Some (opens_at (k.slot, counted a p))) (at_within (opens_of pipes) k.serial (k.slot, p.opens) was)
+          (λ h. subst (NoMore more) (same_some h) (
+            once_more a.reads p.opens.read few.0,
+            once_more a.writes p.opens.write few.1,
+          ))
+          (λ j _ h. let old = f.few j o h in (omega (arith, old.0, more_is), omega (arith, old.1, more_is))) m;
+    })
   where
     was : at (opens_of pipes) k.serial ≡ Some (k.slot, p.opens)
     was = shown opens_at pipes k.serial (k.slot, p) stands
 
+    few : NoMore drawn (k.slot, p.opens)
+    few = f.few k.serial (k.slot, p.opens) was
+
     once_more : (b : Bool) (n : ℕ) → n ≤ drawn → n + one_if b ≤ more
     once_more true n le = omega (arith, le, more_is)
     once_more false n le = omega (arith, le, more_is)
-
-    changed : AreFifos es more (put_at (opens_of pipes) k.serial (opens_at (k.slot, counted a p)))
-    changed =
-        let l = at_within (opens_of pipes) k.serial (k.slot, p.opens) was in
-        let few = f.few k.serial (k.slot, p.opens) was in record {
-          finds = λ file j h.
-              let w = f.finds file j h in
-              by_set (λ m y. j.serial ≡ m → (o : Opens) × (y ≡ Some (j.slot, o)) × (o.file ≡ Some file))
-              (opens_of pipes) k.serial (Some (opens_at (k.slot, counted a p))) l
-              (λ e. let both : ◌≡◌ {A = Option (ℕ × Opens)} (Some (k.slot, p.opens)) (Some (j.slot, w.0)) = sym was
-              ∙ sym (ap (at (opens_of pipes)) e) ∙ w.1 in
-              ((counted a p).opens, ap (λ q. Some (q, (counted a p).opens)) (same_place both), same_file both ∙ w.2))
-              (λ m _ e. (w.0, sym (ap (at (opens_of pipes)) e) ∙ w.1, w.2)) j.serial refl;
-          there =
-              λ m o file. by_set (λ j y. y ≡ Some o → o.1.file ≡ Some file
-              → lookup (nat_eq file) es ≡ Some (record { slot = o.0; serial = j })) (opens_of pipes) k.serial
-              (Some (opens_at (k.slot, counted a p))) l
-              (λ h g. let place : k.slot ≡ o.0 = same_place h in f.there k.serial (k.slot, p.opens) file was
-              (same_file h ∙ g) ∙ ap (λ q. Some (record { slot = q; serial = k.serial })) place)
-              (λ j _ h g. f.there j o file h g) m;
-          few =
-              λ m o. by_set (λ _ y. y ≡ Some o → NoMore more o) (opens_of pipes) k.serial
-              (Some (opens_at (k.slot, counted a p))) l
-              (λ h. let it : ◌≡◌ {A = ℕ × Opens} (opens_at (k.slot, counted a p)) o = cc in subst (NoMore more) it
-              (once_more a.reads p.opens.read few.0, once_more a.writes p.opens.write few.1))
-              (λ j _ h. let old = f.few j o h in (omega (arith, old.0, more_is), omega (arith, old.1, more_is))) m;
-        }

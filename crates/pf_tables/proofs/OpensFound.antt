@@ -1,30 +1,21 @@
 -- An open of a FIFO that somebody has open: all that it keeps and tells.
 
-use Rattle.std.proofs.Common.{◌≡◌, ℕ, ◌-◌, ◌^◌, ◌<◌, ◌≤◌, Bool, true, false, List, [], ◌∷◌, length, Option, Some, None}
-use Rattle.std.proofs.Common.{IsOk, is_ok, Result, Ok, Err, nat_eq, refl, sym, ap, subst, ◌∙◌, arith}
-use Rattle.std.specs.Option.{option_map}
-use Rattle.std.specs.Map.{lookup}
+use Rattle.std.proofs.Common.{◌≡◌, ℕ, ◌-◌, ◌^◌, ◌<◌, List, [], ◌∷◌, length, Some, None, Result, Ok, Err, nat_eq, refl}
+use Rattle.std.proofs.Common.{sym, ap, subst, ◌∙◌, arith}
 use Rattle.std.proofs.lemmas.Bool.{leb-false, ltb-false}
 use Rattle.std.proofs.lemmas.List.{length-map}
-use Rattle.pf_ring.specs.declared.ring.Window.{Window}
-use Rattle.pf_machine.specs.FileMap.{Files}
-use Rattle.pf_base.specs.Limits.{Limits}
-use Rattle.pf_machine.specs.Numbered.{at, put_at, first_free, sum_of, one_if}
+use Rattle.pf_tables.proofs.DescriptorsDup.{at_most_one, sum-le-length}
+use Rattle.pf_tables.proofs.Refusals.{same_ok}
+use Rattle.pf_tables.proofs.Common.{option_map, lookup, Window, Files, Limits, at, put_at, first_free, State, Reply}
+use Rattle.pf_tables.proofs.Common.{MAX_DESCRIPTORS, Errno, find, UserPages, Namespace, access_seen, before, counted}
+use Rattle.pf_tables.proofs.Common.{may_open, Describes, ProcessRows, DescriptionRows, PipeRows, Key, Process, Pipe}
+use Rattle.pf_tables.proofs.Common.{process_in, ready_in, process_of, description_of, opens_at, state_of, reads_it}
+use Rattle.pf_tables.proofs.Common.{writes_it, TiedWith, Whole, Makes}
 use Rattle.pf_machine.proofs.NumberedLaws.{first_free-map}
 use Rattle.pf_machine.specs.State as machine
-use Rattle.pf_machine.specs.State.{State}
-use Rattle.pf_base.specs.declared.step.Reply.{Reply}
 use Rattle.pf_machine.specs.Opens as opens
-use Rattle.pf_base.specs.declared.TheConstants.{MAX_DESCRIPTORS}
-use Rattle.pf_base.specs.declared.errno.Errno.{Errno}
-use Rattle.pf_fds.specs.Registry.{find}
-use Rattle.pf_limits.specs.UserPages.{UserPages}
 use Rattle.pf_tables.specs.declared.tables.opens.Access.{Access as Stored}
-use Rattle.pf_tables.specs.Meaning.{Namespace}
-use Rattle.pf_tables.specs.Opened.{access_seen, before, counted, IsFew, end_of, may_open, opening, HasFree, Describes}
-use Rattle.pf_tables.specs.Rows.{ProcessRows, DescriptionRows, PipeRows, Key, Process, Pipe, process_in, ready_in}
-use Rattle.pf_tables.specs.Rows.{process_of, description_of, opens_at, state_of, reads_it, writes_it, TiedWith, Whole}
-use Rattle.pf_tables.specs.Tables.{Makes}
+use Rattle.pf_tables.specs.Opened.{IsFew, end_of, opening, HasFree}
 use Rattle.pf_tables.proofs.ProcessTableReady.{shown_in, ready_shown, is_living}
 use Rattle.pf_tables.proofs.Ends.{as_kept, counted as ends_counted}
 use Rattle.pf_tables.proofs.OpensOutcome.{Opener, ready_is, entered-whole, entered-makes}
@@ -32,16 +23,6 @@ use Rattle.pf_tables.proofs.OpensDescribe.{IsSided, entered}
 use Rattle.pf_tables.proofs.OpensFind.{fifo_is}
 use Rattle.pf_tables.proofs.TablesShown.{shown, find_was}
 use Rattle.pf_tables.proofs.TablesTied.{pipe_row}
-
--- at most one of each
-sum-le-length : {X : Type 0} (h : X → ℕ) (xs : List (Option X)) → ((x : X) → h x ≤ 1) → sum_of h xs ≤ length xs
-sum-le-length h [] one = omega arith
-sum-le-length h (None ∷ xs) one = let rest = sum-le-length h xs one in omega (arith, rest)
-sum-le-length h (Some x ∷ xs) one = let rest = sum-le-length h xs one in let it = one x in omega (arith, rest, it)
-
-at_most_one : (b : Bool) → one_if b ≤ 1
-at_most_one true = omega arith
-at_most_one false = omega arith
 
 module _ {files : Files} {files_made : ℕ} {limits : Limits} {charges : UserPages} {es : List (ℕ × Key)}
     {ps : ProcessRows} {ds : DescriptionRows} {pipes : PipeRows} (w : Whole charges es ps ds pipes) {n : Namespace}
@@ -63,9 +44,7 @@ module _ {files : Files} {files_made : ℕ} {limits : Limits} {charges : UserPag
           → (q : Process) × (ready_in ps pid ≡ Ok q) × (first_free q.descriptors < MAX_DESCRIPTORS)
       by_row (Err e) h = let shows = sym seen.1 ∙ ready_shown ps pid ∙ ap shown_in h in absurd (cc)
       by_row (Ok q) h =
-          let shows : ◌≡◌ {A = Result (machine.Process ℕ) Errno} (Ok seen.0) (Ok (process_of q)) =
-          sym seen.1 ∙ ready_shown ps pid ∙ ap shown_in h in
-          let same : seen.0 ≡ process_of q = cc in
+          let same : seen.0 ≡ process_of q = same_ok (sym seen.1 ∙ ready_shown ps pid ∙ ap shown_in h) in
           let free =
           ap (λ (x : machine.Process ℕ). first_free x.descriptors) same
           ∙ first_free-map (λ (k : Key). k.serial) q.descriptors in
@@ -73,15 +52,10 @@ module _ {files : Files} {files_made : ℕ} {limits : Limits} {charges : UserPag
           (q, h, omega (arith, free, under))
 
   pub same_caller : (q : Process) → process_in ps pid ≡ Ok q → caller.0 ≡ q
-  same_caller q h =
-      let both : ◌≡◌ {A = Result Process Errno} (Ok caller.0) (Ok q) = sym (is_living ps pid caller.0 caller.1)
-      ∙ h in cc
+  same_caller q h = same_ok (sym (is_living ps pid caller.0 caller.1) ∙ h)
 
   pub has_free : HasFree ps pid
   has_free q h = subst (λ (x : Process). first_free x.descriptors < MAX_DESCRIPTORS) (same_caller q h) caller.2
-
-  pub is_ready : IsOk (ready_in ps pid)
-  is_ready = ap is_ok caller.1
 
   pub unspent : length ds < 2 ^ 64 - 1
   unspent =
@@ -95,23 +69,13 @@ module _ {files : Files} {files_made : ℕ} {limits : Limits} {charges : UserPag
 
     pub is_few : IsFew p
     is_few =
-        let row = pipe_row [] [] ps ds pipes k p stands w.kept.tied in
+        let row = pipe_row k p stands w.kept.tied in
         let opens = w.filed.few k.serial (k.slot, p.opens) (shown opens_at pipes k.serial (k.slot, p) stands) in
+        let reading = sum-le-length (λ e. reads_it k.serial e.1.value) ds (λ e. at_most_one _) in
+        let writing = sum-le-length (λ e. writes_it k.serial e.1.value) ds (λ e. at_most_one _) in
         record {
-          readers =
-              omega (
-                arith,
-                row.0,
-                sum-le-length (λ e. reads_it k.serial e.1.value) ds (λ e. at_most_one _),
-                unspent,
-              );
-          writers =
-              omega (
-                arith,
-                row.1,
-                sum-le-length (λ e. writes_it k.serial e.1.value) ds (λ e. at_most_one _),
-                unspent,
-              );
+          readers = omega (arith, row.0, reading, unspent);
+          writers = omega (arith, row.1, writing, unspent);
           read_opens = omega (arith, opens.0, unspent);
           write_opens = omega (arith, opens.1, unspent);
         }

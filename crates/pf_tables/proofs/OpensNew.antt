@@ -1,48 +1,33 @@
 -- The first open of a FIFO: its pipe is made, and all that this keeps and tells.
 
-use Rattle.std.proofs.Common.{◌≡◌, ◌≢◌, ℕ, ◌+◌, ◌-◌, ◌^◌, ◌<◌, ◌≤◌, ◌⊎◌, Bool, true, false, List, [], ◌∷◌, ◌++◌, length}
-use Rattle.std.proofs.Common.{map, Option, Some, None, Result, Ok, Err, nat_eq, if◌then◌else◌, refl, sym, ap}
-use Rattle.std.proofs.Common.{subst, ◌∙◌, inl, inr, arith}
-use Rattle.std.specs.Option.{option_map}
-use Rattle.std.specs.Map.{lookup}
+use Rattle.std.proofs.Common.{◌≡◌, ℕ, ◌+◌, ◌-◌, ◌^◌, ◌<◌, ◌≤◌, Bool, true, false, List, [], ◌∷◌, ◌++◌, length, map}
+use Rattle.std.proofs.Common.{Option, Some, None, Result, Ok, Err, nat_eq, if◌then◌else◌, refl, sym, ap, subst, ◌∙◌}
+use Rattle.std.proofs.Common.{arith}
 use Rattle.std.proofs.Math.Seq.{set-append_seam}
-use Rattle.std.proofs.lemmas.Bool.{cases_eq, eq-eqb, ne_eqb, ltb-false}
+use Rattle.std.proofs.lemmas.Bool.{ltb-false}
 use Rattle.std.proofs.lemmas.List.{map_push, length-map}
-use Rattle.pf_base.specs.Capacities.{told_as}
-use Rattle.pf_ring.specs.declared.ring.Window.{Window}
-use Rattle.pf_machine.specs.FileMap.{Files}
-use Rattle.pf_base.specs.Limits.{Limits}
-use Rattle.pf_machine.specs.Numbered.{at, put_at, first_free, sum_of}
-use Rattle.pf_machine.proofs.NumberedLaws.{at_past, at_within, at-push_old, at-push_new}
-use Rattle.pf_machine.specs.Counts.{readers, writers, total}
+use Rattle.pf_tables.proofs.Fifos.{fifos-pushed}
+use Rattle.pf_tables.proofs.Refusals.{not_refused, same_ok, same_some}
+use Rattle.pf_tables.proofs.Common.{option_map, lookup, told_as, Window, Files, Limits, at, put_at, first_free, sum_of}
+use Rattle.pf_tables.proofs.Common.{readers, writers, total, fifo_pipe, capacity_for, is_spent, empty, ◌>>=◌, ◌>>◌}
+use Rattle.pf_tables.proofs.Common.{refuse_if, itself, State, ready, Errno, ENFILE, Reply, UserPages, Charges, unopened}
+use Rattle.pf_tables.proofs.Common.{Joined, Namespace, ring_or, AreCharged, access_seen, before, counted, may_open}
+use Rattle.pf_tables.proofs.Common.{Describes, ProcessRows, DescriptionRows, PipeRows, Key, Process, Pipe, Opens}
+use Rattle.pf_tables.proofs.Common.{ready_in, process_of, pipe_of, pipes_of, opens_at, opens_of, state_of, UsedRow}
+use Rattle.pf_tables.proofs.Common.{AreFifos, Whole, TiedWith, read_by, written_by, Makes}
+use Rattle.pf_machine.proofs.NumberedLaws.{at_past, at-push_new}
 use Rattle.pf_machine.specs.Opens as opens
-use Rattle.pf_machine.specs.Opens.{fifo_pipe}
-use Rattle.pf_machine.specs.Pipes.{capacity_for, is_spent, new_pipe}
-use Rattle.pf_machine.specs.Queue.{empty}
-use Rattle.pf_machine.specs.Refusals.{◌>>=◌, ◌>>◌, refuse_if}
+use Rattle.pf_machine.specs.Pipes.{new_pipe}
 use Rattle.pf_machine.specs.State as machine
-use Rattle.pf_machine.specs.State.{itself, State, ready}
-use Rattle.pf_base.specs.declared.errno.Errno.{Errno}
-use Rattle.pf_base.specs.declared.errno.Errno.TheVariants.{ENFILE, ENOMEM}
-use Rattle.pf_base.specs.declared.step.Reply.{Reply}
-use Rattle.pf_limits.specs.UserPages.{UserPages, Charges}
+use Rattle.pf_base.specs.declared.errno.Errno.TheVariants.{ENOMEM}
 use Rattle.pf_limits.proofs.SumLaws.{made}
-use Rattle.pf_pipe.specs.Pipe.{unopened}
-use Rattle.pf_ring.specs.Table.{Joined}
 use Rattle.pf_tables.specs.declared.tables.opens.Access.{Access as Stored}
-use Rattle.pf_tables.specs.Meaning.{Namespace, ring_or, AreCharged}
-use Rattle.pf_tables.specs.Opened.{access_seen, before, counted, end_of, fifo_capacity, may_open, opening, Describes}
-use Rattle.pf_tables.specs.Opened.{MakesFifo, SameKeys}
+use Rattle.pf_tables.specs.Opened.{end_of, fifo_capacity, opening, MakesFifo, SameKeys}
 use Rattle.pf_tables.proofs.OwnsLaws.{joined_opened}
-use Rattle.pf_tables.specs.Rows.{ProcessRows, DescriptionRows, PipeRows, Key, Process, Pipe, Opens, ready_in}
-use Rattle.pf_tables.specs.Rows.{process_of, pipe_of, pipes_of, opens_at, opens_of, state_of, UsedRow, NoMore, AreFifos}
-use Rattle.pf_tables.specs.Rows.{Whole, TiedWith, read_by, written_by}
-use Rattle.pf_tables.specs.Tables.{Makes}
 use Rattle.pf_tables.proofs.ProcessTableReady.{readies, is_living}
 use Rattle.pf_tables.proofs.OpensOutcome.{on, goes, ready_is, entered-whole, entered-makes}
 use Rattle.pf_tables.proofs.OpensDescribe.{IsSided, founded}
 use Rattle.pf_tables.proofs.OpensFind.{fifo_shown}
-use Rattle.pf_tables.proofs.TablesTied.{by_push}
 use Rattle.pf_tables.proofs.OpensFound.{caller, has_free}
 use Rattle.pf_tables.proofs.TablesSettled.{readers_shown, writers_shown}
 
@@ -52,8 +37,10 @@ use Rattle.pf_tables.proofs.TablesSettled.{readers_shown, writers_shown}
 pub fifos-alike : (es fs : List (ℕ × Key)) {drawn : ℕ} {opens : List (Option (ℕ × Opens))} → SameKeys es fs
     → AreFifos es drawn opens → AreFifos fs drawn opens
 fifos-alike es fs {drawn} {opens} same a = record {
-  finds = λ file k h. a.finds file k (sym (same file) ∙ h);
-  there = λ n o file h g. same file ∙ a.there n o file h g;
+  keys = record {
+    finds = λ file k h. a.keys.finds file k (sym (same file) ∙ h);
+    there = λ n place file h. same file ∙ a.keys.there n place file h;
+  };
   few = a.few;
 }
 
@@ -61,68 +48,8 @@ fifos-alike es fs {drawn} {opens} same a = record {
 pub whole-alike : {charges charges' : UserPages} {es fs : List (ℕ × Key)} {ps : ProcessRows} {ds ds' : DescriptionRows}
     {pipes pipes' : PipeRows} → charges' ≡ charges → ds' ≡ ds → pipes' ≡ pipes → SameKeys es fs
     → Whole charges es ps ds pipes → Whole charges' fs ps ds' pipes'
-whole-alike {charges} {es =
-    es} {fs = fs} {ps = ps} {ds = ds} {ds' = ds'} {pipes = pipes} {pipes' = pipes'} same rows stored keys w =
-    subst (λ x. Whole x fs ps ds' pipes') (sym same)
-    (subst (λ y. Whole charges fs ps y pipes') (sym rows)
-    (subst (λ z. Whole charges fs ps ds z) (sym stored)
-    (record { kept = w.kept; filed = fifos-alike es fs keys w.filed })))
-
--- a FIFO that had none gets one with its pipe
-pub fifos-founded : (es fs : List (ℕ × Key)) {drawn : ℕ} (opens : List (Option (ℕ × Opens))) (k : Key) (file : ℕ)
-    → k.serial ≡ length opens → lookup (nat_eq file) es ≡ None
-    → ((n : ℕ) → lookup (nat_eq n) fs ≡ (if nat_eq file n then Some k else lookup (nat_eq n) es))
-    → AreFifos es drawn opens → AreFifos fs drawn (opens ++ Some (k.slot, unopened (Some file)) ∷ [])
-fifos-founded es fs {drawn} opens k file k_is none keys a = record {
-  finds = λ f j h. by_file f j h (cases_eq f file);
-  there =
-      λ n o f. by_push (λ j y. y ≡ Some o → o.1.file ≡ Some f
-      → lookup (nat_eq f) fs ≡ Some (record { slot = o.0; serial = j })) opens (Some (k.slot, unopened (Some file)))
-      (λ h g. new o f h g) (λ j _ h g. old j o f h g (cases_eq f file)) n;
-  few = λ n o. by_push (λ _ y. y ≡ Some o → NoMore drawn o) opens (Some (k.slot, unopened (Some file)))
-      (λ h. let it : ◌≡◌ {A = ℕ × Opens} (k.slot, unopened (Some file)) o = cc in subst (NoMore drawn) it
-      (omega arith, omega arith)) (λ j _ h. a.few j o h) n;
-}
-  where
-    mine : lookup (nat_eq file) fs ≡ Some k
-    mine = keys file ∙ ap (λ b. if b then Some k else lookup (nat_eq file) es) (eq-eqb file file refl)
-
-    others : (f : ℕ) → f ≢ file → lookup (nat_eq f) fs ≡ lookup (nat_eq f) es
-    others f ne = keys f ∙ ap (λ b. if b then Some k else lookup (nat_eq f) es) (ne_eqb file f (λ e. ne (sym e)))
-
-    by_file : (f : ℕ) (j : Key) → lookup (nat_eq f) fs ≡ Some j → (f ≡ file) ⊎ (f ≢ file)
-        → (o : Opens) × (at (opens ++ Some (k.slot, unopened (Some file)) ∷ []) j.serial ≡ Some (j.slot, o))
-        × (o.file ≡ Some f)
-    by_file f j h (inl same) =
-        let both : ◌≡◌ {A = Option Key} (Some k) (Some j) = sym mine ∙ ap (λ q. lookup (nat_eq q) fs) (sym same) ∙ h in
-        let it : k ≡ j = cc in (
-          unopened (Some file),
-          ap (at (opens ++ Some (k.slot, unopened (Some file)) ∷ []))
-              (ap (λ (x : Key). x.serial) (sym it) ∙ k_is) ∙ at-push_new opens (Some (k.slot, unopened (Some file)))
-              ∙ ap (λ (x : Key). Some (x.slot, unopened (Some file))) it,
-          ap Some (sym same),
-        )
-    by_file f j h (inr ne) =
-        let w = a.finds f j (sym (others f ne) ∙ h) in (
-          w.0,
-          at-push_old opens (Some (k.slot, unopened (Some file))) j.serial
-              (at_within opens j.serial (j.slot, w.0) w.1) ∙ w.1,
-          w.2,
-        )
-
-    new : (o : ℕ × Opens) (f : ℕ) → ◌≡◌ {A = Option (ℕ × Opens)} (Some (k.slot, unopened (Some file))) (Some o)
-        → o.1.file ≡ Some f → lookup (nat_eq f) fs ≡ Some (record { slot = o.0; serial = length opens })
-    new o f h g =
-        let it : ◌≡◌ {A = ℕ × Opens} (k.slot, unopened (Some file)) o = cc in
-        let named : ◌≡◌ {A = Option ℕ} (Some file) (Some f) = ap (λ (x : ℕ × Opens). x.1.file) it ∙ g in
-        let same : file ≡ f = cc in
-        ap (λ q. lookup (nat_eq q) fs) (sym same) ∙ mine ∙ (λ i. Some (record { slot = (it i).0; serial = k_is i }))
-
-    old : (j : ℕ) (o : ℕ × Opens) (f : ℕ) → at opens j ≡ Some o → o.1.file ≡ Some f → (f ≡ file) ⊎ (f ≢ file)
-        → lookup (nat_eq f) fs ≡ Some (record { slot = o.0; serial = j })
-    old j o f h g (inl same) =
-        let gone = sym none ∙ ap (λ q. lookup (nat_eq q) es) (sym same) ∙ a.there j o f h g in absurd (cc)
-    old j o f h g (inr ne) = others f ne ∙ a.there j o f h g
+whole-alike {es = es} {fs = fs} same rows stored keys w =
+    rw (same, rows, stored) (record { kept = w.kept; filed = fifos-alike es fs keys w.filed })
 
 -- The machine makes its pipe
 
@@ -156,12 +83,8 @@ module _ (c : Limits) (s : State Window ℕ) (pid : ℕ) where
 
   pub unspent_in : {q : machine.Process ℕ} → ready s pid ≡ Ok q → {slots : ℕ} → fifo_capacity c s pid ≡ Ok slots
       → is_spent s.pipes 1 ≡ false
-  unspent_in {q} lives {slots} given =
-      by_test (is_spent s.pipes 1) (told_as ENOMEM (capacity_for c s q.cred)) (given_here lives given)
-    where
-      by_test : (b : Bool) (r : Result ℕ Errno) → (refuse_if b ENFILE >> r) ≡ Ok slots → b ≡ false
-      by_test true r h = absurd (cc)
-      by_test false r h = refl
+  unspent_in {q} lives given =
+      (not_refused (is_spent s.pipes 1) ENFILE (told_as ENOMEM (capacity_for c s q.cred)) (given_here lives given)).0
 
 -- or refuses it
 pub unpiped : (c : Limits) (s : State Window ℕ) (pid : ℕ) (a : opens.Access) (file : ℕ) (e : Errno)
@@ -248,8 +171,7 @@ module _ {files : Files} {files_made : ℕ} {limits : Limits} {charges : UserPag
             by_key (Some j) h = let there = sym (fifo_shown w view file (Some j) h) ∙ closed in absurd (cc)
 
         same_opener : q ≡ z.p
-        same_opener =
-            let both : ◌≡◌ {A = Result Process Errno} (Ok q) (Ok z.p) = sym (is_living ps pid q is) ∙ z.is in cc
+        same_opener = same_ok (sym (is_living ps pid q is) ∙ z.is)
 
         ready_now : ready_in ps pid ≡ Ok z.p
         ready_now = is ∙ ap Ok same_opener
@@ -272,8 +194,10 @@ module _ {files : Files} {files_made : ℕ} {limits : Limits} {charges : UserPag
             (made (λ (x : machine.Pipe Window). x.owner) (λ (x : machine.Pipe Window). x.queue.capacity) charges
             charges' (pipes_of pipes) w.kept.charged (pipe_of (k.slot, fresh)) more))
             (subst (AreFifos es' (length ds)) (sym (map_push (option_map opens_at) pipes (Some (k.slot, fresh))))
-            (fifos-founded es es' (opens_of pipes) k file (k_is ∙ sym (length-map pipes (option_map opens_at))) no_key
-            m.keys w.filed)))
+            (fifos-pushed es es' (opens_of pipes) k.slot (unopened (Some file)) (omega arith) (omega arith, omega arith)
+            (λ f. m.keys f ∙ ap (λ n. if nat_eq file f then Some (record { slot = k.slot; serial = n })
+            else lookup (nat_eq f) es) (k_is ∙ sym (length-map pipes (option_map opens_at))))
+            (λ f e. ap (λ q. lookup (nat_eq q) es) (sym (same_some e)) ∙ no_key) w.filed)))
 
         -- the machine's pipe is this one, under the same number
         same_found : with_slots limits s pid (process_of z.p) file slots ≡ found

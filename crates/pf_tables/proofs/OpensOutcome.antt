@@ -1,45 +1,32 @@
 -- What an open of a FIFO leaves and tells, as the machine says it.
 
 use Rattle.std.proofs.Common.{◌≡◌, ℕ, zero, suc, ◌+◌, ◌-◌, ◌<◌, Bool, true, false, List, [], ◌∷◌, ◌++◌, length, map}
-use Rattle.std.proofs.Common.{set, Option, Some, None, Result, Ok, Err, nat_le, if◌then◌else◌, refl, sym, ap, subst}
-use Rattle.std.proofs.Common.{◌∙◌, arith}
-use Rattle.std.specs.Option.{option_map}
+use Rattle.std.proofs.Common.{Option, Some, None, Result, Ok, Err, nat_le, if◌then◌else◌, refl, sym, ap, subst, ◌∙◌}
+use Rattle.std.proofs.Common.{arith}
 use Rattle.std.proofs.lemmas.List.{map-set, map_push, length_push, length-map}
-use Rattle.pf_machine.specs.Refusals.{◌>>=◌, ◌>>◌, refuse_if}
-use Rattle.pf_machine.specs.FileMap.{Files}
-use Rattle.pf_base.specs.Limits.{Limits}
-use Rattle.pf_frame.specs.Live.{Live}
-use Rattle.pf_ring.specs.Table.{Joined}
-use Rattle.pf_ring.specs.declared.ring.Window.{Window}
-use Rattle.pf_machine.specs.Calls.{Opening}
-use Rattle.pf_machine.specs.Numbered.{at, put_at, change_at, first_free, one_if}
+use Rattle.pf_tables.proofs.TablesShown.{shown_change, shown}
+use Rattle.pf_tables.proofs.Refusals.{both_came, not_refused}
+use Rattle.pf_tables.proofs.Common.{option_map, ◌>>=◌, ◌>>◌, refuse_if, Files, Limits, Live, Joined, Window, Opening}
+use Rattle.pf_tables.proofs.Common.{at, put_at, change_at, first_free, one_if, itself, State, Outcome, ready}
+use Rattle.pf_tables.proofs.Common.{with_descriptor, waiting, told, readers, writers, is_spent, Access, fifo_pipe}
+use Rattle.pf_tables.proofs.Common.{MAX_DESCRIPTORS, Errno, EMFILE, ENFILE, Reply, Num, UserPages, Namespace, ring_or}
+use Rattle.pf_tables.proofs.Common.{AreCharged, access_seen, before, counted, other_opens, may_open, Describes, Owns}
+use Rattle.pf_tables.proofs.Common.{ProcessRows, DescriptionRows, PipeRows, Key, Pipe, ready_in, process_of}
+use Rattle.pf_tables.proofs.Common.{description_of, pipe_of, processes_of, pipes_of, opens_of, state_of, AreFifos}
+use Rattle.pf_tables.proofs.Common.{TiedWith, Tied, Whole, Makes}
 use Rattle.pf_machine.proofs.NumberedLaws.{first_free-map}
 use Rattle.pf_machine.specs.State as machine
-use Rattle.pf_machine.specs.State.{itself, State, Outcome, ready, change_pipe, with_descriptor, waiting, told}
-use Rattle.pf_machine.specs.Counts.{readers, writers}
-use Rattle.pf_machine.specs.Pipes.{is_spent}
+use Rattle.pf_machine.specs.State.{change_pipe}
 use Rattle.pf_machine.specs.Attempts.{Waits, given, first}
 use Rattle.pf_machine.specs.Opens as opens
-use Rattle.pf_machine.specs.Opens.{Access, fifo_pipe, pipe_of as pipe_for, is_waiting}
-use Rattle.pf_base.specs.declared.TheConstants.{MAX_DESCRIPTORS}
-use Rattle.pf_base.specs.declared.errno.Errno.{Errno}
-use Rattle.pf_base.specs.declared.errno.Errno.TheVariants.{EMFILE, ENXIO, ENFILE}
-use Rattle.pf_base.specs.declared.step.Reply.{Reply}
-use Rattle.pf_base.specs.declared.step.Reply.TheVariants.{Num}
-use Rattle.pf_limits.specs.UserPages.{UserPages}
+use Rattle.pf_machine.specs.Opens.{pipe_of as pipe_for, is_waiting}
+use Rattle.pf_base.specs.declared.errno.Errno.TheVariants.{ENXIO}
 use Rattle.pf_tables.specs.declared.tables.opens.Access.{Access as Stored}
-use Rattle.pf_tables.specs.Meaning.{Namespace, ring_or, AreCharged}
-use Rattle.pf_tables.specs.Opened.{access_seen, before, counted, end_of, taking, told_at, other_opens, waits}
-use Rattle.pf_tables.specs.Opened.{lacks_readers, may_open, opening, Describes}
-use Rattle.pf_tables.specs.Owns.{Owns}
-use Rattle.pf_tables.specs.Rows.{ProcessRows, DescriptionRows, PipeRows, Key, Pipe, call_of, ready_in, process_of}
-use Rattle.pf_tables.specs.Rows.{description_of, pipe_of, processes_of, pipes_of, opens_of, state_of, AreFifos}
-use Rattle.pf_tables.specs.Rows.{TiedWith, Tied, Whole}
-use Rattle.pf_tables.specs.Tables.{Makes}
+use Rattle.pf_tables.specs.Opened.{end_of, taking, told_at, waits, lacks_readers, opening}
+use Rattle.pf_tables.specs.Rows.{call_of}
 use Rattle.pf_tables.proofs.ProcessTableReady.{readies, is_awake}
 use Rattle.pf_tables.proofs.OpensDescribe.{admitted, opener, seated_is, entered-charged, entered-fifos}
-use Rattle.pf_tables.proofs.TablesSettled.{settled}
-use Rattle.pf_tables.proofs.TablesShown.{shown}
+use Rattle.pf_tables.proofs.TablesSettled.{makes_over}
 
 -- The machine's open is refused as `may_open` is, and goes on where that goes through
 
@@ -95,22 +82,15 @@ module _ (s : State Window ℕ) (pid : ℕ) (a : Access) (file : ℕ) where
       × (nat_le MAX_DESCRIPTORS (first_free q.descriptors) ≡ false) × (is_spent s.descriptions 1 ≡ false)
 
   pub ready_is : may_open s pid a file ≡ Ok tt → Opener
-  ready_is may = by_caller (ready s pid) refl may
+  ready_is may =
+      let w = both_came (ready s pid) judge may in
+      let free = not_refused (nat_le MAX_DESCRIPTORS (first_free w.0.descriptors)) EMFILE _ w.2 in
+      let read = not_refused (lacks_readers s a file) ENXIO _ free.1 in
+      (w.0, w.1, free.0, unspent (is_spent s.descriptions 1) read.1)
     where
-      by_tests : (x y z : Bool) → (refuse_if x EMFILE >> (refuse_if y ENXIO >> refuse_if z ENFILE)) ≡ Ok tt
-          → (x ≡ false) × (z ≡ false)
-      by_tests true y z h = absurd (cc)
-      by_tests false true z h = absurd (cc)
-      by_tests false false true h = absurd (cc)
-      by_tests false false false h = (refl, refl)
-
-      by_caller : (r : Result (machine.Process ℕ) Errno) → ready s pid ≡ r → (r >>= judge) ≡ Ok tt → Opener
-      by_caller (Err e) h g = absurd (cc)
-      by_caller (Ok q) h g =
-          let w =
-          by_tests (nat_le MAX_DESCRIPTORS (first_free q.descriptors)) (lacks_readers s a file)
-          (is_spent s.descriptions 1) g in
-          (q, h, w.0, w.1)
+      unspent : (b : Bool) → refuse_if b ENFILE ≡ Ok tt → b ≡ false
+      unspent true h = absurd (cc)
+      unspent false h = refl
 
 -- a pipe keeps its ring
 ring_stays : (xs : List (Option (machine.Pipe Window))) (n : ℕ) (x y : machine.Pipe Window) → at xs n ≡ Some x
@@ -190,8 +170,8 @@ module _ (a : Stored) (k : Key) (p : Pipe) {ps : ProcessRows} {ds : DescriptionR
 
     pipes_shown : pipes_of pipes' ≡ made.pipes
     pipes_shown =
-        pipes_set ∙ ap (λ x. set s.pipes k.serial (Some x)) counted_shown
-        ∙ ap (λ o. set s.pipes k.serial (option_map (opens.counted (access_seen a)) o)) (sym there)
+        shown_change pipe_of (opens.counted (access_seen a)) pipes k.serial (k.slot, p) (k.slot, counted a p) stands
+        counted_shown
 
     seated_shown : (o : Option ℕ) → processes_of (put_at ps (pid - 1) (taking o z.k z.p)) ≡ seated o
     seated_shown None =
@@ -201,10 +181,9 @@ module _ (a : Stored) (k : Key) (p : Pipe) {ps : ProcessRows} {ds : DescriptionR
         (map-set (option_map (λ (x : Key). x.serial)) z.p.descriptors (first_free z.p.descriptors) (Some z.k)
         ∙ (λ i. put_at (process_of z.p).descriptors (sym low i) (drawn i)))
     seated_shown (Some n) =
-        map-set (option_map process_of) ps (pid - 1) (Some (taking (Some n) z.k z.p))
-        ∙ ap (λ m. put_at s.processes (pid - 1) (waiting (Some (Opening m n)) (process_of z.p))) drawn
-        ∙ ap (λ o. set s.processes (pid - 1) (option_map (waiting (Some (Opening (length s.descriptions) n))) o))
-        (sym (shown process_of ps (pid - 1) z.p (opener pipes' z awake free held)))
+        shown_change process_of (waiting (Some (Opening (length s.descriptions) n))) ps (pid - 1) z.p
+        (taking (Some n) z.k z.p) (opener pipes' z awake free held)
+        (ap (λ m. waiting (Some (Opening m n)) (process_of z.p)) drawn)
 
     shows : state_of ps' ds' pipes' files files_made ≡ outcome (before a p)
     shows i = record {
@@ -239,26 +218,15 @@ module _ (a : Stored) (k : Key) (p : Pipe) {ps : ProcessRows} {ds : DescriptionR
           → ((f : Live) → Owns f (record { limits = limits; state = of_pipes was }) → Joined f (map ring_or s.pipes))
           → Makes n (record { limits = limits; state = state_of ps' ds' pipes' files files_made })
           (opening n.limits n.state pid (access_seen a) file) reply
-      entered-makes found counts joins = record {
-        is =
-            subst (λ (m : Namespace). opening m.limits m.state pid (access_seen a) file
-            ≡ Ok (told (state_of ps' ds' pipes' files files_made) reply)) view
-            (goes (of_pipes was) pid (access_seen a) file limits
-            (subst (λ (m : Namespace). may_open m.state pid (access_seen a) file ≡ Ok tt) (sym view) may)
-            (process_of z.p) (readies ps pid z.p is)
-            ∙ ap (on (of_pipes was) pid (access_seen a) file (process_of z.p)) found
-            ∙ (λ i. tried (is_waiting (access_seen a) (counts.0 i) (counts.1 i))
-            (opens.kept_by (access_seen a) (there i)))
-            ∙ by_waiting (waits a p.readers p.writers) ∙ (λ i. Ok (told (sym shows i) (sym z.told i))));
-        limits = ap (λ (m : Namespace). m.limits) view;
-        owned = λ f owns.
-            let o : Owns f (record { limits = limits; state = of_pipes was }) = subst (Owns f) (sym view) owns in
-            record {
-              joined =
-                  subst (Joined f)
-                  (sym (ap (map ring_or) pipes_set ∙ ring_stays s.pipes k.serial (pipe_of (k.slot, p))
-                  (pipe_of (k.slot, counted a p)) there refl)) (joins f o);
-              reserve = o.reserve;
-            };
-        swept = settled files files_made tied';
-      }
+      entered-makes found counts joins =
+          makes_over tied' files files_made view refl
+          (λ f o. subst (Joined f) (sym (ap (map ring_or) pipes_set ∙ ring_stays s.pipes k.serial
+          (pipe_of (k.slot, p)) (pipe_of (k.slot, counted a p)) there refl)) (joins f o))
+          (λ m. opening m.limits m.state pid (access_seen a) file) reply
+          (goes (of_pipes was) pid (access_seen a) file limits
+          (subst (λ (m : Namespace). may_open m.state pid (access_seen a) file ≡ Ok tt) (sym view) may)
+          (process_of z.p) (readies ps pid z.p is)
+          ∙ ap (on (of_pipes was) pid (access_seen a) file (process_of z.p)) found
+          ∙ (λ i. tried (is_waiting (access_seen a) (counts.0 i) (counts.1 i))
+          (opens.kept_by (access_seen a) (there i)))
+          ∙ by_waiting (waits a p.readers p.writers) ∙ (λ i. Ok (told (sym shows i) (sym z.told i))))

@@ -2,24 +2,19 @@
 
 use Rattle.std.proofs.Common.{◌≡◌, ℕ, ◌-◌, Bool, true, false, Option, Some, None, set, if◌then◌else◌, Ok, refl, sym, ap}
 use Rattle.std.proofs.Common.{subst, ◌∙◌}
-use Rattle.std.specs.Option.{option_map, option_and_then}
 use Rattle.std.proofs.lemmas.List.{set-set}
+use Rattle.pf_tables.proofs.Refusals.{is_there}
+use Rattle.pf_tables.proofs.Common.{option_map, option_and_then, Opening, at, first_free, ◌>>=◌, itself, State, process}
+use Rattle.pf_tables.proofs.Common.{with_process, with_descriptor, waiting, told, sweep, ESRCH, Num, Window, Namespace}
+use Rattle.pf_tables.proofs.Common.{Owns, over, woken, awoken}
 use Rattle.pf_machine.specs.Attempts.{Attempt, Waits, again, given, reopened}
-use Rattle.pf_machine.specs.Calls.{Call, Opening}
+use Rattle.pf_machine.specs.Calls.{Call}
 use Rattle.pf_machine.specs.Machine.{call_of}
-use Rattle.pf_machine.specs.Numbered.{at, first_free}
 use Rattle.pf_machine.proofs.NumberedLaws.{at_within, at-put_same}
-use Rattle.pf_machine.specs.Refusals.{◌>>=◌, or_refuse}
-use Rattle.pf_machine.specs.State.{itself, State, Process, process, of_living, with_process, change_process}
-use Rattle.pf_machine.specs.State.{with_descriptor, waiting, told}
-use Rattle.pf_machine.specs.Sweep.{sweep}
-use Rattle.pf_base.specs.declared.errno.Errno.TheVariants.{ESRCH}
-use Rattle.pf_base.specs.declared.step.Reply.TheVariants.{Num, Parked}
-use Rattle.pf_ring.specs.declared.ring.Window.{Window}
-use Rattle.pf_tables.specs.Meaning.{Namespace}
+use Rattle.pf_machine.specs.State.{Process, of_living, change_process}
+use Rattle.pf_base.specs.declared.step.Reply.TheVariants.{Parked}
 use Rattle.pf_tables.specs.Opened.{IsOver, Reopens}
-use Rattle.pf_tables.specs.Owns.{Owns}
-use Rattle.pf_tables.specs.Tables.{over, woken, awoken, HasLowest}
+use Rattle.pf_tables.specs.Tables.{HasLowest}
 use Rattle.pf_tables.proofs.TablesShown.{set_same, place_in}
 
 module _ (old : Namespace) {pid : ℕ} {over_now : Bool} (w : IsOver old.state pid over_now) where
@@ -27,11 +22,7 @@ module _ (old : Namespace) {pid : ℕ} {over_now : Bool} (w : IsOver old.state p
   s = old.state
 
   opener : process s pid ≡ Some w.p
-  opener = found (process s pid) w.lives
-    where
-      found : (o : Option (Process ℕ)) → or_refuse ESRCH o ≡ Ok w.p → o ≡ Some w.p
-      found None h = absurd (cc)
-      found (Some q) h = cc
+  opener = is_there ESRCH (process s pid) w.lives
 
   place : at s.processes (pid - 1) ≡ Some w.p
   place = place_in s pid opener

@@ -2,22 +2,14 @@
 
 use Rattle.std.proofs.Common.{◌≡◌, ℕ, ◌+◌, ◌<◌, Bool, true, false, not, ◌&&◌, List, length, Result, Ok, Err, refl, sym}
 use Rattle.std.proofs.Common.{ap, ◌∙◌, arith}
-use Rattle.pf_machine.specs.FileMap.{Files}
-use Rattle.pf_machine.specs.Numbered.{one_if}
-use Rattle.pf_machine.specs.Opens.{Access, openable, open_fifo, open_path}
-use Rattle.pf_base.specs.Limits.{Limits}
-use Rattle.pf_ring.specs.declared.ring.Window.{Window}
-use Rattle.pf_machine.specs.Refusals.{◌>>=◌, ◌>>◌, refuse_if}
-use Rattle.pf_machine.specs.State.{itself, State, Process, Outcome, ready, of_ready}
-use Rattle.pf_base.specs.declared.cred.Cred.{Cred}
-use Rattle.pf_base.specs.declared.errno.Errno.{Errno}
-use Rattle.pf_base.specs.declared.errno.Errno.TheVariants.{EINVAL}
-use Rattle.pf_base.specs.declared.fault.Fault.{Fault}
+use Rattle.pf_tables.proofs.Refusals.{bind-bind}
+use Rattle.pf_tables.proofs.Common.{Files, one_if, Access, Limits, Window, ◌>>=◌, ◌>>◌, refuse_if, itself, State}
+use Rattle.pf_tables.proofs.Common.{Outcome, ready, of_ready, Cred, Errno, EINVAL, Fault, Namespace, Says}
+use Rattle.pf_machine.specs.Opens.{openable, open_fifo, open_path}
+use Rattle.pf_machine.specs.State.{Process}
 use Rattle.pf_base.specs.declared.fault.Fault.TheVariants as faults
 use Rattle.pf_base.specs.declared.meta.File.{File}
-use Rattle.pf_tables.specs.Meaning.{Namespace}
 use Rattle.pf_tables.specs.Opened.{fifo_named, opening}
-use Rattle.pf_tables.specs.Tables.{Says}
 use Rattle.pf_walk.specs.Told.{Told as Answered}
 
 -- what may be opened is opened for a side at least
@@ -42,16 +34,11 @@ module _ (c : Limits) (s : State Window ℕ) (pid : ℕ) (path : List ℕ) {a b 
   in_turn : opens b ≡ (fifo_named s pid path a >>= opening c s pid a)
   in_turn = ap opens (sym asked) ∙ by_caller (ready s pid)
     where
-      by_file : (p : Process ℕ) (r : Result File Errno)
-          → (r >>= (λ x. go_on p x.number)) ≡ ((r >>= (λ x. Ok x.number)) >>= go_on p)
-      by_file p (Ok x) = refl
-      by_file p (Err e) = refl
-
       by_caller : (r : Result (Process ℕ) Errno)
           → (r >>= (λ p. openable s.files p.cred path a >>= (λ x. go_on p x.number)))
           ≡ ((r >>= (λ p. openable s.files p.cred path a >>= (λ x. Ok x.number)))
           >>= (λ file. r >>= (λ p. go_on p file)))
-      by_caller (Ok p) = by_file p (openable s.files p.cred path a)
+      by_caller (Ok p) = bind-bind (openable s.files p.cred path a) (λ x. Ok x.number) (go_on p)
       by_caller (Err e) = refl
 
   -- it was not found, or may not be opened

@@ -1,38 +1,24 @@
 -- Whether a FIFO may be opened, whether an open is over, and what its description is.
 
-use Rattle.std.proofs.Common.{◌≡◌, ℕ, ◌-◌, ◌^◌, ◌<◌, ◌≤◌, Bool, true, false, length, Option, Some, None, Result, Ok}
-use Rattle.std.proofs.Common.{Err, nat_lt, nat_le, refl, sym, ap, subst, ◌∙◌, arith}
-use Rattle.std.specs.Option.{option_map, option_and_then}
+use Rattle.std.proofs.lemmas.Option.{option_and_then_some}
+use Rattle.std.proofs.Common.{◌≡◌, ℕ, ◌-◌, ◌^◌, ◌<◌, ◌≤◌, Bool, true, false, length, Some, None, Result, Ok, Err}
+use Rattle.std.proofs.Common.{nat_lt, nat_le, refl, sym, ap, subst, ◌∙◌, arith}
 use Rattle.std.proofs.lemmas.Bool.Decides.{nat_tests}
 use Rattle.std.proofs.lemmas.List.{length-map}
-use Rattle.pf_machine.specs.Refusals.{◌>>=◌, ◌>>◌, refuse_if, or_refuse}
-use Rattle.pf_machine.specs.FileMap.{Files}
-use Rattle.pf_base.specs.Limits.{Limits}
-use Rattle.pf_base.specs.Capacities.{new_capacity, told_as}
-use Rattle.pf_machine.specs.Numbered.{at, first_free}
+use Rattle.pf_tables.proofs.Common.{option_map, ◌>>=◌, ◌>>◌, refuse_if, or_refuse, Files, Limits, told_as, at}
+use Rattle.pf_tables.proofs.Common.{first_free, Access, is_privileged, capacity_for, is_spent, Window, total, itself}
+use Rattle.pf_tables.proofs.Common.{State, ready, end_at, MAX_DESCRIPTORS, Errno, EMFILE, ENFILE, EBADF, ESRCH, Fault}
+use Rattle.pf_tables.proofs.Common.{value_of, find, UserPages, charged_to, Open, Namespace, may_open, other_opens}
+use Rattle.pf_tables.proofs.Common.{ProcessRows, DescriptionRows, PipeRows, Key, Process, Description, Pipe, process_in}
+use Rattle.pf_tables.proofs.Common.{ready_in, process_of, description_of, pipe_of, state_of, Kept}
+use Rattle.pf_base.specs.Capacities.{new_capacity}
 use Rattle.pf_machine.proofs.NumberedLaws.{first_free-map}
-use Rattle.pf_machine.specs.Opens.{Access}
 use Rattle.pf_machine.specs.Attempts.{open_told}
-use Rattle.pf_base.specs.Permissions.{is_privileged}
-use Rattle.pf_machine.specs.Pipes.{capacity_for, is_spent}
-use Rattle.pf_ring.specs.declared.ring.Window.{Window}
-use Rattle.pf_machine.specs.Counts.{total}
-use Rattle.pf_machine.specs.State.{itself, State, ready, end_at}
-use Rattle.pf_base.specs.declared.TheConstants.{MAX_DESCRIPTORS}
-use Rattle.pf_base.specs.declared.errno.Errno.{Errno}
-use Rattle.pf_base.specs.declared.errno.Errno.TheVariants.{EMFILE, ENFILE, ENXIO, ENOMEM, EBADF, ESRCH}
-use Rattle.pf_base.specs.declared.fault.Fault.{Fault}
+use Rattle.pf_base.specs.declared.errno.Errno.TheVariants.{ENXIO, ENOMEM}
 use Rattle.pf_base.specs.declared.fault.Fault.TheVariants as faults
 use Rattle.pf_walk.specs.Told.{Told as Answered}
-use Rattle.pf_fds.specs.Descriptions.{value_of}
-use Rattle.pf_fds.specs.Registry.{find}
-use Rattle.pf_limits.specs.UserPages.{UserPages, charged_to}
-use Rattle.pf_parked.specs.declared.call.Call.TheVariants.{Open}
-use Rattle.pf_tables.specs.Meaning.{Namespace}
-use Rattle.pf_tables.specs.Opened.{lacks_readers, may_open, fifo_capacity, other_opens, IsOver}
-use Rattle.pf_tables.specs.Rows.{ProcessRows, DescriptionRows, PipeRows, Key, Process, Description, Pipe, call_of}
-use Rattle.pf_tables.specs.Rows.{call_in, process_at, process_in, ready_in, process_of, description_of, pipe_of}
-use Rattle.pf_tables.specs.Rows.{state_of, Kept}
+use Rattle.pf_tables.specs.Opened.{lacks_readers, fifo_capacity, IsOver}
+use Rattle.pf_tables.specs.Rows.{call_of, call_in, process_at}
 use Rattle.pf_tables.proofs.ProcessTableReady.{shown_in, readies, living_shown, place_of}
 use Rattle.pf_tables.proofs.Ends.{as_kept, end_of_rows, key_end, open_finds, open_reaches, seen_as_kept}
 
@@ -123,13 +109,9 @@ module _ {files : Files} {files_made : ℕ} {charges : UserPages} {limits : Limi
   -- Whether an open is over
   module _ (d : Key) (before : ℕ) (waits : call_in ps pid ≡ Some (Open d before)) where
     sleeper : (p : Process) × (process_in ps pid ≡ Ok p) × (p.parked ≡ Some (Open d before))
-    sleeper = by_row (process_at ps pid) refl waits
-      where
-        by_row : (o : Option Process) → process_at ps pid ≡ o
-            → option_and_then (λ (p : Process). p.parked) o ≡ Some (Open d before)
-            → (p : Process) × (process_in ps pid ≡ Ok p) × (p.parked ≡ Some (Open d before))
-        by_row None h g = absurd (cc)
-        by_row (Some p) h g = (p, ap (or_refuse ESRCH) h, g)
+    sleeper =
+        option_and_then_some (λ (p : Process). p.parked) (process_at ps pid) (Open d before) waits
+        (λ p h g. (p, ap (or_refuse ESRCH) h, g))
 
     place : at ps (pid - 1) ≡ Some sleeper.0
     place = place_of ps pid sleeper.0 sleeper.1

@@ -1,31 +1,23 @@
 -- How a namespace's frames and its rings stay together when a ring changes, a pipe comes and a pipe goes.
 
-use Rattle.std.proofs.Common.{◌≡◌, ℕ, ◌+◌, ◌<◌, ◌≤◌, List, [], ◌∷◌, ◌++◌, length, map, refl, ap, sym, ◌∙◌, subst}
-use Rattle.std.proofs.Common.{arith, set, ◌-◌, nat_eq, if◌then◌else◌}
+use Rattle.std.proofs.Common.{◌≡◌, ℕ, ◌+◌, ◌<◌, ◌≤◌, List, [], ◌∷◌, ◌++◌, length, map, refl, ap, sym, ◌∙◌, subst, arith}
+use Rattle.std.proofs.Common.{set, ◌-◌, nat_eq, if◌then◌else◌}
 use Rattle.std.specs.Prelude.{Option, Some, None}
-use Rattle.std.specs.List.{sum_by}
 use Rattle.std.proofs.lemmas.List.{set-set, get_or-set_same, length-map, map-set, map_push}
-use Rattle.std.specs.Option.{option_map}
 use Rattle.std.proofs.lemmas.List.Sums.{sum_by-cons}
-use Rattle.pf_base.specs.Limits.{Limits}
-use Rattle.pf_machine.specs.Queue.{empty, bytes_of}
-use Rattle.pf_machine.specs.Numbered.{at, clear_at, sum_of, weight}
+use Rattle.pf_tables.proofs.Common.{sum_by, option_map, Limits, empty, bytes_of, at, clear_at, sum_of, weight, State}
+use Rattle.pf_tables.proofs.Common.{with_queue, Live, IsSound, UserPages, Ring, queue_of, reach, limit, Keeps, Stands}
+use Rattle.pf_tables.proofs.Common.{Window, Joined, ring_at, slots_of, slots_used, Namespace, ring_or, rings_of, pages}
+use Rattle.pf_tables.proofs.Common.{Charged, occupied, Owns}
 use Rattle.pf_machine.proofs.NumberedLaws.{at_within, sum_of-set, sum_of-le}
-use Rattle.pf_machine.specs.State.{State, Pipe, opening, with_queue, holding}
-use Rattle.pf_frame.specs.Live.{Live, IsSound}
+use Rattle.pf_machine.specs.State.{Pipe, opening, holding}
 use Rattle.pf_limits.specs.Sums.{AreSumsOf}
-use Rattle.pf_limits.specs.UserPages.{UserPages}
 use Rattle.pf_limits.proofs.SumLaws.{kept}
-use Rattle.pf_ring.specs.Ring.{Ring, queue_of, no_ring}
-use Rattle.pf_ring.specs.Windows.{reach, limit, Keeps, Stands}
-use Rattle.pf_ring.specs.declared.ring.Window.{Window}
-use Rattle.pf_ring.specs.Table.{Joined, ring_at, slots_of, slots_used}
+use Rattle.pf_ring.specs.Ring.{no_ring}
 use Rattle.pf_ring.proofs.TableLaws.{joined_after, queue_stays, joined_pushed, joined_cleared, joined_nothing}
 use Rattle.pf_ring.proofs.TableLaws.{ring_stands, credits_for, held_le_used, none_held_bytes}
-use Rattle.pf_tables.specs.Meaning.{Namespace, ring_or, rings_of, pages, Charged, occupied}
 use Rattle.pf_tables.specs.Meaning.{AreEmpty}
 use Rattle.pf_tables.proofs.MeaningLaws.{Others, others_stay, ring_at-rings}
-use Rattle.pf_tables.specs.Owns.{Owns}
 use Rattle.pf_tables.specs.Recharging.{Recharges}
 
 -- the ring of a pipe that is there
@@ -123,28 +115,14 @@ pub recharged : (old new : UserPages) (s : State Window ℕ) (n : ℕ) (p : Pipe
 recharged old new s n p r there re is =
     let q : Option (Pipe Window) = option_map (holding r) (at s.pipes n) in
     let after : q ≡ Some (holding r p) = ap (option_map (holding r)) there in
+    let l = at_within s.pipes n p there in
     record {
       users = λ u.
           let h : Pipe Window → ℕ = λ (x : Pipe Window). if nat_eq x.owner u then x.queue.capacity else 0 in
-          omega (
-            arith,
-            re.users u,
-            is.users u,
-            sum_of-set h s.pipes n q (at_within s.pipes n p there),
-            ap (weight h)
-                there,
-            ap (weight h) after,
-          );
+          omega (arith, re.users u, is.users u, sum_of-set h s.pipes n q l, ap (weight h) there, ap (weight h) after);
       total =
           let h : Pipe Window → ℕ = λ (x : Pipe Window). x.queue.capacity in
-          omega (
-            arith,
-            re.total,
-            is.total,
-            sum_of-set h s.pipes n q (at_within s.pipes n p there),
-            ap (weight h) there,
-            ap (weight h) after,
-          );
+          omega (arith, re.total, is.total, sum_of-set h s.pipes n q l, ap (weight h) there, ap (weight h) after);
     }
 
 -- nobody is charged otherwise

@@ -1,32 +1,26 @@
 -- A call is over, or begins: what the tables keep and show of it.
 
-use Rattle.std.proofs.Common.{◌≡◌, ℕ, zero, suc, ◌-◌, List, [], ◌∷◌, set, map, Option, Some, None, IsOk, Result, Ok}
-use Rattle.std.proofs.Common.{refl}
-use Rattle.std.proofs.Common.{sym, ap, subst, ◌∙◌, arith}
-use Rattle.std.specs.Option.{option_map, option_and_then}
+use Rattle.std.proofs.Common.{◌≡◌, ℕ, zero, suc, ◌-◌, List, [], ◌∷◌, set, map, Option, Some, None, IsOk, Ok, refl, sym}
+use Rattle.std.proofs.Common.{ap, subst, ◌∙◌, arith}
 use Rattle.std.proofs.lemmas.List.{map-set, set-set}
-use Rattle.pf_machine.specs.FileMap.{Files}
-use Rattle.pf_base.specs.Limits.{Limits}
-use Rattle.pf_machine.specs.Numbered.{at, put_at, change_at, first_free}
+use Rattle.pf_tables.proofs.TablesShown.{shown_change}
+use Rattle.pf_tables.proofs.Refusals.{same_ok}
+use Rattle.pf_tables.proofs.Common.{option_map, option_and_then, Files, Limits, at, put_at, change_at, first_free}
+use Rattle.pf_tables.proofs.Common.{State, ready, waiting, Window, UserPages, Open, Cross, Namespace, ProcessRows}
+use Rattle.pf_tables.proofs.Common.{DescriptionRows, PipeRows, Key, Process, made_by, keys_of, process_in, ready_in}
+use Rattle.pf_tables.proofs.Common.{process_of, state_of, TiedWith, Tied, Whole, over, woken, awoken}
 use Rattle.pf_machine.proofs.NumberedLaws.{at-map, at_within, at-put_same, at-first_free, first_free-map}
 use Rattle.pf_machine.specs.State as machine
 use Rattle.pf_machine.specs.Machine.{call_of as machine_call_of}
-use Rattle.pf_machine.specs.State.{State, living, ready, waiting}
-use Rattle.pf_ring.specs.declared.ring.Window.{Window}
-use Rattle.pf_base.specs.declared.errno.Errno.{Errno}
-use Rattle.pf_limits.specs.UserPages.{UserPages}
-use Rattle.pf_parked.specs.declared.call.Call.TheVariants.{Open, Read, Write, Cross}
-use Rattle.pf_tables.specs.Meaning.{Namespace}
+use Rattle.pf_machine.specs.State.{living}
+use Rattle.pf_parked.specs.declared.call.Call.TheVariants.{Read, Write}
 use Rattle.pf_tables.specs.Rows as rows
-use Rattle.pf_tables.specs.Rows.{ProcessRows, DescriptionRows, PipeRows, Key, Process, Call, call_of, made_by, keys_of}
-use Rattle.pf_tables.specs.Rows.{IsSpare, process_in, ready_in, process_of, processes_of}
-use Rattle.pf_tables.specs.Rows.{state_of, TiedWith, Tied, Whole}
-use Rattle.pf_tables.specs.Tables.{over, woken, awoken, HasLowest}
+use Rattle.pf_tables.specs.Rows.{Call, call_of, IsSpare}
+use Rattle.pf_tables.specs.Tables.{HasLowest}
 use Rattle.pf_tables.specs.Told.{waits_in}
 use Rattle.pf_tables.proofs.ProcessTableReady.{shown_in, found_in, living_shown, ready_shown, place_of, place_is}
 use Rattle.pf_tables.proofs.ProcessTableReady.{is_awake}
 use Rattle.pf_tables.proofs.TablesTied.{moved, put}
-use Rattle.pf_tables.proofs.TablesShown.{shown}
 
 -- Who lives for the machine lives in the tables
 
@@ -42,10 +36,9 @@ module _ {limits : Limits} (ps : ProcessRows) (ds : DescriptionRows) (pipes : Pi
   -- its lowest free descriptor
   pub lowest_shown : {p : Process} → process_in ps pid ≡ Ok p → HasLowest n.state pid (first_free p.descriptors)
   lowest_shown {p} lives q h =
-      let one : ◌≡◌ {A = Result (machine.Process ℕ) Errno} (Ok (process_of p)) (Ok q) =
-      sym (subst (λ (m : Namespace). living m.state pid ≡ Ok (process_of p)) view
-      (living_shown ps pid ∙ ap shown_in lives)) ∙ h in
-      let same : process_of p ≡ q = cc in
+      let same : process_of p ≡ q =
+      same_ok (sym (subst (λ (m : Namespace). living m.state pid ≡ Ok (process_of p)) view
+      (living_shown ps pid ∙ ap shown_in lives)) ∙ h) in
       sym (first_free-map (λ (k : Key). k.serial) p.descriptors)
       ∙ ap (λ (x : machine.Process ℕ). first_free x.descriptors) same
 
@@ -92,7 +85,7 @@ module _ (ps : ProcessRows) (ds : DescriptionRows) (pipes : PipeRows) (t : Tied 
 
   -- the call's key comes into the hand
   in_hand : TiedWith (rows.holding (made_by p.parked) []) [] (put_at ps i asleep) ds pipes
-  in_hand = moved [] [] ps ds pipes i 0 p asleep stands (omega arith) None refl t
+  in_hand = moved [] i 0 p asleep stands (omega arith) None refl t
 
   pub woken-tied : IsSpare p → Tied (put_at ps i (rows.woken p)) ds pipes
   woken-tied spare = by_call p.parked refl in_hand
@@ -106,7 +99,7 @@ module _ (ps : ProcessRows) (ds : DescriptionRows) (pipes : PipeRows) (t : Tied 
       by_call (Some (Cross crossing source sink n)) e u = u
       by_call (Some (Open key kept)) e u =
           subst (λ x. Tied x ds pipes) (set-set ps i (Some asleep) (Some (rows.over (Some (Open key kept)) p)))
-          (put [] [] (put_at ps i asleep) ds pipes i (first_free p.descriptors) asleep
+          (put i (first_free p.descriptors) asleep
           (at-put_same ps i (Some asleep) (at_within ps i p stands)) (spare key kept e) key
           (at-first_free p.descriptors) u)
 
@@ -139,10 +132,7 @@ module _ {charges : UserPages} {limits : Limits} {es : List (ℕ × Key)} {ps : 
   now_shown =
       ap (λ x. state_of x ds pipes files files_made) put_is
       ∙ ap (λ xs. record (state_of ps ds pipes files files_made) { processes = xs })
-      (map-set (option_map process_of) ps (pid - 1) (Some (rows.woken w.0))
-      ∙ ap (λ x. put_at (processes_of ps) (pid - 1) x) (woken_shown w.0)
-      ∙ ap (λ o. set (processes_of ps) (pid - 1) (option_map woken o))
-      (sym (shown process_of ps (pid - 1) w.0 stands)))
+      (shown_change process_of woken ps (pid - 1) w.0 (rows.woken w.0) stands (woken_shown w.0))
 
   pub awoken-namespace : record { limits = limits; state = state_of qs ds pipes files files_made }
       ≡ record n { state = awoken n.state pid }
@@ -183,7 +173,7 @@ module _ {charges : UserPages} {limits : Limits} {es : List (ℕ × Key)} {ps : 
         subst (λ x. Tied x ds pipes) (sym row_is)
         (subst (λ o. TiedWith (rows.holding o []) [] (put_at ps (pid - 1) q) ds pipes)
         (ap made_by (is_awake ps pid ready_row.0 ready_row.1))
-        (moved [] [] ps ds pipes (pid - 1) 0 ready_row.0 q there (omega arith) None keys_same whole.kept.tied))
+        (moved [] (pid - 1) 0 ready_row.0 q there (omega arith) None keys_same whole.kept.tied))
 
     pub parked-whole : Whole charges es qs ds pipes
     parked-whole = record { kept = record { tied = now_tied; charged = whole.kept.charged }; filed = whole.filed }
@@ -195,8 +185,5 @@ module _ {charges : UserPages} {limits : Limits} {es : List (ℕ × Key)} {ps : 
         ∙ ap (λ xs. record {
           limits = limits;
           state = record (state_of ps ds pipes files files_made) { processes = xs };
-        })
-        (map-set (option_map process_of) ps (pid - 1) (Some q)
-        ∙ ap (λ o. set (processes_of ps) (pid - 1) (option_map (waiting (Some (call_of call))) o))
-        (sym (shown process_of ps (pid - 1) ready_row.0 there)))
+        }) (shown_change process_of (waiting (Some (call_of call))) ps (pid - 1) ready_row.0 q there refl)
         ∙ ap (λ (m : Namespace). waits_in (Some (call_of call)) m pid) view

@@ -1,50 +1,37 @@
 -- A pipe is made: two descriptions and a pipe under the next numbers, and two keys at the lowest free descriptors.
 
 use Rattle.std.proofs.Common.{◌≡◌, ℕ, suc, ◌+◌, ◌-◌, ◌<◌, ◌≤◌, Bool, true, false, List, [], ◌∷◌, ◌++◌, length, set}
-use Rattle.std.proofs.Common.{Option, Some, None}
-use Rattle.std.proofs.Common.{◌||◌, Result, Ok, Err, IsOk, nat_lt, nat_le, refl, sym, ap, subst, ◌∙◌, arith}
-use Rattle.std.proofs.Common.{append_assoc}
-use Rattle.std.specs.Option.{option_map}
+use Rattle.std.proofs.Common.{Option, Some, None, ◌||◌, Result, Ok, Err, IsOk, nat_lt, nat_le, refl, sym, ap, subst}
+use Rattle.std.proofs.Common.{◌∙◌, arith, append_assoc}
 use Rattle.std.proofs.lemmas.Bool.Decides.{nat_tests}
 use Rattle.std.proofs.lemmas.List.{map-set, length-map, map_push, length_push, set-set}
 use Rattle.std.proofs.Math.Seq.{set-append_seam}
-use Rattle.pf_ring.specs.declared.ring.Window.{Window}
-use Rattle.pf_machine.specs.Refusals.{◌>>=◌, ◌>>◌, refuse_if}
-use Rattle.pf_machine.specs.FileMap.{Files}
-use Rattle.pf_base.specs.Limits.{Limits}
-use Rattle.pf_machine.specs.Numbered.{at, put_at, change_at, first_free}
+use Rattle.pf_tables.proofs.Refusals.{not_refused, same_ok}
+use Rattle.pf_tables.proofs.Common.{option_map, Window, ◌>>=◌, ◌>>◌, refuse_if, Files, at, put_at, change_at}
+use Rattle.pf_tables.proofs.Common.{first_free, told_as, is_privileged, empty, State, Outcome, ready, of_ready, told}
+use Rattle.pf_tables.proofs.Common.{is_spent, capacity_for, MAX_DESCRIPTORS, Errno, EMFILE, ENFILE, one_more, Joined}
+use Rattle.pf_tables.proofs.Common.{unopened, UserPages, charged_to, Charges, Namespace, AreCharged, rings_of}
+use Rattle.pf_tables.proofs.Common.{ProcessRows, DescriptionRows, PipeRows, Key, Process, Description, Pipe, ready_in}
+use Rattle.pf_tables.proofs.Common.{process_of, description_of, pipe_of, pipes_of, state_of, NamedRow, TiedWith, Tied}
+use Rattle.pf_tables.proofs.Common.{Kept, Named, Makes}
 use Rattle.pf_machine.proofs.NumberedLaws.{at-push_new, at_within, at-put_same, at-first_free, first_free-map}
 use Rattle.pf_machine.proofs.MapLaws.{second_free-map}
-use Rattle.pf_base.specs.Capacities.{new_capacity, told_as}
-use Rattle.pf_base.specs.Permissions.{is_privileged}
-use Rattle.pf_machine.specs.Queue.{empty}
+use Rattle.pf_base.specs.Capacities.{new_capacity}
 use Rattle.pf_machine.specs.State as machine
-use Rattle.pf_machine.specs.State.{State, Outcome, ready, of_ready, told}
-use Rattle.pf_machine.specs.Pipes.{second_free, is_spent, capacity_for, reading as machine_reading}
-use Rattle.pf_machine.specs.Pipes.{writing as machine_writing, new_pipe, with_two, opened, pipe}
-use Rattle.pf_base.specs.declared.TheConstants.{MAX_DESCRIPTORS, MAX_MADE}
-use Rattle.pf_base.specs.declared.errno.Errno.{Errno}
-use Rattle.pf_base.specs.declared.errno.Errno.TheVariants.{EMFILE, ENFILE}
+use Rattle.pf_machine.specs.Pipes.{second_free, reading as machine_reading, writing as machine_writing, new_pipe}
+use Rattle.pf_machine.specs.Pipes.{with_two, opened, pipe}
+use Rattle.pf_base.specs.declared.TheConstants.{MAX_MADE}
 use Rattle.pf_base.specs.declared.step.Reply.TheVariants.{Fds}
-use Rattle.pf_fds.specs.Descriptions.{one_more}
-use Rattle.pf_ring.specs.Table.{Joined}
-use Rattle.pf_pipe.specs.Pipe.{unopened}
-use Rattle.pf_limits.specs.UserPages.{UserPages, charged_to, Charges}
 use Rattle.pf_limits.proofs.SumLaws.{made}
-use Rattle.pf_tables.specs.Meaning.{Namespace, AreCharged, rings_of}
 use Rattle.pf_tables.proofs.OwnsLaws.{joined_opened}
-use Rattle.pf_tables.specs.Rows.{ProcessRows, DescriptionRows, PipeRows, Key, Process, Description, Pipe, ready_in}
 use Rattle.pf_tables.specs.Rows.{with_keys}
-use Rattle.pf_tables.specs.Rows.{process_of, description_of, pipe_of, pipes_of, state_of}
-use Rattle.pf_tables.specs.Rows.{NamedRow, TiedWith, Tied, Kept, Named}
-use Rattle.pf_tables.specs.Owns.{Owns}
-use Rattle.pf_tables.specs.Tables.{Makes, two_free}
+use Rattle.pf_tables.specs.Tables.{two_free}
 use Rattle.pf_tables.proofs.ProcessTableReady.{readies, place_is}
 use Rattle.pf_tables.proofs.TablesTied.{finds-new, miss, once, sides, described, piped, put}
-use Rattle.pf_tables.proofs.TablesSettled.{settled}
+use Rattle.pf_tables.proofs.TablesSettled.{makes_over}
 
 -- what is in the hand has no order
-module _ (K : List Key) (E : List Description) (ps : ProcessRows) (ds : DescriptionRows) (pipes : PipeRows) where
+module _ {K : List Key} {E : List Description} {ps : ProcessRows} {ds : DescriptionRows} {pipes : PipeRows} where
   pub swapped : (j k : Key) → TiedWith (k ∷ j ∷ K) E ps ds pipes → TiedWith (j ∷ k ∷ K) E ps ds pipes
   swapped j k t = record {
     places = t.places;
@@ -97,14 +84,10 @@ module _ (xs : List (Option Key)) where
   -- which they are
   module _ (free : ℕ × ℕ) (two : Ok free ≡ two_free xs) where
     pub known : (free.0 ≡ first_free xs) × (free.1 ≡ second_free xs)
-    known = by_test (nat_le MAX_DESCRIPTORS (second_free xs)) two
-      where
-        by_test : (b : Bool) → Ok free ≡ (refuse_if b EMFILE >> Ok (first_free xs, second_free xs))
-            → (free.0 ≡ first_free xs) × (free.1 ≡ second_free xs)
-        by_test true h = absurd (cc)
-        by_test false h =
-            let same : free ≡ (first_free xs, second_free xs) = cc in
-            (ap (λ (x : ℕ × ℕ). x.0) same, ap (λ (x : ℕ × ℕ). x.1) same)
+    known =
+        let full = nat_le MAX_DESCRIPTORS (second_free xs) in
+        let same = same_ok (sym (not_refused full EMFILE (Ok (first_free xs, second_free xs)) (sym two)).1) in
+        (ap (λ (x : ℕ × ℕ). x.0) same, ap (λ (x : ℕ × ℕ). x.1) same)
 
 -- The calls that make a pipe
 
@@ -266,33 +249,24 @@ module _ {files : Files} {files_made : ℕ} {charges : UserPages} {ps : ProcessR
         let a = sides (reading m.r nonblocking) in
         let b = sides (writing m.r nonblocking) in
         let new = finds-new pipes (two_ended slots p.cred.uid) m.r m.r_is in
-        let with_pipe =
-        piped [] [] ps ds pipes m.r (two_ended slots p.cred.uid) r_ends m.r_is
+        let with_pipe = piped m.r (two_ended slots p.cred.uid) r_ends m.r_is
         ((new, omega arith), ((new, omega arith), tt))
         (λ n ne.
         let reads = miss m.r.serial n true (λ e. ne (sym e)) in
         let none = miss m.r.serial n false (λ e. ne (sym e)) in
         (omega (arith, reads, none), omega (arith, reads, none)))
         (omega (arith, a.0, b.0)) (omega (arith, a.1, b.1)) (omega arith) kept.tied in
-        let with_reading =
-        described [] (writing m.r nonblocking ∷ []) ps ds pipes1 m.j (reading m.r nonblocking) m.j_is with_pipe in
-        let with_both =
-        described (m.j ∷ []) [] ps ds1 pipes1 m.k (writing m.r nonblocking) m.k_is with_reading in
-        let with_first =
-        put (m.k ∷ []) [] ps ds2 pipes1 (pid - 1) free.0 p stands first_in m.j
-        (ap (at p.descriptors) first_is ∙ at-first_free p.descriptors)
-        (swapped [] [] ps ds2 pipes1 m.j m.k with_both) in
-        let with_second =
-        put [] [] (put_at ps (pid - 1) one) ds2 pipes1 (pid - 1) free.1 one
+        let with_reading = described m.j (reading m.r nonblocking) m.j_is with_pipe in
+        let with_both = described m.k (writing m.r nonblocking) m.k_is with_reading in
+        let with_first = put (pid - 1) free.0 p stands first_in m.j
+        (ap (at p.descriptors) first_is ∙ at-first_free p.descriptors) (swapped m.j m.k with_both) in
+        let with_second = put (pid - 1) free.1 one
         (at-put_same ps (pid - 1) (Some one) (at_within ps (pid - 1) p stands)) within m.k
         (ap (at one.descriptors) (next_is m.j) ∙ at-first_free one.descriptors) with_first in
         subst (λ x. Tied x ds2 pipes1) (set-set ps (pid - 1) (Some one) (Some both)) with_second
 
     tied_after : Tied ps' ds' pipes'
-    tied_after =
-        subst (λ x. Tied x ds' pipes') (sym processes_are)
-        (subst (λ y. Tied (put_at ps (pid - 1) both) y pipes') (sym m.named_to)
-        (subst (λ z. Tied (put_at ps (pid - 1) both) ds2 z) (sym m.piped_to) now_tied))
+    tied_after = rw (processes_are, m.named_to, m.piped_to) now_tied
 
     pub opened-kept : {charges' : UserPages} → Charges charges charges' p.cred.uid slots → Kept charges' ps' ds' pipes'
     opened-kept {charges'} more = record {
@@ -345,17 +319,10 @@ module _ {files : Files} {files_made : ℕ} {charges : UserPages} {ps : ProcessR
         → charges.total + slots ≤ charges.limits.reserve
         → Makes n (record { limits = charges'.limits; state = state_of ps' ds' pipes' files files_made }) (calls n)
         (Fds free.0 free.1)
-    makes_pipe more unspent given fits = record {
-      is = by_finds two unspent given ∙ (λ i. Ok (told (sym shown i) (Fds free.0 free.1)));
-      limits = more.limits ∙ ap (λ (o : Namespace). o.limits) view;
-      owned = λ f owns.
-          let before : Owns f (record { limits = charges.limits; state = s }) = subst (Owns f) (sym view) owns in
-          record {
-            joined =
-                subst (λ (x : State Window ℕ). Joined f (rings_of x)) (sym shown)
-                (joined_opened f s.pipes (new_pipe (empty slots) p.cred.uid None) refl before.joined
-                (omega (arith, fits, before.reserve, kept.charged.total)));
-            reserve = ap (λ (l : Limits). l.reserve) more.limits ∙ before.reserve;
-          };
-      swept = settled files files_made tied_after;
-    }
+    makes_pipe more unspent given fits =
+        makes_over tied_after files files_made view more.limits
+        (λ f before. subst (λ (x : State Window ℕ). Joined f (rings_of x)) (sym shown)
+        (joined_opened f s.pipes (new_pipe (empty slots) p.cred.uid None) refl before.joined
+        (omega (arith, fits, before.reserve, kept.charged.total))))
+        calls (Fds free.0 free.1)
+        (ap calls view ∙ by_finds two unspent given ∙ (λ i. Ok (told (sym shown i) (Fds free.0 free.1))))

@@ -1,26 +1,18 @@
 -- A pipe has another ring, after a transfer or with another size: what the tables keep then, and what their state
 -- means.
 
-use Rattle.std.proofs.Common.{◌≡◌, ℕ, ◌≤◌, List, [], set, Some, sym, ap, subst, ◌∙◌}
-use Rattle.std.specs.Option.{option_map}
-use Rattle.std.proofs.lemmas.List.{map-set}
-use Rattle.pf_ring.specs.declared.ring.Window.{Window}
-use Rattle.pf_machine.specs.FileMap.{Files}
-use Rattle.pf_machine.specs.Numbered.{at, put_at}
-use Rattle.pf_machine.specs.State.{State, with_queue, holding}
-use Rattle.pf_frame.specs.Live.{Live}
-use Rattle.pf_limits.specs.UserPages.{UserPages}
+use Rattle.std.proofs.Common.{◌≡◌, ℕ, ◌≤◌, List, Some, sym, ap, subst, ◌∙◌}
+use Rattle.pf_tables.proofs.TablesShown.{shown_change, shown, set_same}
+use Rattle.pf_tables.proofs.Common.{Window, Files, at, put_at, State, with_queue, Live, UserPages, Ring, queue_of}
+use Rattle.pf_tables.proofs.Common.{reach, limit, Keeps, Joined, ring_at, slots_used, slots_of, meaning, rings_of}
+use Rattle.pf_tables.proofs.Common.{Charged, ProcessRows, DescriptionRows, PipeRows, Key, Pipe, pipe_of, pipes_of}
+use Rattle.pf_tables.proofs.Common.{state_of, Whole}
+use Rattle.pf_machine.specs.State.{holding}
 use Rattle.pf_pipe.specs.Pipe.{SameButWindows}
-use Rattle.pf_ring.specs.Ring.{Ring, queue_of}
-use Rattle.pf_ring.specs.Windows.{reach, limit, Keeps}
-use Rattle.pf_ring.specs.Table.{Joined, ring_at, slots_used, slots_of}
-use Rattle.pf_tables.specs.Meaning.{meaning, rings_of, Charged}
-use Rattle.pf_tables.specs.Rows.{ProcessRows, DescriptionRows, PipeRows, Key, Pipe, pipe_of, pipes_of, pipe_with}
-use Rattle.pf_tables.specs.Rows.{state_of, Whole}
+use Rattle.pf_tables.specs.Rows.{pipe_with}
 use Rattle.pf_tables.proofs.Fifos.{fifos-put}
 use Rattle.pf_tables.proofs.MeaningLaws.{meaning-with_queue}
 use Rattle.pf_tables.proofs.OwnsLaws.{ring_at-pipe, others_written, joined_written, charged-with_queue}
-use Rattle.pf_tables.proofs.TablesShown.{shown, set_same}
 use Rattle.pf_tables.proofs.TablesTied.{requeued}
 
 module _ (ps : ProcessRows) (ds : DescriptionRows) (pipes : PipeRows) (files : Files) (files_made : ℕ) (k : Key)
@@ -47,9 +39,8 @@ module _ (ps : ProcessRows) (ds : DescriptionRows) (pipes : PipeRows) (files : F
         → state_of ps ds refilled files files_made ≡ with_queue s k.serial r'.ring
     shows owner opens =
         ap (λ xs. record s { pipes = xs })
-        (map-set (option_map pipe_of) pipes k.serial (Some (k.slot, r'))
-        ∙ (λ i. set (pipes_of pipes) k.serial (Some (pipe_with r'.ring (owner i) (opens i))))
-        ∙ ap (λ o. set (pipes_of pipes) k.serial (option_map (holding r'.ring) o)) (sym there))
+        (shown_change pipe_of (holding r'.ring) pipes k.serial (k.slot, r) (k.slot, r') stands
+        (λ i. pipe_with r'.ring (owner i) (opens i)))
 
     module _ (same : SameButWindows r r') where
       shows_it : state_of ps ds refilled files files_made ≡ with_queue s k.serial r'.ring
@@ -59,7 +50,7 @@ module _ (ps : ProcessRows) (ds : DescriptionRows) (pipes : PipeRows) (files : F
           → Whole charges es ps ds refilled
       refilled-whole {charges} {es} whole = record {
         kept = record {
-          tied = requeued [] [] ps ds pipes k r stands r' same.readers same.writers whole.kept.tied;
+          tied = requeued k r stands r' same.readers same.writers whole.kept.tied;
           charged =
               subst (Charged charges) (sym shows_it)
               (charged-with_queue charges s k.serial (pipe_of (k.slot, r)) r'.ring there same.capacity

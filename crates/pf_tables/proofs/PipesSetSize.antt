@@ -1,54 +1,38 @@
 -- A pipe's slots: how many they are told to be, and a pipe that gets another number of them.
 
-use Rattle.std.proofs.Common.{◌≡◌, ℕ, ◌+◌, ◌-◌, ◌*◌, ◌<◌, ◌≤◌, Bool, true, false, not, ◌&&◌, List, [], length, set}
-use Rattle.std.proofs.Common.{Option, Some, None, IsSome, is_some, Result, Ok, Err, nat_lt, refl, sym, ap, subst, ◌∙◌}
-use Rattle.std.proofs.Common.{arith}
+use Rattle.std.proofs.Common.{◌≡◌, ℕ, ◌+◌, ◌-◌, ◌*◌, ◌<◌, ◌≤◌, Bool, true, false, not, ◌&&◌, List, length, set, Option}
+use Rattle.std.proofs.Common.{Some, None, IsSome, Result, Ok, Err, nat_lt, refl, sym, ap, subst, ◌∙◌, arith}
 use Rattle.std.proofs.Common.{if◌then◌else◌, inl, inr}
-use Rattle.std.specs.Option.{option_map}
 use Rattle.std.proofs.lemmas.Bool.{lt-ltb, le-ltb, ltb-false, cases_lt}
 use Rattle.std.proofs.lemmas.List.{map-set, length-map}
-use Rattle.std.specs.List.{sum_by}
-use Rattle.pf_ring.specs.declared.ring.Window.{Window}
-use Rattle.pf_machine.specs.FileMap.{Files}
-use Rattle.pf_base.specs.Limits.{Limits}
-use Rattle.pf_base.specs.Permissions.{is_privileged}
-use Rattle.pf_machine.specs.Refusals.{◌>>=◌, ◌>>◌, refuse_if}
+use Rattle.pf_tables.proofs.Common.{option_map, sum_by, Window, Files, Limits, is_privileged, ◌>>=◌, ◌>>◌, refuse_if}
+use Rattle.pf_tables.proofs.Common.{told_as, at, put_at, itself, State, Outcome, ready, of_ready, with_queue, done}
+use Rattle.pf_tables.proofs.Common.{Errno, EINVAL, EBUSY, Reply, Num, Fault, find, Live, UserPages, charged_to, Ring}
+use Rattle.pf_tables.proofs.Common.{Joined, ring_at, slots_of, slots_used, Namespace, ring_or, rings_of, Charged, Owns}
+use Rattle.pf_tables.proofs.Common.{ProcessRows, DescriptionRows, PipeRows, Process, Description, Pipe, process_of, Key}
+use Rattle.pf_tables.proofs.Common.{pipe_of, pipes_of, state_of, ready_in, end_in, Whole, Makes, Says}
 use Rattle.pf_machine.specs.Queue.{with_capacity}
-use Rattle.pf_base.specs.Capacities.{pages_for, may_grow, told_as}
-use Rattle.pf_machine.specs.Numbered.{at, put_at}
+use Rattle.pf_base.specs.Capacities.{pages_for, may_grow}
 use Rattle.pf_base.specs.declared.capacity.LimitFault.TheVariants.{Hard, Reserve, Soft}
 use Rattle.pf_machine.proofs.NumberedLaws.{at_within}
 use Rattle.pf_machine.specs.Pipes.{may_resize, set_size, get_size}
 use Rattle.pf_machine.specs.State as machine
-use Rattle.pf_machine.specs.State.{itself, State, Outcome, ready, of_ready, end_of, with_queue, holding, done}
+use Rattle.pf_machine.specs.State.{end_of, holding}
 use Rattle.pf_base.specs.declared.TheConstants.{PAGE_SIZE, MAX_SIZE}
-use Rattle.pf_base.specs.declared.errno.Errno.{Errno}
-use Rattle.pf_base.specs.declared.errno.Errno.TheVariants.{EINVAL, EPERM, EBUSY}
-use Rattle.pf_base.specs.declared.step.Reply.{Reply}
-use Rattle.pf_base.specs.declared.step.Reply.TheVariants.{Num}
-use Rattle.pf_base.specs.declared.fault.Fault.{Fault}
+use Rattle.pf_base.specs.declared.errno.Errno.TheVariants.{EPERM}
 use Rattle.pf_base.specs.declared.fault.Fault.TheVariants as faults
-use Rattle.pf_fds.specs.Registry.{find}
-use Rattle.pf_frame.specs.Live.{Live}
-use Rattle.pf_limits.specs.UserPages.{UserPages, charged_to}
 use Rattle.pf_limits.proofs.SumLaws.{covers}
-use Rattle.pf_ring.specs.Ring.{Ring}
-use Rattle.pf_ring.specs.Table.{Joined, ring_at, slots_of, slots_used}
 use Rattle.pf_ring.proofs.TableLaws.{joined_resized}
-use Rattle.pf_tables.specs.Meaning.{Namespace, ring_or, rings_of, Charged}
-use Rattle.pf_tables.specs.Owns.{Owns}
 use Rattle.pf_tables.proofs.OwnsLaws.{slots-rings, pages-without, recharged, charged-same}
 use Rattle.pf_tables.proofs.TablesTied.{requeued}
-use Rattle.pf_tables.proofs.TablesSettled.{settled}
-use Rattle.pf_tables.specs.Rows.{ProcessRows, DescriptionRows, PipeRows, Process, Description, Pipe, process_of}
-use Rattle.pf_tables.specs.Rows.{Key, pipe_of, pipes_of, state_of, ready_in, end_in, Whole}
-use Rattle.pf_tables.specs.Tables.{Makes, Says, verdict, Resizes, Refuses, Resizing}
+use Rattle.pf_tables.proofs.TablesSettled.{settled, makes_over}
+use Rattle.pf_tables.specs.Tables.{verdict, Resizes, Refuses, Resizing}
 use Rattle.pf_tables.proofs.ProcessTableReady.{readies}
-use Rattle.pf_tables.proofs.Ends.{end_of_rows, as_kept, seen_as_kept, Found, refused, found, reaches}
+use Rattle.pf_tables.proofs.Ends.{end_of_rows, as_kept, Agree, kept_ends, pipe_there as there_is, reaches}
 use Rattle.pf_tables.proofs.Fifos.{fifos-put}
 use Rattle.pf_tables.proofs.PipesRing.{there, ring_is, same_pipes, shows}
 use Rattle.pf_tables.proofs.TablesShown.{find_at, find_was}
-use Rattle.pf_tables.proofs.Transfers.{bind-bind}
+use Rattle.pf_tables.proofs.Refusals.{bind-bind}
 
 -- what is found by the second step, where the third asks the first as well
 module _ {A B C : Type 0} (h : A → Result B Errno) (go : A → B → Result C Errno) where
@@ -81,39 +65,36 @@ module _ {charges : UserPages} {limits : Limits} {es : List (ℕ × Key)} {ps : 
   abbrev sets : ℕ → Namespace → Result (Outcome Window ℕ) Errno
   sets bytes m = of_ready m.state pid (λ p. set_size itself m.limits m.state p fd bytes)
 
-  -- the end is found at the state as it is kept
-  abbrev finds : Result (machine.End Window ℕ) Errno → State Window ℕ → Type 0
-  finds r t = (ready t pid >>= (λ p. end_of itself t p fd)) ≡ r
+  -- how the call goes on from its process and the end
+  abbrev set_at : ℕ → machine.Process ℕ → machine.End Window ℕ → Result (Outcome Window ℕ) Errno
+  set_at bytes p x =
+      refuse_if (nat_lt MAX_SIZE bytes) EINVAL
+      >> (refuse_if (not (is_privileged p.cred) && nat_lt limits.max (PAGE_SIZE * pages_for bytes)) EPERM
+      >> (may_resize limits s p.cred x.pipe (pages_for bytes)
+      >> Ok (done (with_queue s x.description.pipe (with_capacity (pages_for bytes) x.pipe.queue))
+      (PAGE_SIZE * pages_for bytes))))
 
-  no_end : (e : Errno) → end_in None ps ds pid fd ≡ Err e → finds (Err e) s
-  no_end e h =
-      subst (finds (Err e)) (seen_as_kept ps ds pipes files files_made)
-      (refused as_kept None files files_made rows.kept.tied pid fd e h)
+  -- the end is found at the state as it is kept
+  its : Agree as_kept pipes (end_in None ps ds pid fd) (ready s pid >>= (λ p. end_of itself s p fd))
+  its = kept_ends None files files_made rows.kept.tied pid fd
 
   pub no_size : {e : Errno} → end_in None ps ds pid fd ≡ Err e → gets n.state ≡ Err e
   no_size {e} h =
       subst (λ (m : Namespace). gets m.state ≡ Err e) view
       (stops (λ p. end_of itself s p fd) (λ p x. Ok (done s (PAGE_SIZE * x.pipe.queue.capacity))) (ready s pid) e
-      (no_end e h))
+      (its.refused h))
 
   pub not_sized : (bytes : ℕ) {e : Errno} → end_in None ps ds pid fd ≡ Err e → sets bytes n ≡ Err e
   not_sized bytes {e} h =
       subst (λ (m : Namespace). sets bytes m ≡ Err e) view
-      (stops (λ p. end_of itself s p fd) (λ p x. refuse_if (nat_lt MAX_SIZE bytes) EINVAL
-      >> (refuse_if (not (is_privileged p.cred) && nat_lt limits.max (PAGE_SIZE * pages_for bytes)) EPERM
-      >> (may_resize limits s p.cred x.pipe (pages_for bytes)
-      >> Ok (done (with_queue s x.description.pipe (with_capacity (pages_for bytes) x.pipe.queue))
-      (PAGE_SIZE * pages_for bytes))))) (ready s pid) e (no_end e h))
+      (stops (λ p. end_of itself s p fd) (set_at bytes) (ready s pid) e (its.refused h))
 
   module _ {d : Description} (h : end_in None ps ds pid fd ≡ Ok d) where
-    at_end : Found as_kept None ps ds pipes files files_made pid fd d
-    at_end = found as_kept None files files_made rows.kept.tied pid fd d h
-
     pub stands : (r : Pipe) × (find pipes d.pipe.slot d.pipe.serial ≡ Some r)
-    stands = (at_end.pipe, find_at pipes d.pipe.slot d.pipe.serial at_end.pipe at_end.stands)
+    stands = let w = its.found h in (w.pipe, find_at pipes d.pipe.slot d.pipe.serial w.pipe w.stands)
 
     pub pipe_there : IsSome (find pipes d.pipe.slot d.pipe.serial)
-    pipe_there = ap is_some stands.1
+    pipe_there = there_is its h
 
     module _ {r : Pipe} (handed : find pipes d.pipe.slot d.pipe.serial ≡ Some r) where
       was : at pipes d.pipe.serial ≡ Some (d.pipe.slot, r)
@@ -153,11 +134,6 @@ module _ {charges : UserPages} {limits : Limits} {es : List (ℕ × Key)} {ps : 
               state = state_of ps ds (same_rows j) files files_made;
             }) ∙ view
 
-      end_is : finds (Ok (end_of_rows as_kept d r)) s
-      end_is =
-          subst (finds (Ok (end_of_rows as_kept d r))) (seen_as_kept ps ds pipes files files_made)
-          (reaches as_kept None files files_made rows.kept.tied pid fd h handed)
-
       abbrev size_of : machine.End Window ℕ → Result (Outcome Window ℕ) Errno
       size_of x = Ok (done s (PAGE_SIZE * x.pipe.queue.capacity))
 
@@ -165,7 +141,8 @@ module _ {charges : UserPages} {limits : Limits} {es : List (ℕ × Key)} {ps : 
       tells_size size all =
           subst (λ (m : Namespace). Makes m m (gets m.state) (Num size)) view (record {
             is =
-                bind-bind (ready s pid) (λ q. end_of itself s q fd) size_of ∙ ap (λ x. x >>= size_of) end_is
+                bind-bind (ready s pid) (λ q. end_of itself s q fd) size_of
+                ∙ ap (λ x. x >>= size_of) (reaches its h handed)
                 ∙ ap (λ m. Ok (done s m)) (sym all);
             limits = refl;
             owned = λ f o. o;
@@ -189,12 +166,8 @@ module _ {charges : UserPages} {limits : Limits} {es : List (ℕ × Key)} {ps : 
         set_is : sets bytes (record { limits = limits; state = s })
             ≡ tests (nat_lt MAX_SIZE bytes) over (may (pages_for bytes))
         set_is =
-            goes (λ q. end_of itself s q fd) (λ q x. refuse_if (nat_lt MAX_SIZE bytes) EINVAL
-            >> (refuse_if (not (is_privileged q.cred) && nat_lt limits.max (PAGE_SIZE * pages_for bytes)) EPERM
-            >> (may_resize limits s q.cred x.pipe (pages_for bytes)
-            >> Ok (done (with_queue s x.description.pipe (with_capacity (pages_for bytes) x.pipe.queue))
-            (PAGE_SIZE * pages_for bytes))))) (ready s pid) (process_of p) (end_of_rows as_kept d r)
-            (readies ps pid p is) end_is
+            goes (λ q. end_of itself s q fd) (set_at bytes) (ready s pid) (process_of p) (end_of_rows as_kept d r)
+            (readies ps pid p is) (reaches its h handed)
 
         pub too_many : MAX_SIZE < bytes → sets bytes n ≡ Err EINVAL
         too_many long =
@@ -248,7 +221,7 @@ module _ {charges : UserPages} {limits : Limits} {es : List (ℕ × Key)} {ps : 
         resized-whole = record {
           kept = record {
             tied =
-                requeued [] [] ps ds pipes d.pipe r was r' (ap (λ (q : Pipe). q.readers) z.pipe)
+                requeued d.pipe r was r' (ap (λ (q : Pipe). q.readers) z.pipe)
                 (ap (λ (q : Pipe). q.writers) z.pipe) rows.kept.tied;
             charged =
                 subst (Charged charges') (sym shows_it)
@@ -288,12 +261,9 @@ module _ {charges : UserPages} {limits : Limits} {es : List (ℕ × Key)} {ps : 
                 let all : sum_by slots_of (rings_of s) ≡ charges.total =
                 slots-rings (pipes_of pipes) ∙ sym rows.kept.charged.total in
                 let own : r.ring.capacity ≤ charges.total =
-                omega (
-                  arith,
-                  rows.kept.charged.total,
-                  pages-without (pipes_of pipes) d.pipe.serial (pipe_of (d.pipe.slot, r))
-                      (there ps ds pipes files files_made d.pipe r was),
-                ) in
+                let rest = pages-without (pipes_of pipes) d.pipe.serial (pipe_of (d.pipe.slot, r))
+                (there ps ds pipes files files_made d.pipe r was) in
+                omega (arith, rows.kept.charged.total, rest) in
                 elim (cases_lt r.ring.capacity to) [
                   | inl more ↦ omega (arith, all, own, grown more, o.reserve)
                   | inr less ↦ omega (arith, less, o.joined.reserve)
@@ -304,12 +274,8 @@ module _ {charges : UserPages} {limits : Limits} {es : List (ℕ × Key)} {ps : 
                 let here : ring_at (rings_of s) d.pipe.serial ≡ r.ring =
                 ring_is ps ds pipes files files_made d.pipe r was in
                 let within : d.pipe.serial < length (rings_of s) =
-                omega (
-                  arith,
-                  length-map (pipes_of pipes) ring_or,
-                  length-map pipes (option_map pipe_of),
-                  at_within pipes d.pipe.serial (d.pipe.slot, r) was,
-                ) in
+                let l = at_within pipes d.pipe.serial (d.pipe.slot, r) was in
+                omega (arith, length-map (pipes_of pipes) ring_or, length-map pipes (option_map pipe_of), l) in
                 let joined : Joined f (set (rings_of s) d.pipe.serial ring') =
                 subst (λ (x : Ring). Joined f (set (rings_of s) d.pipe.serial (record {
                   capacity = to;
@@ -330,18 +296,8 @@ module _ {charges : UserPages} {limits : Limits} {es : List (ℕ × Key)} {ps : 
               → Makes n (record { limits = charges'.limits; state = state_of ps ds pipes' files files_made })
               (sets bytes n) (Num size)
           resized is bytes size short under slots all =
-              subst (λ (m : Namespace). Makes m (record {
-                limits = charges'.limits;
-                state = state_of ps ds pipes' files files_made;
-              }) (sets bytes m) (Num size)) view (record {
-                is =
-                    set_as p is bytes short under to slots same (Ok tt) z.may
-                    ∙ (λ j. Ok (done (with_queue s d.pipe.serial (with_capacity (sym slots j) r.ring)) (sym all j)))
-                    ∙ ap (λ t. Ok (done t size)) (sym shows_it);
-                limits = z.charges.limits ∙ sym same;
-                owned = λ f o. record {
-                  joined = resized-joined f o;
-                  reserve = ap (λ (l : Limits). l.reserve) (z.charges.limits ∙ sym same) ∙ o.reserve;
-                };
-                swept = settled files files_made resized-whole.kept.tied;
-              })
+              makes_over resized-whole.kept.tied files files_made view (z.charges.limits ∙ sym same)
+              (λ f o. resized-joined f o) (sets bytes) (Num size)
+              (set_as p is bytes short under to slots same (Ok tt) z.may
+              ∙ (λ j. Ok (done (with_queue s d.pipe.serial (with_capacity (sym slots j) r.ring)) (sym all j)))
+              ∙ ap (λ t. Ok (done t size)) (sym shows_it))

@@ -1,20 +1,16 @@
 -- A process comes with no keys, or goes with none.
 
-use Rattle.std.proofs.Common.{◌≡◌, ℕ, ◌<◌, [], length, map, subst, replicate, Option, Some, None, refl, sym, ap, ◌∙◌}
-use Rattle.std.proofs.Common.{inl, inr, arith}
-use Rattle.std.specs.Option.{option_map}
+use Rattle.std.proofs.Common.{◌≡◌, ℕ, ◌<◌, [], length, replicate, Option, Some, None, refl, sym, ap, ◌∙◌, inl, inr}
+use Rattle.std.proofs.Common.{arith}
 use Rattle.std.proofs.lemmas.Bool.{cases_lt}
-use Rattle.std.proofs.lemmas.List.{length-map, length-replicate, get_or-replicate}
-use Rattle.pf_machine.specs.FileMap.{Files, root_alone}
-use Rattle.pf_base.specs.Limits.{Limits}
-use Rattle.pf_machine.specs.Numbered.{at, put_at, clear_at, weight}
-use Rattle.pf_machine.proofs.NumberedLaws.{at-map, at_past, same_at, sum_of-none}
+use Rattle.std.proofs.lemmas.List.{length-replicate, get_or-replicate}
+use Rattle.pf_machine.proofs.MapLaws.{vacant-map}
+use Rattle.pf_tables.proofs.Common.{Files, Limits, at, put_at, clear_at, weight, MAX_PROCESSES, MAX_DESCRIPTORS}
+use Rattle.pf_tables.proofs.Common.{UserPages, AreCharged, ProcessRows, DescriptionRows, PipeRows, Process, process_of}
+use Rattle.pf_tables.proofs.Common.{pipes_of, state_of, keys_of, keys_to, names_it, Tied}
+use Rattle.pf_machine.specs.FileMap.{root_alone}
+use Rattle.pf_machine.proofs.NumberedLaws.{at_past, sum_of-none}
 use Rattle.pf_machine.specs.State.{vacant, opening}
-use Rattle.pf_base.specs.declared.TheConstants.{MAX_PROCESSES, MAX_DESCRIPTORS}
-use Rattle.pf_limits.specs.UserPages.{UserPages}
-use Rattle.pf_tables.specs.Meaning.{AreCharged}
-use Rattle.pf_tables.specs.Rows.{ProcessRows, DescriptionRows, PipeRows, Process, process_of, pipes_of, state_of}
-use Rattle.pf_tables.specs.Rows.{keys_of, keys_to, names_it, Tied}
 use Rattle.pf_tables.proofs.TablesTied.{reseated}
 
 pub vacant_at : {X : Type 0} (n k : ℕ) → at {X = X} (vacant n) k ≡ None
@@ -30,12 +26,6 @@ pub length-vacant : (X : Type 0) (n : ℕ) → length (vacant {X = X} n) ≡ n
 unfolding vacant
 length-vacant X n = length-replicate {A = Option X} n None
 
-pub map-vacant : {X Y : Type 0} (f : X → Y) (n : ℕ) → map (option_map f) (vacant n) ≡ vacant n
-map-vacant {X} {Y} f n =
-    same_at (map (option_map f) (vacant n)) (vacant n) (length-map (vacant {X =
-    X} n) (option_map f) ∙ length-vacant X n ∙ sym (length-vacant Y n))
-    (λ k. at-map f (vacant n) k ∙ ap (option_map f) (vacant_at n k) ∙ sym (vacant_at n k))
-
 -- no key in any of its places
 abbrev pub IsBare : Process → Type 0
 IsBare p = (m : ℕ) → at (keys_of p) m ≡ None
@@ -48,14 +38,14 @@ module _ (ps : ProcessRows) (ds : DescriptionRows) (pipes : PipeRows) (t : Tied 
   pub made : at ps i ≡ None → (p : Process) → IsBare p → length p.descriptors ≡ MAX_DESCRIPTORS
       → Tied (put_at ps i p) ds pipes
   made none p bare wide =
-      reseated [] [] ps ds pipes t i (omega (arith, t.places, l)) (Some p) [] (λ q e. let it : p ≡ q =
+      reseated t i (omega (arith, t.places, l)) (Some p) [] (λ q e. let it : p ≡ q =
       cc in ap (λ (x : Process). length x.descriptors) (sym it) ∙ wide)
       (λ m q k e g. let it : p ≡ q = cc in let gap = sym (ap (λ (x : Process). at (keys_of x) m) it)
       ∙ bare m in absurd (cc)) tt (λ n. omega (arith, bare_weight n p bare, ap (weight (keys_to n)) none))
 
   pub gone : (p : Process) → at ps i ≡ Some p → IsBare p → Tied (clear_at ps i) ds pipes
   gone p stands bare =
-      reseated [] [] ps ds pipes t i (omega (arith, t.places, l)) None [] (λ q e. absurd (cc))
+      reseated t i (omega (arith, t.places, l)) None [] (λ q e. absurd (cc))
       (λ m q k e g. absurd (cc)) tt (λ n. omega (arith, ap (weight (keys_to n)) stands, bare_weight n p bare))
 
 -- Nothing at all
@@ -63,22 +53,18 @@ module _ (ps : ProcessRows) (ds : DescriptionRows) (pipes : PipeRows) (t : Tied 
 module _ (ps : ProcessRows) (ds : DescriptionRows) (pipes : PipeRows) (bare : ps ≡ vacant MAX_PROCESSES)
     (none : ds ≡ []) (no_pipe : pipes ≡ []) where
   pub nothing_tied : Tied ps ds pipes
-  nothing_tied =
-      subst (λ xs. Tied xs ds pipes) (sym bare) (subst (λ ys. Tied (vacant MAX_PROCESSES) ys pipes) (sym none)
-      (subst (λ zs. Tied (vacant MAX_PROCESSES) [] zs) (sym no_pipe) nothing))
+  nothing_tied = rw (bare, none, no_pipe) nothing
     where
+      nobody : {P : Type 0} (i : ℕ) (p : Process) → at (vacant MAX_PROCESSES) i ≡ Some p → P
+      nobody i p h = let gap = vacant_at {X = Process} MAX_PROCESSES i in absurd (cc)
+
       nothing : Tied (vacant MAX_PROCESSES) [] []
       nothing = record {
         places = length-vacant Process MAX_PROCESSES;
-        wide = λ i p h. let gap = vacant_at {X = Process} MAX_PROCESSES i in absurd (cc);
-        finds = λ i m p k h g. let gap = vacant_at {X = Process} MAX_PROCESSES i in absurd (cc);
+        wide = λ i p h. nobody i p h;
+        finds = λ i m p k h g. nobody i p h;
         in_hand = tt;
-        names =
-            λ n. omega (
-              arith,
-              sum_of-none (keys_to n) (vacant MAX_PROCESSES)
-                  (λ i p h. let gap = vacant_at {X = Process} MAX_PROCESSES i in absurd (cc)),
-            );
+        names = λ n. omega (arith, sum_of-none (keys_to n) (vacant MAX_PROCESSES) (λ i p h. nobody i p h));
         is_end = λ n e h. absurd (cc);
         ends_in_hand = tt;
         uses = λ n. (refl, refl);
@@ -87,15 +73,10 @@ module _ (ps : ProcessRows) (ds : DescriptionRows) (pipes : PipeRows) (bare : ps
   -- nobody is charged
   pub nothing_charged : (limits : Limits) (u : UserPages) → u ≡ record { limits = limits; users = []; total = 0 }
       → AreCharged u (pipes_of pipes)
-  nothing_charged limits u is =
-      subst (λ (v : UserPages). AreCharged v (pipes_of pipes)) (sym is)
-      (subst (λ (xs : PipeRows). AreCharged (record { limits = limits; users = []; total = 0 }) (pipes_of xs))
-      (sym no_pipe) (record { users = λ w. refl; total = refl }))
+  nothing_charged limits u is = rw (is, no_pipe) (record { users = λ w. refl; total = refl })
 
   pub nothing_shown : {files : Files} → files ≡ root_alone → state_of ps ds pipes files 0 ≡ opening
-  nothing_shown {files} alone =
-      ap (λ xs. state_of xs ds pipes files 0) bare ∙ ap (λ ys. state_of (vacant MAX_PROCESSES) ys pipes files 0) none
-      ∙ ap (λ zs. state_of (vacant MAX_PROCESSES) [] zs files 0) no_pipe
-      ∙ ap (λ fs. state_of (vacant MAX_PROCESSES) [] [] fs 0) alone
+  nothing_shown alone =
+      (λ i. state_of (bare i) (none i) (no_pipe i) (alone i) 0)
       ∙ ap (λ xs. record { processes = xs; descriptions = []; pipes = []; files = root_alone; files_made = 0 })
-      (map-vacant process_of MAX_PROCESSES)
+      (vacant-map process_of MAX_PROCESSES)

@@ -1,22 +1,20 @@
 -- Who makes a step, as the tables find it and as the machine does.
 
-use Rattle.std.proofs.Common.{◌≡◌, ℕ, zero, suc, ◌-◌, Bool, true, false, Option, Some, None, is_some, IsOk, Result, Ok}
-use Rattle.std.proofs.Common.{Err, refl, sym, ap, ◌∙◌, arith}
-use Rattle.std.specs.Option.{option_map}
-use Rattle.pf_machine.specs.Refusals.{◌>>=◌, ◌>>◌, refuse_if, or_refuse}
-use Rattle.pf_machine.specs.Numbered.{at}
+use Rattle.std.proofs.Common.{◌≡◌, ℕ, zero, suc, ◌-◌, Option, Some, None, is_some, IsOk, Result, Ok, Err, refl, sym, ap}
+use Rattle.std.proofs.Common.{◌∙◌, arith}
+use Rattle.pf_machine.proofs.MapLaws.{or_refuse-as, bind-as}
+use Rattle.pf_machine.specs.Maps.{if_ok}
+use Rattle.pf_tables.proofs.Refusals.{both_came, not_refused, is_there, same_ok, is_none}
+use Rattle.pf_tables.proofs.Common.{option_map, ◌>>=◌, ◌>>◌, refuse_if, or_refuse, at, Errno, ESRCH, EBUSY, ProcessRows}
+use Rattle.pf_tables.proofs.Common.{Key, Process, process_of, processes_of, process_in, ready_in}
 use Rattle.pf_machine.proofs.NumberedLaws.{at-map}
 use Rattle.pf_machine.specs.State as machine
 use Rattle.pf_machine.specs.State.{living_in}
-use Rattle.pf_base.specs.declared.errno.Errno.{Errno}
-use Rattle.pf_base.specs.declared.errno.Errno.TheVariants.{ESRCH, EBUSY}
-use Rattle.pf_tables.specs.Rows.{ProcessRows, Key, Process, Call, call_of, process_of, processes_of, process_in, awake}
-use Rattle.pf_tables.specs.Rows.{ready_in}
+use Rattle.pf_tables.specs.Rows.{Call, call_of, awake}
 
 -- a process with what the machine sees of it
 abbrev pub shown_in : Result Process Errno → Result (machine.Process ℕ) Errno
-shown_in (Ok p) = Ok (process_of p)
-shown_in (Err e) = Err e
+shown_in r = if_ok process_of r
 
 pub found_in : (r : Result Process Errno) → IsOk (shown_in r) → (p : Process) × (r ≡ Ok p)
 found_in (Ok p) h = (p, refl)
@@ -38,20 +36,14 @@ module _ (ps : ProcessRows) (pid : ℕ) where
   pub living_shown : living_in (processes_of ps) pid ≡ shown_in (process_in ps pid)
   living_shown = by_pid pid
     where
-      same : (o : Option Process) → or_refuse ESRCH (option_map process_of o) ≡ shown_in (or_refuse ESRCH o)
-      same None = refl
-      same (Some p) = refl
-
       by_pid : (n : ℕ) → living_in (processes_of ps) n ≡ shown_in (process_in ps n)
       by_pid zero = refl
-      by_pid (suc i) = ap (or_refuse ESRCH) (at-map process_of ps i) ∙ same (at ps i)
+      by_pid (suc i) = ap (or_refuse ESRCH) (at-map process_of ps i) ∙ or_refuse-as process_of ESRCH (at ps i)
 
   pub ready_shown : machine.ready_in (processes_of ps) pid ≡ shown_in (ready_in ps pid)
-  ready_shown = ap (λ r. r >>= machine_awake) living_shown ∙ by_row (process_in ps pid)
-    where
-      by_row : (r : Result Process Errno) → (shown_in r >>= machine_awake) ≡ shown_in (r >>= awake)
-      by_row (Err e) = refl
-      by_row (Ok p) = awake_shown p
+  ready_shown =
+      ap (λ r. r >>= machine_awake) living_shown
+      ∙ bind-as process_of process_of (process_in ps pid) awake machine_awake awake_shown
 
   pub lives : (p : Process) → process_in ps pid ≡ Ok p → living_in (processes_of ps) pid ≡ Ok (process_of p)
   lives p h = living_shown ∙ ap shown_in h
@@ -64,41 +56,20 @@ module _ (ps : ProcessRows) (pid : ℕ) where
 
 -- who is ready lives
 pub is_living : (ps : ProcessRows) (pid : ℕ) (p : Process) → ready_in ps pid ≡ Ok p → process_in ps pid ≡ Ok p
-is_living ps pid p h = by_row (process_in ps pid) h
-  where
-    by_call : (q : Process) (b : Bool) → (refuse_if b EBUSY >> Ok q) ≡ Ok p
-        → ◌≡◌ {A = Result Process Errno} (Ok q) (Ok p)
-    by_call q true g = absurd (cc)
-    by_call q false g = g
-
-    by_row : (r : Result Process Errno) → (r >>= awake) ≡ Ok p → r ≡ Ok p
-    by_row (Err e) g = absurd (cc)
-    by_row (Ok q) g = by_call q (is_some q.parked) g
+is_living ps pid p h =
+    let w = both_came (process_in ps pid) awake h in w.1 ∙ (not_refused (is_some w.0.parked) EBUSY (Ok w.0) w.2).1
 
 -- its place is one below its pid
 pub place_of : (ps : ProcessRows) (pid : ℕ) (p : Process) → process_in ps pid ≡ Ok p → at ps (pid - 1) ≡ Some p
-place_of ps pid p h = by_pid pid h
-  where
-    found : (o : Option Process) → or_refuse ESRCH o ≡ Ok p → o ≡ Some p
-    found None g = absurd (cc)
-    found (Some q) g = cc
-
-    by_pid : (n : ℕ) → process_in ps n ≡ Ok p → at ps (n - 1) ≡ Some p
-    by_pid zero g = absurd (cc)
-    by_pid (suc i) g = let same : suc i - 1 ≡ i = omega arith in ap (at ps) same ∙ found (at ps i) g
+place_of ps zero p h = absurd (cc)
+place_of ps (suc i) p h = let same : suc i - 1 ≡ i = omega arith in ap (at ps) same ∙ is_there ESRCH (at ps i) h
 
 pub place_is : (ps : ProcessRows) (pid : ℕ) (p : Process) → ready_in ps pid ≡ Ok p → at ps (pid - 1) ≡ Some p
 place_is ps pid p h = place_of ps pid p (is_living ps pid p h)
 
 -- and it waits in no call
 pub is_awake : (ps : ProcessRows) (pid : ℕ) (p : Process) → ready_in ps pid ≡ Ok p → p.parked ≡ None
-is_awake ps pid p h = by_row (process_in ps pid) h
-  where
-    by_call : (q : Process) (o : Option (Call Key)) → q.parked ≡ o → (refuse_if (is_some o) EBUSY >> Ok q) ≡ Ok p
-        → p.parked ≡ None
-    by_call q None e g = let same : q ≡ p = cc in ap (λ (x : Process). x.parked) (sym same) ∙ e
-    by_call q (Some call) e g = absurd (cc)
-
-    by_row : (r : Result Process Errno) → (r >>= awake) ≡ Ok p → p.parked ≡ None
-    by_row (Err e) g = absurd (cc)
-    by_row (Ok q) g = by_call q q.parked refl g
+is_awake ps pid p h =
+    let w = both_came (process_in ps pid) awake h in
+    let came = not_refused (is_some w.0.parked) EBUSY (Ok w.0) w.2 in
+    ap (λ (q : Process). q.parked) (sym (same_ok came.1)) ∙ is_none w.0.parked came.0

@@ -2,15 +2,15 @@
 
 use Rattle.std.proofs.Common.{◌≡◌, ℕ, suc, Bool, false, List, [], ◌∷◌, length, Option, Some, None, nat_lt}
 use Rattle.std.proofs.Common.{if◌then◌else◌, refl, ap, ◌∙◌, arith}
-use Rattle.pf_machine.specs.Numbered.{weight, sum_of, keep_from, keep}
+use Rattle.pf_tables.proofs.Common.{weight, sum_of, itself, State, ends, sweep, Namespace, occupied, Process}
+use Rattle.pf_tables.proofs.Common.{ProcessRows, process_of, processes_of}
+use Rattle.pf_machine.specs.Numbered.{keep_from, keep}
 use Rattle.pf_machine.proofs.NumberedLaws.{sum_of-map}
-use Rattle.pf_machine.specs.State.{itself, State, Pipe}
-use Rattle.pf_machine.specs.Counts.{names, ends}
+use Rattle.pf_machine.specs.State.{Pipe}
+use Rattle.pf_machine.specs.Counts.{names}
 use Rattle.pf_machine.specs.Processes.{alive}
-use Rattle.pf_machine.specs.Sweep.{live_descriptions, sweep}
-use Rattle.pf_tables.specs.Meaning.{Namespace, occupied}
+use Rattle.pf_machine.specs.Sweep.{live_descriptions}
 use Rattle.pf_tables.specs.Held.{HoldsNone}
-use Rattle.pf_tables.specs.Rows.{Process, ProcessRows, process_of, processes_of}
 use Rattle.pf_tables.proofs.OwnsLaws.{held_occupied}
 
 -- those that live in the rows are those that live for the machine

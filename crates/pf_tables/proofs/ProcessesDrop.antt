@@ -2,23 +2,16 @@
 
 use Rattle.std.proofs.Common.{◌≡◌, ℕ, zero, suc, ◌-◌, ◌<◌, ◌≤◌, Option, Some, None, Ok, Err, refl, ap, sym, ◌∙◌, subst}
 use Rattle.std.proofs.Common.{inl, inr, arith}
-use Rattle.std.specs.Option.{option_map}
 use Rattle.std.proofs.lemmas.Bool.{cases_lt}
-use Rattle.pf_machine.specs.Calls.{Call, Opening, Moving}
-use Rattle.pf_machine.specs.FileMap.{Files}
-use Rattle.pf_machine.specs.Numbered.{at}
+use Rattle.pf_tables.proofs.Common.{option_map, Opening, Files, at, itself, ◌>>=◌, sweep, Limits, MAX_DESCRIPTORS}
+use Rattle.pf_tables.proofs.Common.{Errno, Namespace, ProcessRows, DescriptionRows, PipeRows, process_of, state_of}
+use Rattle.pf_tables.proofs.Common.{process_in, over, woken, awoken}
+use Rattle.pf_machine.specs.Calls.{Call, Moving}
 use Rattle.pf_machine.proofs.NumberedLaws.{at_within, at-put_same}
-use Rattle.pf_machine.specs.State.{itself, Process, living, of_living}
+use Rattle.pf_machine.specs.State.{Process, living, of_living}
 use Rattle.pf_machine.specs.Processes.{exit}
-use Rattle.pf_machine.specs.Refusals.{◌>>=◌}
-use Rattle.pf_machine.specs.Sweep.{sweep}
-use Rattle.pf_base.specs.Limits.{Limits}
-use Rattle.pf_base.specs.declared.TheConstants.{MAX_DESCRIPTORS}
-use Rattle.pf_base.specs.declared.errno.Errno.{Errno}
-use Rattle.pf_tables.specs.Meaning.{Namespace}
 use Rattle.pf_tables.specs.Rows as rows
-use Rattle.pf_tables.specs.Rows.{ProcessRows, DescriptionRows, PipeRows, process_of, state_of, process_in}
-use Rattle.pf_tables.specs.Tables.{over, woken, awoken, Begun}
+use Rattle.pf_tables.specs.Tables.{Begun}
 use Rattle.pf_tables.proofs.ProcessTableReady.{lives, lives_not, place_of}
 use Rattle.pf_tables.proofs.TablesShown.{shown}
 

@@ -4,30 +4,20 @@
 use Rattle.std.proofs.Common.{◌≡◌, ℕ, zero, suc, ◌+◌, ◌-◌, ◌^◌, ◌<◌, ◌≤◌, Bool, true, false, nat_le, List, [], ◌∷◌}
 use Rattle.std.proofs.Common.{length, map, Option, Some, None, IsSome, is_some, Result, Ok, Err, refl, sym, ap, subst}
 use Rattle.std.proofs.Common.{◌∙◌, arith, length-set}
-use Rattle.std.specs.Option.{option_map}
 use Rattle.std.proofs.lemmas.Bool.Decides.{nat_tests}
 use Rattle.std.proofs.lemmas.List.{map-set}
-use Rattle.pf_machine.specs.FileMap.{Files}
-use Rattle.pf_base.specs.Limits.{Limits}
-use Rattle.pf_machine.specs.Numbered.{at, put_at, change_at, first_free, sum_of, weight}
+use Rattle.pf_tables.proofs.Refusals.{same_some}
+use Rattle.pf_tables.proofs.Common.{option_map, Files, Limits, at, put_at, change_at, first_free, sum_of, weight, ◌>>=◌}
+use Rattle.pf_tables.proofs.Common.{◌>>◌, refuse_if, State, Outcome, of_ready, with_process, told, MAX_PROCESSES, Errno}
+use Rattle.pf_tables.proofs.Common.{names_of, one_more, find, UserPages, Window, Namespace, ProcessRows}
+use Rattle.pf_tables.proofs.Common.{DescriptionRows, PipeRows, Key, Named, Process, Description, ready_in, made_by}
+use Rattle.pf_tables.proofs.Common.{keys_of, keys_to, names_it, held, process_of, description_of, processes_of}
+use Rattle.pf_tables.proofs.Common.{descriptions_of, pipes_of, state_of, with_first_names, TiedWith, Tied, Kept, Makes}
 use Rattle.pf_machine.proofs.NumberedLaws.{at-map, at_within, at-first_free, first_free-map}
-use Rattle.pf_machine.specs.Refusals.{◌>>=◌, ◌>>◌, refuse_if}
 use Rattle.pf_machine.specs.Processes.{fork}
-use Rattle.pf_machine.specs.State.{State, Outcome, of_ready, with_process, told}
-use Rattle.pf_base.specs.declared.TheConstants.{MAX_PROCESSES, MAX_DESCRIPTORS}
-use Rattle.pf_base.specs.declared.errno.Errno.{Errno}
 use Rattle.pf_base.specs.declared.errno.Errno.TheVariants.{EAGAIN}
 use Rattle.pf_base.specs.declared.step.Reply.TheVariants.{Pid}
-use Rattle.pf_fds.specs.Descriptions.{names_of, one_more}
-use Rattle.pf_fds.specs.Registry.{find}
-use Rattle.pf_limits.specs.UserPages.{UserPages}
-use Rattle.pf_ring.specs.declared.ring.Window.{Window}
-use Rattle.pf_tables.specs.Meaning.{Namespace}
-use Rattle.pf_tables.specs.Rows.{ProcessRows, DescriptionRows, PipeRows, Key, Named, Process, Description, ready_in}
-use Rattle.pf_tables.specs.Rows.{made_by, keys_of, keys_to, names_it, held, holding, process_of, description_of}
-use Rattle.pf_tables.specs.Rows.{processes_of, descriptions_of, pipes_of, state_of, Finds, AllFind, AreFew, with_name}
-use Rattle.pf_tables.specs.Rows.{with_first_names, named_once_more, TiedWith, Tied, Kept}
-use Rattle.pf_tables.specs.Tables.{Makes}
+use Rattle.pf_tables.specs.Rows.{holding, Finds, AllFind, AreFew, with_name, named_once_more}
 use Rattle.pf_tables.proofs.ProcessTableReady.{readies, place_is, is_awake}
 use Rattle.pf_tables.proofs.TablesTied.{finds, by_set, held-holding, reseated}
 use Rattle.pf_tables.proofs.DescriptorsDup.{few_names, named_row, named_again}
@@ -116,15 +106,10 @@ module _ (ks : List (Option Key)) (ds : DescriptionRows) (all : AllFind ks ds) (
       by_key None g so_far = λ m e h. omega (arith, so_far m e h)
       by_key (Some k) g so_far =
           let r = finds (with_first_names n ks ds) k (still_finds n ks ds k (all n k g)) in
+          let more = record r.0 { names = r.0.names + 1 } in
           λ m e h. by_set (λ _ x. x ≡ Some e → e.1.names ≤ 65792 + suc n) (with_first_names n ks ds) k.serial
-          (Some (
-            k.slot,
-            record r.0 {
-              names = r.0.names + 1;
-            },
-          )) (at_within (with_first_names n ks ds) k.serial (k.slot, r.0) r.1)
-          (λ i. let it : ◌≡◌ {A = Row} (k.slot, record r.0 { names = r.0.names + 1 }) e = cc in
-          omega (arith, ap (λ (x : Row). x.1.names) it, so_far k.serial (k.slot, r.0) r.1))
+          (Some (k.slot, more)) (at_within (with_first_names n ks ds) k.serial (k.slot, r.0) r.1)
+          (λ i. omega (arith, ap (λ (x : Row). x.1.names) (same_some i), so_far k.serial (k.slot, r.0) r.1))
           (λ j _ i. omega (arith, so_far j e i)) m (sym
           (ap (λ xs. at xs m) (named_row (with_first_names n ks ds) k r.0 r.1)) ∙ h)
 
@@ -152,13 +137,8 @@ held_first : (h : Key → ℕ) (n : ℕ) (x : Option Key) (ks : List (Option Key
     → held h (hand (suc n) (x ∷ ks)) ≡ weight h x + held h (hand n ks)
 held_first h zero x ks = held-holding h x []
 held_first h (suc n) x ks =
-    omega (
-      arith,
-      held-holding h (at ks n) (hand (suc n) (x ∷ ks)),
-      held-holding h (at ks n) (hand n ks),
-      held_first h n
-          x ks,
-    )
+    let longer = held-holding h (at ks n) (hand (suc n) (x ∷ ks)) in
+    omega (arith, longer, held-holding h (at ks n) (hand n ks), held_first h n x ks)
 
 held_all : (h : Key → ℕ) (ks : List (Option Key)) → held h (hand (length ks) ks) ≡ sum_of h ks
 held_all h [] = refl
@@ -177,25 +157,18 @@ module _ (ps : ProcessRows) (ds : DescriptionRows) (pipes : PipeRows) (t : Tied 
       by_key (Some k) h u =
           let r = finds (with_first_names n p.descriptors ds) k (u.finds i (suc n) p k there h) in
           subst (λ x. TiedWith (k ∷ hand n p.descriptors) [] ps x pipes)
-          (sym (named_row (with_first_names n p.descriptors ds) k r.0 r.1))
-          (named_again (hand n p.descriptors) [] ps (with_first_names n p.descriptors ds) pipes k r.0 r.1 u)
+          (sym (named_row (with_first_names n p.descriptors ds) k r.0 r.1)) (named_again k r.0 r.1 u)
 
   -- and are put down at once
   module _ (j : ℕ) (free : at ps j ≡ None) (j_in : j < MAX_PROCESSES) where
     forked-tied : Tied (put_at ps j p) (named_once_more p.descriptors ds) pipes
     forked-tied =
         let u = tied_first (length p.descriptors) in
-        reseated (hand (length p.descriptors) p.descriptors) [] ps (named_once_more p.descriptors ds) pipes u j
-        (omega (arith, t.places, j_in)) (Some p) []
+        reseated u j (omega (arith, t.places, j_in)) (Some p) []
         (λ q e. let it : p ≡ q = cc in ap (λ (x : Process). length x.descriptors) (sym it) ∙ t.wide i p there)
         (λ m q k e g. let it : p ≡ q = cc in u.finds i m p k there (ap (λ (x : Process). at (keys_of x) m) it ∙ g)) tt
-        (λ n. omega (
-          arith,
-          ap (weight (keys_to n)) free,
-          ap (λ o. weight (names_it n) (made_by o)) asleep,
-          held_all
-              (names_it n) p.descriptors,
-        ))
+        (λ n. let none = ap (λ o. weight (names_it n) (made_by o)) asleep in
+        omega (arith, ap (weight (keys_to n)) free, none, held_all (names_it n) p.descriptors))
 
 -- What the machine says, and what is left
 
@@ -215,14 +188,11 @@ module _ {charges : UserPages} {limits : Limits} {ps : ProcessRows} {ds : Descri
   there : at ps (pid - 1) ≡ Some p
   there = place_is ps pid p caller
 
-  pub wide : length p.descriptors ≡ MAX_DESCRIPTORS
-  wide = kept.tied.wide (pid - 1) p there
-
   pub all_find : AllFind p.descriptors ds
   all_find fd k h = kept.tied.finds (pid - 1) (suc fd) p k there h
 
   pub are_few : AreFew ds
-  are_few m e h = few_names [] ps ds pipes kept.tied m e h
+  are_few m e h = few_names kept.tied m e h
 
   module _ (i : ℕ) (lowest : i ≡ first_free ps) where
     abbrev s : State Window ℕ
@@ -256,9 +226,9 @@ module _ {charges : UserPages} {limits : Limits} {ps : ProcessRows} {ds : Descri
 
       now_tied : Tied qs es pipes
       now_tied =
-          subst (λ x. Tied x es pipes) (sym put_is) (subst (λ y. Tied (put_at ps i p) y pipes) (sym named_is)
+          rw (put_is, named_is)
           (forked-tied ps ds pipes kept.tied (pid - 1) p there (is_awake ps pid p caller) i
-          (ap (at ps) lowest ∙ at-first_free ps) i_in))
+          (ap (at ps) lowest ∙ at-first_free ps) i_in)
 
       pub forked-kept : Kept charges qs es pipes
       forked-kept = record { tied = now_tied; charged = kept.charged }

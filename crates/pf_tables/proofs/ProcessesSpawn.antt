@@ -2,29 +2,21 @@
 
 use Rattle.std.proofs.Common.{◌≡◌, ℕ, zero, suc, ◌+◌, ◌-◌, ◌<◌, ◌≤◌, Bool, true, false, not, nat_le, Some, None, Result}
 use Rattle.std.proofs.Common.{Ok, Err, IsOk, refl, sym, ap, subst, ◌∙◌, arith}
-use Rattle.std.specs.Option.{option_map}
 use Rattle.std.proofs.lemmas.Bool.Decides.{nat_tests}
 use Rattle.std.proofs.lemmas.List.{map-set}
+use Rattle.pf_machine.proofs.MapLaws.{vacant-map}
+use Rattle.pf_machine.specs.State.{vacant}
+use Rattle.pf_tables.proofs.Common.{option_map, Limits, MAX_PROCESSES, MAX_DESCRIPTORS, Cred, Errno, EINVAL, Files, at}
+use Rattle.pf_tables.proofs.Common.{put_at, first_free, ◌>>◌, refuse_if, State, Outcome, with_process, told, Window}
+use Rattle.pf_tables.proofs.Common.{Namespace, ProcessRows, DescriptionRows, PipeRows, Key, Process, keys_of}
+use Rattle.pf_tables.proofs.Common.{process_of, processes_of, state_of, Tied, Makes}
 use Rattle.pf_base.specs.Credentials.{is_valid}
-use Rattle.pf_base.specs.Limits.{Limits}
-use Rattle.pf_base.specs.declared.TheConstants.{MAX_PROCESSES, MAX_DESCRIPTORS}
-use Rattle.pf_base.specs.declared.cred.Cred.{Cred}
-use Rattle.pf_base.specs.declared.errno.Errno.{Errno}
-use Rattle.pf_base.specs.declared.errno.Errno.TheVariants.{EAGAIN, EINVAL}
+use Rattle.pf_base.specs.declared.errno.Errno.TheVariants.{EAGAIN}
 use Rattle.pf_base.specs.declared.step.Reply.TheVariants.{Pid}
-use Rattle.pf_machine.specs.FileMap.{Files}
-use Rattle.pf_machine.specs.Numbered.{at, put_at, first_free}
 use Rattle.pf_machine.specs.Processes.{spawn, born}
-use Rattle.pf_machine.specs.Refusals.{◌>>◌, refuse_if}
 use Rattle.pf_machine.specs.State as machine
-use Rattle.pf_machine.specs.State.{State, Outcome, vacant, with_process, told}
 use Rattle.pf_machine.proofs.NumberedLaws.{at-first_free, first_free-map}
-use Rattle.pf_ring.specs.declared.ring.Window.{Window}
-use Rattle.pf_tables.specs.Meaning.{Namespace}
-use Rattle.pf_tables.specs.Rows.{ProcessRows, DescriptionRows, PipeRows, Key, Process, keys_of, process_of}
-use Rattle.pf_tables.specs.Rows.{processes_of, state_of, Tied}
-use Rattle.pf_tables.specs.Tables.{Makes}
-use Rattle.pf_tables.proofs.ProcessTableEmpty.{vacant_at, length-vacant, map-vacant, made}
+use Rattle.pf_tables.proofs.ProcessTableEmpty.{vacant_at, length-vacant, made}
 use Rattle.pf_tables.proofs.TablesSettled.{makes}
 
 -- with these credentials, and as the machine sees it
@@ -84,7 +76,7 @@ module _ {ps : ProcessRows} {ds : DescriptionRows} {pipes : PipeRows} (t : Tied 
           ∙ (λ j. record s { processes = map-set (option_map process_of) ps i (Some (spawned cred)) j })
           ∙ (λ j. record s {
             processes = put_at (processes_of ps) (place j) (record (seen cred) {
-              descriptors = map-vacant (λ (k : Key). k.serial) MAX_DESCRIPTORS j;
+              descriptors = vacant-map (λ (k : Key). k.serial) MAX_DESCRIPTORS j;
             });
           })
 

@@ -1,53 +1,32 @@
 -- What a host asks, answered from the rows.
 
 use Rattle.std.proofs.Common.{◌≡◌, ℕ, zero, suc, ◌+◌, ◌-◌, ◌<◌, ◌≤◌, Bool, true, false, ◌||◌, length, drop, Option}
-use Rattle.std.proofs.Common.{Some, None, is_some, Result, Ok, Err, ◌≢◌, nat_eq, nat_lt, nat_le, length-drop, refl, sym}
-use Rattle.std.proofs.Common.{ap, subst, ◌∙◌, arith}
-use Rattle.std.specs.Option.{option_map, option_and_then}
+use Rattle.std.proofs.Common.{Some, None, Result, Ok, Err, ◌≢◌, nat_eq, nat_lt, nat_le, length-drop, refl, sym, ap}
+use Rattle.std.proofs.Common.{subst, ◌∙◌, arith}
 use Rattle.std.proofs.lemmas.Bool.Decides.{nat_tests}
-use Rattle.pf_base.specs.Limits.{Limits}
-use Rattle.pf_base.specs.declared.TheConstants.{MAX_PROCESSES, PIPE_BUF, MAX_WRITE}
-use Rattle.pf_base.specs.declared.errno.Errno.{Errno}
-use Rattle.pf_base.specs.declared.errno.Errno.TheVariants.{ESRCH, EBADF, EINVAL}
+use Rattle.pf_tables.proofs.Refusals.{is_there, is_none, bind-bind}
+use Rattle.pf_tables.proofs.Common.{option_map, option_and_then, Limits, MAX_PROCESSES, PIPE_BUF, MAX_WRITE, Errno}
+use Rattle.pf_tables.proofs.Common.{ESRCH, EBADF, EINVAL, Side, Files, ◌>>=◌, ◌>>◌, refuse_if, or_refuse, Segment}
+use Rattle.pf_tables.proofs.Common.{bytes_of, room_of, at, itself, State, End, process, readers, writers, value_of}
+use Rattle.pf_tables.proofs.Common.{find, Live, IsSound, UserPages, Open, Cross, queue_of, Stands, Namespace, meaning}
+use Rattle.pf_tables.proofs.Common.{pipe_meaning, other_opens, Owns, GoesOn, ProcessRows, DescriptionRows, PipeRows}
+use Rattle.pf_tables.proofs.Common.{Key, Process, Description, Pipe, process_of, state_of, process_in, end_in, Kept}
 use Rattle.pf_base.specs.declared.progress.Crossing.{Crossing}
-use Rattle.pf_base.specs.declared.progress.Side.{Side}
 use Rattle.pf_base.specs.declared.progress.Side.TheVariants as sides
-use Rattle.pf_machine.specs.FileMap.{Files}
-use Rattle.pf_machine.specs.Refusals.{◌>>=◌, ◌>>◌, refuse_if, or_refuse}
-use Rattle.pf_machine.specs.Queue.{Segment, bytes_of, room_of}
-use Rattle.pf_machine.specs.Numbered.{at}
 use Rattle.pf_machine.proofs.NumberedLaws.{at_past}
 use Rattle.pf_machine.specs.Attempts as attempts
 use Rattle.pf_machine.specs.State as machine
-use Rattle.pf_machine.specs.State.{itself, State, End, process}
-use Rattle.pf_machine.specs.Counts.{readers, writers}
 use Rattle.pf_machine.specs.Transfers.{Ends}
 use Rattle.pf_machine.specs.Queries.{can_go_on, readiness, ready_for, read_goes_on, write_goes_on, cross_goes_on}
 use Rattle.pf_machine.proofs.QueryLaws.{or_is_over, goes_on, IsCut, can_go_on-is, waits_in_none}
-use Rattle.pf_fds.specs.Descriptions.{value_of}
-use Rattle.pf_fds.specs.Registry.{find}
-use Rattle.pf_frame.specs.Live.{Live, IsSound}
-use Rattle.pf_limits.specs.UserPages.{UserPages}
-use Rattle.pf_parked.specs.declared.call.Call.TheVariants.{Open, Read, Write, Cross}
+use Rattle.pf_parked.specs.declared.call.Call.TheVariants.{Read, Write}
 use Rattle.pf_parked.specs.UnfinishedWrite.{UnfinishedWrite}
-use Rattle.pf_ring.specs.Ring.{queue_of}
-use Rattle.pf_ring.specs.Windows.{Stands}
-use Rattle.pf_tables.specs.Meaning.{Namespace, meaning, pipe_meaning}
-use Rattle.pf_tables.specs.Opened.{other_opens}
-use Rattle.pf_tables.specs.Owns.{Owns}
-use Rattle.pf_tables.specs.Queries.{GoesOn}
-use Rattle.pf_tables.specs.Rows.{ProcessRows, DescriptionRows, PipeRows, Key, Process, Description, Pipe, Call, call_of}
-use Rattle.pf_tables.specs.Rows.{process_of, state_of, process_in, waits, end_of_row, end_in, Kept}
+use Rattle.pf_tables.specs.Rows.{Call, call_of, waits, end_of_row}
 use Rattle.pf_tables.proofs.ProcessTableReady.{lives, lives_not, place_of}
-use Rattle.pf_tables.proofs.Ends.{side_end, end_of_rows, Agrees, by_key, counted, refused, reaches, pipe_there, key_end}
+use Rattle.pf_tables.proofs.Ends.{side_end, end_of_rows, Agree, row_ends, ends, not_lost, counted, reaches, key_end}
 use Rattle.pf_tables.proofs.Ends.{open_finds, open_reaches}
 use Rattle.pf_tables.proofs.TablesShown.{find_at, find_was}
 use Rattle.pf_tables.proofs.Transfers as transfers
-
--- who is found as who lives
-was_there : {A : Type 0} (e : Errno) (o : Option A) (x : A) → or_refuse e o ≡ Ok x → o ≡ Some x
-was_there e None x h = absurd (cc)
-was_there e (Some y) x h = cc
 
 was_none : {A : Type 0} (e f : Errno) (o : Option A) → or_refuse e o ≡ Err f → o ≡ None
 was_none e f None h = refl
@@ -80,7 +59,7 @@ module _ {files : Files} {files_made : ℕ} {limits : Limits} {charges : UserPag
 
   module _ {p : Process} (here : process_in ps pid ≡ Ok p) where
     there : (f : Live) → process (shows f) pid ≡ Some (process_of p)
-    there f = was_there ESRCH (process (shows f) pid) (process_of p) (lives ps pid p here)
+    there f = is_there ESRCH (process (shows f) pid) (lives ps pid p here)
 
     pub waits_not : None ≡ p.parked → GoesOn n pid false
     waits_not none = over_rows false (λ f sound owns.
@@ -96,44 +75,13 @@ module _ {files : Files} {files_made : ℕ} {limits : Limits} {charges : UserPag
 
     -- Its ends
 
-    agrees : (f : Live) (side : Option Side) (fd : ℕ)
-        → Agrees (pipe_meaning f) side files files_made k.tied pid fd (end_of_row side p ds fd)
-        (side_end side (shows f) (process_of p) fd)
-    agrees f side fd =
-        by_key (pipe_meaning f) side files files_made k.tied pid fd (pid - 1) p (place_of ps pid p here)
-        (at p.descriptors fd) refl
-
-    no_end : (f : Live) (side : Option Side) (fd : ℕ) (e : Errno) → Err e ≡ end_of_row side p ds fd
-        → side_end side (shows f) (process_of p) fd ≡ Err e
-    no_end f side fd e h =
-        subst (λ r. Agrees (pipe_meaning f) side files files_made k.tied pid fd r
-        (side_end side (shows f) (process_of p) fd)) (sym h) (agrees f side fd)
-
-    module _ (f : Live) (side : Option Side) (fd : ℕ) (d : Description) (h : Ok d ≡ end_of_row side p ds fd) where
-      an_end : (r : Pipe) × (at pipes d.pipe.serial ≡ Some (d.pipe.slot, r))
-          × (side_end side (shows f) (process_of p) fd ≡ Ok (end_of_rows (pipe_meaning f) d r))
-      an_end =
-          subst (λ r. Agrees (pipe_meaning f) side files files_made k.tied pid fd r
-          (side_end side (shows f) (process_of p) fd)) (sym h) (agrees f side fd)
-
-      -- it has a pipe
-      not_lost : None ≡ find pipes d.pipe.slot d.pipe.serial → ⊥
-      not_lost none =
-          let found = find_at pipes d.pipe.slot d.pipe.serial an_end.0 an_end.1 in
-          let both : ◌≡◌ {A = Option Pipe} None (Some an_end.0) = none ∙ found in
-          absurd (cc)
-
-      the_end : (r : Pipe) → Some r ≡ find pipes d.pipe.slot d.pipe.serial
-          → side_end side (shows f) (process_of p) fd ≡ Ok (end_of_rows (pipe_meaning f) d r)
-      the_end r handed =
-          let found = find_at pipes d.pipe.slot d.pipe.serial an_end.0 an_end.1 in
-          let both : ◌≡◌ {A = Option Pipe} (Some r) (Some an_end.0) = handed ∙ found in
-          let same : an_end.0 ≡ r = cc in
-          an_end.2 ∙ ap (λ (q : Pipe). Ok (end_of_rows (pipe_meaning f) d q)) same
+    its : (f : Live) (side : Option Side) (fd : ℕ)
+        → Agree (pipe_meaning f) pipes (end_of_row side p ds fd) (side_end side (shows f) (process_of p) fd)
+    its f side fd = row_ends (pipe_meaning f) side files files_made k.tied pid fd (pid - 1) p (place_of ps pid p here)
 
     pub has_pipe : (side : Option Side) (fd : ℕ) {d : Description} → Ok d ≡ end_of_row side p ds fd
         → None ≡ find pipes d.pipe.slot d.pipe.serial → GoesOn n pid true
-    has_pipe side fd {d} h none f sound owns = absurd (not_lost f side fd d h none)
+    has_pipe side fd {d} h none f sound owns = absurd (not_lost (its f side fd) (sym h) (sym none))
 
     -- the counts of a pipe that was found are the machine's
     counts : (f : Live) (d : Description) (r : Pipe) → Some r ≡ find pipes d.pipe.slot d.pipe.serial
@@ -154,7 +102,7 @@ module _ {files : Files} {files_made : ℕ} {limits : Limits} {charges : UserPag
       pub read_is_over : {e : Errno} → Err e ≡ end_of_row (Some sides.Read) p ds fd → GoesOn n pid true
       read_is_over {e} h =
           answers (Read fd m) waits tt true (λ f sound owns. sym
-          (ap (or_is_over (read_test f)) (no_end f (Some sides.Read) fd e h)))
+          (ap (or_is_over (read_test f)) ((its f (Some sides.Read) fd).refused (sym h))))
 
       module _ {d : Description} (h : Ok d ≡ end_of_row (Some sides.Read) p ds fd) where
         pub reads_on : {r : Pipe} → Some r ≡ find pipes d.pipe.slot d.pipe.serial → (b : Bool)
@@ -164,7 +112,7 @@ module _ {files : Files} {files_made : ℕ} {limits : Limits} {charges : UserPag
             answers (Read fd m) waits tt b (λ f sound owns.
             told f sound (stands f owns d r handed)
             ∙ ap (λ w. read_goes_on (queue_of f r.ring) w m) (sym (counts f d r handed).1)
-            ∙ sym (ap (or_is_over (read_test f)) (the_end f (Some sides.Read) fd d h r handed)))
+            ∙ sym (ap (or_is_over (read_test f)) (reaches (its f (Some sides.Read) fd) (sym h) (sym handed))))
 
     -- A write
     module _ {fd : ℕ} {write : UnfinishedWrite} (waits : Some (Write fd write) ≡ p.parked)
@@ -178,7 +126,7 @@ module _ {files : Files} {files_made : ℕ} {limits : Limits} {charges : UserPag
       pub write_is_over : {e : Errno} → Err e ≡ end_of_row (Some sides.Write) p ds fd → GoesOn n pid true
       write_is_over {e} h =
           answers (Write fd write) waits cut true (λ f sound owns. sym
-          (ap (or_is_over (write_test f)) (no_end f (Some sides.Write) fd e h)))
+          (ap (or_is_over (write_test f)) ((its f (Some sides.Write) fd).refused (sym h))))
 
       module _ {d : Description} (h : Ok d ≡ end_of_row (Some sides.Write) p ds fd) where
         pub writes_on : {r : Pipe} → Some r ≡ find pipes d.pipe.slot d.pipe.serial → (all left : ℕ)
@@ -193,7 +141,7 @@ module _ {files : Files} {files_made : ℕ} {limits : Limits} {charges : UserPag
             (nat_le (all_is i) PIPE_BUF) (rest i))
             ∙ ap (λ t. t || write_goes_on (queue_of f r.ring) (readers itself (shows f) d.pipe.serial)
             (nat_le (length write.bytes) PIPE_BUF) (length (drop write.written write.bytes))) (sym fits)
-            ∙ sym (ap (or_is_over (write_test f)) (the_end f (Some sides.Write) fd d h r handed)))
+            ∙ sym (ap (or_is_over (write_test f)) (reaches (its f (Some sides.Write) fd) (sym h) (sym handed))))
 
     -- A tee or a splice
     module _ {c : Crossing} {source sink m : ℕ} (waits : Some (Cross c source sink m) ≡ p.parked) where
@@ -213,15 +161,16 @@ module _ {files : Files} {files_made : ℕ} {limits : Limits} {charges : UserPag
       source_is_over {e} h =
           answers (Cross c source sink m) waits tt true
           (λ f sound owns. sym (ap (λ r. tested f r (machine.writing_end itself (shows f) (process_of p) sink))
-          (no_end f (Some sides.Read) source e h)))
+          ((its f (Some sides.Read) source).refused (sym h))))
 
       module _ {d : Description} (h : Ok d ≡ end_of_row (Some sides.Read) p ds source) where
         pub sink_is_over : {e : Errno} → Err e ≡ end_of_row (Some sides.Write) p ds sink → GoesOn n pid true
         sink_is_over {e} g =
             answers (Cross c source sink m) waits tt true (λ f sound owns.
-            let there = an_end f (Some sides.Read) source d h in
-            sym (ap (λ r. tested f r (machine.writing_end itself (shows f) (process_of p) sink)) there.2
-            ∙ ap (tested f (Ok (end_of_rows (pipe_meaning f) d there.0))) (no_end f (Some sides.Write) sink e g)))
+            let there = (its f (Some sides.Read) source).found (sym h) in
+            sym (ap (λ r. tested f r (machine.writing_end itself (shows f) (process_of p) sink)) there.is
+            ∙ ap (tested f (Ok (end_of_rows (pipe_meaning f) d there.pipe)))
+            ((its f (Some sides.Write) sink).refused (sym g))))
 
         module _ {d' : Description} (g : Ok d' ≡ end_of_row (Some sides.Write) p ds sink) where
           both_ends : (f : Live) (r r' : Pipe) → Some r ≡ find pipes d.pipe.slot d.pipe.serial
@@ -230,21 +179,22 @@ module _ {files : Files} {files_made : ℕ} {limits : Limits} {charges : UserPag
               ≡ goes_on (shows f) (process_of p) (call_of (Cross c source sink m))
           both_ends f r r' handed handed' =
               sym (ap (λ x. tested f x (machine.writing_end itself (shows f) (process_of p) sink))
-              (the_end f (Some sides.Read) source d h r handed)
+              (reaches (its f (Some sides.Read) source) (sym h) (sym handed))
               ∙ ap (tested f (Ok (end_of_rows (pipe_meaning f) d r)))
-              (the_end f (Some sides.Write) sink d' g r' handed'))
+              (reaches (its f (Some sides.Write) sink) (sym g) (sym handed')))
 
           pub one_pipe : d.pipe.serial ≡ d'.pipe.serial → GoesOn n pid true
           one_pipe same =
               answers (Cross c source sink m) waits tt true (λ f sound owns.
-              let from = an_end f (Some sides.Read) source d h in
-              let to = an_end f (Some sides.Write) sink d' g in
+              let from = (its f (Some sides.Read) source).found (sym h) in
+              let to = (its f (Some sides.Write) sink).found (sym g) in
               let equal : nat_eq d.pipe.serial d'.pipe.serial ≡ true = grind (arith, nat_tests) in
-              ap (λ b. or_is_over (cross_test f) (refuse_if b EINVAL >> Ok
-              (record { source = end_of_rows (pipe_meaning f) d from.0; sink = end_of_rows (pipe_meaning f) d' to.0 })))
+              let source = end_of_rows (pipe_meaning f) d from.pipe in
+              let sink = end_of_rows (pipe_meaning f) d' to.pipe in
+              ap (λ b. or_is_over (cross_test f) (refuse_if b EINVAL >> Ok (record { source = source; sink = sink })))
               (sym equal)
-              ∙ both_ends f from.0 to.0 (sym (find_at pipes d.pipe.slot d.pipe.serial from.0 from.1))
-              (sym (find_at pipes d'.pipe.slot d'.pipe.serial to.0 to.1)))
+              ∙ both_ends f from.pipe to.pipe (sym (find_at pipes d.pipe.slot d.pipe.serial from.pipe from.stands))
+              (sym (find_at pipes d'.pipe.slot d'.pipe.serial to.pipe to.stands)))
 
           pub crosses_on : d.pipe.serial ≢ d'.pipe.serial → {r r' : Pipe}
               → Some r ≡ find pipes d.pipe.slot d.pipe.serial → Some r' ≡ find pipes d'.pipe.slot d'.pipe.serial
@@ -295,13 +245,9 @@ module _ {files : Files} {files_made : ℕ} {limits : Limits} {charges : UserPag
   pub waits_nowhere : 0 < pid → waits (at ps (pid - 1)) ≡ false → GoesOn n pid false
   waits_nowhere above idle = by_row (at ps (pid - 1)) refl idle
     where
-      by_call : (o : Option (Call Key)) → is_some o ≡ false → ◌≡◌ {A = Option (Call Key)} None o
-      by_call None h = refl
-      by_call (Some call) h = absurd (cc)
-
       by_row : (o : Option Process) → at ps (pid - 1) ≡ o → waits o ≡ false → GoesOn n pid false
       by_row None e h = lives_not_on ESRCH (place_found above ∙ ap (or_refuse ESRCH) e)
-      by_row (Some p) e h = waits_not (place_found above ∙ ap (or_refuse ESRCH) e) (by_call p.parked h)
+      by_row (Some p) e h = waits_not (place_found above ∙ ap (or_refuse ESRCH) e) (sym (is_none p.parked h))
 
   -- What an end is ready for
 
@@ -311,22 +257,19 @@ module _ {files : Files} {files_made : ℕ} {limits : Limits} {charges : UserPag
         → (machine.ready s pid >>= (λ p. machine.end_of itself s p fd)) ≡ r
         → readiness s pid fd ≡ (r >>= (λ e. Ok (ready_for s e)))
     from_end s r h =
-        transfers.bind-bind (machine.ready s pid) (λ p. machine.end_of itself s p fd) (λ e. Ok (ready_for s e))
+        bind-bind (machine.ready s pid) (λ p. machine.end_of itself s p fd) (λ e. Ok (ready_for s e))
         ∙ ap (λ x. x >>= (λ e. Ok (ready_for s e))) h
 
     pub ready_refused : {e : Errno} → end_in None ps ds pid fd ≡ Err e → (f : Live)
         → readiness (meaning f n.state) pid fd ≡ Err e
     ready_refused {e} h f =
         subst (λ (m : Namespace). readiness (meaning f m.state) pid fd ≡ Err e) view
-        (from_end (shows f) (Err e) (refused (pipe_meaning f) None files files_made k.tied pid fd e h))
+        (from_end (shows f) (Err e) ((ends (pipe_meaning f) None files files_made k.tied pid fd).refused h))
 
     module _ {d : Description} (h : end_in None ps ds pid fd ≡ Ok d) where
       pub ready_has_pipe : None ≡ find pipes d.pipe.slot d.pipe.serial → (f : Live)
           → readiness (meaning f n.state) pid fd ≡ Err EBADF
-      ready_has_pipe none f =
-          let there = pipe_there (pipe_meaning f) None files files_made k.tied pid fd h in
-          let gone = ap is_some none in
-          absurd (cc)
+      ready_has_pipe none f = absurd (not_lost (ends (pipe_meaning f) None files files_made k.tied pid fd) h (sym none))
 
       pub ready_is : {r : Pipe} → Some r ≡ find pipes d.pipe.slot d.pipe.serial → (bytes room reading writing : ℕ)
           → ((f : Live) → IsSound f → Stands f r.ring.segments → bytes ≡ length (bytes_of (queue_of f r.ring)))
@@ -351,4 +294,4 @@ module _ {files : Files} {files_made : ℕ} {limits : Limits} {charges : UserPag
             has_writer = nat_lt 0 ((writing_is ∙ sym c.1) i);
           }))
           ∙ sym (from_end (shows f) (Ok (end_of_rows (pipe_meaning f) d r))
-          (reaches (pipe_meaning f) None files files_made k.tied pid fd h (sym handed))))
+          (reaches (ends (pipe_meaning f) None files files_made k.tied pid fd) h (sym handed))))

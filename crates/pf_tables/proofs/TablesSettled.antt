@@ -4,27 +4,19 @@
 use Rattle.std.proofs.Common.{◌≡◌, ℕ, ◌+◌, ◌<◌, ◌&&◌, List, [], ◌∷◌, length, map, set, length-set, Option, Some, None}
 use Rattle.std.proofs.Common.{Result, Ok, refl, sym, ap, subst, ◌∙◌, arith, nat_eq}
 use Rattle.std.proofs.lemmas.List.{length-map}
-use Rattle.std.specs.Option.{option_map}
+use Rattle.pf_tables.proofs.Common.{Live, Owns, option_map, Window, Files, Limits, Errno, Reply, Open, Cross, at}
+use Rattle.pf_tables.proofs.Common.{weight, one_if, itself, State, Outcome, told, readers, writers, ends, sweep}
+use Rattle.pf_tables.proofs.Common.{ProcessRows, DescriptionRows, PipeRows, Key, Named, Description, Pipe, made_by}
+use Rattle.pf_tables.proofs.Common.{keys_of, read_by, written_by, NamedRow, UsedRow, Tied, description_of, pipe_of}
+use Rattle.pf_tables.proofs.Common.{processes_of, descriptions_of, pipes_of, state_of, Joined, Namespace, ring_or}
+use Rattle.pf_tables.proofs.Common.{Makes}
 use Rattle.pf_machine.specs.Calls as calls
-use Rattle.pf_ring.specs.declared.ring.Window.{Window}
-use Rattle.pf_machine.specs.FileMap.{Files}
-use Rattle.pf_base.specs.Limits.{Limits}
-use Rattle.pf_base.specs.declared.errno.Errno.{Errno}
-use Rattle.pf_base.specs.declared.step.Reply.{Reply}
-use Rattle.pf_parked.specs.declared.call.Call.TheVariants.{Open, Read, Write, Cross}
-use Rattle.pf_machine.specs.Numbered.{at, weight, one_if}
+use Rattle.pf_parked.specs.declared.call.Call.TheVariants.{Read, Write}
 use Rattle.pf_machine.proofs.NumberedLaws.{at_within, sum_of-map}
 use Rattle.pf_machine.specs.State as machine
-use Rattle.pf_machine.specs.State.{itself, State, Outcome, told}
-use Rattle.pf_machine.specs.Counts.{names, readers, writers, ends}
-use Rattle.pf_machine.specs.Sweep.{sweep}
+use Rattle.pf_machine.specs.Counts.{names}
 use Rattle.pf_machine.proofs.SweepLaws.{with_processes, swept, ends-le-sides, readers-le-ends, writers-le-ends}
-use Rattle.pf_tables.specs.Rows.{ProcessRows, DescriptionRows, PipeRows, Key, Named, Description, Pipe, Call, call_of}
-use Rattle.pf_tables.specs.Rows.{made_by, keys_of, named, read_by, written_by, NamedRow, UsedRow, Tied, description_of}
-use Rattle.pf_tables.specs.Rows.{pipe_of, processes_of, descriptions_of, pipes_of, state_of}
-use Rattle.pf_ring.specs.Table.{Joined}
-use Rattle.pf_tables.specs.Meaning.{Namespace, ring_or}
-use Rattle.pf_tables.specs.Tables.{Makes}
+use Rattle.pf_tables.specs.Rows.{Call, call_of, named}
 use Rattle.pf_tables.proofs.TablesShown.{was, shown}
 use Rattle.pf_tables.proofs.TablesTied.{by_set}
 
@@ -41,13 +33,9 @@ pub names_shown : (ps : ProcessRows) (n : ℕ) → names itself (processes_of ps
 names_shown [] n = refl
 names_shown (None ∷ ps) n = omega (arith, names_shown ps n)
 names_shown (Some p ∷ ps) n =
-    omega (
-      arith,
-      names_shown ps n,
-      ap (weight (λ m. one_if (nat_eq m n))) (made_shown p.parked),
-      sum_of-map
-          (λ (k : Key). k.serial) (λ m. one_if (nat_eq m n)) (keys_of p),
-    )
+    let test : ℕ → ℕ = λ m. one_if (nat_eq m n) in
+    let keys = sum_of-map (λ (k : Key). k.serial) test (keys_of p) in
+    omega (arith, names_shown ps n, ap (weight test) (made_shown p.parked), keys)
 
 module _ (ps : ProcessRows) (ds : DescriptionRows) (pipes : PipeRows) (files : Files) (files_made : ℕ) where
   pub readers_shown : (n : ℕ) → readers itself (state_of ps ds pipes files files_made) n ≡ read_by ds n
@@ -77,15 +65,9 @@ module _ {ps : ProcessRows} {ds : DescriptionRows} {pipes : PipeRows} (files : F
       ends-le-sides itself (state_of ps ds pipes files files_made) n
       (λ m d a. let x = was description_of ds m d a in subst
       (λ (y : machine.Description ℕ). 0 < one_if y.reads + one_if y.writes) x.2 (t.is_end m x.0 x.1).1) in
-      absurd (omega (
-        arith,
-        none.0,
-        none.1,
-        sides,
-        readers_shown ps ds pipes files files_made n,
-        writers_shown ps ds
-            pipes files files_made n,
-      ))
+      let reading = readers_shown ps ds pipes files files_made n in
+      let writing = writers_shown ps ds pipes files files_made n in
+      absurd (omega (arith, none.0, none.1, sides, reading, writing))
   used_stands n (Some e) h l = (e, h)
 
   pub changed-swept : (s : State Window ℕ) → Within (descriptions_of ds) s.descriptions
@@ -101,16 +83,10 @@ module _ {ps : ProcessRows} {ds : DescriptionRows} {pipes : PipeRows} (files : F
       ∙ sym (p.stood n (pipe_of e.0) here))
       (λ n x h. let e = was pipe_of pipes n x h in let c = subst (UsedRow (read_by ds n + 0) (written_by ds n + 0)) e.1
       (t.uses n) in
-      omega (
-        arith,
-        c.2,
-        readers-le-ends itself (state_of ps ds pipes files files_made) n,
-        writers-le-ends itself
-            (state_of ps ds pipes files files_made) n,
-        readers_shown ps ds pipes files files_made n,
-        writers_shown ps ds pipes
-            files files_made n,
-      ))
+      let shown_as = state_of ps ds pipes files files_made in
+      let reading = readers_shown ps ds pipes files files_made n in
+      let writing = writers_shown ps ds pipes files files_made n in
+      omega (arith, c.2, readers-le-ends itself shown_as n, writers-le-ends itself shown_as n, reading, writing))
 
   pub settled : state_of ps ds pipes files files_made ≡ sweep itself (state_of ps ds pipes files files_made)
   settled =
@@ -130,23 +106,33 @@ within_row f xs n x y h same = record {
 pub within_same : {X : Type 0} (xs : List (Option X)) → Within xs xs
 within_same xs = record { numbers = refl; stood = λ n x h. h }
 
--- a call that leaves the pipes as they were, by what it leaves at the rows
+-- a call by what it leaves at the rows, whose rings' frames are those that were the namespace's own
+pub makes_over : {qs : ProcessRows} {es : DescriptionRows} {pipes : PipeRows} → Tied qs es pipes → (files : Files)
+    (files_made : ℕ) {limits after : Limits} {s : State Window ℕ} {n : Namespace}
+    → record { limits = limits; state = s } ≡ n → after ≡ limits
+    → ((f : Live) → Owns f (record { limits = limits; state = s }) → Joined f (map ring_or (pipes_of pipes)))
+    → (call : Namespace → Result (Outcome Window ℕ) Errno) (reply : Reply)
+    → call (record { limits = limits; state = s }) ≡ Ok (told (state_of qs es pipes files files_made) reply)
+    → Makes n (record { limits = after; state = state_of qs es pipes files files_made }) (call n) reply
+makes_over {qs} {es} {pipes} t files files_made {after = after} view same joined call reply is =
+    subst (λ (m : Namespace). Makes m (record {
+      limits = after;
+      state = state_of qs es pipes files files_made;
+    }) (call m) reply) view (record {
+      is = is;
+      limits = same;
+      owned = λ f o. record { joined = joined f o; reserve = ap (λ (l : Limits). l.reserve) same ∙ o.reserve };
+      swept = settled files files_made t;
+    })
+
+-- one that leaves the pipes as they were
 pub makes : {qs : ProcessRows} {es : DescriptionRows} {pipes : PipeRows} → Tied qs es pipes → (files : Files)
     (files_made : ℕ) {limits : Limits} {s : State Window ℕ} {n : Namespace}
     → record { limits = limits; state = s } ≡ n → s.pipes ≡ pipes_of pipes
     → (call : State Window ℕ → Result (Outcome Window ℕ) Errno) (reply : Reply)
     → call s ≡ Ok (told (state_of qs es pipes files files_made) reply)
     → Makes n (record { limits = limits; state = state_of qs es pipes files files_made }) (call n.state) reply
-makes {qs} {es} {pipes} t files files_made {limits} view same call reply is =
-    subst (λ (m : Namespace). Makes m (record {
-      limits = limits;
-      state = state_of qs es pipes files files_made;
-    }) (call m.state) reply) view (record {
-      is = is;
-      limits = refl;
-      owned = λ f o. record {
-        joined = subst (λ (ps : List (Option (machine.Pipe Window))). Joined f (map ring_or ps)) same o.joined;
-        reserve = o.reserve;
-      };
-      swept = settled files files_made t;
-    })
+makes t files files_made view same call reply is =
+    makes_over t files files_made view refl
+    (λ f o. subst (λ (ps : List (Option (machine.Pipe Window))). Joined f (map ring_or ps)) same o.joined)
+    (λ m. call m.state) reply is

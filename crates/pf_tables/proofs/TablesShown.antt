@@ -1,19 +1,24 @@
 -- What the tables show of their rows.
 
-use Rattle.std.proofs.Common.{◌≡◌, ℕ, zero, suc, ◌-◌, List, map, set, Option, Some, None, refl, sym, ap, ◌∙◌, inl, inr}
-use Rattle.std.proofs.Common.{if◌then◌else◌, arith}
-use Rattle.std.specs.Option.{option_map}
+use Rattle.std.proofs.lemmas.List.{map-set, set-get_or}
+use Rattle.std.proofs.Common.{◌≡◌, ℕ, zero, suc, ◌-◌, List, [], ◌∷◌, map, set, Option, Some, None, refl, sym, ap, ◌∙◌}
+use Rattle.std.proofs.Common.{inl, inr, if◌then◌else◌, arith}
 use Rattle.std.proofs.lemmas.Bool.{cases_eq, eq-eqb, ne_eqb}
-use Rattle.std.proofs.lemmas.List.{set-get_or}
-use Rattle.pf_machine.specs.Numbered.{at}
-use Rattle.pf_machine.specs.State.{State, Process, process}
+use Rattle.pf_tables.proofs.Common.{put_at, change_at, option_map, at, State, process, find}
+use Rattle.pf_machine.specs.State.{Process}
 use Rattle.pf_machine.proofs.NumberedLaws.{at-map}
-use Rattle.pf_fds.specs.Registry.{find, if_placed}
+use Rattle.pf_fds.specs.Registry.{if_placed}
 
 pub from_map : {X Y : Type 0} (f : X → Y) (o : Option X) (y : Y) → option_map f o ≡ Some y
     → (x : X) × (o ≡ Some x) × (f x ≡ y)
 from_map f None y h = absurd (cc)
 from_map f (Some x) y h = (x, refl, cc)
+
+-- what is mapped to itself
+pub each-same : {X : Type 0} (f : X → X) → ((x : X) → f x ≡ x) → (xs : List (Option X)) → map (option_map f) xs ≡ xs
+each-same f same [] = refl
+each-same f same (None ∷ xs) = ap (λ ys. None ∷ ys) (each-same f same xs)
+each-same f same (Some x ∷ xs) = λ i. Some (same x i) ∷ each-same f same xs i
 
 -- what is shown at a number stands there
 pub was : {X Y : Type 0} (f : X → Y) (xs : List (Option X)) (k : ℕ) (y : Y) → at (map (option_map f) xs) k ≡ Some y
@@ -51,6 +56,20 @@ find_was xs place n x h = placed_was place (at xs n) x h
 -- a list set to what stands there
 pub set_same : {X : Type 0} (xs : List (Option X)) (i : ℕ) (y : Option X) → y ≡ at xs i → set xs i y ≡ xs
 set_same xs i y e = ap (set xs i) e ∙ set-get_or xs i None
+
+-- what is put in the place of what stood there is shown as that was
+pub shown_same : {X Y : Type 0} (f : X → Y) (xs : List (Option X)) (n : ℕ) (x y : X) → at xs n ≡ Some x → f y ≡ f x
+    → map (option_map f) (put_at xs n y) ≡ map (option_map f) xs
+shown_same f xs n x y h same =
+    map-set (option_map f) xs n (Some y)
+    ∙ set_same (map (option_map f) xs) n (Some (f y)) (ap Some same ∙ sym (shown f xs n x h))
+
+-- or as a change of what that was
+pub shown_change : {X Y : Type 0} (f : X → Y) (g : Y → Y) (xs : List (Option X)) (n : ℕ) (x y : X) → at xs n ≡ Some x
+    → f y ≡ g (f x) → map (option_map f) (put_at xs n y) ≡ change_at g (map (option_map f) xs) n
+shown_change f g xs n x y h same =
+    map-set (option_map f) xs n (Some y)
+    ∙ ap (set (map (option_map f) xs) n) (ap Some same ∙ sym (ap (option_map g) (shown f xs n x h)))
 
 -- who has a pid is in the place before it
 pub place_in : {X : Type 0} (s : State X ℕ) (pid : ℕ) {p : Process ℕ} → process s pid ≡ Some p

@@ -3,16 +3,16 @@
 
 use Rattle.std.proofs.Common.{◌≡◌, ◌≢◌, ℕ, suc, ◌+◌, ◌<◌, ◌≤◌, Bool, ◌&&◌, List, [], ◌∷◌, ◌++◌, length, set, Option}
 use Rattle.std.proofs.Common.{Some, None, refl, sym, ap, subst, ◌∙◌, inl, inr, arith, nat_eq, length-set}
-use Rattle.std.specs.Option.{option_map}
 use Rattle.std.proofs.lemmas.Bool.{cases_eq, cases_lt, eq-eqb, ne_eqb}
 use Rattle.std.proofs.lemmas.List.{length_push}
-use Rattle.pf_machine.specs.Numbered.{at, put_at, sum_of, weight, one_if}
+use Rattle.pf_tables.proofs.Refusals.{same_some}
+use Rattle.pf_tables.proofs.Common.{option_map, at, put_at, sum_of, weight, one_if, MAX_DESCRIPTORS, ProcessRows}
+use Rattle.pf_tables.proofs.Common.{DescriptionRows, PipeRows, Key, Named, Process, Description, Pipe, names_it}
+use Rattle.pf_tables.proofs.Common.{keys_of, keys_to, reads_it, writes_it, read_by, written_by, held, NamedRow, UsedRow}
+use Rattle.pf_tables.proofs.Common.{TiedWith}
 use Rattle.pf_machine.proofs.NumberedLaws.{at_past, at_within, at-put_same, at-put_other, at-push_old, at-push_new}
 use Rattle.pf_machine.proofs.NumberedLaws.{sum_of-set, sum_of-push, weight-le-sum_of}
-use Rattle.pf_base.specs.declared.TheConstants.{MAX_DESCRIPTORS}
-use Rattle.pf_tables.specs.Rows.{ProcessRows, DescriptionRows, PipeRows, Key, Named, Process, Description, Pipe}
-use Rattle.pf_tables.specs.Rows.{names_it, keys_of, keys_to, named, reads_it, writes_it, read_by, written_by, held}
-use Rattle.pf_tables.specs.Rows.{Each, holding, Finds, NamedRow, UsedRow, IsEnd, TiedWith}
+use Rattle.pf_tables.specs.Rows.{named, Each, holding, Finds, IsEnd}
 
 -- Each number after one has changed, and after one more
 
@@ -55,6 +55,11 @@ pub found : {T : Type 0} (rows : List (Option (ℕ × T))) (k : Key) (x : T) →
     → Finds rows k
 found {T} rows k x h = ap (option_map (λ (e : ℕ × T). e.0)) h
 
+-- what is put in a place is in that place
+pub in_place : {T : Type 0} {place : ℕ} {x : T} {e : ℕ × T} → ◌≡◌ {A = Option (ℕ × T)} (Some (place, x)) (Some e)
+    → e.0 ≡ place
+in_place h = sym (ap (λ e. e.0) (same_some h))
+
 finds-set : {T : Type 0} (rows : List (Option (ℕ × T))) (n : ℕ) (y : Option (ℕ × T)) → n < length rows → (k : Key)
     → (k.serial ≡ n → option_map (λ (e : ℕ × T). e.0) y ≡ Some k.slot) → Finds rows k → Finds (set rows n y) k
 finds-set {T} rows n y l k new f =
@@ -90,15 +95,9 @@ names_none n k e = ap one_if (ne_eqb k.serial n e)
 counts : (ps : ProcessRows) (i m : ℕ) (p : Process) (k : Key) → at ps i ≡ Some p → at (keys_of p) m ≡ Some k
     → 0 < named ps k.serial
 counts ps i m p k h g =
-    omega (
-      arith,
-      ap (weight (keys_to k.serial)) h,
-      ap (weight (names_it k.serial)) g,
-      names_one k,
-      weight-le-sum_of
-          (keys_to k.serial) ps i,
-      weight-le-sum_of (names_it k.serial) (keys_of p) m,
-    )
+    let keys = weight-le-sum_of (keys_to k.serial) ps i in
+    let names = weight-le-sum_of (names_it k.serial) (keys_of p) m in
+    omega (arith, ap (weight (keys_to k.serial)) h, ap (weight (names_it k.serial)) g, names_one k, keys, names)
 
 pub sides : (d : Description) → (reads_it d.pipe.serial d ≡ one_if d.reads)
     × (writes_it d.pipe.serial d ≡ one_if d.writes)
@@ -119,6 +118,13 @@ pub held-holding : {X : Type 0} (h : X → ℕ) (o : Option X) (xs : List X)
 held-holding h None xs = omega arith
 held-holding h (Some x) xs = refl
 
+-- what a description's row counts for a pipe
+abbrev reads_row : ℕ → ℕ × Named Description → ℕ
+reads_row n = λ e. reads_it n e.1.value
+
+abbrev writes_row : ℕ → ℕ × Named Description → ℕ
+writes_row n = λ e. writes_it n e.1.value
+
 used_as : (o : Option (ℕ × Pipe)) (r w r' w' : ℕ) → UsedRow r w o → r ≡ r' → w ≡ w' → UsedRow r' w' o
 used_as o r w r' w' u a b = subst (λ m. UsedRow m w' o) a (subst (λ m. UsedRow r m o) b u)
 
@@ -126,7 +132,7 @@ used_as o r w r' w' u a b = subst (λ m. UsedRow m w' o) a (subst (λ m. UsedRow
 abbrev pub once : Description → Named Description
 once d = record { value = d; names = 1 }
 
-module _ (K : List Key) (E : List Description) (ps : ProcessRows) (ds : DescriptionRows) (pipes : PipeRows) where
+module _ {K : List Key} {E : List Description} {ps : ProcessRows} {ds : DescriptionRows} {pipes : PipeRows} where
   -- What stands in a process's place changes: its keys by what is in the hand
   pub reseated : TiedWith K E ps ds pipes → (i : ℕ) → i < length ps → (o : Option Process) (K' : List Key)
       → ((q : Process) → o ≡ Some q → length q.descriptors ≡ 256)
@@ -147,7 +153,7 @@ module _ (K : List Key) (E : List Description) (ps : ProcessRows) (ds : Descript
     uses = t.uses;
   }
 
-module _ (K : List Key) (E : List Description) (ps : ProcessRows) (ds : DescriptionRows) (pipes : PipeRows) where
+module _ (K : List Key) {E : List Description} {ps : ProcessRows} {ds : DescriptionRows} {pipes : PipeRows} where
   -- 1. One of a process's keys is set: what was there comes into the hand, and what is put there leaves it
   module _ (i m : ℕ) (p p' : Process) (stands : at ps i ≡ Some p) (m_in : m < 257) (o : Option Key)
       (is : keys_of p' ≡ set (keys_of p) m o) (t : TiedWith (holding o K) E ps ds pipes) where
@@ -157,14 +163,11 @@ module _ (K : List Key) (E : List Description) (ps : ProcessRows) (ds : Descript
     recount : (n : ℕ) → weight (keys_to n) (at ps i) + held (names_it n) (holding o K)
         ≡ keys_to n p' + held (names_it n) (holding (at (keys_of p) m) K)
     recount n =
-        omega (
-          arith,
-          ap (weight (keys_to n)) stands,
-          ap (λ ks. sum_of (names_it n) ks) is,
-          sum_of-set (names_it n) (keys_of p) m o (omega (arith, width, m_in)),
-          held-holding (names_it n) o K,
-          held-holding (names_it n) (at (keys_of p) m) K,
-        )
+        let h = names_it n in
+        let keys_there = ap (weight (keys_to n)) stands in
+        let changed = sum_of-set h (keys_of p) m o (omega (arith, width, m_in)) in
+        let taken = held-holding h (at (keys_of p) m) K in
+        omega (arith, keys_there, ap (λ ks. sum_of h ks) is, changed, held-holding h o K, taken)
 
     let_go : (x : Option Key) → Each (Finds ds) (holding x K)
         → ((k : Key) → x ≡ Some k → Finds ds k) × Each (Finds ds) K
@@ -178,7 +181,7 @@ module _ (K : List Key) (E : List Description) (ps : ProcessRows) (ds : Descript
 
     pub moved : TiedWith (holding (at (keys_of p) m) K) E (put_at ps i p') ds pipes
     moved =
-        reseated (holding o K) E ps ds pipes t i (at_within ps i p stands) (Some p') (holding (at (keys_of p) m) K)
+        reseated t i (at_within ps i p stands) (Some p') (holding (at (keys_of p) m) K)
         (λ q e. let it : p' ≡ q = cc in ap (λ (x : Process). length x.descriptors) (sym it)
         ∙ omega (arith, ap length is, length-set (keys_of p) m o, width))
         (λ n q k e g. let it : p' ≡ q = cc in
@@ -186,6 +189,7 @@ module _ (K : List Key) (E : List Description) (ps : ProcessRows) (ds : Descript
         (λ b _. t.finds i b p k stands) n (sym (ap (λ ks. at ks n) is) ∙ ap (λ (x : Process). at (keys_of x) n) it ∙ g))
         (take_up (at (keys_of p) m) (λ k. t.finds i m p k stands) (let_go o t.in_hand).1) recount
 
+module _ {K : List Key} {E : List Description} {ps : ProcessRows} {ds : DescriptionRows} {pipes : PipeRows} where
   -- 2. A description changes or goes: its names by what is in the hand, its ends too
   module _ (t : TiedWith K E ps ds pipes) (s : ℕ) (row : ℕ × Named Description) (stands : at ds s ≡ Some row)
       (y : Option (ℕ × Named Description)) (K' : List Key) (E' : List Description)
@@ -194,9 +198,9 @@ module _ (K : List Key) (E : List Description) (ps : ProcessRows) (ds : Descript
       (others : (n : ℕ) → n ≢ s → held (names_it n) K ≡ held (names_it n) K')
       (is : NamedRow (named ps s + held (names_it s) K') y)
       (ends_in_hand : Each (IsEnd pipes) E')
-      (reads : (n : ℕ) → weight (λ (e : ℕ × Named Description). reads_it n e.1.value) y + held (reads_it n) E'
+      (reads : (n : ℕ) → weight (reads_row n) y + held (reads_it n) E'
       ≡ reads_it n row.1.value + held (reads_it n) E)
-      (writes : (n : ℕ) → weight (λ (e : ℕ × Named Description). writes_it n e.1.value) y + held (writes_it n) E'
+      (writes : (n : ℕ) → weight (writes_row n) y + held (writes_it n) E'
       ≡ writes_it n row.1.value + held (writes_it n) E) where
     row_within : s < length ds
     row_within = at_within ds s row stands
@@ -231,20 +235,8 @@ module _ (K : List Key) (E : List Description) (ps : ProcessRows) (ds : Descript
           (λ m _. t.is_end m e) n;
       ends_in_hand = ends_in_hand;
       uses = λ n. used_as (at pipes n) _ _ _ _ (t.uses n)
-          (omega (
-            arith,
-            sum_of-set (λ (e : ℕ × Named Description). reads_it n e.1.value) ds s y row_within,
-            ap
-                (weight (λ (e : ℕ × Named Description). reads_it n e.1.value)) stands,
-            reads n,
-          ))
-          (omega (
-            arith,
-            sum_of-set (λ (e : ℕ × Named Description). writes_it n e.1.value) ds s y row_within,
-            ap
-                (weight (λ (e : ℕ × Named Description). writes_it n e.1.value)) stands,
-            writes n,
-          ));
+          (omega (arith, sum_of-set (reads_row n) ds s y row_within, ap (weight (reads_row n)) stands, reads n))
+          (omega (arith, sum_of-set (writes_row n) ds s y row_within, ap (weight (writes_row n)) stands, writes n));
     }
 
   -- 3. A pipe changes or goes
@@ -282,20 +274,11 @@ module _ (K : List Key) (E : List Description) (ps : ProcessRows) (ds : Descript
       finds = t.finds;
       in_hand = t.in_hand;
       names = t.names;
-      is_end = λ n e h. still_end e.1.value
-          (omega (
-            arith,
-            weight-le-sum_of (λ (x : ℕ × Named Description). reads_it e.1.value.pipe.serial x.1.value) ds
-                n,
-            ap (weight (λ (x : ℕ × Named Description). reads_it e.1.value.pipe.serial x.1.value)) h,
-          ))
-          (omega (
-            arith,
-            weight-le-sum_of (λ (x : ℕ × Named Description). writes_it e.1.value.pipe.serial x.1.value) ds
-                n,
-            ap (weight (λ (x : ℕ × Named Description). writes_it e.1.value.pipe.serial x.1.value)) h,
-          ))
-          (t.is_end n e h);
+      is_end = λ n e h.
+          let reads = reads_row e.1.value.pipe.serial in
+          let writes = writes_row e.1.value.pipe.serial in
+          still_end e.1.value (omega (arith, weight-le-sum_of reads ds n, ap (weight reads) h))
+          (omega (arith, weight-le-sum_of writes ds n, ap (weight writes) h)) (t.is_end n e h);
       ends_in_hand =
           each-map reads_it writes_it (IsEnd pipes) (IsEnd (set pipes s y)) E'
           (λ d a b. still_end d (omega (arith, a d.pipe.serial)) (omega (arith, b d.pipe.serial))) ends_in_hand;
@@ -328,20 +311,12 @@ module _ (K : List Key) (E : List Description) (ps : ProcessRows) (ds : Descript
             (let zero = names_none n k (λ e. ne (sym e ∙ k_is)) in omega (arith, zero)) (t.names n));
         is_end =
             λ n e. by_push (λ _ x. x ≡ Some e → IsEnd pipes e.1.value) ds (Some (k.slot, once d))
-            (λ h. let it : ◌≡◌ {A = ℕ × Named Description} (k.slot, once d) e = cc in subst
-            (λ (x : ℕ × Named Description). IsEnd pipes x.1.value) it t.ends_in_hand.0) (λ m _. t.is_end m e) n;
+            (λ h. subst (λ (x : ℕ × Named Description). IsEnd pipes x.1.value) (same_some h) t.ends_in_hand.0)
+            (λ m _. t.is_end m e) n;
         ends_in_hand = t.ends_in_hand.1;
         uses = λ n. used_as (at pipes n) _ _ _ _ (t.uses n)
-            (omega (
-              arith,
-              sum_of-push (λ (e : ℕ × Named Description). reads_it n e.1.value) ds
-                  (Some (k.slot, once d)),
-            ))
-            (omega (
-              arith,
-              sum_of-push (λ (e : ℕ × Named Description). writes_it n e.1.value) ds
-                  (Some (k.slot, once d)),
-            ));
+            (omega (arith, sum_of-push (reads_row n) ds (Some (k.slot, once d))))
+            (omega (arith, sum_of-push (writes_row n) ds (Some (k.slot, once d))));
       }
 
   -- 5. A pipe is made, and its ends are in the hand
@@ -379,52 +354,43 @@ module _ (K : List Key) (E : List Description) (ps : ProcessRows) (ds : Descript
 
 -- What a row of tied tables counts, and instances
 
-module _ (K : List Key) (E : List Description) (ps : ProcessRows) (ds : DescriptionRows) (pipes : PipeRows) where
+module _ {K : List Key} {E : List Description} {ps : ProcessRows} {ds : DescriptionRows} {pipes : PipeRows} where
   module _ (k : Key) (d : Named Description) (stands : at ds k.serial ≡ Some (k.slot, d)) where
-    pub place_and_end : {K' : List Key} → TiedWith K' E ps ds pipes → (m : ℕ) (e : ℕ × Named Description)
+    pub place_and_end : TiedWith K E ps ds pipes → (m : ℕ) (e : ℕ × Named Description)
         → ◌≡◌ {A = Option (ℕ × Named Description)} (Some (k.slot, record d { names = m })) (Some e)
         → (e.0 ≡ k.slot) × IsEnd pipes e.1.value
     place_and_end t m e h =
-        let it : ◌≡◌ {A = ℕ × Named Description} (k.slot, record d { names = m }) e = cc in (
+        let it = same_some h in (
           ap (λ (x : ℕ × Named Description). x.0) (sym it),
-          subst (λ (x : ℕ × Named Description). IsEnd pipes x.1.value)
-              it (t.is_end k.serial (k.slot, d) stands),
+          subst (λ (x : ℕ × Named Description). IsEnd pipes x.1.value) it (t.is_end k.serial (k.slot, d) stands),
         )
 
-    pub names_row : {K' : List Key} → TiedWith K' E ps ds pipes
-        → (d.names ≡ named ps k.serial + held (names_it k.serial) K')
-        × (0 < named ps k.serial + held (names_it k.serial) K')
-    names_row {K'} t = subst (NamedRow (named ps k.serial + held (names_it k.serial) K')) stands (t.names k.serial)
+    pub names_row : TiedWith K E ps ds pipes → (d.names ≡ named ps k.serial + held (names_it k.serial) K)
+        × (0 < named ps k.serial + held (names_it k.serial) K)
+    names_row t = subst (NamedRow (named ps k.serial + held (names_it k.serial) K)) stands (t.names k.serial)
 
   module _ (r : Key) (p : Pipe) (stands : at pipes r.serial ≡ Some (r.slot, p)) where
-    pub pipe_row : {E' : List Description} → TiedWith K E' ps ds pipes
-        → (p.readers ≡ read_by ds r.serial + held (reads_it r.serial) E')
-        × (p.writers ≡ written_by ds r.serial + held (writes_it r.serial) E')
-        × (0 < (read_by ds r.serial + held (reads_it r.serial) E')
-        + (written_by ds r.serial + held (writes_it r.serial) E'))
-    pipe_row {E'} t =
-        subst (UsedRow (read_by ds r.serial + held (reads_it r.serial) E')
-        (written_by ds r.serial + held (writes_it r.serial) E')) stands (t.uses r.serial)
-
-    pub same_place : (q : Pipe) (e : ℕ × Pipe) → ◌≡◌ {A = Option (ℕ × Pipe)} (Some (r.slot, q)) (Some e) → e.0 ≡ r.slot
-    same_place q e h = let it : ◌≡◌ {A = ℕ × Pipe} (r.slot, q) e = cc in ap (λ (x : ℕ × Pipe). x.0) (sym it)
+    pub pipe_row : TiedWith K E ps ds pipes → (p.readers ≡ read_by ds r.serial + held (reads_it r.serial) E)
+        × (p.writers ≡ written_by ds r.serial + held (writes_it r.serial) E)
+        × (0 < (read_by ds r.serial + held (reads_it r.serial) E)
+        + (written_by ds r.serial + held (writes_it r.serial) E))
+    pipe_row t =
+        subst (UsedRow (read_by ds r.serial + held (reads_it r.serial) E)
+        (written_by ds r.serial + held (writes_it r.serial) E)) stands (t.uses r.serial)
 
     -- another ring
     pub requeued : (w : Pipe) → w.readers ≡ p.readers → w.writers ≡ p.writers → TiedWith K E ps ds pipes
         → TiedWith K E ps ds (put_at pipes r.serial (r.slot, w))
     requeued w a b t =
-        repiped K E ps ds pipes t r.serial (r.slot, p) stands (Some (r.slot, w)) E (same_place w) t.ends_in_hand
+        repiped t r.serial (r.slot, p) stands (Some (r.slot, w)) E (λ e h. in_place h) t.ends_in_hand
         (λ n _. (refl, refl))
         (let c = pipe_row t in (a ∙ c.0, b ∙ c.1, c.2))
 
   -- a key goes from the hand into an empty descriptor
   module _ (i fd : ℕ) (p : Process) (stands : at ps i ≡ Some p) (fd_in : fd < MAX_DESCRIPTORS) where
-    abbrev with_descriptors : List (Option Key) → Process
-    with_descriptors ks = record p { descriptors = ks }
-
     pub put : (k : Key) → at p.descriptors fd ≡ None → TiedWith (k ∷ K) E ps ds pipes
         → TiedWith K E (put_at ps i (record p { descriptors = put_at p.descriptors fd k })) ds pipes
     put k e t =
-        subst (λ o. TiedWith (holding o K) E (put_at ps i (with_descriptors (put_at p.descriptors fd k))) ds pipes) e
-        (moved K E ps ds pipes i (suc fd) p (with_descriptors (put_at p.descriptors fd k)) stands (omega arith) (Some k)
-        refl t)
+        let q = record p { descriptors = put_at p.descriptors fd k } in
+        subst (λ o. TiedWith (holding o K) E (put_at ps i q) ds pipes) e
+        (moved K i (suc fd) p q stands (omega arith) (Some k) refl t)

@@ -1,54 +1,34 @@
 -- A transfer through one pipe, in the meaning of the state that it leaves.
 
-use Rattle.std.proofs.Common.{◌≡◌, ℕ, ◌+◌, ◌-◌, ◌<◌, ◌≤◌, Bool, List, ◌++◌, length, take, drop, Option, Some}
-use Rattle.std.proofs.Common.{IsSome, IsOk, Result, Ok, Err, nat_le, nat_lt, refl, sym, ap, subst, ◌∙◌, arith}
+use Rattle.std.proofs.Common.{◌≡◌, ℕ, ◌+◌, ◌-◌, ◌<◌, ◌≤◌, Bool, List, ◌++◌, length, take, drop, Option, Some, IsSome}
+use Rattle.std.proofs.Common.{Result, Ok, Err, nat_le, nat_lt, refl, sym, ap, subst, ◌∙◌, arith}
 use Rattle.std.proofs.lemmas.Bool.{lt-ltb, le-ltb}
 use Rattle.std.proofs.lemmas.List.{take_all, length-drop}
-use Rattle.pf_machine.specs.FileMap.{Files}
-use Rattle.pf_base.specs.Limits.{Limits}
-use Rattle.pf_machine.specs.Refusals.{◌>>=◌, ◌>>◌, refuse_if}
-use Rattle.pf_machine.specs.Queue.{Segment, Queue, taken}
-use Rattle.pf_machine.specs.Numbered.{at, put_at}
+use Rattle.pf_tables.proofs.Refusals.{bind-bind}
+use Rattle.pf_tables.proofs.Common.{Files, Limits, ◌>>=◌, ◌>>◌, refuse_if, Segment, Queue, at, put_at, Passed, moved}
+use Rattle.pf_tables.proofs.Common.{itself, State, End, ready, reading_end, writing_end, with_queue, readers, writers}
+use Rattle.pf_tables.proofs.Common.{Tried, sweep, PIPE_BUF, MAX_WRITE, Errno, EINVAL, Side, find, Live, IsSound}
+use Rattle.pf_tables.proofs.Common.{queue_of, Stands, UserPages, Namespace, meaning, rings_of, pipe_meaning, Owns}
+use Rattle.pf_tables.proofs.Common.{ProcessRows, DescriptionRows, PipeRows, Description, Pipe, pipe_of, pipes_of}
+use Rattle.pf_tables.proofs.Common.{state_of, end_in, Key, Kept, Whole, attempted}
+use Rattle.pf_machine.specs.Queue.{taken}
 use Rattle.pf_machine.specs.Calls.{Transfer, Reading, Writing}
-use Rattle.pf_machine.specs.Progress.{Passed, moved, read_now, write_now}
-use Rattle.pf_machine.specs.State.{itself, State, End, ready, reading_end, writing_end, with_queue}
-use Rattle.pf_machine.specs.Counts.{readers, writers}
-use Rattle.pf_machine.specs.Transfers.{Tried, try_read, try_write}
-use Rattle.pf_machine.specs.Sweep.{sweep}
-use Rattle.pf_base.specs.declared.TheConstants.{PIPE_BUF, MAX_WRITE}
-use Rattle.pf_base.specs.declared.errno.Errno.{Errno}
-use Rattle.pf_base.specs.declared.errno.Errno.TheVariants.{EINVAL}
+use Rattle.pf_machine.specs.Progress.{read_now, write_now}
+use Rattle.pf_machine.specs.Transfers.{try_read, try_write}
 use Rattle.pf_base.specs.declared.progress.Progress.{Progress}
-use Rattle.pf_base.specs.declared.progress.Side.{Side}
 use Rattle.pf_base.specs.declared.progress.Side.TheVariants as sides
-use Rattle.pf_fds.specs.Registry.{find}
-use Rattle.pf_frame.specs.Live.{Live, IsSound}
 use Rattle.pf_pipe.specs.Pipe.{Passes, SameButWindows}
 use Rattle.pf_ring.specs.Laid.{laid}
-use Rattle.pf_ring.specs.Ring.{queue_of}
-use Rattle.pf_ring.specs.Windows.{Stands}
 use Rattle.pf_ring.proofs.TableLaws.{no_source}
-use Rattle.pf_limits.specs.UserPages.{UserPages}
-use Rattle.pf_tables.specs.Meaning.{Namespace, meaning, rings_of, pipe_meaning}
 use Rattle.pf_tables.proofs.MeaningLaws.{settled-meaning}
-use Rattle.pf_tables.specs.Owns.{Owns}
 use Rattle.pf_tables.proofs.OwnsLaws.{stands_at, credits_at}
-use Rattle.pf_tables.specs.Rows.{ProcessRows, DescriptionRows, PipeRows, Process, Description, Pipe, pipe_of}
-use Rattle.pf_tables.specs.Rows.{pipes_of, state_of, ready_in, end_in, Key, Kept, Whole}
 use Rattle.pf_tables.specs.Buffers.{HasReadInto, HasReadTruncated}
-use Rattle.pf_tables.specs.Told.{attempted, Came, Wrote}
+use Rattle.pf_tables.specs.Told.{Came, Wrote}
 use Rattle.pf_tables.proofs.Buffers as buffers
-use Rattle.pf_tables.proofs.ProcessTableReady.{shown_in, ready_shown}
-use Rattle.pf_tables.proofs.Ends.{side_end, end_of_rows, refused, found, reaches, pipe_there as there_is, counted}
+use Rattle.pf_tables.proofs.Ends.{side_end, end_of_rows, Agree, ends, reaches, pipe_there as there_is, counted}
 use Rattle.pf_tables.proofs.PipesRing.{there, same_pipes, refilled-whole, refilled-joined, refilled-means}
 use Rattle.pf_tables.proofs.TablesShown.{find_at, find_was}
 use Rattle.pf_tables.proofs.TablesSettled.{settled}
-
--- the third step goes on from the second as from the two together
-pub bind-bind : {A B C : Type 0} (m : Result A Errno) (h : A → Result B Errno) (go : B → Result C Errno)
-    → (m >>= (λ a. h a >>= go)) ≡ ((m >>= h) >>= go)
-bind-bind (Ok a) h go = refl
-bind-bind (Err e) h go = refl
 
 -- the rest of a list, cut at its end
 pub rest_is : (n : ℕ) (x : List ℕ) → take (length x - n) (drop n x) ≡ drop n x
@@ -139,13 +119,17 @@ module _ {files : Files} {files_made : ℕ} {limits : Limits} {charges : UserPag
     abbrev s : State Segment ℕ
     s = meaning f (state_of ps ds pipes files files_made)
 
+    its : (side : Option Side)
+        → Agree (pipe_meaning f) pipes (end_in side ps ds pid fd) (ready s pid >>= (λ p. side_end side s p fd))
+    its side = ends (pipe_meaning f) side files files_made rows.kept.tied pid fd
+
     pub no_write : (x : List ℕ) (written : ℕ) (e : Errno) → end_in (Some sides.Write) ps ds pid fd ≡ Err e
         → attempted (meaning f n.state) pid (Writing fd x written) ≡ Err e
     no_write x written e h =
         subst (λ (v : Namespace). attempted (meaning f v.state) pid (Writing fd x written) ≡ Err e) view
         (bind-bind (ready s pid) (λ p. writing_end itself s p fd) _
         ∙ ap (λ r. r >>= (λ e. refuse_if (nat_lt MAX_WRITE (length x)) EINVAL >> Ok (try_write s e x written)))
-        (refused (pipe_meaning f) (Some sides.Write) files files_made rows.kept.tied pid fd e h))
+        ((its (Some sides.Write)).refused h))
 
     pub no_read : (m : ℕ) (e : Errno) → end_in (Some sides.Read) ps ds pid fd ≡ Err e
         → attempted (meaning f n.state) pid (Reading fd m) ≡ Err e
@@ -153,35 +137,24 @@ module _ {files : Files} {files_made : ℕ} {limits : Limits} {charges : UserPag
         subst (λ (v : Namespace). attempted (meaning f v.state) pid (Reading fd m) ≡ Err e) view
         (bind-bind (ready s pid) (λ p. reading_end itself s p fd) _
         ∙ ap (λ r. r >>= (λ e. Ok (try_read s e m)))
-        (refused (pipe_meaning f) (Some sides.Read) files files_made rows.kept.tied pid fd e h))
+        ((its (Some sides.Read)).refused h))
 
     module _ (d : Description) where
       pub pipe_there : (side : Option Side) → end_in side ps ds pid fd ≡ Ok d
           → IsSome (find pipes d.pipe.slot d.pipe.serial)
-      pipe_there side h = there_is (pipe_meaning f) side files files_made rows.kept.tied pid fd h
-
-      pub caller : (side : Option Side) → end_in side ps ds pid fd ≡ Ok d → IsOk (ready (meaning f n.state) pid)
-      caller side h =
-          subst (λ (v : Namespace). IsOk (ready (meaning f v.state) pid)) view
-          (rw (ready_shown ps pid) (shown_ok (ready_in ps pid)
-          (found (pipe_meaning f) side files files_made rows.kept.tied pid fd d h).caller))
-        where
-          shown_ok : (r : Result Process Errno) → IsOk r → IsOk (shown_in r)
-          shown_ok (Ok p) g = refl
-          shown_ok (Err e) g = g
+      pipe_there side h = there_is (its side) h
 
       -- how a transfer through the pipe that was found goes on
       through : (side : Option Side) {B : Type 0} (go : End Segment ℕ → Result B Errno) (r : Pipe)
           → end_in side ps ds pid fd ≡ Ok d → find pipes d.pipe.slot d.pipe.serial ≡ Some r
           → (ready s pid >>= (λ p. side_end side s p fd >>= go)) ≡ go (end_of_rows (pipe_meaning f) d r)
       through side go r h handed =
-          bind-bind (ready s pid) (λ p. side_end side s p fd) go
-          ∙ ap (λ x. x >>= go) (reaches (pipe_meaning f) side files files_made rows.kept.tied pid fd h handed)
+          bind-bind (ready s pid) (λ p. side_end side s p fd) go ∙ ap (λ x. x >>= go) (reaches (its side) h handed)
 
       pub too_long : (x : List ℕ) (written : ℕ) → end_in (Some sides.Write) ps ds pid fd ≡ Ok d → MAX_WRITE < length x
           → attempted (meaning f n.state) pid (Writing fd x written) ≡ Err EINVAL
       too_long x written h long =
-          let w = found (pipe_meaning f) (Some sides.Write) files files_made rows.kept.tied pid fd d h in
+          let w = (its (Some sides.Write)).found h in
           let go : Bool → Result Tried Errno =
           λ b. refuse_if b EINVAL >> Ok (try_write s (end_of_rows (pipe_meaning f) d w.pipe) x written) in
           subst (λ (v : Namespace). attempted (meaning f v.state) pid (Writing fd x written) ≡ Err EINVAL) view

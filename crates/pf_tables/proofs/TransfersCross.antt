@@ -1,52 +1,36 @@
 -- A transfer between two pipes, in the meaning of the state that it leaves.
 
-use Rattle.std.proofs.Common.{◌≡◌, ◌≢◌, ℕ, zero, suc, ◌+◌, ◌<◌, ◌≤◌, ◌^◌, List, [], ◌∷◌, ◌++◌, set, Option}
-use Rattle.std.proofs.Common.{Some, None, IsSome, Result, Ok, Err, nat_eq, refl, sym, ap, subst, ◌∙◌, arith}
-use Rattle.std.specs.List.{sum_by}
+use Rattle.std.proofs.Common.{◌≡◌, ◌≢◌, ℕ, zero, suc, ◌+◌, ◌<◌, ◌≤◌, ◌^◌, List, [], ◌∷◌, ◌++◌, set, Option, Some, None}
+use Rattle.std.proofs.Common.{Result, Ok, Err, nat_eq, refl, sym, ap, subst, ◌∙◌, arith}
 use Rattle.std.proofs.lemmas.Bool.{eq-eqb, ne_eqb}
 use Rattle.std.proofs.lemmas.List.{set-set, get_or-set_other}
-use Rattle.pf_ring.specs.declared.ring.Window.{Window}
-use Rattle.pf_machine.specs.FileMap.{Files}
-use Rattle.pf_base.specs.Limits.{Limits}
-use Rattle.pf_machine.specs.Refusals.{◌>>=◌, ◌>>◌, refuse_if}
-use Rattle.pf_machine.specs.Queue.{Segment}
-use Rattle.pf_machine.specs.Numbered.{at, put_at, clear_at, sum_of}
+use Rattle.pf_tables.proofs.Common.{sum_by, Window, Files, Limits, ◌>>=◌, ◌>>◌, refuse_if, Segment, at, put_at}
+use Rattle.pf_tables.proofs.Common.{clear_at, sum_of, moved, itself, State, End, ready, reading_end, writing_end}
+use Rattle.pf_tables.proofs.Common.{with_queue, readers, writers, Tried, sweep, Errno, EINVAL, find, Live, Ring}
+use Rattle.pf_tables.proofs.Common.{queue_of, reach, limit, Stands, Keeps, Joined, ring_at, slots_used, UserPages}
+use Rattle.pf_tables.proofs.Common.{Namespace, meaning, rings_of, pages, occupied, pipe_meaning, Owns, ProcessRows}
+use Rattle.pf_tables.proofs.Common.{DescriptionRows, PipeRows, Description, Pipe, pipe_of, Key, pipes_of, state_of}
+use Rattle.pf_tables.proofs.Common.{end_in, Whole, attempted}
 use Rattle.pf_machine.proofs.NumberedLaws.{at_within, at-put_same}
 use Rattle.pf_machine.specs.Calls.{Bringing}
-use Rattle.pf_machine.specs.Progress.{Crossed, moved, cross_now}
+use Rattle.pf_machine.specs.Progress.{Crossed, cross_now}
 use Rattle.pf_machine.specs.State as machine
-use Rattle.pf_machine.specs.State.{itself, State, End, ready, reading_end, writing_end, with_queue}
-use Rattle.pf_machine.specs.Counts.{readers, writers}
-use Rattle.pf_machine.specs.Transfers.{Tried, Ends, try_cross}
-use Rattle.pf_machine.specs.Sweep.{sweep}
+use Rattle.pf_machine.specs.Transfers.{Ends, try_cross}
 use Rattle.pf_base.specs.declared.TheConstants.{MAX_RESERVE}
-use Rattle.pf_base.specs.declared.errno.Errno.{Errno}
-use Rattle.pf_base.specs.declared.errno.Errno.TheVariants.{EINVAL}
 use Rattle.pf_base.specs.declared.progress.Crossing.{Crossing}
 use Rattle.pf_base.specs.declared.progress.Progress.{Progress}
 use Rattle.pf_base.specs.declared.progress.Side.TheVariants as sides
-use Rattle.pf_fds.specs.Registry.{find, if_placed}
-use Rattle.pf_frame.specs.Live.{Live}
+use Rattle.pf_fds.specs.Registry.{if_placed}
 use Rattle.pf_pipe.specs.Pipe.{Crosses}
-use Rattle.pf_ring.specs.Ring.{Ring, queue_of}
-use Rattle.pf_ring.specs.Windows.{reach, limit, Stands, Keeps}
-use Rattle.pf_ring.specs.Table.{Joined, ring_at, slots_used}
 use Rattle.pf_ring.proofs.TableLaws.{no_source, source_at, rings_stand, queue_stays}
-use Rattle.pf_limits.specs.UserPages.{UserPages}
-use Rattle.pf_tables.specs.Meaning.{Namespace, meaning, rings_of, pages, occupied, pipe_meaning}
 use Rattle.pf_tables.proofs.MeaningLaws.{settled-meaning}
-use Rattle.pf_tables.specs.Owns.{Owns}
-use Rattle.pf_tables.proofs.OwnsLaws.{pages-without}
-use Rattle.pf_tables.proofs.OwnsLaws.{pages_within, occupied_pages, used-rings}
-use Rattle.pf_tables.specs.Rows.{ProcessRows, DescriptionRows, PipeRows, Description, Pipe, pipe_of}
-use Rattle.pf_tables.specs.Rows.{Key, pipes_of, state_of, end_in, Whole}
-use Rattle.pf_tables.specs.Told.{attempted, HasCrossed}
-use Rattle.pf_tables.proofs.Ends.{end_of_rows, Found, refused, found, reaches, pipe_there, counted}
+use Rattle.pf_tables.proofs.OwnsLaws.{pages-without, pages_within, occupied_pages, used-rings}
+use Rattle.pf_tables.specs.Told.{HasCrossed}
+use Rattle.pf_tables.proofs.Ends.{end_of_rows, Agree, ends as pipe_ends, reaches, counted}
 use Rattle.pf_tables.proofs.TablesShown.{find_was}
 use Rattle.pf_tables.proofs.TablesSettled.{settled}
 use Rattle.pf_tables.proofs.Transfers.{owned}
-use Rattle.pf_tables.proofs.PipesRing.{there, ring_is, same_pipes, refilled-whole, refilled-joined}
-use Rattle.pf_tables.proofs.PipesRing.{refilled-means}
+use Rattle.pf_tables.proofs.PipesRing.{there, ring_is, same_pipes, refilled-whole, refilled-joined, refilled-means}
 
 -- two look-ups by one process, and what goes on from both
 both : {A B C D : Type 0} (m : Result A Errno) (h k : A → Result B Errno) (test : B → B → Result C Errno)
@@ -201,15 +185,8 @@ module _ {files : Files} {files_made : ℕ} {f : Live} {limits : Limits} {charge
       pages_at (pipes_of pipes) o.pipe.serial (pipe_of (o.pipe.slot, s))
       (there ps ds pipes files files_made o.pipe s (find_was pipes o.pipe.slot o.pipe.serial s to)) in
       let all : sum_by slots_used (rings_of st) ≡ occupied st = used-rings (pipes_of pipes) in
-      omega (
-        arith,
-        own.joined.total,
-        all,
-        one,
-        most,
-        occupied_pages f (record { limits = limits; state = st }) own,
-        pages_within f (record { limits = limits; state = st }) own,
-      )
+      let it : Namespace = record { limits = limits; state = st } in
+      omega (arith, own.joined.total, all, one, most, occupied_pages f it own, pages_within f it own)
     where
       pages_at : (xs : List (Option (machine.Pipe Window))) (j : ℕ) (p : machine.Pipe Window) → at xs j ≡ Some p
           → p.queue.capacity ≤ sum_of (λ (q : machine.Pipe Window). q.queue.capacity) xs
@@ -220,6 +197,14 @@ module _ {files : Files} {files_made : ℕ} {f : Live} {limits : Limits} {charge
   module _ (c : Crossing) (pid source sink m : ℕ) where
     abbrev s : State Segment ℕ
     s = meaning f (state_of ps ds pipes files files_made)
+
+    pub at_source : Agree (pipe_meaning f) pipes (end_in (Some sides.Read) ps ds pid source)
+        (ready s pid >>= (λ p. reading_end itself s p source))
+    at_source = pipe_ends (pipe_meaning f) (Some sides.Read) files files_made rows.kept.tied pid source
+
+    pub at_sink : Agree (pipe_meaning f) pipes (end_in (Some sides.Write) ps ds pid sink)
+        (ready s pid >>= (λ p. writing_end itself s p sink))
+    at_sink = pipe_ends (pipe_meaning f) (Some sides.Write) files files_made rows.kept.tied pid sink
 
     abbrev ends : End Segment ℕ → End Segment ℕ → Ends
     ends i o = record { source = i; sink = o }
@@ -245,35 +230,22 @@ module _ {files : Files} {files_made : ℕ} {f : Live} {limits : Limits} {charge
 
     pub no_source_end : (e : Errno) → end_in (Some sides.Read) ps ds pid source ≡ Err e
         → attempted (meaning f n.state) pid (Bringing c source sink m) ≡ Err e
-    no_source_end e h =
-        by_ends (refused (pipe_meaning f) (Some sides.Read) files files_made rows.kept.tied pid source e h) refl
+    no_source_end e h = by_ends (at_source.refused h) refl
 
     module _ (i : Description) (reads : end_in (Some sides.Read) ps ds pid source ≡ Ok i) where
-      at_source : Found (pipe_meaning f) (Some sides.Read) ps ds pipes files files_made pid source i
-      at_source = found (pipe_meaning f) (Some sides.Read) files files_made rows.kept.tied pid source i reads
-
       pub no_sink_end : (e : Errno) → end_in (Some sides.Write) ps ds pid sink ≡ Err e
           → attempted (meaning f n.state) pid (Bringing c source sink m) ≡ Err e
-      no_sink_end e h =
-          by_ends at_source.is
-          (refused (pipe_meaning f) (Some sides.Write) files files_made rows.kept.tied pid sink e h)
-
-      pub source_there : IsSome (find pipes i.pipe.slot i.pipe.serial)
-      source_there = pipe_there (pipe_meaning f) (Some sides.Read) files files_made rows.kept.tied pid source reads
+      no_sink_end e h = by_ends (at_source.found reads).is (at_sink.refused h)
 
       module _ (o : Description) (writes : end_in (Some sides.Write) ps ds pid sink ≡ Ok o) where
-        at_sink : Found (pipe_meaning f) (Some sides.Write) ps ds pipes files files_made pid sink o
-        at_sink = found (pipe_meaning f) (Some sides.Write) files files_made rows.kept.tied pid sink o writes
-
-        pub sink_there : IsSome (find pipes o.pipe.slot o.pipe.serial)
-        sink_there = pipe_there (pipe_meaning f) (Some sides.Write) files files_made rows.kept.tied pid sink writes
-
         pub one_pipe : i.pipe.serial ≡ o.pipe.serial
             → attempted (meaning f n.state) pid (Bringing c source sink m) ≡ Err EINVAL
         one_pipe e =
-            by_ends at_source.is at_sink.is
-            ∙ ap (λ b. (refuse_if b EINVAL >> Ok (ends (end_of_rows (pipe_meaning f) i at_source.pipe)
-            (end_of_rows (pipe_meaning f) o at_sink.pipe))) >>= tries) (eq-eqb i.pipe.serial o.pipe.serial e)
+            let from = at_source.found reads in
+            let to = at_sink.found writes in
+            by_ends from.is to.is
+            ∙ ap (λ b. (refuse_if b EINVAL >> Ok (ends (end_of_rows (pipe_meaning f) i from.pipe)
+            (end_of_rows (pipe_meaning f) o to.pipe))) >>= tries) (eq-eqb i.pipe.serial o.pipe.serial e)
 
 -- What it left, over a door that went from x to y
 module _ {files : Files} {files_made : ℕ} {limits : Limits} {charges : UserPages} {es : List (ℕ × Key)}
@@ -297,9 +269,8 @@ module _ {files : Files} {files_made : ℕ} {limits : Limits} {charges : UserPag
 
   is_tried : attempted (meaning (live x) n.state) pid (Bringing c source sink m) ≡ Ok (try_cross c here those m)
   is_tried =
-      by_ends rows view owns c pid source sink m
-      (reaches (pipe_meaning (live x)) (Some sides.Read) files files_made rows.kept.tied pid source reads was)
-      (reaches (pipe_meaning (live x)) (Some sides.Write) files files_made rows.kept.tied pid sink writes to)
+      by_ends rows view owns c pid source sink m (reaches (at_source rows view owns c pid source sink m) reads was)
+      (reaches (at_sink rows view owns c pid source sink m) writes to)
       ∙ ap (λ b. (refuse_if b EINVAL >> Ok those) >>= (λ z. Ok (try_cross c here z m)))
       (ne_eqb i.pipe.serial o.pipe.serial differ)
 

@@ -3,32 +3,21 @@
 use Rattle.std.proofs.Common.{◌≡◌, ℕ, zero, suc, ◌<◌, ◌≤◌, Bool, true, false, List, length, nat_eq, nat_lt, nat_le}
 use Rattle.std.proofs.Common.{Some, None, Result, Ok, Err, inl, inr, if◌then◌else◌, refl, sym, ap, subst, ◌∙◌, arith}
 use Rattle.std.proofs.lemmas.Bool.{eqb-true, eqb-false, le-ltb, le-leb, lt-leb}
-use Rattle.pf_machine.specs.FileMap.{Files}
-use Rattle.pf_base.specs.Limits.{Limits}
-use Rattle.pf_machine.specs.Refusals.{◌>>=◌, ◌>>◌, refuse_if}
-use Rattle.pf_machine.specs.Queue.{Segment, Queue, room_of}
+use Rattle.pf_tables.proofs.Common.{Files, Limits, ◌>>=◌, ◌>>◌, refuse_if, Segment, Queue, room_of, Passed, itself}
+use Rattle.pf_tables.proofs.Common.{State, End, ready, writing_end, readers, Tried, PIPE_BUF, MAX_WRITE, Errno, EINVAL}
+use Rattle.pf_tables.proofs.Common.{find, Live, queue_of, Window, UserPages, Namespace, meaning, pipe_meaning}
+use Rattle.pf_tables.proofs.Common.{ProcessRows, DescriptionRows, PipeRows, Description, Pipe, state_of, end_in, Tied}
+use Rattle.pf_tables.proofs.Common.{Kept, attempted}
 use Rattle.pf_machine.specs.Calls.{Writing}
-use Rattle.pf_machine.specs.Progress.{Passed, portion, put_some, write_now}
-use Rattle.pf_machine.specs.State.{itself, State, Process, End, ready, end_of, writing_end}
-use Rattle.pf_machine.specs.Counts.{readers}
-use Rattle.pf_machine.specs.Transfers.{Tried, try_write}
-use Rattle.pf_base.specs.declared.TheConstants.{PIPE_BUF, MAX_WRITE}
-use Rattle.pf_base.specs.declared.errno.Errno.{Errno}
-use Rattle.pf_base.specs.declared.errno.Errno.TheVariants.{EINVAL}
+use Rattle.pf_machine.specs.Progress.{portion, put_some, write_now}
+use Rattle.pf_machine.specs.State.{Process, end_of}
+use Rattle.pf_machine.specs.Transfers.{try_write}
 use Rattle.pf_base.specs.declared.progress.Progress.TheVariants.{Moved}
 use Rattle.pf_base.specs.declared.progress.Side.TheVariants.{Write}
-use Rattle.pf_fds.specs.Registry.{find}
-use Rattle.pf_frame.specs.Live.{Live}
-use Rattle.pf_ring.specs.Ring.{queue_of}
-use Rattle.pf_ring.specs.declared.ring.Window.{Window}
-use Rattle.pf_limits.specs.UserPages.{UserPages}
-use Rattle.pf_tables.specs.Meaning.{Namespace, meaning, pipe_meaning}
-use Rattle.pf_tables.specs.Rows.{ProcessRows, DescriptionRows, PipeRows, Description, Pipe, state_of, end_in, Tied}
-use Rattle.pf_tables.specs.Rows.{Kept}
-use Rattle.pf_tables.specs.Told.{attempted, flag_of, is_nonblocking_at, IsDone, IsShort, Stops}
-use Rattle.pf_tables.proofs.Ends.{end_of_rows, state_seen, as_kept, seen_as_kept, refused, found, reaches, counted}
+use Rattle.pf_tables.specs.Told.{flag_of, is_nonblocking_at, IsDone, IsShort, Stops}
+use Rattle.pf_tables.proofs.Ends.{end_of_rows, kept_ends, ends as pipe_ends, reaches, counted}
 use Rattle.pf_tables.proofs.TablesShown.{find_was}
-use Rattle.pf_tables.proofs.Transfers.{bind-bind}
+use Rattle.pf_tables.proofs.Refusals.{bind-bind}
 
 -- How far a write comes
 
@@ -99,22 +88,21 @@ flag_found s fd (Err e) = refl
 module _ {ps : ProcessRows} {ds : DescriptionRows} {pipes : PipeRows} (tied : Tied ps ds pipes) {limits : Limits}
     {files : Files} {files_made : ℕ} {n : Namespace}
     (view : record { limits = limits; state = state_of ps ds pipes files files_made } ≡ n) (pid fd : ℕ) where
-  found_flag : {r : Result (End Window ℕ) Errno}
-      → (ready (state_seen as_kept ps ds pipes files files_made) pid
-      >>= (λ p. end_of itself (state_seen as_kept ps ds pipes files files_made) p fd)) ≡ r
+  abbrev here : State Window ℕ
+  here = state_of ps ds pipes files files_made
+
+  found_flag : {r : Result (End Window ℕ) Errno} → (ready here pid >>= (λ p. end_of itself here p fd)) ≡ r
       → flagged r ≡ is_nonblocking_at n.state pid fd
   found_flag {r} is =
       sym (ap (λ (m : Namespace). is_nonblocking_at m.state pid fd) (sym view)
-      ∙ ap (λ s. is_nonblocking_at s pid fd) (sym (seen_as_kept ps ds pipes files files_made))
-      ∙ flag_found (state_seen as_kept ps ds pipes files files_made) fd (ready (state_seen as_kept ps ds pipes files
-      files_made) pid) ∙ ap flagged is)
+      ∙ flag_found here fd (ready here pid) ∙ ap flagged is)
 
   pub flag_told : (d : Description) → end_in None ps ds pid fd ≡ Ok d
       → d.nonblocking ≡ is_nonblocking_at n.state pid fd
-  flag_told d h = found_flag (found as_kept None files files_made tied pid fd d h).is
+  flag_told d h = found_flag ((kept_ends None files files_made tied pid fd).found h).is
 
   pub no_flag : (e : Errno) → end_in None ps ds pid fd ≡ Err e → false ≡ is_nonblocking_at n.state pid fd
-  no_flag e h = found_flag (refused as_kept None files files_made tied pid fd e h)
+  no_flag e h = found_flag ((kept_ends None files files_made tied pid fd).refused h)
 
 module _ {files : Files} {files_made : ℕ} (f : Live) {limits : Limits} {charges : UserPages} {ps : ProcessRows}
     {ds : DescriptionRows} {pipes : PipeRows} (kept : Kept charges ps ds pipes) {n : Namespace}
@@ -140,7 +128,7 @@ module _ {files : Files} {files_made : ℕ} (f : Live) {limits : Limits} {charge
         is =
             bind-bind (ready s pid) (λ p. writing_end itself s p fd) _
             ∙ ap (λ m. m >>= (λ e. refuse_if (nat_lt MAX_WRITE (length x)) EINVAL >> Ok (try_write s e x 0)))
-            (reaches (pipe_meaning f) (Some Write) files files_made kept.tied pid fd h handed)
+            (reaches (pipe_ends (pipe_meaning f) (Some Write) files files_made kept.tied pid fd) h handed)
             ∙ ap go (le-ltb MAX_WRITE (length x) fits);
         short = stops (queue_of f r.ring) (nat_le (length x) PIPE_BUF) x (readers itself s d.pipe.serial)
             (subst (λ k. 0 < k) (sym counts.0) some) short;

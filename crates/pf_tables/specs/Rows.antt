@@ -339,16 +339,26 @@ opens_at e = (e.0, e.1.opens)
 abbrev pub opens_of : PipeRows → List (Option (ℕ × Opens))
 opens_of ps = map (option_map opens_at) ps
 
+-- the FIFO's number alone, at its place
+abbrev pub file_at : ℕ × Opens → ℕ × Option ℕ
+file_at o = (o.0, o.1.file)
+
+abbrev pub files_of : List (Option (ℕ × Opens)) → List (Option (ℕ × Option ℕ))
+files_of opens = map (option_map file_at) opens
+
+-- there are no more opens of a pipe than so many
 abbrev pub NoMore : ℕ → ℕ × Opens → Type 0
 NoMore drawn o = (o.1.read ≤ drawn) × (o.1.write ≤ drawn)
 
--- a key is there for the number of each FIFO that a pipe is of, and finds that pipe; there are no more opens than
--- descriptions were drawn
+-- a key is there for the number of each FIFO that a pipe is of, and finds that pipe
+pub record AreKeys (fifos : List (ℕ × Key)) (files : List (Option (ℕ × Option ℕ))) : Type 0 where
+  pub finds : (file : ℕ) (k : Key) → lookup (nat_eq file) fifos ≡ Some k → at files k.serial ≡ Some (k.slot, Some file)
+  pub there : (n place file : ℕ) → at files n ≡ Some (place, Some file)
+      → lookup (nat_eq file) fifos ≡ Some (record { slot = place; serial = n })
+
+-- and there are no more opens than descriptions were drawn
 pub record AreFifos (fifos : List (ℕ × Key)) (drawn : ℕ) (opens : List (Option (ℕ × Opens))) : Type 0 where
-  pub finds : (file : ℕ) (k : Key) → lookup (nat_eq file) fifos ≡ Some k
-      → (o : Opens) × (at opens k.serial ≡ Some (k.slot, o)) × (o.file ≡ Some file)
-  pub there : (n : ℕ) (o : ℕ × Opens) (file : ℕ) → at opens n ≡ Some o → o.1.file ≡ Some file
-      → lookup (nat_eq file) fifos ≡ Some (record { slot = o.0; serial = n })
+  pub keys : AreKeys fifos (files_of opens)
   pub few : (n : ℕ) (o : ℕ × Opens) → at opens n ≡ Some o → NoMore drawn o
 
 -- the counters are tied, and those of pages are the sums over all pipes

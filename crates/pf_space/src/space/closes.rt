@@ -4,9 +4,9 @@ ghost use Rattle.std.specs.Prelude.{◌≡◌, ◌≢◌, ◌-◌, ◌<◌, [], 
 ghost use Rattle.pf_machine.specs.Machine.{call};
 ghost use Rattle.pf_ring.specs.Windows.{Keeps, Stands};
 ghost use Rattle.pf_tables.specs.Meaning.{meaning};
-ghost use Rattle.pf_tables.specs.Owns.{Owns};
 ghost use Rattle.pf_tables.specs.Tables.{descriptor, emptied};
 ghost use Rattle.pf_tables.specs.Told.{Becomes, Told};
+ghost use Rattle.pf_space.specs.Door.{Serves, HandsOn};
 
 use super::Space;
 use pf_base::{Fault, MAX_DESCRIPTORS, Reply, Step};
@@ -20,8 +20,7 @@ use std::alloc::Allocator;
 fn clear<F: Frames>(door: &mut F, gone: Option<Pipe>)
     requires fact { F.fact door.old }
     requires stands { IfSome gone (λ p. Stands (F.live door.old) p.ring.segments) }
-    ensures fact { F.fact door.new }
-    ensures rest { F.rest door.new ≡ F.rest door.old }
+    ensures door { HandsOn F.Frames door.old door.new }
     ensures keeps { IfSome gone (λ p. Keeps [] p.ring.segments [] (F.live door.old) (F.live door.new)) }
     ensures none { gone ≡ None → door.new ≡ door.old }
 {
@@ -38,10 +37,8 @@ impl<A: Allocator + Clone> Space<A> {
         pid: u32,
         fd: u32,
     ) -> Result<Reply, Fault>
-        requires fact { F.fact door.old }
-        requires owns { Owns (F.live door.old) self.old }
-        ensures fact { F.fact door.new }
-        ensures rest { F.rest door.new ≡ F.rest door.old }
+        requires door { Serves F.Frames door.old self.old }
+        ensures door { HandsOn F.Frames door.old door.new }
         ensures told { Told (F.live door.old) (F.live door.new) self.old self.new result
             (call self.old.limits (meaning (F.live door.old) self.old.state) (Step.Close pid fd)) }
         ensures succeeds { result ≢ Err Fault.NoMemory }
@@ -55,11 +52,9 @@ impl<A: Allocator + Clone> Space<A> {
     // one.
     #[inline(always)]
     fn empty<F: Frames>(&mut self, door: &mut F, pid: u32, fd: usize) -> bool
-        requires fact { F.fact door.old }
-        requires owns { Owns (F.live door.old) self.old }
+        requires door { Serves F.Frames door.old self.old }
         requires some { 0 < pid }
-        ensures fact { F.fact door.new }
-        ensures rest { F.rest door.new ≡ F.rest door.old }
+        ensures door { HandsOn F.Frames door.old door.new }
         ensures emptied { Becomes (F.live door.old) (F.live door.new) self.old self.new
             (emptied (meaning (F.live door.old) self.old.state) (pid - 1) fd) }
         ensures was_open { result ≡ is_some (descriptor self.old.state (pid - 1) fd) }
@@ -71,10 +66,8 @@ impl<A: Allocator + Clone> Space<A> {
 
     /// Takes a process away, with its descriptors. What nobody can reach any more goes.
     pub(super) fn exit<F: Frames>(&mut self, door: &mut F, pid: u32) -> Result<Reply, Fault>
-        requires fact { F.fact door.old }
-        requires owns { Owns (F.live door.old) self.old }
-        ensures fact { F.fact door.new }
-        ensures rest { F.rest door.new ≡ F.rest door.old }
+        requires door { Serves F.Frames door.old self.old }
+        ensures door { HandsOn F.Frames door.old door.new }
         ensures told { Told (F.live door.old) (F.live door.new) self.old self.new result
             (call self.old.limits (meaning (F.live door.old) self.old.state) (Step.Exit pid)) }
         ensures succeeds { result ≢ Err Fault.NoMemory }

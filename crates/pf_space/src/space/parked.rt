@@ -7,6 +7,7 @@ ghost use Rattle.pf_tables.specs.Buffers.{Replied, number_told};
 ghost use Rattle.pf_tables.specs.Meaning.{meaning, occupied, AreEmpty};
 ghost use Rattle.pf_tables.specs.Owns.{Owns};
 ghost use Rattle.pf_tables.specs.Told.{Told, ended};
+ghost use Rattle.pf_space.specs.Door.{Serves, HandsOn};
 
 use super::Space;
 use pf_base::{Answer, Errno, Fault, Progress, Reply, Step};
@@ -47,11 +48,9 @@ impl<A: Allocator + Clone> Space<A> {
         pid: u32,
         buffer: &mut [u8],
     ) -> Result<Option<usize>, Errno>
-        requires fact { F.fact door.old }
-        requires owns { Owns (F.live door.old) self.old }
+        requires door { Serves F.Frames door.old self.old }
         // The door is left as it is to be, and the live frames are those of this namespace.
-        ensures fact { F.fact door.new }
-        ensures rest { F.rest door.new ≡ F.rest door.old }
+        ensures door { HandsOn F.Frames door.old door.new }
         ensures owns { Owns (F.live door.new) self.new }
 
         // The step is the lone machine's, with the first bytes of its reply at the buffer's front, and nothing else
@@ -80,11 +79,9 @@ impl<A: Allocator + Clone> Space<A> {
         n: u64,
         buffer: &mut [u8],
     ) -> Result<Option<usize>, Errno>
-        requires fact { F.fact door.old }
-        requires owns { Owns (F.live door.old) self.old }
+        requires door { Serves F.Frames door.old self.old }
         requires waits { call_of (meaning (F.live door.old) self.old.state) pid ≡ Some (Moving (Reading fd n)) }
-        ensures fact { F.fact door.new }
-        ensures rest { F.rest door.new ≡ F.rest door.old }
+        ensures door { HandsOn F.Frames door.old door.new }
         ensures owns { Owns (F.live door.new) self.new }
         ensures limits { self.new.limits ≡ self.old.limits }
         ensures answers { Replied
@@ -105,11 +102,9 @@ impl<A: Allocator + Clone> Space<A> {
 
     // Tries a call again that is no read.
     fn resume_others<F: Frames>(&mut self, door: &mut F, pid: u32) -> Result<Option<usize>, Errno>
-        requires fact { F.fact door.old }
-        requires owns { Owns (F.live door.old) self.old }
+        requires door { Serves F.Frames door.old self.old }
         requires quiet { hands_out (call_of (meaning (F.live door.old) self.old.state) pid) ≡ false }
-        ensures fact { F.fact door.new }
-        ensures rest { F.rest door.new ≡ F.rest door.old }
+        ensures door { HandsOn F.Frames door.old door.new }
         ensures owns { Owns (F.live door.new) self.new }
         ensures limits { self.new.limits ≡ self.old.limits }
         // No buffer has any byte for it.
@@ -127,10 +122,8 @@ impl<A: Allocator + Clone> Space<A> {
 
     /// Tries the call in which a process waits again.
     pub(super) fn resume<F: Frames>(&mut self, door: &mut F, pid: u32) -> Result<Reply, Fault>
-        requires fact { F.fact door.old }
-        requires owns { Owns (F.live door.old) self.old }
-        ensures fact { F.fact door.new }
-        ensures rest { F.rest door.new ≡ F.rest door.old }
+        requires door { Serves F.Frames door.old self.old }
+        ensures door { HandsOn F.Frames door.old door.new }
         ensures told { Told (F.live door.old) (F.live door.new) self.old self.new result
             (call self.old.limits (meaning (F.live door.old) self.old.state) (Step.Resume pid)) }
         // Memory is wanted for a read alone, and then nothing has changed.

@@ -10,6 +10,7 @@ ghost use Rattle.pf_tables.specs.Buffers.{Lies, answer_in, number_in, told_in};
 ghost use Rattle.pf_tables.specs.Meaning.{meaning, occupied, AreEmpty};
 ghost use Rattle.pf_tables.specs.Owns.{Owns};
 ghost use Rattle.pf_tables.specs.Told.{Told, tried_call, is_nonblocking_at, write_ended, Parks};
+ghost use Rattle.pf_space.specs.Door.{Serves, HandsOn};
 
 use super::Space;
 use pf_base::{Answer, ByteString, Crossing, Errno, Fault, Progress, Reply, Step};
@@ -54,11 +55,9 @@ impl<A: Allocator + Clone> Space<A> {
     /// it leaves are those of `step` with a `Step::Write` of them. A copy of them is made only where the write waits.
     #[inline(always)]
     pub fn write_from<F: Frames>(&mut self, door: &mut F, pid: u32, fd: u32, bytes: &[u8]) -> Answer
-        requires fact { F.fact door.old }
-        requires owns { Owns (F.live door.old) self.old }
+        requires door { Serves F.Frames door.old self.old }
         // The door is left as it is to be, and the live frames are those of this namespace.
-        ensures fact { F.fact door.new }
-        ensures rest { F.rest door.new ≡ F.rest door.old }
+        ensures door { HandsOn F.Frames door.old door.new }
         ensures owns { Owns (F.live door.new) self.new }
 
         // The step is the lone machine's, or want of memory, which has changed nothing.
@@ -93,11 +92,9 @@ impl<A: Allocator + Clone> Space<A> {
         fd: u32,
         buffer: &mut [u8],
     ) -> Result<Option<usize>, Errno>
-        requires fact { F.fact door.old }
-        requires owns { Owns (F.live door.old) self.old }
+        requires door { Serves F.Frames door.old self.old }
         // The door is left as it is to be, and the live frames are those of this namespace.
-        ensures fact { F.fact door.new }
-        ensures rest { F.rest door.new ≡ F.rest door.old }
+        ensures door { HandsOn F.Frames door.old door.new }
         ensures owns { Owns (F.live door.new) self.new }
 
         // The step is the lone machine's, with the bytes of its reply at the buffer's front, and nothing else there.
@@ -124,10 +121,8 @@ impl<A: Allocator + Clone> Space<A> {
         fd: u32,
         buffer: &mut [u8],
     ) -> Result<Option<usize>, Errno>
-        requires fact { F.fact door.old }
-        requires owns { Owns (F.live door.old) self.old }
-        ensures fact { F.fact door.new }
-        ensures rest { F.rest door.new ≡ F.rest door.old }
+        requires door { Serves F.Frames door.old self.old }
+        ensures door { HandsOn F.Frames door.old door.new }
         ensures told { let s = meaning (F.live door.old) self.old.state in
             Told (F.live door.old) (F.live door.new) self.old self.new (told_in buffer.new result)
             (tried_call s pid (is_nonblocking_at self.old.state pid fd) (Reading fd (length buffer.old))) }
@@ -157,10 +152,8 @@ impl<A: Allocator + Clone> Space<A> {
         payload: Option<&ByteString>,
     ) -> Result<Reply, Fault>
         requires payload { IfSome payload (λ p. p.now ≡ bytes.now) }
-        requires fact { F.fact door.old }
-        requires owns { Owns (F.live door.old) self.old }
-        ensures fact { F.fact door.new }
-        ensures rest { F.rest door.new ≡ F.rest door.old }
+        requires door { Serves F.Frames door.old self.old }
+        ensures door { HandsOn F.Frames door.old door.new }
         ensures told { Told (F.live door.old) (F.live door.new) self.old self.new result
             (call self.old.limits (meaning (F.live door.old) self.old.state) (Step.Write pid fd bytes.now)) }
         // Memory is wanted where the write waits, and then nothing has changed.
@@ -188,10 +181,8 @@ impl<A: Allocator + Clone> Space<A> {
         fd: u32,
         bytes: &[u8],
     ) -> Result<Reply, Fault>
-        requires fact { F.fact door.old }
-        requires owns { Owns (F.live door.old) self.old }
-        ensures fact { F.fact door.new }
-        ensures rest { F.rest door.new ≡ F.rest door.old }
+        requires door { Serves F.Frames door.old self.old }
+        ensures door { HandsOn F.Frames door.old door.new }
         ensures told { Told (F.live door.old) (F.live door.new) self.old self.new result
             (tried_call (meaning (F.live door.old) self.old.state) pid true (Writing fd bytes.now 0)) }
         ensures succeeds { result ≢ Err Fault.NoMemory }
@@ -212,10 +203,8 @@ impl<A: Allocator + Clone> Space<A> {
         fd: u32,
         mut write: UnfinishedWrite,
     ) -> Result<Reply, Fault>
-        requires fact { F.fact door.old }
-        requires owns { Owns (F.live door.old) self.old }
-        ensures fact { F.fact door.new }
-        ensures rest { F.rest door.new ≡ F.rest door.old }
+        requires door { Serves F.Frames door.old self.old }
+        ensures door { HandsOn F.Frames door.old door.new }
         ensures told { Told (F.live door.old) (F.live door.new) self.old self.new result
             (tried_call (meaning (F.live door.old) self.old.state) pid false
             (Writing fd write.bytes write.written)) }
@@ -252,10 +241,8 @@ impl<A: Allocator + Clone> Space<A> {
         fd: u32,
         n: u64,
     ) -> Result<Reply, Fault>
-        requires fact { F.fact door.old }
-        requires owns { Owns (F.live door.old) self.old }
-        ensures fact { F.fact door.new }
-        ensures rest { F.rest door.new ≡ F.rest door.old }
+        requires door { Serves F.Frames door.old self.old }
+        ensures door { HandsOn F.Frames door.old door.new }
         ensures told { Told (F.live door.old) (F.live door.new) self.old self.new result
             (call self.old.limits (meaning (F.live door.old) self.old.state) (Step.Read pid fd n)) }
         // Memory is wanted for a process that lives and waits in no call, and then nothing has changed.
@@ -277,10 +264,8 @@ impl<A: Allocator + Clone> Space<A> {
         n: u64,
         again: bool,
     ) -> Result<Reply, Fault>
-        requires fact { F.fact door.old }
-        requires owns { Owns (F.live door.old) self.old }
-        ensures fact { F.fact door.new }
-        ensures rest { F.rest door.new ≡ F.rest door.old }
+        requires door { Serves F.Frames door.old self.old }
+        ensures door { HandsOn F.Frames door.old door.new }
         ensures told { let s = meaning (F.live door.old) self.old.state in
             Told (F.live door.old) (F.live door.new) self.old self.new result
             (tried_call s pid (not again && is_nonblocking_at self.old.state pid fd) (Reading fd n)) }
@@ -328,10 +313,8 @@ impl<A: Allocator + Clone> Space<A> {
         flag: bool,
         again: bool,
     ) -> Result<Reply, Fault>
-        requires fact { F.fact door.old }
-        requires owns { Owns (F.live door.old) self.old }
-        ensures fact { F.fact door.new }
-        ensures rest { F.rest door.new ≡ F.rest door.old }
+        requires door { Serves F.Frames door.old self.old }
+        ensures door { HandsOn F.Frames door.old door.new }
         ensures told { let kept = self.old.state in
             let asked = flag || (is_nonblocking_at kept pid source || is_nonblocking_at kept pid sink) in
             Told (F.live door.old) (F.live door.new) self.old self.new result

@@ -3,18 +3,14 @@
 -- machine does the same where a window shows a segment.
 
 use Rattle.std.proofs.Common.{◌+◌, length, refl, subst, sym, ap, ◌∙◌}
-use Rattle.pf_machine.specs.Machine.{call}
-use Rattle.pf_machine.specs.State.{itself}
+use Rattle.pf_space.proofs.Common.{call, itself, Step, meaning, Told}
 use Rattle.pf_machine.proofs.Natural.{spawn-as, born-as, dup-as, set_nonblock-as, get_size-as}
 use Rattle.pf_machine.proofs.NaturalCalls.{pipe-call, open-call}
 use Rattle.pf_machine.proofs.NaturalFiles.{make-as, unlink-as, rmdir-as, chmod-as, stat-as, list-as}
 use Rattle.pf_machine.proofs.NaturalSizes.{set_size-as}
 use Rattle.pf_base.specs.declared.meta.Kind.TheVariants as kinds
 use Rattle.pf_base.specs.declared.progress.Crossing.TheVariants as crossings
-use Rattle.pf_base.specs.declared.step.Step.{Step}
 use Rattle.pf_base.specs.declared.step.Step.TheVariants as steps
-use Rattle.pf_tables.specs.Meaning.{meaning}
-use Rattle.pf_tables.specs.Told.{Told}
 use Rattle.pf_space.proofs.Books.{as_ready, booked, looked_up}
 use Rattle.pf_space.proofs.ParkedTransfers.{crossed_first}
 use Rattle.pf_space.proofs.space.Space.call.Goals as goal
@@ -40,7 +36,7 @@ returns-in-Splice-clause-told g c =
 
 pub returns-in-Spawn-clause-told : goal.returns-in-Spawn-clause-told
 returns-in-Spawn-clause-told g c =
-    booked c.self.view_is c.requires.owns c.handed.ensures
+    booked c.self.view_is c.requires.door.owns c.handed.ensures
     c.in-Spawn.is _ c.spawn.ensures.says c.spawn.ensures.refused
     (λ shows. spawn-as shows itself c.self.inside.tables.state (record {
       uid = c.in-Spawn.uid;
@@ -52,7 +48,7 @@ returns-in-Spawn-clause-told g c =
 pub returns-in-Pipe-clause-told : goal.returns-in-Pipe-clause-told
 returns-in-Pipe-clause-told g c =
     let s = c.self-in-Pipe.inside.tables.state in
-    booked c.self-in-Pipe.view_is c.requires.owns c.handed-in-Pipe.ensures
+    booked c.self-in-Pipe.view_is c.requires.door.owns c.handed-in-Pipe.ensures
     c.in-Pipe.is _ c.pipe.ensures.says c.pipe.ensures.refused
     (λ shows. pipe-call shows itself c.self-in-Pipe.inside.tables.limits s c.in-Pipe.pid (length s.descriptions)
     (length s.descriptions + 1) (length s.pipes) refl refl refl c.in-Pipe.nonblock)
@@ -60,21 +56,21 @@ returns-in-Pipe-clause-told g c =
 pub returns-in-Fork-clause-told : goal.returns-in-Fork-clause-told
 returns-in-Fork-clause-told g c =
     let s = c.self-in-Fork.inside.tables.state in
-    booked c.self-in-Fork.view_is c.requires.owns c.handed-in-Fork.ensures
+    booked c.self-in-Fork.view_is c.requires.door.owns c.handed-in-Fork.ensures
     c.in-Fork.is _ c.fork.ensures.says c.fork.ensures.refused
     (λ shows. as_ready shows s c.in-Fork.pid _ _ (λ p. born-as shows itself s p))
 
 pub returns-in-Dup-clause-told : goal.returns-in-Dup-clause-told
 returns-in-Dup-clause-told g c =
     let s = c.self-in-Dup.inside.tables.state in
-    booked c.self-in-Dup.view_is c.requires.owns c.handed-in-Dup.ensures
+    booked c.self-in-Dup.view_is c.requires.door.owns c.handed-in-Dup.ensures
     c.in-Dup.is _ c.dup.ensures.says c.dup.ensures.refused
     (λ shows. as_ready shows s c.in-Dup.pid _ _ (λ p. dup-as shows itself s _ p _))
 
 pub returns-in-SetNonblock-clause-told : goal.returns-in-SetNonblock-clause-told
 returns-in-SetNonblock-clause-told g c =
     let s = c.self-in-SetNonblock.inside.tables.state in
-    booked c.self-in-SetNonblock.view_is c.requires.owns c.handed-in-SetNonblock.ensures
+    booked c.self-in-SetNonblock.view_is c.requires.door.owns c.handed-in-SetNonblock.ensures
     c.in-SetNonblock.is _ c.set_nonblocking.ensures.says c.set_nonblocking.ensures.refused
     (λ shows. as_ready shows s c.in-SetNonblock.pid _ _
     (λ p. set_nonblock-as shows itself itself itself (λ n. refl) s p _ _))
@@ -82,21 +78,21 @@ returns-in-SetNonblock-clause-told g c =
 pub returns-in-SetSize-clause-told : goal.returns-in-SetSize-clause-told
 returns-in-SetSize-clause-told g c =
     let s = c.self-in-SetSize.inside.tables.state in
-    booked c.self-in-SetSize.view_is c.requires.owns c.handed-in-SetSize.ensures
+    booked c.self-in-SetSize.view_is c.requires.door.owns c.handed-in-SetSize.ensures
     c.in-SetSize.is _ c.set_size.ensures.says c.set_size.ensures.refused
     (λ shows. as_ready shows s c.in-SetSize.pid _ _ (λ p. set_size-as shows itself itself itself (λ n. refl) _ s p _ _))
 
 pub returns-in-GetSize-clause-told : goal.returns-in-GetSize-clause-told
 returns-in-GetSize-clause-told g c =
     let s = c.self-in-GetSize.inside.tables.state in
-    looked_up c.self-in-GetSize.view_is c.requires.owns c.handed-in-GetSize.ensures
+    looked_up c.self-in-GetSize.view_is c.requires.door.owns c.handed-in-GetSize.ensures
     c.in-GetSize.is _ c.size.ensures.says
     (λ shows. as_ready shows s c.in-GetSize.pid _ _ (λ p. get_size-as shows itself itself itself (λ n. refl) s p _))
 
 pub returns-in-Mkdir-clause-told : goal.returns-in-Mkdir-clause-told
 returns-in-Mkdir-clause-told g c =
     let s = c.self-in-Mkdir.inside.tables.state in
-    booked c.self-in-Mkdir.view_is c.requires.owns c.handed-in-Mkdir.ensures
+    booked c.self-in-Mkdir.view_is c.requires.door.owns c.handed-in-Mkdir.ensures
     (c.in-Mkdir.is ∙ ap (λ x. steps.Mkdir c.in-Mkdir.pid x c.in-Mkdir.mode) (sym c.as_slice-in-Mkdir.ensures)) _
     c.make_file.ensures.says c.make_file.ensures.refused
     (λ shows. as_ready shows s c.in-Mkdir.pid _ _
@@ -105,7 +101,7 @@ returns-in-Mkdir-clause-told g c =
 pub returns-in-Mkfifo-clause-told : goal.returns-in-Mkfifo-clause-told
 returns-in-Mkfifo-clause-told g c =
     let s = c.self-in-Mkfifo.inside.tables.state in
-    booked c.self-in-Mkfifo.view_is c.requires.owns c.handed-in-Mkfifo.ensures
+    booked c.self-in-Mkfifo.view_is c.requires.door.owns c.handed-in-Mkfifo.ensures
     (c.in-Mkfifo.is ∙ ap (λ x. steps.Mkfifo c.in-Mkfifo.pid x c.in-Mkfifo.mode) (sym c.as_slice-in-Mkfifo.ensures)) _
     c.make_file-in-Mkfifo.ensures.says c.make_file-in-Mkfifo.ensures.refused
     (λ shows. as_ready shows s c.in-Mkfifo.pid _ _
@@ -114,7 +110,7 @@ returns-in-Mkfifo-clause-told g c =
 pub returns-in-Unlink-clause-told : goal.returns-in-Unlink-clause-told
 returns-in-Unlink-clause-told g c =
     let s = c.self-in-Unlink.inside.tables.state in
-    booked c.self-in-Unlink.view_is c.requires.owns c.handed-in-Unlink.ensures
+    booked c.self-in-Unlink.view_is c.requires.door.owns c.handed-in-Unlink.ensures
     (c.in-Unlink.is ∙ ap (λ x. steps.Unlink c.in-Unlink.pid x) (sym c.as_slice-in-Unlink.ensures)) _
     c.unlink.ensures.says c.unlink.ensures.refused
     (λ shows. as_ready shows s c.in-Unlink.pid _ _ (λ p. unlink-as shows itself s p c.as_slice-in-Unlink.result.now))
@@ -122,7 +118,7 @@ returns-in-Unlink-clause-told g c =
 pub returns-in-Rmdir-clause-told : goal.returns-in-Rmdir-clause-told
 returns-in-Rmdir-clause-told g c =
     let s = c.self-in-Rmdir.inside.tables.state in
-    booked c.self-in-Rmdir.view_is c.requires.owns c.handed-in-Rmdir.ensures
+    booked c.self-in-Rmdir.view_is c.requires.door.owns c.handed-in-Rmdir.ensures
     (c.in-Rmdir.is ∙ ap (λ x. steps.Rmdir c.in-Rmdir.pid x) (sym c.as_slice-in-Rmdir.ensures)) _ c.rmdir.ensures.says
     c.rmdir.ensures.refused
     (λ shows. as_ready shows s c.in-Rmdir.pid _ _ (λ p. rmdir-as shows itself s p c.as_slice-in-Rmdir.result.now))
@@ -130,7 +126,7 @@ returns-in-Rmdir-clause-told g c =
 pub returns-in-Chmod-clause-told : goal.returns-in-Chmod-clause-told
 returns-in-Chmod-clause-told g c =
     let s = c.self-in-Chmod.inside.tables.state in
-    booked c.self-in-Chmod.view_is c.requires.owns c.handed-in-Chmod.ensures
+    booked c.self-in-Chmod.view_is c.requires.door.owns c.handed-in-Chmod.ensures
     (c.in-Chmod.is ∙ ap (λ x. steps.Chmod c.in-Chmod.pid x c.in-Chmod.mode) (sym c.as_slice-in-Chmod.ensures)) _
     c.chmod.ensures.says c.chmod.ensures.refused
     (λ shows. as_ready shows s c.in-Chmod.pid _ _
@@ -139,21 +135,21 @@ returns-in-Chmod-clause-told g c =
 pub returns-in-Stat-clause-told : goal.returns-in-Stat-clause-told
 returns-in-Stat-clause-told g c =
     let s = c.self-in-Stat.inside.tables.state in
-    looked_up c.self-in-Stat.view_is c.requires.owns c.handed-in-Stat.ensures
+    looked_up c.self-in-Stat.view_is c.requires.door.owns c.handed-in-Stat.ensures
     (c.in-Stat.is ∙ ap (λ x. steps.Stat c.in-Stat.pid x) (sym c.as_slice-in-Stat.ensures)) _ c.stat.ensures.says
     (λ shows. as_ready shows s c.in-Stat.pid _ _ (λ p. stat-as shows itself s p c.as_slice-in-Stat.result.now))
 
 pub returns-in-List-clause-told : goal.returns-in-List-clause-told
 returns-in-List-clause-told g c =
     let s = c.self-in-List.inside.tables.state in
-    looked_up c.self-in-List.view_is c.requires.owns c.handed-in-List.ensures
+    looked_up c.self-in-List.view_is c.requires.door.owns c.handed-in-List.ensures
     (c.in-List.is ∙ ap (λ x. steps.List c.in-List.pid x) (sym c.as_slice-in-List.ensures)) _ c.list.ensures.says
     (λ shows. as_ready shows s c.in-List.pid _ _ (λ p. list-as shows itself s p c.as_slice-in-List.result.now))
 
 pub returns-in-Open-clause-told : goal.returns-in-Open-clause-told
 returns-in-Open-clause-told g c =
     let s = c.self-in-Open.inside.tables.state in
-    booked c.self-in-Open.view_is c.requires.owns c.handed-in-Open.ensures
+    booked c.self-in-Open.view_is c.requires.door.owns c.handed-in-Open.ensures
     (c.in-Open.is ∙ ap (λ x. steps.Open c.in-Open.pid x c.in-Open.flags) (sym c.as_slice-in-Open.ensures)) _
     c.open.ensures.says c.open.ensures.refused
     (λ shows. open-call shows itself c.self-in-Open.inside.tables.limits s c.in-Open.pid c.as_slice-in-Open.result.now

@@ -1,6 +1,6 @@
 -- What holds of the tables holds of the space that they are kept in.
 use Rattle.std.proofs.Common.{subst}
-use Rattle.pf_tables.specs.Meaning.{Namespace}
+use Rattle.pf_space.proofs.Common.{Namespace}
 use Rattle.pf_tables.specs.Queries.{GoesOn}
 use Rattle.pf_space.proofs.space.Space.can_go_on.Goals as goal
 

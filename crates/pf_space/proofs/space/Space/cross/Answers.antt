@@ -2,8 +2,7 @@
 -- descriptions whether it may wait.
 
 use Rattle.std.proofs.Common.{not, ◌&&◌, ◌||◌, refl, sym, ◌∙◌, rules}
-use Rattle.pf_machine.specs.Calls.{Bringing}
-use Rattle.pf_tables.specs.Told.{is_nonblocking_at}
+use Rattle.pf_space.proofs.Common.{Bringing, is_nonblocking_at}
 use Rattle.pf_space.proofs.ParkedTransfers.{waits_first, refuses}
 use Rattle.pf_space.proofs.space.Space.cross.Goals as goal
 
@@ -11,7 +10,7 @@ pub returns-in_err-number-clause-told : goal.returns-in_err-number-clause-told
 returns-in_err-number-clause-told g c =
     let told =
     refuses g.F.Frames.live c.args.pid (Bringing c.args.crossing c.args.source c.args.sink c.args.n)
-    c.in_err-number.ensures.crossed c.self.view_is c.requires.owns (not c.args.again && (c.args.flag
+    c.in_err-number.ensures.crossed c.self.view_is c.requires.door.owns (not c.args.again && (c.args.flag
     || (is_nonblocking_at c.args.self.now.state c.args.pid c.args.source
     || is_nonblocking_at c.args.self.now.state c.args.pid c.args.sink))) in
     search rules

@@ -1,11 +1,10 @@
 use Rattle.std.proofs.Common.{◌-◌, refl, sym, ap, ◌∙◌, subst, rules}
+use Rattle.pf_space.proofs.Common.{itself, Namespace}
 use Rattle.pf_machine.specs.Processes.{exit}
-use Rattle.pf_machine.specs.State.{itself}
 use Rattle.pf_machine.proofs.NaturalCalls.{exit-call}
 use Rattle.pf_base.specs.declared.TheConstants.{MAX_DESCRIPTORS}
 use Rattle.pf_base.specs.declared.step.Reply.TheVariants.{Num}
 use Rattle.pf_base.specs.declared.step.Step.TheVariants.{Exit}
-use Rattle.pf_tables.specs.Meaning.{Namespace}
 use Rattle.pf_tables.specs.Tables.{descriptor, Begun, IsBare, Makes}
 use Rattle.pf_space.proofs.Books.{booked_not}
 use Rattle.pf_space.proofs.Closes as lemmas
@@ -13,18 +12,16 @@ use Rattle.pf_space.proofs.space.Space.exit.Goals as goal
 
 pub loop-fd-init : goal.loop-fd-init
 loop-fd-init g c = record {
-  fact = c.requires.fact;
-  rest = refl;
+  door = record { fact = c.requires.door.fact; rest = refl };
   exits =
       lemmas.begun (g.F.Frames.live c.args.door.now) _ c.args.pid
       (subst (λ (n : Namespace). Begun n c.begin_exit.new.self c.args.pid) c.self.view_is
-      c.in_ok-begin_exit.ensures.begins) c.requires.owns _ c.next_descriptor-fd.ensures.between;
+      c.in_ok-begin_exit.ensures.begins) c.requires.door.owns _ c.next_descriptor-fd.ensures.between;
 }
 
 pub loop-fd-preserved-then-empty : goal.loop-fd-preserved-then-empty
 loop-fd-preserved-then-empty g c = record {
-  fact = c.empty.ensures.fact;
-  rest = c.empty.ensures.rest ∙ c.loop-fd.invariant.rest;
+  door = record { fact = c.empty.ensures.door.fact; rest = c.empty.ensures.door.rest ∙ c.loop-fd.invariant.door.rest };
   exits =
       lemmas.one_more (g.F.Frames.live c.args.door.now) _ c.args.pid c.loop-fd.invariant.exits c.empty.ensures.emptied;
 }
@@ -32,8 +29,7 @@ loop-fd-preserved-then-empty g c = record {
 -- where there was none, the next one is looked for
 pub loop-fd-preserved : goal.loop-fd-preserved
 loop-fd-preserved g c = record {
-  fact = c.empty.ensures.fact;
-  rest = c.empty.ensures.rest ∙ c.loop-fd.invariant.rest;
+  door = record { fact = c.empty.ensures.door.fact; rest = c.empty.ensures.door.rest ∙ c.loop-fd.invariant.door.rest };
   exits =
       lemmas.one_more_next (g.F.Frames.live c.args.door.now) _ c.args.pid c.loop-fd.invariant.exits
       c.empty.ensures.emptied _
@@ -49,7 +45,7 @@ end_exit-requires-clause-bare g c =
 pub returns-in_err-begin_exit-clause-told : goal.returns-in_err-begin_exit-clause-told
 returns-in_err-begin_exit-clause-told g c =
     let refused =
-    booked_not c.self.view_is c.requires.owns (Exit c.args.pid) _ c.in_err-begin_exit.ensures.begins
+    booked_not c.self.view_is c.requires.door.owns (Exit c.args.pid) _ c.in_err-begin_exit.ensures.begins
     c.in_err-begin_exit.ensures.refused
     (λ shows. exit-call shows itself c.self.inside.tables.limits c.self.inside.tables.state c.args.pid) in
     search rules

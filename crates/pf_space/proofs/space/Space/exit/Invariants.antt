@@ -1,11 +1,11 @@
-use Rattle.std.proofs.Common.{◌≡◌, ◌-◌}
+use Rattle.std.proofs.Common.{◌-◌}
+use Rattle.pf_space.specs.Door.{HandsOn}
 use Rattle.pf_space.proofs.Closes.{Exits}
 use Rattle.pf_space.proofs.space.Space.exit.Given as goal
 
 abbrev pub invariant-loop-fd : goal.invariant-loop-fd
 invariant-loop-fd g l = record {
-  fact : g.F.Frames.fact l.door;
-  rest : g.F.Frames.rest l.door ≡ g.F.Frames.rest l.fn.door;
+  door : HandsOn g.F.Frames l.fn.door l.door;
   exits : Exits (g.F.Frames.live l.fn.door) l.fn.self l.fn.pid l.fd (g.F.Frames.live l.door) l.self;
 }
 

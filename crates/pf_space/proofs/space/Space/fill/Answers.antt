@@ -2,7 +2,7 @@
 -- whether it may wait comes between.
 
 use Rattle.std.proofs.Common.{refl, sym, ◌∙◌}
-use Rattle.pf_tables.specs.Told.{is_nonblocking_at}
+use Rattle.pf_space.proofs.Common.{is_nonblocking_at}
 use Rattle.pf_space.proofs.ParkedTransfers.{waits_first}
 use Rattle.pf_space.proofs.space.Space.fill.Goals as goal
 

@@ -2,10 +2,8 @@
 -- has to wait the process parks again.
 
 use Rattle.std.proofs.Common.{◌≡◌, Some, Err, refl, sym, ap, subst, rules, ◌∙◌}
-use Rattle.pf_machine.specs.Calls.{Reading, Moving}
+use Rattle.pf_space.proofs.Common.{Reading, Moving, Namespace, meaning, Owns}
 use Rattle.pf_machine.specs.Machine.{call_of}
-use Rattle.pf_tables.specs.Meaning.{Namespace, meaning}
-use Rattle.pf_tables.specs.Owns.{Owns}
 use Rattle.pf_space.proofs.ParkedInto as lemmas
 use Rattle.pf_space.proofs.ParkedResume.{woken_owns}
 use Rattle.pf_space.proofs.space.Space.fill_again.Goals as goal
@@ -20,12 +18,12 @@ wake-requires g c =
 
 pub read_truncated-requires-clause-owns : goal.read_truncated-requires-clause-owns
 read_truncated-requires-clause-owns g c =
-    woken_owns _ c.self.view_is c.requires.owns c.args.pid c.wake.ensures.namespace c.wake.ensures.swept
+    woken_owns _ c.self.view_is c.requires.door.owns c.args.pid c.wake.ensures.namespace c.wake.ensures.swept
 
 pub returns-in_err-number-clause-answers : goal.returns-in_err-number-clause-answers
 returns-in_err-number-clause-answers g c =
     let owns =
-    woken_owns _ c.self.view_is c.requires.owns c.args.pid c.wake.ensures.namespace c.wake.ensures.swept in
+    woken_owns _ c.self.view_is c.requires.door.owns c.args.pid c.wake.ensures.namespace c.wake.ensures.swept in
     let told =
     lemmas.is_refused g.F.Frames.live c.self.view_is _ c.requires.waits c.wake.ensures.namespace c.settled.ensures
     {told = Err c.in_err-number.field-0.0} _ c.in_err-number.ensures.read.0 owns refl c.in_err-number.ensures.read.1 in

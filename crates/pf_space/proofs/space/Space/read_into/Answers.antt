@@ -14,8 +14,8 @@ returns-clause-answers g c =
 
 pub returns-clause-spread : goal.returns-clause-spread
 returns-clause-spread g c =
-    held_occupied _ c.fill.new.self (g.met.F.Frames.sound _ c.fill.ensures.fact) c.fill.ensures.told.owns
+    held_occupied _ c.fill.new.self (g.met.F.Frames.sound _ c.fill.ensures.door.fact) c.fill.ensures.told.owns
 
 pub returns-clause-none : goal.returns-clause-none
 returns-clause-none g c =
-    none_empty _ c.fill.new.self (g.met.F.Frames.sound _ c.fill.ensures.fact) c.fill.ensures.told.owns
+    none_empty _ c.fill.new.self (g.met.F.Frames.sound _ c.fill.ensures.door.fact) c.fill.ensures.told.owns

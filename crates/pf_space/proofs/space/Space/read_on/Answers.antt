@@ -2,7 +2,7 @@
 -- whether it may wait comes between.
 
 use Rattle.std.proofs.Common.{not, ◌&&◌, refl, sym, ap, ◌∙◌}
-use Rattle.pf_tables.specs.Told.{is_nonblocking_at}
+use Rattle.pf_space.proofs.Common.{is_nonblocking_at}
 use Rattle.pf_space.proofs.ParkedTransfers.{waits_first, not_asked, nothing_asked}
 use Rattle.pf_space.proofs.space.Space.read_on.Goals as goal
 use Rattle.pf_space.proofs.space.Space.read_on.Goals.{else-not-again-via-then-not-again+else-is_nonblocking}

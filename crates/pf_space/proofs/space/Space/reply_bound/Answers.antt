@@ -1,10 +1,9 @@
 -- It is no step. The last arm stands for all kinds that hand out nothing, and the numbers are of the tables inside.
 
 use Rattle.std.proofs.Common.{sym, subst, arith}
-use Rattle.pf_base.specs.declared.step.Step.{Step}
+use Rattle.pf_space.proofs.Common.{Step, Namespace}
 use Rattle.pf_base.specs.declared.step.Step.TheVariants.{List}
 use Rattle.pf_tables.specs.Bounds.{Covers}
-use Rattle.pf_tables.specs.Meaning.{Namespace}
 use Rattle.pf_tables.proofs.Bounds as lemmas
 use Rattle.pf_space.proofs.space.Space.reply_bound.Goals as goal
 

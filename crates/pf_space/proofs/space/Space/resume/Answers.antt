@@ -2,14 +2,10 @@
 -- of memory puts the call back. An open's is one call of the tables.
 
 use Rattle.std.proofs.Common.{Some, Err, refl, sym, ap, subst, ◌∙◌}
-use Rattle.pf_machine.specs.Calls.{Reading, Moving}
-use Rattle.pf_machine.specs.State.{itself}
+use Rattle.pf_space.proofs.Common.{Reading, Moving, itself, Namespace, Owns, waits_in, ended}
 use Rattle.pf_machine.proofs.NaturalCalls.{resume-call}
 use Rattle.pf_base.specs.declared.step.Step.TheVariants.{Resume}
 use Rattle.pf_tables.specs.Rows.{call_of}
-use Rattle.pf_tables.specs.Meaning.{Namespace}
-use Rattle.pf_tables.specs.Owns.{Owns}
-use Rattle.pf_tables.specs.Told.{waits_in, ended}
 use Rattle.pf_space.proofs.Books.{booked}
 use Rattle.pf_space.proofs.ParkedResume as lemmas
 use Rattle.pf_space.proofs.space.Space.resume.Goals as goal
@@ -17,21 +13,30 @@ use Rattle.pf_space.proofs.space.Space.resume.Goals as goal
 pub returns-then-branch-clause-told : goal.returns-then-branch-clause-told
 returns-then-branch-clause-told g c =
     let again = c.resume_open.ensures in
-    booked c.self.view_is c.requires.owns refl {step = Resume c.args.pid} refl _ again.makes tt
+    booked c.self.view_is c.requires.door.owns refl {step = Resume c.args.pid} refl _ again.makes tt
     (λ shows. resume-call shows itself c.self.inside.tables.limits c.self.inside.tables.state c.args.pid again.n
     again.before again.waits)
 
-pub read_on-requires-clause-owns : goal.read_on-requires-clause-owns
-read_on-requires-clause-owns g c =
-    lemmas.woken_owns _ c.self.view_is c.requires.owns c.args.pid c.wake.ensures.namespace c.wake.ensures.swept
+pub read_on-requires : goal.read_on-requires
+read_on-requires g c = record {
+  door =
+      lemmas.woken_served g.F.Frames c.self.view_is c.requires.door c.args.pid c.wake.ensures.namespace
+      c.wake.ensures.swept;
+}
 
-pub write_on-requires-clause-owns : goal.write_on-requires-clause-owns
-write_on-requires-clause-owns g c =
-    lemmas.woken_owns _ c.self.view_is c.requires.owns c.args.pid c.wake.ensures.namespace c.wake.ensures.swept
+pub write_on-requires : goal.write_on-requires
+write_on-requires g c = record {
+  door =
+      lemmas.woken_served g.F.Frames c.self.view_is c.requires.door c.args.pid c.wake.ensures.namespace
+      c.wake.ensures.swept;
+}
 
-pub cross-requires-clause-owns : goal.cross-requires-clause-owns
-cross-requires-clause-owns g c =
-    lemmas.woken_owns _ c.self.view_is c.requires.owns c.args.pid c.wake.ensures.namespace c.wake.ensures.swept
+pub cross-requires : goal.cross-requires
+cross-requires g c = record {
+  door =
+      lemmas.woken_served g.F.Frames c.self.view_is c.requires.door c.args.pid c.wake.ensures.namespace
+      c.wake.ensures.swept;
+}
 
 pub returns-in-Some-Write-clause-told : goal.returns-in-Some-Write-clause-told
 returns-in-Some-Write-clause-told g c =
@@ -65,7 +70,7 @@ returns-in-Err-NoMemory-clause-told g c =
     record {
       owns =
           subst (λ (n : Namespace). Owns (g.F.Frames.live c.read_on.new.door) n) (sym back.0)
-          (subst (λ d. Owns (g.F.Frames.live d) c.args.self.now) (sym back.1) c.requires.owns);
+          (subst (λ d. Owns (g.F.Frames.live d) c.args.self.now) (sym back.1) c.requires.door.owns);
       limits = ap (λ (n : Namespace). n.limits) back.0;
       says = (back.0, ap g.F.Frames.live back.1);
     }

@@ -2,9 +2,8 @@
 -- where no pipe has a byte.
 
 use Rattle.std.proofs.Common.{◌≡◌, false, Some, subst}
-use Rattle.pf_machine.specs.Calls.{Reading, Moving}
+use Rattle.pf_space.proofs.Common.{Reading, Moving, Namespace, meaning}
 use Rattle.pf_machine.specs.Machine.{call_of, hands_out}
-use Rattle.pf_tables.specs.Meaning.{Namespace, meaning}
 use Rattle.pf_tables.proofs.OwnsLaws.{held_occupied, none_empty}
 use Rattle.pf_space.proofs.ParkedInto.{read_is, no_read}
 use Rattle.pf_space.proofs.space.Space.resume_into.Goals as goal
@@ -24,21 +23,22 @@ resume_others-requires-clause-quiet g c =
 
 pub returns-in-Some-clause-spread : goal.returns-in-Some-clause-spread
 returns-in-Some-clause-spread g c =
-    held_occupied _ c.fill_again.new.self (g.met.F.Frames.sound _ c.fill_again.ensures.fact) c.fill_again.ensures.owns
+    held_occupied _ c.fill_again.new.self (g.met.F.Frames.sound _ c.fill_again.ensures.door.fact)
+    c.fill_again.ensures.owns
 
 pub returns-in-Some-clause-none : goal.returns-in-Some-clause-none
 returns-in-Some-clause-none g c =
-    none_empty _ c.fill_again.new.self (g.met.F.Frames.sound _ c.fill_again.ensures.fact) c.fill_again.ensures.owns
+    none_empty _ c.fill_again.new.self (g.met.F.Frames.sound _ c.fill_again.ensures.door.fact) c.fill_again.ensures.owns
 
 pub returns-in-None-clause-answers : goal.returns-in-None-clause-answers
 returns-in-None-clause-answers g c = c.resume_others.ensures.answers c.args.buffer.now
 
 pub returns-in-None-clause-spread : goal.returns-in-None-clause-spread
 returns-in-None-clause-spread g c =
-    held_occupied _ c.resume_others.new.self (g.met.F.Frames.sound _ c.resume_others.ensures.fact)
+    held_occupied _ c.resume_others.new.self (g.met.F.Frames.sound _ c.resume_others.ensures.door.fact)
     c.resume_others.ensures.owns
 
 pub returns-in-None-clause-none : goal.returns-in-None-clause-none
 returns-in-None-clause-none g c =
-    none_empty _ c.resume_others.new.self (g.met.F.Frames.sound _ c.resume_others.ensures.fact)
+    none_empty _ c.resume_others.new.self (g.met.F.Frames.sound _ c.resume_others.ensures.door.fact)
     c.resume_others.ensures.owns

@@ -9,11 +9,11 @@ use Rattle.pf_space.proofs.space.Space.write_from.Goals as goal
 
 pub returns-in-Ok-clause-spread : goal.returns-in-Ok-clause-spread
 returns-in-Ok-clause-spread g c =
-    held_occupied _ c.write.new.self (g.met.F.Frames.sound _ c.write.ensures.fact) c.write.ensures.told.owns
+    held_occupied _ c.write.new.self (g.met.F.Frames.sound _ c.write.ensures.door.fact) c.write.ensures.told.owns
 
 pub returns-in-Ok-clause-none : goal.returns-in-Ok-clause-none
 returns-in-Ok-clause-none g c =
-    none_empty _ c.write.new.self (g.met.F.Frames.sound _ c.write.ensures.fact) c.write.ensures.told.owns
+    none_empty _ c.write.new.self (g.met.F.Frames.sound _ c.write.ensures.door.fact) c.write.ensures.told.owns
 
 pub returns-in-Err-Errno-clause-answers : goal.returns-in-Err-Errno-clause-answers
 returns-in-Err-Errno-clause-answers g c =
@@ -24,16 +24,16 @@ returns-in-Err-Errno-clause-answers g c =
 
 pub returns-in-Err-Errno-clause-spread : goal.returns-in-Err-Errno-clause-spread
 returns-in-Err-Errno-clause-spread g c =
-    held_occupied _ c.write.new.self (g.met.F.Frames.sound _ c.write.ensures.fact) c.write.ensures.told.owns
+    held_occupied _ c.write.new.self (g.met.F.Frames.sound _ c.write.ensures.door.fact) c.write.ensures.told.owns
 
 pub returns-in-Err-Errno-clause-none : goal.returns-in-Err-Errno-clause-none
 returns-in-Err-Errno-clause-none g c =
-    none_empty _ c.write.new.self (g.met.F.Frames.sound _ c.write.ensures.fact) c.write.ensures.told.owns
+    none_empty _ c.write.new.self (g.met.F.Frames.sound _ c.write.ensures.door.fact) c.write.ensures.told.owns
 
 pub returns-in-Err-NoMemory-clause-spread : goal.returns-in-Err-NoMemory-clause-spread
 returns-in-Err-NoMemory-clause-spread g c =
-    held_occupied _ c.write.new.self (g.met.F.Frames.sound _ c.write.ensures.fact) c.write.ensures.told.owns
+    held_occupied _ c.write.new.self (g.met.F.Frames.sound _ c.write.ensures.door.fact) c.write.ensures.told.owns
 
 pub returns-in-Err-NoMemory-clause-none : goal.returns-in-Err-NoMemory-clause-none
 returns-in-Err-NoMemory-clause-none g c =
-    none_empty _ c.write.new.self (g.met.F.Frames.sound _ c.write.ensures.fact) c.write.ensures.told.owns
+    none_empty _ c.write.new.self (g.met.F.Frames.sound _ c.write.ensures.door.fact) c.write.ensures.told.owns

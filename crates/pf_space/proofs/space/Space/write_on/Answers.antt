@@ -2,12 +2,9 @@
 -- rest of them.
 
 use Rattle.std.proofs.Common.{◌≡◌, ◌+◌, false, Ok, refl, sym, ap, subst, ◌∙◌}
-use Rattle.pf_machine.specs.Calls.{Writing, Moving}
-use Rattle.pf_machine.specs.Attempts.{Waits, transfer_told}
+use Rattle.pf_space.proofs.Common.{Writing, Moving, Waits, transfer_told, Namespace, meaning, Told, tried_call}
 use Rattle.pf_base.specs.declared.step.Reply.TheVariants as replies
-use Rattle.pf_tables.specs.Meaning.{Namespace, meaning}
-use Rattle.pf_tables.specs.Told.{Told, tried_call}
-use Rattle.pf_space.proofs.ParkedTransfers.{parks, goes_on, stays_waiting, blocked_as}
+use Rattle.pf_space.proofs.ParkedTransfers.{parks, goes_on, stays_waiting}
 use Rattle.pf_space.proofs.space.Space.write_on.Goals as goal
 use Rattle.pf_space.proofs.space.Space.write_on.Goals.{in-Moved+else-written-n, in-WouldBlock}
 
@@ -25,7 +22,7 @@ returns-clause-told g c =
           (λ e. w.if-written-n.false (ap (λ m. m + w.in-Moved.n) c.written-written.ensures.written ∙ e
           ∙ sym w.total.ensures)) (w.write-is ∙ w.advance.ensures) (came.progress_is ∙ w.in-Moved.is)
       | in-WouldBlock w ↦ stays_waiting came.tried c.args.fd c.args.write rest w.write-is
-          (blocked_as came.progress_is w.in-WouldBlock.is)
+          came.progress_is w.in-WouldBlock.is
     ] in
     subst (λ (o : Namespace). Told f after o c.park.new.self (Ok replies.Parked)
     (tried_call (meaning f o.state) c.args.pid false (Writing c.args.fd x c.args.write.written))) c.self.view_is

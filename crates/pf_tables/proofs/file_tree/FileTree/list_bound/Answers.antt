@@ -1,5 +1,6 @@
 use Rattle.std.proofs.Common.{subst, arith, ◌≤◌, ◌-◌, ◌*◌, length}
-use Rattle.pf_machine.specs.FileMap.{Files, names_below, listed}
+use Rattle.pf_tables.proofs.Common.{Files}
+use Rattle.pf_machine.specs.FileMap.{names_below, listed}
 use Rattle.pf_machine.proofs.FileLimitLaws as lemmas
 use Rattle.pf_tables.proofs.file_tree.FileTree.list_bound.Goals as goal
 

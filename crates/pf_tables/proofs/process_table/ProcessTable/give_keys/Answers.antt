@@ -1,8 +1,9 @@
-use Rattle.pf_tables.proofs.ProcessTable.{given_seated, still_watched}
+use Rattle.std.proofs.Common.{refl}
+use Rattle.pf_tables.proofs.ProcessTable.{given, still_watched}
 use Rattle.pf_tables.proofs.process_table.ProcessTable.give_keys.Goals as goal
 
 pub invariant_of-self : goal.invariant_of-self
 invariant_of-self c =
-    still_watched _ _ c.self.invariant _ c.value_mut-process.result.now c.value_mut-process.ensures.value _
-    (given_seated _ c.self.invariant.seated _ c.self.view_is c.args.pid c.requires.ready c.value_mut-process.result.now
-    c.value_mut-process.ensures.value _)
+    let p = c.value_mut-process.result.now in
+    let there = c.value_mut-process.ensures.value in
+    still_watched _ _ c.self.invariant _ p _ there (given c.self.view_is c.args.pid c.requires.ready p there _) refl

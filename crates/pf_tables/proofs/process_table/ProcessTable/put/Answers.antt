@@ -1,6 +1,5 @@
 use Rattle.std.proofs.Common.{◌∙◌, ap}
-use Rattle.pf_machine.specs.Numbered.{at}
-use Rattle.pf_tables.specs.Rows.{ProcessRows}
+use Rattle.pf_tables.proofs.Common.{at, ProcessRows}
 use Rattle.pf_tables.proofs.ProcessTable.{put_watched}
 use Rattle.pf_tables.proofs.process_table.ProcessTable.put.Goals as goal
 

@@ -1,9 +1,7 @@
 use Rattle.std.proofs.Common.{Ok, refl, sym, ap}
+use Rattle.pf_tables.proofs.Common.{with_files, ◌>>=◌, done, state_of}
 use Rattle.pf_machine.specs.FileCalls as calls
-use Rattle.pf_machine.specs.Files.{chmod, with_files}
-use Rattle.pf_machine.specs.Refusals.{◌>>=◌}
-use Rattle.pf_machine.specs.State.{done}
-use Rattle.pf_tables.specs.Rows.{state_of}
+use Rattle.pf_machine.specs.Files.{chmod}
 use Rattle.pf_tables.proofs.Files.{changed}
 use Rattle.pf_tables.proofs.tables.Tables.chmod.Goals as goal
 

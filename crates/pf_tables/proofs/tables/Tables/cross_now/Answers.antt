@@ -1,5 +1,6 @@
 use Rattle.std.proofs.Common.{refl, ap, arith, sym, rules}
-use Rattle.pf_base.specs.Limits.{Limits}
+use Rattle.pf_tables.proofs.Common.{Limits}
+use Rattle.pf_tables.proofs.Ends.{pipe_there}
 use Rattle.pf_tables.proofs.TransfersCross as lemmas
 use Rattle.pf_tables.proofs.tables.Tables.cross_now.Goals as goal
 
@@ -28,8 +29,8 @@ returns-then-from-to-clause-crossed g c = (
 pub take_out-taken-requires : goal.take_out-taken-requires
 take_out-taken-requires g c = record {
   stands =
-      lemmas.sink_there c.self.invariant c.self.view_is c.requires.owns c.args.crossing c.args.pid c.args.source
-      c.args.sink c.args.n c.in_ok-from.from (sym c.in_ok-from.ensures) c.in_ok-to.to (sym c.in_ok-to.ensures);
+      pipe_there (lemmas.at_sink c.self.invariant c.self.view_is c.requires.owns c.args.crossing c.args.pid
+      c.args.source c.args.sink c.args.n) (sym c.in_ok-to.ensures);
 }
 
 pub value_mut-pipe-requires : goal.value_mut-pipe-requires
@@ -38,19 +39,24 @@ value_mut-pipe-requires g c = record {
       rw
       (lemmas.source_is c.self.invariant c.self.view_is c.requires.owns c.in_ok-from.from c.in_ok-to.to
       c.if-from-to.false c.take_out-taken.ensures.items)
-      (lemmas.source_there c.self.invariant c.self.view_is c.requires.owns c.args.crossing c.args.pid c.args.source
-      c.args.sink c.args.n c.in_ok-from.from (sym c.in_ok-from.ensures));
+      (pipe_there (lemmas.at_source c.self.invariant c.self.view_is c.requires.owns c.args.crossing c.args.pid
+      c.args.source c.args.sink c.args.n) (sym c.in_ok-from.ensures));
 }
 
-pub cross_now-progress-requires-clause-stands : goal.cross_now-progress-requires-clause-stands
-cross_now-progress-requires-clause-stands g c =
+pub cross_now-progress-requires : goal.cross_now-progress-requires
+cross_now-progress-requires g c =
+    let stands =
     lemmas.stand_together c.self.invariant c.self.view_is c.requires.owns c.in_ok-from.from c.in_ok-to.to
-    c.if-from-to.false c.take_out-taken.ensures.items c.value_mut-pipe.ensures.value c.take_out-taken.ensures.value
-
-pub cross_now-progress-requires-clause-few : goal.cross_now-progress-requires-clause-few
-cross_now-progress-requires-clause-few g c =
-    lemmas.few c.self.invariant c.self.view_is c.requires.owns c.in_ok-to.to _ c.take_out-taken.ensures.value (omega
-    (arith, c.reserve-most.ensures.value, c.reserve-most.ensures.most, ap (λ (l : Limits). l.reserve) c.config.ensures))
+    c.if-from-to.false c.take_out-taken.ensures.items c.value_mut-pipe.ensures.value c.take_out-taken.ensures.value in
+    let few =
+    lemmas.few c.self.invariant c.self.view_is c.requires.owns c.in_ok-to.to _ c.take_out-taken.ensures.value
+    (omega (
+      arith,
+      c.reserve-most.ensures.value,
+      c.reserve-most.ensures.most,
+      ap (λ (l : Limits). l.reserve) c.config.ensures,
+    )) in
+    record { door = record { fact = c.requires.fact; stands = stands; few = few } }
 
 pub invariant_of-self : goal.invariant_of-self
 invariant_of-self g c =

@@ -1,6 +1,5 @@
-use Rattle.std.proofs.Common.{◌-◌, is_some, sym, ap, refl, subst, ◌∙◌, arith}
-use Rattle.pf_tables.specs.Meaning.{Namespace, AreCharged}
-use Rattle.pf_tables.specs.Tables.{descriptor}
+use Rattle.std.proofs.Common.{◌-◌, sym, refl, subst, ◌∙◌, arith}
+use Rattle.pf_tables.proofs.Common.{AreCharged}
 use Rattle.pf_tables.proofs.Fifos.{fifos-gone, fifos-same}
 use Rattle.pf_tables.proofs.DescriptorsDrop.{gone_covered, gone_kept, left_off}
 use Rattle.pf_tables.proofs.DescriptorsLetGo.{open_shown}
@@ -50,14 +49,8 @@ invariant_of-self-in_default g c =
 
 pub returns-in-Some-clause-was_open : goal.returns-in-Some-clause-was_open
 returns-in-Some-clause-was_open g c =
-    c.let_go-gone.ensures.was_open
-    ∙ open_shown c.self.inside.processes c.self.inside.descriptions.items c.self.inside.pipes.items c.self.inside.files
-    c.self.inside.files_made (c.args.pid - 1) c.args.fd
-    ∙ ap (λ (n : Namespace). is_some (descriptor n.state (c.args.pid - 1) c.args.fd)) c.self.view_is
+    c.let_go-gone.ensures.was_open ∙ open_shown _ _ _ c.self.view_is (c.args.pid - 1) c.args.fd
 
 pub returns-in_default-clause-was_open : goal.returns-in_default-clause-was_open
 returns-in_default-clause-was_open g c =
-    c.let_go-gone.ensures.was_open
-    ∙ open_shown c.self.inside.processes c.self.inside.descriptions.items c.self.inside.pipes.items c.self.inside.files
-    c.self.inside.files_made (c.args.pid - 1) c.args.fd
-    ∙ ap (λ (n : Namespace). is_some (descriptor n.state (c.args.pid - 1) c.args.fd)) c.self.view_is
+    c.let_go-gone.ensures.was_open ∙ open_shown _ _ _ c.self.view_is (c.args.pid - 1) c.args.fd

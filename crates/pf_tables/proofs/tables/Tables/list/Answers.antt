@@ -1,10 +1,9 @@
 use Rattle.std.proofs.Common.{ℕ, List, Vec, Global, Ok, Err, refl, subst, rules}
+use Rattle.pf_tables.proofs.Common.{Files, Told}
 use Rattle.pf_machine.specs.FileCalls as calls
-use Rattle.pf_machine.specs.FileMap.{Files}
 use Rattle.pf_machine.specs.Files.{list}
 use Rattle.pf_base.specs.declared.step.Reply.TheVariants as replies
 use Rattle.pf_tables.proofs.Files.{tells, tells_not}
-use Rattle.pf_walk.specs.Told.{Told}
 use Rattle.pf_tables.proofs.tables.Tables.list.Goals as goal
 
 pub returns-in_ok-new-in-Ok-clause-says : goal.returns-in_ok-new-in-Ok-clause-says

@@ -1,9 +1,7 @@
 use Rattle.std.proofs.Common.{◌≡◌, ◌+◌, Ok, Err, refl, sym, ap, arith, rules}
+use Rattle.pf_tables.proofs.Common.{◌>>=◌, done, state_of}
 use Rattle.pf_machine.specs.FileCalls as calls
 use Rattle.pf_machine.specs.Files.{make, with_new}
-use Rattle.pf_machine.specs.Refusals.{◌>>=◌}
-use Rattle.pf_machine.specs.State.{done}
-use Rattle.pf_tables.specs.Rows.{state_of}
 use Rattle.pf_tables.proofs.Files.{changed, unchanged}
 use Rattle.pf_tables.proofs.tables.Tables.make_file.Goals as goal
 

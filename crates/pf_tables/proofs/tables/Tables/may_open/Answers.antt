@@ -1,5 +1,5 @@
 use Rattle.std.proofs.Common.{sym, ◌∙◌, arith}
-use Rattle.pf_tables.specs.Opened.{access_seen}
+use Rattle.pf_tables.proofs.Common.{access_seen}
 use Rattle.pf_tables.proofs.OpensTests as lemmas
 use Rattle.pf_tables.proofs.tables.Tables.may_open.Goals as goal
 

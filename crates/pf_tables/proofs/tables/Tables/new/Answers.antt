@@ -1,5 +1,5 @@
 use Rattle.std.proofs.Common.{ap}
-use Rattle.pf_limits.specs.UserPages.{UserPages}
+use Rattle.pf_tables.proofs.Common.{UserPages}
 use Rattle.pf_tables.proofs.Fifos.{no_fifos}
 use Rattle.pf_tables.proofs.ProcessTableEmpty.{nothing_tied, nothing_charged, nothing_shown}
 use Rattle.pf_tables.proofs.tables.Tables.new.Goals as goal

@@ -1,8 +1,5 @@
-use Rattle.std.proofs.Common.{◌-◌, is_some, sym, ap, ◌∙◌}
-use Rattle.std.specs.Option.{option_map}
-use Rattle.pf_tables.specs.Meaning.{Namespace}
-use Rattle.pf_tables.specs.Rows.{Key}
-use Rattle.pf_tables.specs.Tables.{descriptor}
+use Rattle.std.proofs.Common.{◌-◌, sym, ap, ◌∙◌}
+use Rattle.pf_tables.proofs.Common.{option_map, Namespace, Key, descriptor}
 use Rattle.pf_tables.proofs.DescriptorsLetGo.{descriptor_shown, open_shown}
 use Rattle.pf_tables.proofs.ProcessesDrop.{on_from}
 use Rattle.pf_tables.proofs.tables.Tables.next_descriptor.Goals as goal
@@ -12,10 +9,7 @@ returns-clause-above g c within = on_from _ _ within c.next_key.ensures.above
 
 pub returns-clause-stands : goal.returns-clause-stands
 returns-clause-stands g c within =
-    ap (λ (n : Namespace). is_some (descriptor n.state (c.args.pid - 1) c.next_key.result)) (sym c.self.view_is)
-    ∙ sym (open_shown c.self.inside.processes c.self.inside.descriptions.items c.self.inside.pipes.items
-    c.self.inside.files c.self.inside.files_made (c.args.pid - 1) c.next_key.result)
-    ∙ c.next_key.ensures.stands within
+    sym (open_shown _ _ _ c.self.view_is (c.args.pid - 1) c.next_key.result) ∙ c.next_key.ensures.stands within
 
 pub returns-clause-between : goal.returns-clause-between
 returns-clause-between g c fd above below =

@@ -2,7 +2,7 @@
 -- the last one.
 use Rattle.std.proofs.Common.{◌≡◌, ℕ, ◌+◌, ◌-◌, false, ⊎_elim, sym, subst, ◌∙◌, arith}
 use Rattle.std.proofs.lemmas.Bool.{cases_lt}
-use Rattle.pf_tables.specs.Queries.{GoesOn}
+use Rattle.pf_tables.proofs.Common.{GoesOn}
 use Rattle.pf_tables.proofs.Queries.{above_all, waits_nowhere}
 use Rattle.pf_tables.proofs.tables.Tables.next_to_go_on.Goals as goal
 

@@ -1,5 +1,5 @@
 use Rattle.std.proofs.Common.{Ok, ◌∙◌, ap, sym, rules}
-use Rattle.pf_tables.specs.Opened.{access_seen}
+use Rattle.pf_tables.proofs.Common.{access_seen}
 use Rattle.pf_tables.proofs.OpensNew.{unpiped}
 use Rattle.pf_tables.proofs.OpensOutcome.{stops}
 use Rattle.pf_tables.proofs.OpensResolve.{not_named, goes_on}

@@ -1,9 +1,7 @@
 use Rattle.std.proofs.Common.{None, refl, ◌∙◌, ap, subst, sym}
+use Rattle.pf_tables.proofs.Common.{put_at, access_seen, Description, Pipe, state_of, Makes}
 use Rattle.pf_fds.specs.Descriptions.{Descriptions}
-use Rattle.pf_machine.specs.Numbered.{put_at}
-use Rattle.pf_tables.specs.Opened.{access_seen, opening}
-use Rattle.pf_tables.specs.Rows.{Description, Pipe, state_of}
-use Rattle.pf_tables.specs.Tables.{Makes}
+use Rattle.pf_tables.specs.Opened.{opening}
 use Rattle.pf_tables.proofs.OpensFind.{key_stands, fifo_shown}
 use Rattle.pf_tables.proofs.OpensFound as lemmas
 use Rattle.pf_tables.proofs.tables.Tables.open_found.Goals as goal

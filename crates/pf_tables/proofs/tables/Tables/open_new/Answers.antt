@@ -1,8 +1,6 @@
 use Rattle.std.proofs.Common.{◌∙◌, length, ap, arith}
+use Rattle.pf_tables.proofs.Common.{Namespace, counted, Description, Pipe}
 use Rattle.pf_fds.specs.Descriptions.{Descriptions}
-use Rattle.pf_tables.specs.Meaning.{Namespace}
-use Rattle.pf_tables.specs.Opened.{counted}
-use Rattle.pf_tables.specs.Rows.{Description, Pipe}
 use Rattle.pf_tables.proofs.OpensNew as lemmas
 use Rattle.pf_tables.proofs.OpensFound as joining
 use Rattle.pf_tables.proofs.OpensTests.{total_is}

@@ -1,13 +1,10 @@
 use Rattle.std.proofs.Common.{◌≡◌, ℕ, Ok, Err, refl, sym, ap, subst}
-use Rattle.pf_machine.specs.FileMap.{Files}
+use Rattle.pf_tables.proofs.Common.{Files, ◌>>=◌, access_seen, Told}
 use Rattle.pf_machine.specs.Opens.{openable}
-use Rattle.pf_machine.specs.Refusals.{◌>>=◌}
 use Rattle.pf_base.specs.declared.meta.File.{File}
-use Rattle.pf_tables.specs.Opened.{access_seen}
 use Rattle.pf_tables.proofs.OpensTests.{passed_on}
 use Rattle.pf_tables.proofs.Files.{caller_told}
 use Rattle.pf_tables.proofs.OpensResolve.{sided}
-use Rattle.pf_walk.specs.Told.{Told}
 use Rattle.pf_tables.proofs.tables.Tables.openable.Goals as goal
 
 pub returns-in-Ok-clause-told : goal.returns-in-Ok-clause-told

@@ -1,9 +1,7 @@
 -- Those of the rows live for the machine; and the tables are swept, so where nobody lives nothing is left.
 use Rattle.std.proofs.Common.{◌≡◌, sym, ap, ◌∙◌}
-use Rattle.pf_machine.specs.State.{itself}
+use Rattle.pf_tables.proofs.Common.{itself, sweep, Namespace}
 use Rattle.pf_machine.specs.Processes.{alive}
-use Rattle.pf_machine.specs.Sweep.{sweep}
-use Rattle.pf_tables.specs.Meaning.{Namespace}
 use Rattle.pf_tables.proofs.ProcessesAlive.{shown_alive, holds_none}
 use Rattle.pf_tables.proofs.TablesSettled.{settled}
 use Rattle.pf_tables.proofs.tables.Tables.processes.Goals as goal

@@ -1,6 +1,6 @@
 use Rattle.std.proofs.Common.{ℕ, sym, ◌∙◌, subst}
+use Rattle.pf_tables.proofs.Common.{Covers}
 use Rattle.pf_base.specs.declared.step.Step.TheVariants.{Read}
-use Rattle.pf_tables.specs.Bounds.{Covers}
 use Rattle.pf_tables.proofs.Bounds as lemmas
 use Rattle.pf_tables.proofs.tables.Tables.read_bound.Goals as goal
 

@@ -17,10 +17,12 @@ value_mut-pipe-requires g c = record {
       (Some Read) (sym c.in_ok-source.ensures);
 }
 
-pub read_now-requires-clause-stands : goal.read_now-requires-clause-stands
-read_now-requires-clause-stands g c =
+pub read_now-requires : goal.read_now-requires
+read_now-requires g c =
+    let stands =
     lemmas.stands_in c.self.invariant.kept c.self.view_is c.requires.owns c.in_ok-source.source
-    c.value_mut-pipe.ensures.value
+    c.value_mut-pipe.ensures.value in
+    record { door = record { fact = c.requires.fact; stands = stands } }
 
 pub invariant_of-self : goal.invariant_of-self
 invariant_of-self g c =

@@ -17,9 +17,12 @@ value_mut-pipe-requires g c = record {
       (Some Read) (sym c.in_ok-end.ensures);
 }
 
-pub read_bytes-requires-clause-stands : goal.read_bytes-requires-clause-stands
-read_bytes-requires-clause-stands g c =
-    lemmas.stands_in c.self.invariant.kept c.self.view_is c.requires.owns c.in_ok-end.end c.value_mut-pipe.ensures.value
+pub read_bytes-requires : goal.read_bytes-requires
+read_bytes-requires g c =
+    let stands =
+    lemmas.stands_in c.self.invariant.kept c.self.view_is c.requires.owns c.in_ok-end.end
+    c.value_mut-pipe.ensures.value in
+    record { door = record { fact = c.requires.fact; stands = stands } }
 
 pub invariant_of-self : goal.invariant_of-self
 invariant_of-self g c =

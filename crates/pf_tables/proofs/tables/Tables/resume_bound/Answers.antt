@@ -1,8 +1,6 @@
 use Rattle.std.proofs.Common.{ℕ, Some, sym, ap, ◌∙◌, subst, arith}
-use Rattle.pf_base.specs.Limits.{Limits}
+use Rattle.pf_tables.proofs.Common.{Limits, Covers, Namespace}
 use Rattle.pf_base.specs.declared.step.Step.TheVariants.{Resume}
-use Rattle.pf_tables.specs.Bounds.{Covers}
-use Rattle.pf_tables.specs.Meaning.{Namespace}
 use Rattle.pf_tables.proofs.Bounds as lemmas
 use Rattle.pf_tables.proofs.Parked.{call-shown}
 use Rattle.pf_tables.proofs.tables.Tables.resume_bound.Goals as goal

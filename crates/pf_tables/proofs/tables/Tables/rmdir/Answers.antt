@@ -1,6 +1,7 @@
 use Rattle.std.proofs.Common.{refl}
+use Rattle.pf_tables.proofs.Common.{with_files}
 use Rattle.pf_machine.specs.FileCalls as calls
-use Rattle.pf_machine.specs.Files.{rmdir, with_files}
+use Rattle.pf_machine.specs.Files.{rmdir}
 use Rattle.pf_tables.proofs.Files.{changed}
 use Rattle.pf_tables.proofs.tables.Tables.rmdir.Goals as goal
 

@@ -1,9 +1,7 @@
 use Rattle.std.proofs.Common.{◌≡◌, true, None, rules, ap, ◌∙◌}
+use Rattle.pf_tables.proofs.Common.{Cred, at, Process}
 use Rattle.pf_base.specs.Credentials.{is_valid}
-use Rattle.pf_base.specs.declared.cred.Cred.{Cred}
-use Rattle.pf_machine.specs.Numbered.{at}
 use Rattle.pf_machine.proofs.NumberedLaws.{at-first_free}
-use Rattle.pf_tables.specs.Rows.{Process}
 use Rattle.pf_tables.proofs.ProcessesSpawn.{spawned, spawned-tied, spawns, no_pid, some_pid}
 use Rattle.pf_tables.proofs.tables.Tables.spawn.Given.{Over}
 use Rattle.pf_tables.proofs.tables.Tables.spawn.Goals.{After-put}

@@ -1,11 +1,10 @@
 use Rattle.std.proofs.Common.{◌≡◌, Ok, Err, refl, subst}
+use Rattle.pf_tables.proofs.Common.{Files, Told}
 use Rattle.pf_machine.specs.FileCalls as calls
-use Rattle.pf_machine.specs.FileMap.{Files}
 use Rattle.pf_machine.specs.Files.{stat}
 use Rattle.pf_base.specs.declared.meta.Meta.{Meta}
 use Rattle.pf_base.specs.declared.step.Reply.TheVariants as replies
 use Rattle.pf_tables.proofs.Files.{tells, tells_not}
-use Rattle.pf_walk.specs.Told.{Told}
 use Rattle.pf_tables.proofs.tables.Tables.stat.Goals as goal
 
 pub returns-in-Ok-clause-says : goal.returns-in-Ok-clause-says

@@ -1,6 +1,7 @@
 use Rattle.std.proofs.Common.{refl}
+use Rattle.pf_tables.proofs.Common.{with_files}
 use Rattle.pf_machine.specs.FileCalls as calls
-use Rattle.pf_machine.specs.Files.{unlink, with_files}
+use Rattle.pf_machine.specs.Files.{unlink}
 use Rattle.pf_tables.proofs.Files.{changed}
 use Rattle.pf_tables.proofs.tables.Tables.unlink.Goals as goal
 

@@ -24,15 +24,15 @@ value_mut-pipe-requires g c = record {
       (Some Write) (sym c.in_ok-sink.ensures);
 }
 
-pub write_now-requires-clause-stands : goal.write_now-requires-clause-stands
-write_now-requires-clause-stands g c =
+pub write_now-requires : goal.write_now-requires
+write_now-requires g c =
+    let stands =
     lemmas.stands_in c.self.invariant.kept c.self.view_is c.requires.owns c.in_ok-sink.sink
-    c.value_mut-pipe.ensures.value
-
-pub write_now-requires-clause-credits : goal.write_now-requires-clause-credits
-write_now-requires-clause-credits g c =
+    c.value_mut-pipe.ensures.value in
+    let credits =
     lemmas.credits c.self.invariant.kept c.self.view_is c.requires.owns c.in_ok-sink.sink
-    c.value_mut-pipe.ensures.value (g.met.F.Frames.sound _ c.requires.fact)
+    c.value_mut-pipe.ensures.value (g.met.F.Frames.sound _ c.requires.fact) in
+    record { door = record { fact = c.requires.fact; stands = stands; credits = credits } }
 
 pub invariant_of-self : goal.invariant_of-self
 invariant_of-self g c =

@@ -1,8 +1,6 @@
 use Rattle.std.proofs.Common.{◌<◌, ◌≤◌, length, Some, refl, sym, subst, rules, arith}
-use Rattle.pf_machine.specs.Progress.{Passed}
-use Rattle.pf_machine.specs.Queue.{room_of}
+use Rattle.pf_tables.proofs.Common.{Passed, room_of, queue_of}
 use Rattle.pf_base.specs.declared.progress.Side.TheVariants.{Write}
-use Rattle.pf_ring.specs.Ring.{queue_of}
 use Rattle.pf_tables.specs.Told.{IsDone}
 use Rattle.pf_tables.proofs.Transfers as lemmas
 use Rattle.pf_tables.proofs.TransfersWhole.{ends, stops_at}
@@ -49,14 +47,15 @@ returns-then-room-bytes-clause-written g c = (
   ),
 )
 
-pub write_now-requires-clause-stands : goal.write_now-requires-clause-stands
-write_now-requires-clause-stands g c =
-    lemmas.stands_in c.self.invariant.kept c.self.view_is c.requires.owns c.in_ok-end.end c.value_mut-pipe.ensures.value
-
-pub write_now-requires-clause-credits : goal.write_now-requires-clause-credits
-write_now-requires-clause-credits g c =
+pub write_now-requires : goal.write_now-requires
+write_now-requires g c =
+    let stands =
+    lemmas.stands_in c.self.invariant.kept c.self.view_is c.requires.owns c.in_ok-end.end
+    c.value_mut-pipe.ensures.value in
+    let credits =
     lemmas.credits c.self.invariant.kept c.self.view_is c.requires.owns c.in_ok-end.end
-    c.value_mut-pipe.ensures.value (g.met.F.Frames.sound _ c.requires.fact)
+    c.value_mut-pipe.ensures.value (g.met.F.Frames.sound _ c.requires.fact) in
+    record { door = record { fact = c.requires.fact; stands = stands; credits = credits } }
 
 pub invariant_of-self-2 : goal.invariant_of-self-2
 invariant_of-self-2 g c =

@@ -1,5 +1,5 @@
 use Rattle.std.proofs.Common.{refl, sym, ◌∙◌}
-use Rattle.pf_tables.specs.Rows.{opens_at, pipe_of}
+use Rattle.pf_tables.proofs.Common.{opens_at, pipe_of}
 use Rattle.pf_tables.proofs.DescriptorsLetGo as lemmas
 use Rattle.pf_tables.proofs.ProcessesFork.{nothing}
 use Rattle.pf_tables.proofs.tables.descriptors.let_go.Goals as goal

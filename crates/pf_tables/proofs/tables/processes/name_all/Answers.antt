@@ -1,7 +1,5 @@
 use Rattle.std.proofs.Common.{◌≡◌, ◌+◌, ◌≤◌, None, IsSome, subst, sym, ap, ◌∙◌, arith}
-use Rattle.pf_fds.specs.Descriptions.{names_of}
-use Rattle.pf_fds.specs.Registry.{find}
-use Rattle.pf_tables.specs.Rows.{DescriptionRows, with_first_names}
+use Rattle.pf_tables.proofs.Common.{names_of, find, DescriptionRows, with_first_names}
 use Rattle.pf_tables.proofs.ProcessesDrop.{on_from}
 use Rattle.pf_tables.proofs.ProcessesFork as lemmas
 use Rattle.pf_tables.proofs.tables.processes.name_all.Goals as goal

@@ -1,5 +1,5 @@
 use Rattle.std.proofs.Common.{◌≡◌, ◌-◌, ◌≤◌}
-use Rattle.pf_tables.specs.Rows.{with_first_names}
+use Rattle.pf_tables.proofs.Common.{with_first_names}
 use Rattle.pf_tables.proofs.tables.processes.name_all.Given as goal
 
 abbrev pub invariant-loop-fd : goal.invariant-loop-fd

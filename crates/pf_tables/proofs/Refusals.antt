@@ -1,0 +1,37 @@
+-- What came through a chain of refusals: each of its steps gave what the next went on with.
+
+use Rattle.std.proofs.Common.{◌≡◌, Bool, true, false, Option, Some, None, is_some, Result, Ok, Err, refl}
+use Rattle.pf_tables.proofs.Common.{◌>>=◌, ◌>>◌, refuse_if, or_refuse, Errno}
+
+-- a first step, and one that went on from it
+pub both_came : {A B : Type 0} (m : Result A Errno) (h : A → Result B Errno) {y : B} → (m >>= h) ≡ Ok y
+    → (x : A) × (m ≡ Ok x) × (h x ≡ Ok y)
+both_came (Ok x) h is = (x, refl, is)
+both_came (Err e) h is = absurd (cc)
+
+-- a test
+pub not_refused : {A : Type 0} (b : Bool) (e : Errno) (r : Result A Errno) {x : A} → (refuse_if b e >> r) ≡ Ok x
+    → (b ≡ false) × (r ≡ Ok x)
+not_refused true e r is = absurd (cc)
+not_refused false e r is = (refl, is)
+
+-- what there is
+pub is_there : {A : Type 0} (e : Errno) (o : Option A) {x : A} → or_refuse e o ≡ Ok x → o ≡ Some x
+is_there e None is = absurd (cc)
+is_there e (Some y) is = cc
+
+pub same_some : {A : Type 0} {x y : A} → ◌≡◌ {A = Option A} (Some x) (Some y) → x ≡ y
+same_some is = cc
+
+pub same_ok : {A : Type 0} {x y : A} → ◌≡◌ {A = Result A Errno} (Ok x) (Ok y) → x ≡ y
+same_ok is = cc
+
+pub is_none : {A : Type 0} (o : Option A) → is_some o ≡ false → o ≡ None
+is_none None h = refl
+is_none (Some x) h = absurd (cc)
+
+-- the third step goes on from the second as from the two together
+pub bind-bind : {A B C : Type 0} (m : Result A Errno) (h : A → Result B Errno) (go : B → Result C Errno)
+    → (m >>= (λ a. h a >>= go)) ≡ ((m >>= h) >>= go)
+bind-bind (Ok a) h go = refl
+bind-bind (Err e) h go = refl
