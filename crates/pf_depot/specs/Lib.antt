@@ -1,5 +1,6 @@
 pub mod Admission
 pub mod AllLoans
+pub mod Blanks
 pub mod Book
 pub mod Depot
 pub mod Door

@@ -5,6 +5,7 @@ ghost use Rattle.pf_frame.specs.Faults.{fault_of, IsFault};
 ghost use Rattle.pf_frame.specs.Live.{Takes, Releases};
 ghost use Rattle.pf_depot.specs.Admission.{admit_fault, IsAdmitFault};
 ghost use Rattle.pf_depot.specs.AllLoans.{held_of, reserved_of};
+ghost use Rattle.pf_depot.specs.Blanks.{IsBlankOf};
 ghost use Rattle.pf_depot.specs.Book.{books_of, opening_books, Lends, Admits, Retires, IsUndealt};
 ghost use Rattle.pf_depot.specs.Depot.{free_of, frames_of, slack_of};
 ghost use Rattle.pf_depot.specs.Loans.{loans_live};
@@ -103,9 +104,7 @@ impl<C: Ledger, H: Ledger> DepotBook<C, H> {
         credits: Blank,
         held: Blank,
     ) -> Result<(DepotBook<C, H>, Vec<Allotment<C, H>>), PoolFault>
-        requires names { (credits.name ≡ C.name) × (held.name ≡ H.name) }
-        requires cut { (credits.parts ≡ C.parts) × (held.parts ≡ H.parts) }
-        requires parts { (MAX_NAMESPACES ≤ credits.parts) × (MAX_NAMESPACES ≤ held.parts) }
+        requires blanks { IsBlankOf C.name C.parts credits × IsBlankOf H.name H.parts held }
         ensures { MatchResult result
             (λ made. (fault_of (length frames.items) reserves.items ≡ None)
             × (made.0 ≡ opening_books (length frames.items) (sum reserves.items) (length reserves.items))
@@ -129,9 +128,7 @@ impl<C: Ledger, H: Ledger> DepotBook<C, H> {
         credits: Blank,
         held: Blank,
     ) -> Result<(DepotBook<C, H>, Vec<Allotment<C, H>>), AllocError>
-        requires names { (credits.name ≡ C.name) × (held.name ≡ H.name) }
-        requires cut { (credits.parts ≡ C.parts) × (held.parts ≡ H.parts) }
-        requires parts { (MAX_NAMESPACES ≤ credits.parts) × (MAX_NAMESPACES ≤ held.parts) }
+        requires blanks { IsBlankOf C.name C.parts credits × IsBlankOf H.name H.parts held }
         requires few { length loans.items ≤ MAX_NAMESPACES }
         requires free { free_of depot ≡ frames_of depot }
         requires none { sum_by held_of loans.items ≡ 0 }

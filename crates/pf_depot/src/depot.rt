@@ -11,7 +11,8 @@ use std::alloc::{AllocError, Global};
 
 /// The frames that no namespace has on loan, with a place for each that may come back.
 ///
-/// A frame is lent by moving it, so at any time it is either here or at one place of one namespace's loans.
+/// A frame is lent by moving it, so at any time it is here, at one place of one namespace's loans, or in a namespace's
+/// stock, where it counts as on loan.
 ///
 /// Its slack is how many frames no living namespace has reserved. A namespace that comes has its reservation from the
 /// slack, and one that goes leaves its reservation there.

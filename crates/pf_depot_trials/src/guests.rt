@@ -1,7 +1,6 @@
 //! Namespaces that come and go at a depot behind a lock.
 
-ghost use Rattle.std.specs.Prelude.{◌≡◌, ◌≤◌};
-ghost use Rattle.pf_base.specs.declared.TheConstants.{MAX_NAMESPACES};
+ghost use Rattle.pf_depot.specs.Blanks.{IsBlankOf};
 
 use crate::guest::Guest;
 use crate::shared::{blank, opened};
@@ -27,9 +26,7 @@ fn past_the_slack<C: Ledger, H: Ledger, R: Wait>(
     credits: Blank,
     held: Blank,
 ) -> Result<Told, AdmitFault>
-    requires names { (credits.name ≡ C.name) × (held.name ≡ H.name) }
-    requires cut { (credits.parts ≡ C.parts) × (held.parts ≡ H.parts) }
-    requires parts { (MAX_NAMESPACES ≤ credits.parts) × (MAX_NAMESPACES ≤ held.parts) }
+    requires blanks { IsBlankOf C.name C.parts credits × IsBlankOf H.name H.parts held }
 {
     let Ok((book, _)) = opened::<C, H>(alloc, 5, &[2], credits, held) else {
         return Err(AdmitFault::NoMemory);
@@ -71,9 +68,7 @@ fn all_numbers<C: Ledger, H: Ledger, R: Wait>(
     credits: Blank,
     held: Blank,
 ) -> Result<(u32, u32, Option<AdmitFault>), AdmitFault>
-    requires names { (credits.name ≡ C.name) × (held.name ≡ H.name) }
-    requires cut { (credits.parts ≡ C.parts) × (held.parts ≡ H.parts) }
-    requires parts { (MAX_NAMESPACES ≤ credits.parts) × (MAX_NAMESPACES ≤ held.parts) }
+    requires blanks { IsBlankOf C.name C.parts credits × IsBlankOf H.name H.parts held }
 {
     let Ok((book, _)) = opened::<C, H>(alloc, 3, &[], credits, held) else {
         return Err(AdmitFault::NoMemory);
@@ -114,9 +109,7 @@ fn sixty_five<C: Ledger, H: Ledger, R: Wait>(
     credits: Blank,
     held: Blank,
 ) -> Result<(Option<AdmitFault>, u32), AdmitFault>
-    requires names { (credits.name ≡ C.name) × (held.name ≡ H.name) }
-    requires cut { (credits.parts ≡ C.parts) × (held.parts ≡ H.parts) }
-    requires parts { (MAX_NAMESPACES ≤ credits.parts) × (MAX_NAMESPACES ≤ held.parts) }
+    requires blanks { IsBlankOf C.name C.parts credits × IsBlankOf H.name H.parts held }
 {
     let Ok((book, _)) = opened::<C, H>(alloc, 0, &[], credits, held) else {
         return Err(AdmitFault::NoMemory);

@@ -1,7 +1,8 @@
 //! A depot behind a lock: how it opens, and what is free while its frames are on loan.
 
-ghost use Rattle.std.specs.Prelude.{◌≡◌, ◌≤◌};
+ghost use Rattle.std.specs.Prelude.{◌≡◌};
 ghost use Rattle.pf_base.specs.declared.TheConstants.{MAX_NAMESPACES};
+ghost use Rattle.pf_depot.specs.Blanks.{IsBlankOf};
 
 use crate::borrowing::old_frames;
 use crate::tenant::Tenant;
@@ -30,9 +31,7 @@ pub(crate) fn opened<C: Ledger, H: Ledger>(
     credits: Blank,
     held: Blank,
 ) -> Opened<C, H>
-    requires names { (credits.name ≡ C.name) × (held.name ≡ H.name) }
-    requires cut { (credits.parts ≡ C.parts) × (held.parts ≡ H.parts) }
-    requires parts { (MAX_NAMESPACES ≤ credits.parts) × (MAX_NAMESPACES ≤ held.parts) }
+    requires blanks { IsBlankOf C.name C.parts credits × IsBlankOf H.name H.parts held }
 {
     let Ok(frames) = old_frames(alloc, count) else {
         return Err(PoolFault::NoMemory);
@@ -51,9 +50,7 @@ fn free_of_five<C: Ledger, H: Ledger, R: Wait>(
     credits: Blank,
     held: Blank,
 ) -> Result<Option<[u32; 5]>, PoolFault>
-    requires names { (credits.name ≡ C.name) × (held.name ≡ H.name) }
-    requires cut { (credits.parts ≡ C.parts) × (held.parts ≡ H.parts) }
-    requires parts { (MAX_NAMESPACES ≤ credits.parts) × (MAX_NAMESPACES ≤ held.parts) }
+    requires blanks { IsBlankOf C.name C.parts credits × IsBlankOf H.name H.parts held }
 {
     let (book, mut allotments) = opened::<C, H>(alloc, 5, &[2, 2], credits, held)?;
     let all = book.free();

@@ -1,7 +1,6 @@
 //! Tenants of a shared depot on threads of their own.
 
-ghost use Rattle.std.specs.Prelude.{◌≡◌, ◌≤◌};
-ghost use Rattle.pf_base.specs.declared.TheConstants.{MAX_NAMESPACES};
+ghost use Rattle.pf_depot.specs.Blanks.{IsBlankOf};
 
 use crate::shared::{blank, opened};
 use crate::tenant::Tenant;
@@ -39,9 +38,7 @@ fn on_two_threads<C: Ledger + Send + Sync, H: Ledger + Send + Sync, R: Threads +
     credits: Blank,
     held: Blank,
 ) -> Result<Option<[u32; 3]>, PoolFault>
-    requires names { (credits.name ≡ C.name) × (held.name ≡ H.name) }
-    requires cut { (credits.parts ≡ C.parts) × (held.parts ≡ H.parts) }
-    requires parts { (MAX_NAMESPACES ≤ credits.parts) × (MAX_NAMESPACES ≤ held.parts) }
+    requires blanks { IsBlankOf C.name C.parts credits × IsBlankOf H.name H.parts held }
 {
     let (book, mut allotments) = opened::<C, H>(alloc, 4, &[2, 2], credits, held)?;
     let book = Mutex::new(book);
