@@ -11,15 +11,15 @@ use std::sync::{Mutex, Wait};
 /// A namespace's way to a shared depot, of which a gate is told: before each frame that the namespace takes, while the
 /// depot's lock isn't held.
 ///
-/// But for that it is the `StockedDepot` of the same shares and the same stock. One that is made by `holding` knows besides
-/// how many frames the namespace held then: where it holds more, this gate was told of this namespace.
+/// But for that it is the `StockedDepot` of the same shares and the same stock. It knows besides how many frames the
+/// namespace held at first: where it holds more, this gate was told of this namespace.
 #[derive(Drop)]
 pub struct GatedDepot<'a, R: Wait, G: Gate, C: Ledger, H: Ledger> {
     rt: &'a R,
     gate: &'a G,
     ns: u32,
-    // How many frames the namespace held at first, where that was said.
-    begun: Option<u32>,
+    // How many frames the namespace held at first.
+    begun: u32,
     book: &'a Mutex<DepotBook<C, H>>,
     credits: &'a mut Share<C>,
     held: &'a mut Share<H>,
@@ -27,38 +27,7 @@ pub struct GatedDepot<'a, R: Wait, G: Gate, C: Ledger, H: Ledger> {
 }
 
 impl<'a, R: Wait, G: Gate, C: Ledger, H: Ledger> GatedDepot<'a, R, G, C, H> {
-    /// The way of the namespace of this number, which has these shares and this stock.
-    pub fn new(
-        rt: &'a R,
-        gate: &'a G,
-        ns: u32,
-        book: &'a Mutex<DepotBook<C, H>>,
-        credits: &'a mut Share<C>,
-        held: &'a mut Share<H>,
-        stock: &'a mut Stock,
-    ) -> GatedDepot<'a, R, G, C, H>
-        ensures ns { result.ns ≡ ns }
-        ensures begun { result.begun ≡ None }
-        ensures credits_name { result.credits.ghost_name ≡ credits.entry.ghost_name }
-        ensures held_name { result.held.ghost_name ≡ held.entry.ghost_name }
-        ensures stock_name { result.stock.ghost_name ≡ stock.entry.ghost_name }
-        ensures credits { result.credits.now ≡ credits.old }
-        ensures held { result.held.now ≡ held.old }
-        ensures stock { result.stock.now ≡ stock.old }
-    {
-        GatedDepot {
-            rt,
-            gate,
-            ns,
-            begun: None,
-            book,
-            credits,
-            held,
-            stock,
-        }
-    }
-
-    /// The same of a namespace that holds so many frames now.
+    /// The way of the namespace of this number, which holds so many frames now, and has these shares and this stock.
     pub fn holding(
         rt: &'a R,
         gate: &'a G,
@@ -71,7 +40,7 @@ impl<'a, R: Wait, G: Gate, C: Ledger, H: Ledger> GatedDepot<'a, R, G, C, H> {
     ) -> GatedDepot<'a, R, G, C, H>
         ensures gate { result.gate.now ≡ gate.entry.now }
         ensures ns { result.ns ≡ ns }
-        ensures begun { result.begun ≡ Some frames }
+        ensures begun { result.begun ≡ frames }
         ensures credits_name { result.credits.ghost_name ≡ credits.entry.ghost_name }
         ensures held_name { result.held.ghost_name ≡ held.entry.ghost_name }
         ensures stock_name { result.stock.ghost_name ≡ stock.entry.ghost_name }
@@ -83,7 +52,7 @@ impl<'a, R: Wait, G: Gate, C: Ledger, H: Ledger> GatedDepot<'a, R, G, C, H> {
             rt,
             gate,
             ns,
-            begun: Some(frames),
+            begun: frames,
             book,
             credits,
             held,

@@ -1,6 +1,7 @@
 ghost use Rattle.std.specs.Prelude.{◌≡◌, ◌≤◌, length, map, sum, IfOk, MatchResult, None};
 ghost use Rattle.pf_base.specs.declared.TheConstants.{MAX_NAMESPACES};
 ghost use Rattle.pf_depot.specs.AllLoans.{reserved_of};
+ghost use Rattle.pf_depot.specs.Blanks.{IsBlankOf};
 ghost use Rattle.pf_depot.specs.Book.{opening_books};
 ghost use Rattle.pf_frame.specs.Faults.{IsFault};
 ghost use Rattle.pf_hub.specs.Opening.{limits_of, first_fault};
@@ -220,7 +221,8 @@ impl<A: Allocator + Clone, C: Ledger, H: Ledger> Worker<A, C, H> {
     }
 
     /// One step of its namespace. It may wait for the depot's lock; a frame that the namespace has a credit for is there
-    /// whatever the other workers do. The gate is told of each frame before it is taken.
+    /// whatever the other workers do. The gate is told of each frame before it is taken: that is the way of a
+    /// `GatedDepot`, and no clause of this step's.
     ///
     /// The depot is the one that the worker's shares are of.
     pub fn step<R: Wait, G: Gate>(
@@ -294,9 +296,7 @@ pub fn open<A: Allocator + Clone, C: Ledger, H: Ledger>(
     credits: Blank,
     held: Blank,
 ) -> Result<(DepotBook<C, H>, Vec<Worker<A, C, H>>), PoolFault>
-    requires names { (credits.name ≡ C.name) × (held.name ≡ H.name) }
-    requires cut { (credits.parts ≡ C.parts) × (held.parts ≡ H.parts) }
-    requires parts { (MAX_NAMESPACES ≤ credits.parts) × (MAX_NAMESPACES ≤ held.parts) }
+    requires blanks { IsBlankOf C.name C.parts credits × IsBlankOf H.name H.parts held }
     ensures { MatchResult result
         (λ made. (first_fault (length frames.items) (limits_of configs.items) ≡ None)
         × (made.0 ≡ opening_books (length frames.items) (sum (map (λ l. l.reserve) (limits_of configs.items)))

@@ -1,8 +1,10 @@
 //! Two tenants beside each other: what each is told, the frames that both take, and how many are free in the end.
 
-ghost use Rattle.std.specs.Prelude.{◌≡◌, ◌≤◌};
+ghost use Rattle.std.specs.Prelude.{◌≡◌};
 ghost use Rattle.pf_base.specs.declared.TheConstants.{MAX_NAMESPACES};
+ghost use Rattle.pf_depot.specs.Blanks.{IsBlankOf};
 
+use crate::slices::is_told_in_slice;
 use crate::tenants::{Row, asks_for_more, fills_and_exits, fills_and_stays, has_one_page};
 use crate::watch::Watch;
 use pf_base::{Answer, Config, MAX_NAMESPACES, Reply};
@@ -90,7 +92,12 @@ pub(crate) fn does<R: Wait, G: Gate, C: Ledger, H: Ledger>(
     rows: &[Row],
 ) -> bool {
     for row in rows {
-        if !is_told(rt, book, gate, worker, row) {
+        let right = if row.in_slice {
+            is_told_in_slice(rt, book, gate, worker, row)
+        } else {
+            is_told(rt, book, gate, worker, row)
+        };
+        if !right {
             return false;
         }
     }
@@ -153,9 +160,7 @@ fn opened<C: Ledger, H: Ledger>(
     credits: Blank,
     held: Blank,
 ) -> Option<Opened<C, H>>
-    requires names { (credits.name ≡ C.name) × (held.name ≡ H.name) }
-    requires cut { (credits.parts ≡ C.parts) × (held.parts ≡ H.parts) }
-    requires parts { (MAX_NAMESPACES ≤ credits.parts) × (MAX_NAMESPACES ≤ held.parts) }
+    requires blanks { IsBlankOf C.name C.parts credits × IsBlankOf H.name H.parts held }
 {
     let frames = old_frames(alloc, reserves[0].checked_add(reserves[1])?).ok()?;
     let configs = configs(alloc, reserves)?;
@@ -180,9 +185,7 @@ fn beside<C: Ledger + Send + Sync, H: Ledger + Send + Sync, R: Threads + Wait + 
     red_rows: &[Row],
     blue_rows: &[Row],
 ) -> Option<Held>
-    requires names { (credits.name ≡ C.name) × (held.name ≡ H.name) }
-    requires cut { (credits.parts ≡ C.parts) × (held.parts ≡ H.parts) }
-    requires parts { (MAX_NAMESPACES ≤ credits.parts) × (MAX_NAMESPACES ≤ held.parts) }
+    requires blanks { IsBlankOf C.name C.parts credits × IsBlankOf H.name H.parts held }
 {
     let (book, red, blue) = opened::<C, H>(alloc, reserves, credits, held)?;
     let book = Mutex::new(book);
@@ -191,7 +194,7 @@ fn beside<C: Ledger + Send + Sync, H: Ledger + Send + Sync, R: Threads + Wait + 
     Some((red, blue, free))
 }
 
-fn beside_by_name<R: Threads + Wait + Sync>(
+pub(crate) fn beside_by_name<R: Threads + Wait + Sync>(
     rt: &R,
     alloc: Global,
     watch: &Watch,

@@ -1,8 +1,7 @@
 //! Tenants that come for a job and go when it has ended: one that still has a process, more than there is room for, as
 //! many as there are numbers, and on two threads by turns.
 
-ghost use Rattle.std.specs.Prelude.{◌≡◌, ◌≤◌};
-ghost use Rattle.pf_base.specs.declared.TheConstants.{MAX_NAMESPACES};
+ghost use Rattle.pf_depot.specs.Blanks.{IsBlankOf};
 
 use crate::beside::{Tenant, blank, config, does, old_frames};
 use crate::tenants::{Row, asks_for_more, fills_and_exits, works};
@@ -26,9 +25,7 @@ fn bare<C: Ledger, H: Ledger>(
     credits: Blank,
     held: Blank,
 ) -> Option<DepotBook<C, H>>
-    requires names { (credits.name ≡ C.name) × (held.name ≡ H.name) }
-    requires cut { (credits.parts ≡ C.parts) × (held.parts ≡ H.parts) }
-    requires parts { (MAX_NAMESPACES ≤ credits.parts) × (MAX_NAMESPACES ≤ held.parts) }
+    requires blanks { IsBlankOf C.name C.parts credits × IsBlankOf H.name H.parts held }
 {
     let frames = old_frames(alloc, frames).ok()?;
     let none: Vec<(Config, Global)> = Vec::new(alloc);
@@ -144,9 +141,7 @@ fn one_leaves<C: Ledger, H: Ledger, R: Wait>(
     exits: &[Row],
     asks: &[Row],
 ) -> Option<Left>
-    requires names { (credits.name ≡ C.name) × (held.name ≡ H.name) }
-    requires cut { (credits.parts ≡ C.parts) × (held.parts ≡ H.parts) }
-    requires parts { (MAX_NAMESPACES ≤ credits.parts) × (MAX_NAMESPACES ≤ held.parts) }
+    requires blanks { IsBlankOf C.name C.parts credits × IsBlankOf H.name H.parts held }
 {
     let book = Mutex::new(bare::<C, H>(alloc, 33, credits, held)?);
     let left = leaves(rt, alloc, &book, fills, exits, asks);
@@ -278,9 +273,7 @@ fn all_numbers<C: Ledger, H: Ledger, R: Wait>(
     held: Blank,
     rows: &[Row],
 ) -> Option<Counted>
-    requires names { (credits.name ≡ C.name) × (held.name ≡ H.name) }
-    requires cut { (credits.parts ≡ C.parts) × (held.parts ≡ H.parts) }
-    requires parts { (MAX_NAMESPACES ≤ credits.parts) × (MAX_NAMESPACES ≤ held.parts) }
+    requires blanks { IsBlankOf C.name C.parts credits × IsBlankOf H.name H.parts held }
 {
     let book = Mutex::new(bare::<C, H>(alloc, 64, credits, held)?);
     let mut living = VecDeque::new(alloc);
@@ -343,9 +336,7 @@ fn on_two_threads<C: Ledger + Send + Sync, H: Ledger + Send + Sync, R: Threads +
     held: Blank,
     rows: &[Row],
 ) -> Option<[u32; 3]>
-    requires names { (credits.name ≡ C.name) × (held.name ≡ H.name) }
-    requires cut { (credits.parts ≡ C.parts) × (held.parts ≡ H.parts) }
-    requires parts { (MAX_NAMESPACES ≤ credits.parts) × (MAX_NAMESPACES ≤ held.parts) }
+    requires blanks { IsBlankOf C.name C.parts credits × IsBlankOf H.name H.parts held }
 {
     let book = Mutex::new(bare::<C, H>(alloc, 2, credits, held)?);
     let shared = &book;

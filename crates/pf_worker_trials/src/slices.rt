@@ -1,18 +1,69 @@
-//! A worker whose steps have their bytes in slices: what they are told, and what lies there then.
+//! A worker whose steps have their bytes in slices: what they are told, what lies there then, and when a gate is told of
+//! the frames that they take.
 
-ghost use Rattle.std.specs.Prelude.{◌≡◌, ◌≤◌};
-ghost use Rattle.pf_base.specs.declared.TheConstants.{MAX_NAMESPACES};
+ghost use Rattle.pf_depot.specs.Blanks.{IsBlankOf};
 
-use crate::beside::{Tenant, blank, config, does, is, old_frames};
-use crate::tenants::{Row, begins};
-use pf_base::{MAX_NAMESPACES, Reply};
+use crate::beside::{Tenant, beside_by_name, blank, config, does, is, old_frames};
+use crate::tenants::{Row, begins, has_one_page, put_in_slices, waits_for_a_page};
+use crate::watch::Watch;
+use pf_base::{Answer, Errno, MAX_NAMESPACES, Reply, Step};
 use pf_depot::DepotBook;
-use pf_worker::{NoGate, open};
+use pf_worker::{Gate, NoGate, open};
 use std::alloc::Global;
 use std::marker::Brand;
 use std::sync::ledger::{Blank, Ledger};
 use std::sync::{Mutex, Wait};
 use std::test::Fail;
+
+// What a call that hands out bytes is told, as the answer of its step.
+fn answer(told: Result<Option<usize>, Errno>) -> Answer {
+    Answer::Done(match told {
+        Ok(Some(count)) => Reply::Num(count as u64),
+        Ok(None) => Reply::Parked,
+        Err(errno) => Reply::Err(errno),
+    })
+}
+
+// Makes a step with its bytes in a slice, or one that has none.
+fn step_in_slice<R: Wait, G: Gate, C: Ledger, H: Ledger>(
+    rt: &R,
+    book: &Mutex<DepotBook<C, H>>,
+    gate: &G,
+    worker: &mut Tenant<C, H>,
+    step: &Step,
+) -> Answer {
+    match step {
+        Step::Write { pid, fd, payload } => worker.write_from(
+            rt,
+            book,
+            gate,
+            *pid,
+            *fd,
+            payload.as_slice(),
+        ),
+        Step::Resume { pid } => {
+            let mut buffer = *b"....";
+            answer(worker.resume_into(rt, book, gate, *pid, &mut buffer))
+        }
+        _ => worker.step(rt, book, gate, step),
+    }
+}
+
+// Whether a step with its bytes in a slice is told what is wanted. Where a growth is refused it is made once more.
+pub(crate) fn is_told_in_slice<R: Wait, G: Gate, C: Ledger, H: Ledger>(
+    rt: &R,
+    book: &Mutex<DepotBook<C, H>>,
+    gate: &G,
+    worker: &mut Tenant<C, H>,
+    row: &Row,
+) -> bool {
+    let mut answer = step_in_slice(rt, book, gate, worker, &row.step);
+    if matches!(&answer, Answer::NoMemory) {
+        drop(answer);
+        answer = step_in_slice(rt, book, gate, worker, &row.step);
+    }
+    is(answer, &row.told)
+}
 
 // Whether a read that waits has its first bytes in a slice, once they are there, and another one all that are left.
 fn passes<R: Wait, C: Ledger, H: Ledger>(
@@ -40,9 +91,7 @@ fn is_passed<C: Ledger, H: Ledger, R: Wait>(
     held: Blank,
     rows: &[Row],
 ) -> Option<bool>
-    requires names { (credits.name ≡ C.name) × (held.name ≡ H.name) }
-    requires cut { (credits.parts ≡ C.parts) × (held.parts ≡ H.parts) }
-    requires parts { (MAX_NAMESPACES ≤ credits.parts) × (MAX_NAMESPACES ≤ held.parts) }
+    requires blanks { IsBlankOf C.name C.parts credits × IsBlankOf H.name H.parts held }
 {
     let frames = old_frames(alloc, 16).ok()?;
     let mut configs = Vec::with_capacity(alloc, 1).ok()?;
@@ -66,5 +115,22 @@ fn is_passed_by_name<R: Wait>(rt: &R, alloc: Global, rows: &[Row]) -> Option<boo
 fn bytes_of_slices_pass_through_a_worker(rt: HostRuntime) -> Result<(), Fail> {
     let rows = begins();
     assert_eq!(rt; is_passed_by_name(&rt, rt.alloc(), &rows), Some(true));
+    Ok(())
+}
+
+// The second tenant fills a page from a slice, and a write of its own that waited goes into another page. It is held
+// before the first of these frames, and then before the other: as long as it is held, that frame is free.
+#[test]
+fn slices_are_held_before_each_frame(rt: HostRuntime) -> Result<(), Fail> {
+    let alloc = rt.alloc();
+    let (mut red, mut blue) = (has_one_page(alloc)?, waits_for_a_page(alloc)?);
+    put_in_slices(&mut red);
+    put_in_slices(&mut blue);
+    for (taken, free) in [(0, 2), (1, 1)] {
+        let watch = Watch::behind(taken);
+        let held = beside_by_name(&rt, alloc, &watch, [1, 2], &red, &blue);
+        assert_eq!(rt; held, Some((Some([1, free]), Some(2), 0)));
+        assert!(rt; watch.is_told(1, 2));
+    }
     Ok(())
 }

@@ -3,11 +3,29 @@
 use pf_base::{BYTES_IN_PLACE, ByteString, Errno, Groups, Reply, Step};
 use std::alloc::{AllocError, Global};
 
-/// A step, and what it is told.
+/// A step, what it is told, and whether its bytes stand in a slice.
 #[derive(Drop)]
 pub(crate) struct Row {
     pub(crate) step: Step,
     pub(crate) told: Reply,
+    pub(crate) in_slice: bool,
+}
+
+impl Row {
+    fn new(step: Step, told: Reply) -> Row {
+        Row {
+            step,
+            told,
+            in_slice: false,
+        }
+    }
+}
+
+/// The same steps with their bytes in slices.
+pub(crate) fn put_in_slices(rows: &mut [Row]) {
+    for row in rows {
+        row.in_slice = true;
+    }
 }
 
 fn spawn() -> Row {
@@ -17,10 +35,7 @@ fn spawn() -> Row {
         umask: 18,
         groups: Groups::none(),
     };
-    Row {
-        step,
-        told: Reply::Pid(1),
-    }
+    Row::new(step, Reply::Pid(1))
 }
 
 fn pipe(told: Reply) -> Row {
@@ -28,7 +43,7 @@ fn pipe(told: Reply) -> Row {
         pid: 1,
         nonblock: false,
     };
-    Row { step, told }
+    Row::new(step, told)
 }
 
 // So many bytes are written.
@@ -39,8 +54,7 @@ fn write(alloc: Global, fd: u32, byte: u8, count: usize) -> Result<Row, AllocErr
         fd,
         payload,
     };
-    let told = Reply::Num(count as u64);
-    Ok(Row { step, told })
+    Ok(Row::new(step, Reply::Num(count as u64)))
 }
 
 // A byte 7a.
@@ -50,37 +64,30 @@ fn one() -> ByteString {
 
 // It is written.
 fn write_one() -> Row {
-    Row {
-        step: Step::Write {
-            pid: 1,
-            fd: 1,
-            payload: one(),
-        },
-        told: Reply::Num(1),
-    }
+    let step = Step::Write {
+        pid: 1,
+        fd: 1,
+        payload: one(),
+    };
+    Row::new(step, Reply::Num(1))
 }
 
 fn read(n: u64, bytes: ByteString) -> Row {
-    Row {
-        step: Step::Read { pid: 1, fd: 0, n },
-        told: Reply::Bytes(bytes),
-    }
+    let step = Step::Read { pid: 1, fd: 0, n };
+    Row::new(step, Reply::Bytes(bytes))
+}
+
+fn fork() -> Row {
+    Row::new(Step::Fork { pid: 1 }, Reply::Pid(2))
 }
 
 fn exit() -> Row {
-    Row {
-        step: Step::Exit { pid: 1 },
-        told: Reply::Num(0),
-    }
+    Row::new(Step::Exit { pid: 1 }, Reply::Num(0))
 }
 
 /// A process makes a pipe, and a child of it has that too.
 pub(crate) fn begins() -> [Row; 3] {
-    let fork = Row {
-        step: Step::Fork { pid: 1 },
-        told: Reply::Pid(2),
-    };
-    [spawn(), pipe(Reply::Fds(0, 1)), fork]
+    [spawn(), pipe(Reply::Fds(0, 1)), fork()]
 }
 
 /// A process fills two pipes with bytes 61, and exits: it gives back twice as many frames as are kept in stock.
@@ -99,14 +106,12 @@ pub(crate) fn fills_and_exits(alloc: Global) -> Result<[Row; 6], AllocError> {
 
 /// A process makes a file and a pipe, writes a byte, and asks for a hundred; it exits, and its file is left.
 pub(crate) fn works() -> [Row; 6] {
-    let file = Row {
-        step: Step::Mkfifo {
-            pid: 1,
-            path: ByteString::in_place(*b"/f            ", 2),
-            mode: 0o644,
-        },
-        told: Reply::Num(0),
+    let file = Step::Mkfifo {
+        pid: 1,
+        path: ByteString::in_place(*b"/f            ", 2),
+        mode: 0o644,
     };
+    let file = Row::new(file, Reply::Num(0));
     let pipe = pipe(Reply::Fds(0, 1));
     [spawn(), file, pipe, write_one(), read(100, one()), exit()]
 }
@@ -127,10 +132,24 @@ pub(crate) fn fills_and_stays(alloc: Global) -> Result<[Row; 4], AllocError> {
 /// Another, of a namespace with one page, fills it.
 pub(crate) fn has_one_page(alloc: Global) -> Result<[Row; 5], AllocError> {
     let write = write(alloc, 1, 0x62, 4096)?;
-    let size = Row {
-        step: Step::GetSize { pid: 1, fd: 0 },
-        told: Reply::Num(4096),
-    };
+    let size = Row::new(Step::GetSize { pid: 1, fd: 0 }, Reply::Num(4096));
     let read = read(2, ByteString::in_place([0x62; BYTES_IN_PLACE], 2));
     Ok([spawn(), pipe(Reply::Fds(0, 1)), size, write, read])
+}
+
+/// A process of a namespace with two pages fills its pipe of one, and waits to write a byte more. A child of it gives the
+/// pipe another page, and the byte goes there.
+pub(crate) fn waits_for_a_page(alloc: Global) -> Result<[Row; 7], AllocError> {
+    let write = write(alloc, 1, 0x61, 4096)?;
+    let mut waits = write_one();
+    waits.told = Reply::Parked;
+    let grow = Step::SetSize {
+        pid: 2,
+        fd: 1,
+        bytes: 8192,
+    };
+    let grow = Row::new(grow, Reply::Num(8192));
+    let goes_on = Row::new(Step::Resume { pid: 1 }, Reply::Num(1));
+    let pipe = pipe(Reply::Fds(0, 1));
+    Ok([spawn(), pipe, fork(), write, waits, grow, goes_on])
 }

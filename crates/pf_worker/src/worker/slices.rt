@@ -1,6 +1,7 @@
 //! Steps whose bytes stand in memory of the host's, as a hub has them (`Hub::write_from`, `read_into`, `resume_into`).
 //! Each is a step as `Worker::step` makes one: it may wait for the depot's lock, and the gate is told of each frame
-//! before it is taken. The depot is the one that the worker's shares are of.
+//! before it is taken: that is the way of a `GatedDepot`, and no clause of theirs. The depot is the one that the
+//! worker's shares are of.
 
 ghost use Rattle.std.specs.Prelude.{◌≡◌, ◌<◌, length, false};
 ghost use Rattle.pf_machine.specs.Machine.{Answers, may_want_memory};
@@ -44,11 +45,13 @@ impl<A: Allocator + Clone, C: Ledger, H: Ledger> Worker<A, C, H> {
         // where it holds more frames than before, this gate was told of this namespace
         ensures framed { self.old.tenant.held < self.new.tenant.held → G.framed gate.now self.old.number }
     {
+        let ns = self.number;
         let frames = self.loans.held();
+        // bytes that go in may take frames
         let mut depot = GatedDepot::holding(
             rt,
             gate,
-            self.number,
+            ns,
             frames,
             book,
             &mut self.credits,
@@ -90,11 +93,13 @@ impl<A: Allocator + Clone, C: Ledger, H: Ledger> Worker<A, C, H> {
         // where it holds more frames than before, this gate was told of this namespace
         ensures framed { self.old.tenant.held < self.new.tenant.held → G.framed gate.now self.old.number }
     {
+        let ns = self.number;
         let frames = self.loans.held();
+        // bytes that go out give frames back
         let mut depot = GatedDepot::holding(
             rt,
             gate,
-            self.number,
+            ns,
             frames,
             book,
             &mut self.credits,
@@ -134,11 +139,13 @@ impl<A: Allocator + Clone, C: Ledger, H: Ledger> Worker<A, C, H> {
         // where it holds more frames than before, this gate was told of this namespace
         ensures framed { self.old.tenant.held < self.new.tenant.held → G.framed gate.now self.old.number }
     {
+        let ns = self.number;
         let frames = self.loans.held();
+        // a write that goes on may take frames, and a read gives them back
         let mut depot = GatedDepot::holding(
             rt,
             gate,
-            self.number,
+            ns,
             frames,
             book,
             &mut self.credits,
