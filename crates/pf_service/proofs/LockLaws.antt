@@ -1,7 +1,8 @@
 -- What lay behind a namespace's lock when it was taken, and what is said of an event by it.
 
 use Rattle.std.proofs.Common.{◌≡◌, ℕ, List, ◌∷◌, [], sym, subst}
-use Rattle.std.specs.Prelude.{Bool, false, Result, Ok, Err, IfOk, IfErr, IsErrAnd}
+use Rattle.std.specs.Prelude.{false, Result, Ok, Err, IfOk, IfErr, IsErrAnd, OnOk}
+use Rattle.pf_base.specs.declared.admission.RetireFault.{RetireFault}
 use Rattle.pf_base.specs.declared.step.Step.{Step}
 use Rattle.pf_base.specs.declared.step.Step.TheVariants.{Resume}
 use Rattle.pf_base.specs.declared.step.Reply.{Reply}
@@ -16,27 +17,32 @@ use Rattle.pf_service.specs.Faults.{IsEventFault}
 use Rattle.pf_service.specs.Log.{Log}
 use Rattle.pf_service.specs.Said.{IsSaid, IsRefusedThere}
 use Rattle.pf_service.specs.Seats.{OneSeat}
-use Rattle.pf_service.specs.Tenants.{IsEvent, IsGoneFault, IsHappening, IsLivingAt, IsTenantFault, IsToldOfMore, is_idle_at}
+use Rattle.pf_service.specs.Tenants.{IsEvent, IsGiveFault, IsGoneFault, IsGivenThere, IsHappening, IsLivingAt}
+use Rattle.pf_service.specs.Tenants.{IsNotGivenThere, IsNotRetiredThere, IsRetiredThere, IsRetireFault, IsRetirement}
+use Rattle.pf_service.specs.Tenants.{IsReturned, IsTenantFault, IsToldOfMore, Lives, became, is_idle_at}
 use Rattle.pf_service.specs.Told.{Told}
 use Rattle.pf_service.specs.Waited.{resume_of, Tries, IsWaited, IsTried}
 use Rattle.pf_service.proofs.FaultLaws.{unknown}
 
-module _ {A C H : Type 0} (Lay : Tenant (OneLiving A C H) → Bool → Type 0) where
+module _ {A C H : Type 0} (Lay : OneSeated A C H → Type 0) where
   -- the same one, as it is lent
-  pub lay_at : (s s' : OneSeated A C H) → s' ≡ s → Lay s.tenant s.is_awaited → Lay s'.tenant s'.is_awaited
-  lay_at s s' same lay = subst (λ (x : OneSeated A C H). Lay x.tenant x.is_awaited) (sym same) lay
+  pub lay_at : (s s' : OneSeated A C H) → s' ≡ s → Lay s → Lay s'
+  lay_at s s' same lay = subst Lay (sym same) lay
 
   -- what happened to it
-  pub happened : (Woken : Bool → Type 0) (Framed : Type 0) (s : OneSeated A C H) (new : Tenant (OneLiving A C H)) (step : Step) (place : ℕ) (reply : Reply)
-      → Lay s.tenant s.is_awaited → IsEvent s.tenant new step place reply → (is_idle_at s.tenant new step reply ≡ false → Woken s.is_awaited)
+  pub happened : (Woken : OneSeated A C H → Type 0) (Framed : Type 0) (s : OneSeated A C H)
+      (new : Tenant (OneLiving A C H)) (step : Step) (place : ℕ) (reply : Reply)
+      → Lay s → IsEvent s.tenant new step place reply
+      → (is_idle_at s.tenant new step reply ≡ false → Woken (became s new))
       → IsToldOfMore Framed s.tenant new
       → IsHappening Lay Woken Framed step place reply
-  happened Woken Framed s new step place reply lay event woken framed = (s.tenant, new, s.is_awaited, lay, event, woken, framed)
+  happened Woken Framed s new step place reply lay event woken framed = (s, new, lay, event, woken, framed)
 
   -- and where an event was made
-  pub happened_by : (Woken : Bool → Type 0) (Framed : ℕ → Type 0) (s : OneSeated A C H) (new : Tenant (OneLiving A C H)) (step : Step) (r : Result Receipt ServiceFault)
-      → Lay s.tenant s.is_awaited → IfOk r (λ e. IsEvent s.tenant new step e.place e.reply)
-      → IfOk r (λ e. is_idle_at s.tenant new step e.reply ≡ false → Woken s.is_awaited)
+  pub happened_by : (Woken : OneSeated A C H → Type 0) (Framed : ℕ → Type 0) (s : OneSeated A C H)
+      (new : Tenant (OneLiving A C H)) (step : Step) (r : Result Receipt ServiceFault)
+      → Lay s → IfOk r (λ e. IsEvent s.tenant new step e.place e.reply)
+      → IfOk r (λ e. is_idle_at s.tenant new step e.reply ≡ false → Woken (became s new))
       → IfOk r (λ e. IsToldOfMore (Framed e.ns) s.tenant new)
       → IfOk r (λ e. IsHappening Lay Woken (Framed e.ns) step e.place e.reply)
   happened_by Woken Framed s new step (Ok e) lay event woken framed = happened Woken (Framed e.ns) s new step e.place e.reply lay event woken framed
@@ -44,33 +50,58 @@ module _ {A C H : Type 0} (Lay : Tenant (OneLiving A C H) → Bool → Type 0) w
 
   -- why an event was refused
   pub refused_there : {T : Type 0} (s : OneSeated A C H) (r : Result T ServiceFault)
-      → Lay s.tenant s.is_awaited → IfErr r (IsTenantFault s.tenant) → IfErr r (IsRefusedThere Lay)
+      → Lay s → IfErr r (IsTenantFault s.tenant) → IfErr r (IsRefusedThere Lay)
   refused_there s (Ok x) lay fault = tt
-  refused_there s (Err e) lay fault = (s.tenant, s.is_awaited, lay, fault)
+  refused_there s (Err e) lay fault = (s, lay, fault)
 
   -- and where that is handed on
   pub handed_on : {T : Type 0} (s : OneSeated A C H) (e : ServiceFault) (r : Result T ServiceFault)
-      → Lay s.tenant s.is_awaited → IsErrAnd r (λ x. x ≡ e) → IsTenantFault s.tenant e → IfErr r (IsRefusedThere Lay)
+      → Lay s → IsErrAnd r (λ x. x ≡ e) → IsTenantFault s.tenant e → IfErr r (IsRefusedThere Lay)
   handed_on s e (Ok x) lay is fault = tt
-  handed_on s e (Err x) lay is fault = (s.tenant, s.is_awaited, lay, subst (IsTenantFault s.tenant) (sym is) fault)
+  handed_on s e (Err x) lay is fault = (s, lay, subst (IsTenantFault s.tenant) (sym is) fault)
 
   -- an answer of what lives there
-  pub of_one_there : (Is : Log A → Type 0) (s : OneSeated A C H) (log : Log A) → Lay s.tenant s.is_awaited → IsLivingAt s.tenant log → Is log
-      → IsOfOneThere Lay Is
-  of_one_there Is s log lay lives is = (s.tenant, s.is_awaited, log, lay, lives, is)
+  pub of_one_there : (Is : Log A → Type 0) (s : OneSeated A C H) (log : Log A)
+      → Lay s → IsLivingAt s.tenant log → Is log → IsOfOneThere Lay Is
+  of_one_there Is s log lay lives is = (s, log, lay, lives, is)
 
   -- and why there is none
   pub gone_there : {T : Type 0} (s : OneSeated A C H) (e : ServiceFault) (r : Result T ServiceFault)
-      → Lay s.tenant s.is_awaited → IsErrAnd r (λ x. x ≡ e) → IsGoneFault s.tenant e → IfErr r (IsGoneThere Lay)
+      → Lay s → IsErrAnd r (λ x. x ≡ e) → IsGoneFault s.tenant e → IfErr r (IsGoneThere Lay)
   gone_there s e (Ok x) lay is gone = tt
-  gone_there s e (Err x) lay is gone = (s.tenant, s.is_awaited, lay, subst (IsGoneFault s.tenant) (sym is) gone)
+  gone_there s e (Err x) lay is gone = (s, lay, subst (IsGoneFault s.tenant) (sym is) gone)
+
+  -- what gave a seat there
+  pub given_there : (s : OneSeated A C H) (number : ℕ) → Lay s → Lives s.tenant → number ≡ s.given
+      → IsGivenThere Lay number
+  given_there s number lay lives is = (s, lay, lives, is)
+
+  -- why no seat was given
+  pub not_given_there : {T : Type 0} (s : OneSeated A C H) (e : ServiceFault) (r : Result T ServiceFault)
+      → Lay s → IsErrAnd r (λ x. x ≡ e) → IsGiveFault s.tenant s.given e → IfErr r (IsNotGivenThere Lay)
+  not_given_there s e (Ok x) lay is fault = tt
+  not_given_there s e (Err x) lay is fault = (s, lay, subst (IsGiveFault s.tenant s.given) (sym is) fault)
+
+  -- what was retired there
+  pub retired_there : {T : Type 0} (Woken : OneSeated A C H → Type 0) (Returned : ℕ → ℕ → Type 0) (s : OneSeated A C H)
+      (new : Tenant (OneLiving A C H)) (r : Result T RetireFault)
+      → Lay s → OnOk r (IsRetirement s.tenant new) → OnOk r (IsReturned Returned s.tenant)
+      → OnOk r (Woken (became s new)) → OnOk r (IsRetiredThere Lay Woken Returned)
+  retired_there Woken Returned s new (Ok x) lay retired returned woken = (s, new, lay, retired, returned, woken)
+  retired_there Woken Returned s new (Err e) lay retired returned woken = tt
+
+  -- and why it wasn't
+  pub not_retired_there : {T : Type 0} (s : OneSeated A C H) (r : Result T RetireFault)
+      → Lay s → IfErr r (IsRetireFault s.tenant) → IfErr r (IsNotRetiredThere Lay)
+  not_retired_there s (Ok x) lay fault = tt
+  not_retired_there s (Err e) lay fault = (s, lay, fault)
 
   -- where nothing is known of what lay there
   pub fault_there : {T : Type 0} (r : Result T ServiceFault) → IfErr r (IsRefusedThere Lay) → IfErr r IsEventFault
   fault_there (Ok x) fault = tt
-  fault_there (Err e) fault = unknown fault.0 e fault.3
+  fault_there (Err e) fault = unknown fault.0.tenant e fault.2
 
-  module _ (Woken : Bool → Type 0) where
+  module _ (Woken : OneSeated A C H → Type 0) where
     -- of one try of a process
     pub happened_at : (Framed : ℕ → Type 0) (ns ns' pid pid' place : ℕ) (reply : Reply) → ns ≡ ns' → pid ≡ pid'
         → IsHappening Lay Woken (Framed ns) (Resume pid) place reply → IsHappening Lay Woken (Framed ns') (Resume pid') place reply
@@ -87,7 +118,8 @@ module _ {A C H : Type 0} (Lay : Tenant (OneLiving A C H) → Bool → Type 0) w
 
 -- what each caller is told, and the gate, of all that is said
 
-module _ {A C H : Type 0} (Passed : ℕ → ℕ → Type 0) (Framed : ℕ → Type 0) (Lay : Tenant (OneLiving A C H) → Bool → Type 0) (Woken : Bool → Type 0) (ns : ℕ) where
+module _ {A C H : Type 0} (Passed : ℕ → ℕ → Type 0) (Framed : ℕ → Type 0)
+    (Lay Woken : OneSeated A C H → Type 0) (ns : ℕ) where
   tries_alone : (step : Step) (es : List Event) → Tries (IsSaid Passed Framed Lay Woken ns) step es → Tries (λ s p r. Told s p r × Passed ns p) step es
   tries_alone step [] tries = tt
   tries_alone step (e ∷ es) tries = (tries.0, tries.1.0, tries.2, tries_alone (resume_of step) es tries.3)

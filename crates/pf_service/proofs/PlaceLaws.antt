@@ -5,7 +5,7 @@ use Rattle.std.specs.Prelude.{Option, Some, None, nat_lt, slice_get}
 use Rattle.std.specs.List.{range_with_len}
 use Rattle.std.proofs.lemmas.Bool.{ltb-true, cases_lt}
 use Rattle.std.proofs.lemmas.Bool.Decides.{nat_tests}
-use Rattle.std.proofs.lemmas.List.{length-map}
+use Rattle.std.proofs.lemmas.List.{get_or-map, length-map, map-append}
 use Rattle.std.proofs.lemmas.List.FromFn.{get_or-range_with_len, length-range_with_len}
 use Rattle.pf_base.specs.Limits.{Limits}
 use Rattle.pf_base.specs.declared.TheConstants.{MAX_NAMESPACES, MAX_NUMBERS}
@@ -15,22 +15,40 @@ use Rattle.pf_depot.specs.Admission.{room_fault, admit_fault}
 use Rattle.pf_frame.specs.Faults.{fault_of}
 use Rattle.pf_hub.specs.Opening.{limits_of, first_fault}
 use Rattle.pf_service.specs.Log.{Log, new_log}
+use Rattle.pf_service.specs.Places.{OnePlace, numbers_of}
 
 -- one more
 pub range_more : (a n : ℕ) → range_with_len a n ++ (a + n) ∷ [] ≡ range_with_len a (suc n)
 range_more a zero = ap (λ (k : ℕ). k ∷ []) (omega arith)
 range_more a (suc n) = ap (λ (ks : List ℕ). a ∷ ks) (ap (λ (k : ℕ). range_with_len (a + 1) n ++ k ∷ []) (omega arith) ∙ range_more (a + 1) n)
 
--- after so many comes the next
-pub next_number : (ps qs : List ℕ) (n m ns : ℕ) → ps ≡ range_with_len 0 n → ns ≡ length ps → qs ≡ ps ++ ns ∷ [] → m ≡ n + 1 → qs ≡ range_with_len 0 m
-next_number ps qs n m ns is here more up =
-    let at : ns ≡ 0 + n = omega (arith, here ∙ ap length is ∙ length-range_with_len 0 n) in
-    let whole : suc n ≡ m = omega arith in
-    more ∙ ap (λ (xs : List ℕ). xs ++ ns ∷ []) is ∙ ap (λ (k : ℕ). range_with_len 0 n ++ k ∷ []) at ∙ range_more 0 n ∙ ap (range_with_len 0) whole
+module _ {W : Type 0} (ps : List (OnePlace W)) where
+  -- there are as many as there are numbers
+  pub counted : (n : ℕ) → numbers_of ps ≡ range_with_len 0 n → length ps ≡ n
+  counted n is = sym (length-map ps (λ (p : OnePlace W). p.ns)) ∙ ap length is ∙ length-range_with_len 0 n
 
--- the namespace at a place has its number
-pub number_at : (ps : List ℕ) (n i p : ℕ) → ps ≡ range_with_len 0 n → i < n → p ≡ get_or ps i p → p ≡ i
-number_at ps n i p is lt at = at ∙ ap (λ (xs : List ℕ). get_or xs i p) is ∙ get_or-range_with_len 0 n i p lt ∙ omega arith
+  -- after so many comes the next
+  pub next_place : (qs : List (OnePlace W)) (n m : ℕ) (p : OnePlace W) → numbers_of ps ≡ range_with_len 0 n → p.ns ≡ length ps → qs ≡ ps ++ p ∷ [] → m ≡ n + 1
+      → numbers_of qs ≡ range_with_len 0 m
+  next_place qs n m p is here more up =
+      let at : p.ns ≡ 0 + n = omega (arith, here, counted n is) in
+      let whole : suc n ≡ m = omega arith in
+      ap numbers_of more
+      ∙ map-append (λ (q : OnePlace W). q.ns) ps (p ∷ [])
+      ∙ ap (λ (xs : List ℕ). xs ++ p.ns ∷ []) is
+      ∙ ap (λ (k : ℕ). range_with_len 0 n ++ k ∷ []) at
+      ∙ range_more 0 n
+      ∙ ap (range_with_len 0) whole
+
+  -- each has the number at which it stands
+  pub number_at : (n i : ℕ) (p : OnePlace W) → numbers_of ps ≡ range_with_len 0 n → i < n → p ≡ get_or ps i p → p.ns ≡ i
+  number_at n i p is lt at =
+      let within : i < length ps = omega (arith, lt, counted n is) in
+      ap (λ (q : OnePlace W). q.ns) at
+      ∙ sym (get_or-map (λ (q : OnePlace W). q.ns) ps i p p.ns within)
+      ∙ ap (λ (xs : List ℕ). get_or xs i p.ns) is
+      ∙ get_or-range_with_len 0 n i p.ns lt
+      ∙ omega arith
 
 -- what passes each test has no more namespaces than there may be
 passes : (frames : ℕ) (reserves : List ℕ) → fault_of frames reserves ≡ None → length reserves ≤ 64

@@ -42,6 +42,8 @@ use Rattle.pf_service.specs.contracts.seated.Seated as Seated
 use Rattle.pf_service.specs.contracts.seated.Tenant as Tenant
 use Rattle.pf_service.specs.contracts.service.Service as Service
 use Rattle.pf_service.specs.contracts.service.Service.TheInside as in_service
+use Rattle.pf_service.specs.contracts.waiters.NextEvent as NextEvent
+use Rattle.pf_service.specs.contracts.waiters.NextEventWaiters.TheImpl.{ghosts as next_event}
 
 module _ (C H : RattleType) (c : Ledger.Ghosts C.Denot) (h : Ledger.Ghosts H.Denot) where
   in_book_send : IsSend (in_book.the_row C H c h)
@@ -75,32 +77,39 @@ module _ (C H : RattleType) (c : Ledger.Ghosts C.Denot) (h : Ledger.Ghosts H.Den
     seated_send : IsSend (Seated.the_row A C H g c h)
     seated_send = declared_send (Seated.the_type A C H g c h) (tenant_send, (search (sendable, crosses) depth 20, (search (sendable, crosses) depth 20, tt)))
 
-    in_place_send : IsSend (in_place.the_row A C H g c h)
+    -- the place of a namespace, with those who wait there
+    abbrev in_place_row : RattleType
+    in_place_row = in_place.the_row A C H NextEvent.the_row g c h next_event
+
+    abbrev place_row : RattleType
+    place_row = Place.the_row A C H NextEvent.the_row g c h next_event
+
+    in_place_send : IsSend in_place_row
     in_place_send =
         let seated = as_row_send (Mutex.the_field (Seated.the_row A C H g c h)) (mutex.the_send (Seated.the_row A C H g c h) seated_send) in
-        declared_send (in_place.the_type A C H g c h)
+        declared_send (in_place.the_type A C H NextEvent.the_row g c h next_event)
         (search (sendable, crosses) depth 20, (seated, (next.the_send, (search (sendable, crosses) depth 20, tt))))
 
-    place_send : IsSend (Place.the_row A C H g c h)
-    place_send = view_send (in_place.the_row A C H g c h) _ _ _ _ in_place_send
+    place_send : IsSend place_row
+    place_send = view_send in_place_row _ _ _ _ in_place_send
 
-    in_place_sync : IsSync (in_place.the_row A C H g c h)
+    in_place_sync : IsSync in_place_row
     in_place_sync =
         let seated = as_row_sync (Mutex.the_field (Seated.the_row A C H g c h)) (mutex.the_sync (Seated.the_row A C H g c h) seated_send) in
-        declared_sync (in_place.the_type A C H g c h)
+        declared_sync (in_place.the_type A C H NextEvent.the_row g c h next_event)
         (search (sendable, crosses) depth 20, (seated, (next.the_sync, (search (sendable, crosses) depth 20, tt))))
 
-    place_sync : IsSync (Place.the_row A C H g c h)
-    place_sync = view_sync (in_place.the_row A C H g c h) _ _ _ _ in_place_sync
+    place_sync : IsSync place_row
+    place_sync = view_sync in_place_row _ _ _ _ in_place_sync
 
     -- memory for a place, and the lock round it
     abbrev room_row : RattleType
-    room_row = Box.the_row (Option.the_row (Place.the_row A C H g c h)) Global.the_row ghosts
+    room_row = Box.the_row (Option.the_row place_row) Global.the_row ghosts
 
     room_sync : IsSync (OnceLock.the_row room_row)
     room_sync =
-        let send = Box-send (Option.the_row (Place.the_row A C H g c h)) (option.the_send (Place.the_row A C H g c h) place_send) in
-        let sync = Box-sync (Option.the_row (Place.the_row A C H g c h)) (option.the_sync (Place.the_row A C H g c h) place_sync) in
+        let send = Box-send (Option.the_row place_row) (option.the_send place_row place_send) in
+        let sync = Box-sync (Option.the_row place_row) (option.the_sync place_row place_sync) in
         once.the_sync room_row send sync
 
     guests_sync : IsSync (Guests.the_row A C H g c h)
@@ -111,7 +120,7 @@ module _ (C H : RattleType) (c : Ledger.Ghosts C.Denot) (h : Ledger.Ghosts H.Den
     module _ (G : RattleType) (p : Gate.Ghosts G.Denot) (y : IsSync G) where
       in_service_sync : IsSync (in_service.the_row A G C H p g c h)
       in_service_sync =
-          let places = as_row_sync (Vec.the_field (Place.the_row A C H g c h) Global.the_row ghosts) (Vec-sync (Place.the_row A C H g c h) place_sync) in
+          let places = as_row_sync (Vec.the_field place_row Global.the_row ghosts) (Vec-sync place_row place_sync) in
           let shared = as_row_sync (Mutex.the_field (DepotBook.the_row C H c h)) (mutex.the_sync (DepotBook.the_row C H c h) book_send) in
           declared_sync (in_service.the_type A G C H p g c h)
           (search (sendable, crosses) depth 20, (search (sendable, as_row_sync, crosses) depth 40, (places, (guests_sync, (shared, (search (sendable, as_row_sync, y) depth 20, tt))))))

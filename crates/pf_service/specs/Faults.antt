@@ -36,12 +36,6 @@ IsQueryFault first ns NoSuchNamespace = first ≤ ns
 IsQueryFault first ns Gone = ns < MAX_NUMBERS
 IsQueryFault first ns _ = ⊥
 
--- why a namespace that is there gives no seat, where nothing is known of it
-abbrev pub IsRefusal : ServiceFault → Type 0
-IsRefusal TooManySeats = Unit {0}
-IsRefusal Gone = Unit {0}
-IsRefusal _ = ⊥
-
 -- why a reservation isn't had, where nothing is known of the depot
 abbrev pub IsAdmissionFault : ℕ → AdmitFault → Type 0
 IsAdmissionFault reserve (admit.NoRoom slack) = slack < reserve

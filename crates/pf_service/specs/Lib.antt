@@ -11,5 +11,6 @@ pub mod Woken
 pub mod Waited
 pub mod Tenants
 pub mod Said
+pub mod Places
 pub mod Lodged
 pub mod Asked

@@ -1,20 +1,20 @@
 -- What is said of each event of a call that waits.
 
-use Rattle.std.specs.Prelude.{ℕ, Bool}
+use Rattle.std.specs.Prelude.{ℕ}
 use Rattle.pf_base.specs.declared.step.Step.{Step}
 use Rattle.pf_base.specs.declared.step.Reply.{Reply}
 use Rattle.pf_service.specs.Tenants.{IsHappening, IsTenantFault}
 use Rattle.pf_service.specs.Told.{Told}
 use Rattle.pf_service.specs.declared.fault.ServiceFault.{ServiceFault}
-use Rattle.pf_service.specs.declared.living.Living.{Living as OneLiving}
-use Rattle.pf_service.specs.declared.seated.Tenant.{Tenant}
+use Rattle.pf_service.specs.declared.seated.Seated.{Seated as OneSeated}
 
 -- its caller is told the lone machine's reply, the gate was told of it, and it happened to what lay behind the lock, where
 -- those who wait were woken; of its frames the gate was told too
-abbrev pub IsSaid : {A C H : Type 0} → (ℕ → ℕ → Type 0) → (ℕ → Type 0) → (Tenant (OneLiving A C H) → Bool → Type 0) → (Bool → Type 0) → ℕ → Step → ℕ → Reply → Type 0
+abbrev pub IsSaid : {A C H : Type 0} → (ℕ → ℕ → Type 0) → (ℕ → Type 0) → (OneSeated A C H → Type 0)
+    → (OneSeated A C H → Type 0) → ℕ → Step → ℕ → Reply → Type 0
 IsSaid Passed Framed Lay Woken ns step place reply =
     (Told step place reply × Passed ns place) × IsHappening Lay Woken (Framed ns) step place reply
 
 -- an event was refused because of what lay behind the lock
-abbrev pub IsRefusedThere : {A C H : Type 0} → (Tenant (OneLiving A C H) → Bool → Type 0) → ServiceFault → Type 0
-IsRefusedThere {A} {C} {H} Lay fault = (old : Tenant (OneLiving A C H)) × (is_awaited : Bool) × Lay old is_awaited × IsTenantFault old fault
+abbrev pub IsRefusedThere : {A C H : Type 0} → (OneSeated A C H → Type 0) → ServiceFault → Type 0
+IsRefusedThere {A} {C} {H} Lay fault = (old : OneSeated A C H) × Lay old × IsTenantFault old.tenant fault

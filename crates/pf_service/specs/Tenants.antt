@@ -13,6 +13,7 @@ use Rattle.pf_service.specs.declared.TheConstants.{MAX_ENTRIES, MAX_SEATS}
 use Rattle.pf_service.specs.declared.fault.ServiceFault.{ServiceFault}
 use Rattle.pf_service.specs.declared.fault.ServiceFault.TheVariants.{TooManySeats, Gone}
 use Rattle.pf_service.specs.declared.living.Living.{Living as OneLiving}
+use Rattle.pf_service.specs.declared.seated.Seated.{Seated as OneSeated}
 use Rattle.pf_service.specs.declared.seated.Tenant.{Tenant}
 use Rattle.pf_service.specs.declared.seated.Tenant.TheVariants.{Living, Retired}
 use Rattle.pf_service.specs.Woken.{is_idle}
@@ -31,6 +32,14 @@ transcript_of (Retired t) = t
 abbrev pub IsGiveFault : {A C H : Type 0} → Tenant (OneLiving A C H) → ℕ → ServiceFault → Type 0
 IsGiveFault (Living l) given fault = (fault ≡ TooManySeats) × (MAX_SEATS ≤ given)
 IsGiveFault (Retired t) given fault = fault ≡ Gone
+
+-- what lay behind a lock when it was taken lives, and had given as many seats as this number says
+abbrev pub IsGivenThere : {A C H : Type 0} → (OneSeated A C H → Type 0) → ℕ → Type 0
+IsGivenThere {A} {C} {H} Lay number = (s : OneSeated A C H) × Lay s × Lives s.tenant × (number ≡ s.given)
+
+-- it gave none, because of what lay there
+abbrev pub IsNotGivenThere : {A C H : Type 0} → (OneSeated A C H → Type 0) → ServiceFault → Type 0
+IsNotGivenThere {A} {C} {H} Lay fault = (s : OneSeated A C H) × Lay s × IsGiveFault s.tenant s.given fault
 
 -- why an event is refused: that it is retired comes first
 abbrev pub IsTenantFault : {A C H : Type 0} → Tenant (OneLiving A C H) → ServiceFault → Type 0
@@ -79,15 +88,32 @@ abbrev pub is_idle_at : {A C H : Type 0} → Tenant (OneLiving A C H) → Tenant
 is_idle_at (Living l) (Living m) step reply = is_idle l.logged.state m.logged.state step reply
 is_idle_at _ _ _ _ = false
 
--- one event happened to what lay behind a lock when it was taken; those who wait there were woken, but for an event that is
--- of no use to them; and where it holds more frames than before, a gate was told
-abbrev pub IsHappening : {A C H : Type 0} → (Tenant (OneLiving A C H) → Bool → Type 0) → (Bool → Type 0) → Type 0 → Step → ℕ → Reply → Type 0
+-- what lies behind a lock, where this became of the namespace there; all else is as it was
+abbrev pub became : {A C H : Type 0} → OneSeated A C H → Tenant (OneLiving A C H) → OneSeated A C H
+became old new = record old { tenant = new }
+
+-- one event happened to what lay behind a lock when it was taken; with what became of it those who wait there were
+-- woken, but for an event that is of no use to them; and where it holds more frames than before, a gate was told
+abbrev pub IsHappening : {A C H : Type 0} → (OneSeated A C H → Type 0) → (OneSeated A C H → Type 0) → Type 0
+    → Step → ℕ → Reply → Type 0
 IsHappening {A} {C} {H} Lay Woken Framed step place reply =
-    (old new : Tenant (OneLiving A C H)) × (is_awaited : Bool) × Lay old is_awaited × IsEvent old new step place reply
-    × (is_idle_at old new step reply ≡ false → Woken is_awaited)
-    × IsToldOfMore Framed old new
+    (old : OneSeated A C H) × (new : Tenant (OneLiving A C H)) × Lay old × IsEvent old.tenant new step place reply
+    × (is_idle_at old.tenant new step reply ≡ false → Woken (became old new))
+    × IsToldOfMore Framed old.tenant new
 
 -- why it isn't retired
 abbrev pub IsRetireFault : {A C H : Type 0} → Tenant (OneLiving A C H) → RetireFault → Type 0
 IsRetireFault (Living l) fault = (fault ≡ Alive (alive l.logged.state)) × (0 < alive l.logged.state)
 IsRetireFault (Retired t) fault = fault ≡ NoSuchNamespace
+
+-- what lay behind a lock when it was taken is retired, and gave back what it had at the depot; with what stays of it
+-- all who wait there were woken
+abbrev pub IsRetiredThere : {A C H : Type 0} → (OneSeated A C H → Type 0) → (OneSeated A C H → Type 0)
+    → (ℕ → ℕ → Type 0) → Type 0
+IsRetiredThere {A} {C} {H} Lay Woken Returned =
+    (old : OneSeated A C H) × (new : Tenant (OneLiving A C H)) × Lay old × IsRetirement old.tenant new
+    × IsReturned Returned old.tenant × Woken (became old new)
+
+-- it isn't, because of what lay there
+abbrev pub IsNotRetiredThere : {A C H : Type 0} → (OneSeated A C H → Type 0) → RetireFault → Type 0
+IsNotRetiredThere {A} {C} {H} Lay fault = (old : OneSeated A C H) × Lay old × IsRetireFault old.tenant fault

@@ -21,10 +21,10 @@ pub(crate) fn can_go_on_at<A: Allocator + Clone, R: Wait, C: Ledger, H: Ledger, 
     waiters: &W,
     pid: u32,
 ) -> Result<bool, ServiceFault>
-    ensures answer { IfOk result (λ b. IsOfOneThere (λ t awaited. W.lay waiters.now A C H t awaited)
+    ensures answer { IfOk result (λ b. IsOfOneThere (λ s. W.lay waiters.now A C H s)
         (λ log. b ≡ can_go_on log.limits log.state pid)) }
     ensures after { IfOk result (λ b. IsAfterSome (λ limits state. b ≡ can_go_on limits state pid)) }
-    ensures fault { IfErr result (IsGoneThere (λ t awaited. W.lay waiters.now A C H t awaited)) }
+    ensures fault { IfErr result (IsGoneThere (λ s. W.lay waiters.now A C H s)) }
 {
     let seated = waiters.lock(rt, locked);
     let logged = seated.get_ref()?;
@@ -38,10 +38,10 @@ pub(crate) fn next_to_go_on_at<A: Allocator + Clone, R: Wait, C: Ledger, H: Ledg
     waiters: &W,
     after: u32,
 ) -> Result<Option<u32>, ServiceFault>
-    ensures answer { IfOk result (λ next. IsOfOneThere (λ t awaited. W.lay waiters.now A C H t awaited)
+    ensures answer { IfOk result (λ next. IsOfOneThere (λ s. W.lay waiters.now A C H s)
         (λ log. IsNext log.limits log.state after next)) }
     ensures after { IfOk result (λ next. IsAfterSome (λ limits state. IsNext limits state after next)) }
-    ensures fault { IfErr result (IsGoneThere (λ t awaited. W.lay waiters.now A C H t awaited)) }
+    ensures fault { IfErr result (IsGoneThere (λ s. W.lay waiters.now A C H s)) }
 {
     let seated = waiters.lock(rt, locked);
     let logged = seated.get_ref()?;
@@ -56,10 +56,10 @@ pub(crate) fn readiness_at<A: Allocator + Clone, R: Wait, C: Ledger, H: Ledger, 
     pid: u32,
     fd: u32,
 ) -> Result<Result<Readiness, Errno>, ServiceFault>
-    ensures answer { IfOk result (λ told. IsOfOneThere (λ t awaited. W.lay waiters.now A C H t awaited)
+    ensures answer { IfOk result (λ told. IsOfOneThere (λ s. W.lay waiters.now A C H s)
         (λ log. told ≡ readiness log.state pid fd)) }
     ensures after { IfOk result (λ told. IsAfterSome (λ limits state. told ≡ readiness state pid fd)) }
-    ensures fault { IfErr result (IsGoneThere (λ t awaited. W.lay waiters.now A C H t awaited)) }
+    ensures fault { IfErr result (IsGoneThere (λ s. W.lay waiters.now A C H s)) }
 {
     let seated = waiters.lock(rt, locked);
     let logged = seated.get_ref()?;

@@ -2,6 +2,7 @@ ghost use Rattle.std.specs.Prelude.{◌≡◌, ◌+◌, ◌<◌, ◌≤◌, leng
 ghost use Rattle.std.specs.List.{range_with_len};
 ghost use Rattle.pf_base.specs.declared.TheConstants.{MAX_NUMBERS};
 ghost use Rattle.pf_service.specs.Lodged.{IsLodged, IsOfRoom};
+ghost use Rattle.pf_service.specs.Places.{numbers_of};
 
 use crate::place::Place;
 use pf_base::MAX_NUMBERS;
@@ -50,7 +51,7 @@ impl<A: Allocator + Clone, C: Ledger, H: Ledger> Guests<A, C, H> {
 
     /// The place of a namespace that was admitted. What its room holds is known by its type alone, so its number is looked at.
     pub(crate) fn place(&self, ns: u32) -> Option<&Place<A, C, H>>
-        ensures { IfSome result (λ p. (p.now ≡ ns) × (ns < MAX_NUMBERS)) }
+        ensures { IfSome result (λ p. (p.now.ns ≡ ns) × (ns < MAX_NUMBERS)) }
     {
         let room = self.rooms.get(ns as usize)?;
         let place = room.get()?.as_ref().as_ref()?;
@@ -68,9 +69,9 @@ impl<A: Allocator + Clone, C: Ledger, H: Ledger> Guests<A, C, H> {
         room: Room<A, C, H>,
         place: Place<A, C, H>,
     ) -> Result<Lodged<'_, A, C, H>, (Lodged<'_, A, C, H>, Room<A, C, H>)>
-        requires { place < MAX_NUMBERS }
-        ensures lodged { IfOk result (λ t. IsLodged self.now.rooms.items place t.of t.value.value) }
-        ensures taken { IfErr result (λ e. IsOfRoom self.now.rooms.items place e.0.of × (e.1.value ≡ Some place)) }
+        requires { place.ns < MAX_NUMBERS }
+        ensures lodged { IfOk result (λ t. IsLodged self.now.rooms.items place.ns t.of t.value.value) }
+        ensures taken { IfErr result (λ e. IsOfRoom self.now.rooms.items place.ns e.0.of × (e.1.value ≡ Some place)) }
     {
         let ns = place.ns();
         let mut room = room;
@@ -81,7 +82,7 @@ impl<A: Allocator + Clone, C: Ledger, H: Ledger> Guests<A, C, H> {
     // The place of a namespace that was admitted moves out.
     fn leave(&mut self, ns: usize) -> Option<Place<A, C, H>>
         requires { ns < MAX_NUMBERS }
-        ensures { IfSome result (λ p. p ≡ ns) }
+        ensures { IfSome result (λ p. p.ns ≡ ns) }
     {
         let place = Box::into_inner(self.rooms[ns].take()?)?;
         if place.ns() as usize != ns {
@@ -95,9 +96,9 @@ impl<A: Allocator + Clone, C: Ledger, H: Ledger> Guests<A, C, H> {
         self,
         places: Vec<Place<A, C, H>>,
     ) -> Result<Vec<Place<A, C, H>>, AllocError>
-        requires numbered { places.items ≡ range_with_len 0 (length places.items) }
+        requires numbered { numbers_of places.items ≡ range_with_len 0 (length places.items) }
         requires few { length places.items ≤ MAX_NUMBERS }
-        ensures numbered { IfOk result (λ all. all.items ≡ range_with_len 0 (length all.items)) }
+        ensures numbered { IfOk result (λ all. numbers_of all.items ≡ range_with_len 0 (length all.items)) }
         ensures few { IfOk result (λ all. length all.items ≤ MAX_NUMBERS) }
         ensures first { IfOk result (λ all. length places.items ≤ length all.items) }
     {

@@ -4,6 +4,7 @@ ghost use Rattle.pf_service.specs.Log.{Log};
 use crate::living::Living;
 use crate::place::Place;
 use crate::seated::Seated;
+use crate::waiters::NextEvent;
 use std::alloc::Allocator;
 use std::sync::ledger::Ledger;
 
@@ -23,7 +24,7 @@ pub(crate) trait Locks {
         ns: u32,
         living: Living<A, C, H>,
     ) -> Place<A, C, H>
-        ensures number { result ≡ ns }
+        ensures number { result.ns ≡ ns }
         ensures locked { locked self.now ns A living.logged };
 }
 
@@ -39,6 +40,6 @@ impl Locks for OneEach {
         ns: u32,
         living: Living<A, C, H>,
     ) -> Place<A, C, H> {
-        Place::new(ns, Seated::new(living))
+        Place::new(ns, Seated::new(living), NextEvent::new())
     }
 }

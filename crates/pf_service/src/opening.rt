@@ -9,6 +9,7 @@ ghost use Rattle.pf_machine.specs.State.{opening};
 ghost use Rattle.pf_service.specs.Faults.{IsAdmissionFault};
 ghost use Rattle.pf_service.specs.Lodged.{IsLodged};
 ghost use Rattle.pf_service.specs.Log.{new_log, AreLocked};
+ghost use Rattle.pf_service.specs.Places.{numbers_of};
 
 use crate::guests::{Guests, Lodged};
 use crate::living::Living;
@@ -79,7 +80,7 @@ pub(crate) fn admitted<A: Allocator + Clone, C: Ledger, H: Ledger>(
 /// A namespace comes, by any way to the locks, and moves in among the guests: what shows it is given with its number. Behind
 /// its lock lies a namespace of these limits, whose files stand in memory of the allocator `tree`.
 ///
-/// What it needs is made first; then the depot's lock is held once.
+/// The depot's lock is held once. All memory but that of the loans is had before.
 pub(crate) fn admit_by<'a, A: Allocator + Clone, C: Ledger, H: Ledger, R: Wait, L: Locks>(
     rt: &R,
     alloc: Global,
@@ -121,7 +122,7 @@ pub(crate) fn places_of<A: Allocator + Clone, C: Ledger, H: Ledger, L: Locks>(
     requires reserved { map (λ a. reserved_of a.loans) allotments.items
         ≡ map (λ e. e.0.reserve) configs.items }
     requires few { length configs.items ≤ 64 }
-    ensures numbered { IfOk result (λ ps. ps.items ≡ range_with_len 0 (length configs.items)) }
+    ensures numbered { IfOk result (λ ps. numbers_of ps.items ≡ range_with_len 0 (length configs.items)) }
     ensures locked { OnOk result (AreLocked (λ ns log. L.locked way.now ns A log) configs.items) }
 {
     let mut places = Vec::with_capacity(alloc, configs.len())?;

@@ -1,9 +1,10 @@
-ghost use Rattle.std.specs.Prelude.{◌≡◌, ℕ, ◌<◌, [], ◌∷◌, ◌&&◌, false, true, nat_eq, length, All, IfOk, IfErr, OnOk, OnErr};
-ghost use Rattle.pf_service.specs.Faults.{IsApplyFault, IsEventFault, IsRefusal, IsRetirementFault};
+ghost use Rattle.std.specs.Prelude.{◌≡◌, ◌<◌, [], ◌∷◌, ◌&&◌, false, true, nat_eq, length, All, IfOk, IfErr, OnOk, OnErr};
+ghost use Rattle.pf_service.specs.Faults.{IsApplyFault};
 ghost use Rattle.pf_service.specs.Log.{IsLogged};
 ghost use Rattle.pf_service.specs.Said.{IsRefusedThere};
 ghost use Rattle.pf_service.specs.Seats.{Gains, event_at};
-ghost use Rattle.pf_service.specs.Tenants.{IsEvent, IsHappening, IsSameTenant, IsTenantFault, IsToldOfMore, is_idle_at};
+ghost use Rattle.pf_service.specs.Tenants.{IsEvent, IsHappening, IsSameTenant, IsTenantFault, IsToldOfMore};
+ghost use Rattle.pf_service.specs.Tenants.{became, is_idle_at};
 ghost use Rattle.pf_service.specs.Told.{Told};
 ghost use Rattle.pf_service.specs.Transcripts.{IsLone};
 ghost use Rattle.pf_service.specs.declared.TheConstants.{MAX_ENTRIES};
@@ -32,24 +33,25 @@ mod queries;
 
 /// A namespace of a service: its number, what lies behind its lock, and who waits there for its next event.
 ///
-/// A contract sees the number: what lies behind the lock is known while it is held. This module and its `queries` alone
-/// get at the lock: so an event reaches what lies there by `call` and `call_waiting` alone, which want a seat of this
-/// number.
+/// A contract sees the number and who waits: what lies behind the lock is known while it is held. This module and its
+/// `queries` alone get at the lock: so an event reaches what lies there by `call` and `call_waiting` alone, which want
+/// a seat of this number. Over any waiters, so that each call says what it asks of those of this place, and of no
+/// others.
 #[derive(Drop)]
-pub(crate) struct Place<A: Allocator, C: Ledger, H: Ledger> {
+pub(crate) struct Place<A: Allocator, C: Ledger, H: Ledger, W: Waiters = NextEvent> {
     ns: u32,
     seated: Mutex<Seated<A, C, H>>,
-    next: NextEvent,
+    next: W,
     // Keeps two places apart, so that no cache line has what the callers of two namespaces write.
     apart: [u64; 16],
 }
 
-impl<A: Allocator, C: Ledger, H: Ledger> Model for Place<A, C, H> {
-    ghost use Rattle.std.specs.Prelude.{ℕ};
+impl<A: Allocator, C: Ledger, H: Ledger, W: Waiters> Model for Place<A, C, H, W> {
+    ghost use Rattle.pf_service.specs.Places.{OnePlace};
 
-    ghost Value = { ℕ };
+    ghost Value = { OnePlace W };
 
-    ghost view = { λ p. p.ns };
+    ghost view = { λ p. record { ns = p.ns; next = p.next } };
 }
 
 // How many bytes went in of the write that a Resume tries again; 0 for another step.
@@ -136,28 +138,16 @@ fn kept_event<A: Allocator + Clone, R: Wait, G: Gate, C: Ledger, H: Ledger>(
     Ok(Receipt { ns, place, reply })
 }
 
-// Those who wait are woken, but for an event that is of no use to them: from then on nobody waits.
-fn wake<W: Waiters>(waiters: &W, is_awaited: &mut bool, is_idle: bool)
-    ensures woken { is_idle ≡ false → W.woken waiters.now is_awaited.old }
-    ensures awaited { is_idle ≡ true → is_awaited.new ≡ is_awaited.old }
-{
-    if !is_idle {
-        waiters.wake_all(*is_awaited);
-        *is_awaited = false;
-    }
-}
-
-/// One event of a namespace, whose lock is held: it is made and kept, and those who wait are woken, but for an event that
-/// is of no use to them. Whether anybody waits is known behind the lock: from then on nobody does.
-pub(crate) fn event<A: Allocator + Clone, R: Wait, G: Gate, C: Ledger, H: Ledger, W: Waiters>(
+// One event of a namespace, whose lock is held: it is made and kept. Whether it is of no use to those who wait is told
+// besides, as they are woken once its namespace lies behind the lock again.
+fn event<A: Allocator + Clone, R: Wait, G: Gate, C: Ledger, H: Ledger>(
     rt: &R,
     gate: &G,
     book: &Mutex<DepotBook<C, H>>,
     living: &mut Living<A, C, H>,
-    is_awaited: &mut bool,
-    waiters: &W,
     seat: &mut Seat,
     step: &Step,
+    idle: &mut bool,
 ) -> Result<Receipt, ServiceFault>
     ensures place { IfOk result (λ r. (r.ns ≡ seat.old.ns)
         × (r.place ≡ length living.old.logged.transcript)) }
@@ -168,30 +158,43 @@ pub(crate) fn event<A: Allocator + Clone, R: Wait, G: Gate, C: Ledger, H: Ledger
     ensures told { IfOk result (λ r. Told step.now r.place r.reply) }
     ensures passed { IfOk result (λ r. G.passed gate.now r.ns r.place) }
     ensures framed { IfOk result (λ r. living.old.logged.held < living.new.logged.held → G.framed gate.now r.ns) }
-    ensures woken { IfOk result (λ r.
-        is_idle living.old.logged.state living.new.logged.state step.now r.reply ≡ false
-        → W.woken waiters.now is_awaited.old) }
-    ensures awaited { IfOk result (λ r.
-        is_idle living.old.logged.state living.new.logged.state step.now r.reply ≡ true
-        → is_awaited.new ≡ is_awaited.old) }
+    ensures idle { IfOk result (λ r.
+        idle.new ≡ is_idle living.old.logged.state living.new.logged.state step.now r.reply) }
     ensures fault { IfErr result (IsApplyFault living.old.logged.transcript) }
     ensures refused { OnErr result (Gains seat.old seat.new []) }
     ensures unchanged { OnErr result (living.new.logged ≡ living.old.logged) }
-    ensures waiting { OnErr result (is_awaited.new ≡ is_awaited.old) }
 {
     let before = resumed_written(living.get_ref(), step);
     match kept_event(rt, gate, book, living, seat, step) {
         Ok(receipt) => {
             let after = resumed_written(living.get_ref(), step);
-            let idle = is_idle(step, &receipt.reply, before, after);
-            wake(waiters, is_awaited, idle);
+            *idle = is_idle(step, &receipt.reply, before, after);
             Ok(receipt)
         }
         Err(fault) => Err(fault),
     }
 }
 
-/// `event`, where the namespace lives. `Gone` where it is retired, first of all, and nothing changes.
+// Those who wait are woken, but for an event that is of no use to them: from then on nobody waits.
+fn wake<A: Allocator, C: Ledger, H: Ledger, W: Waiters>(
+    waiters: &W,
+    seated: &mut Seated<A, C, H>,
+    is_idle: bool,
+)
+    ensures woken { is_idle ≡ false → W.woken waiters.now A C H seated.old }
+    ensures awaited { is_idle ≡ true → seated.new.is_awaited ≡ seated.old.is_awaited }
+    ensures tenant { seated.new.tenant ≡ seated.old.tenant }
+    ensures given { seated.new.given ≡ seated.old.given }
+{
+    if !is_idle {
+        waiters.wake_all(seated);
+        seated.is_awaited = false;
+    }
+}
+
+/// One event of the namespace that lies behind a lock, where it lives: it is made and kept, and those who wait are
+/// woken behind it, but for an event that is of no use to them. Whether anybody waits is known behind the lock: from
+/// then on nobody does. `Gone` where the namespace is retired, first of all, and nothing changes.
 pub(crate) fn event_of<A: Allocator + Clone, R: Wait, G: Gate, C: Ledger, H: Ledger, W: Waiters>(
     rt: &R,
     gate: &G,
@@ -211,7 +214,7 @@ pub(crate) fn event_of<A: Allocator + Clone, R: Wait, G: Gate, C: Ledger, H: Led
         IsToldOfMore (G.framed gate.now r.ns) seated.old.tenant seated.new.tenant) }
     ensures woken { IfOk result (λ r.
         is_idle_at seated.old.tenant seated.new.tenant step.now r.reply ≡ false
-        → W.woken waiters.now seated.old.is_awaited) }
+        → W.woken waiters.now A C H (became seated.old seated.new.tenant)) }
     ensures awaited { IfOk result (λ r.
         is_idle_at seated.old.tenant seated.new.tenant step.now r.reply ≡ true
         → seated.new.is_awaited ≡ seated.old.is_awaited) }
@@ -221,17 +224,22 @@ pub(crate) fn event_of<A: Allocator + Clone, R: Wait, G: Gate, C: Ledger, H: Led
     ensures unchanged { OnErr result (IsSameTenant seated.old.tenant seated.new.tenant) }
     ensures waiting { OnErr result (seated.new.is_awaited ≡ seated.old.is_awaited) }
 {
-    match &mut seated.tenant {
-        Tenant::Living(living) => {
-            let is_awaited = &mut seated.is_awaited;
-            event(rt, gate, book, living, is_awaited, waiters, seat, step)
+    let Tenant::Living(living) = &mut seated.tenant else {
+        return Err(ServiceFault::Gone);
+    };
+    let mut idle = false;
+    match event(rt, gate, book, living, seat, step, &mut idle) {
+        Ok(receipt) => {
+            wake(waiters, seated, idle);
+            Ok(receipt)
         }
-        Tenant::Retired(_) => Err(ServiceFault::Gone),
+        Err(fault) => Err(fault),
     }
 }
 
-// One event of a seat of the namespace that lies behind a lock. It happens to what lay there, or is refused because of that;
-// those who wait there are woken, and where the namespace then holds more frames, the gate was told.
+// One event of a seat of the namespace that lies behind a lock. It happens to what lay there, or is refused because of
+// that; those who wait there are woken behind it, but for an event that is of no use to them, and where the namespace
+// then holds more frames, the gate was told.
 fn call_at<A: Allocator + Clone, R: Wait, G: Gate, C: Ledger, H: Ledger, W: Waiters>(
     rt: &R,
     gate: &G,
@@ -244,9 +252,9 @@ fn call_at<A: Allocator + Clone, R: Wait, G: Gate, C: Ledger, H: Ledger, W: Wait
     ensures kept { IfOk result (λ r. Gains seat.old seat.new (event_at r.place step.now r.reply ∷ [])) }
     ensures told { IfOk result (λ r. (r.ns ≡ seat.old.ns) × Told step.now r.place r.reply) }
     ensures passed { IfOk result (λ r. G.passed gate.now r.ns r.place) }
-    ensures happened { IfOk result (λ r. IsHappening (λ t awaited. W.lay waiters.now A C H t awaited)
-        (λ awaited. W.woken waiters.now awaited) (G.framed gate.now r.ns) step.now r.place r.reply) }
-    ensures fault { IfErr result (IsRefusedThere (λ t awaited. W.lay waiters.now A C H t awaited)) }
+    ensures happened { IfOk result (λ r. IsHappening (λ s. W.lay waiters.now A C H s)
+        (λ s. W.woken waiters.now A C H s) (G.framed gate.now r.ns) step.now r.place r.reply) }
+    ensures fault { IfErr result (IsRefusedThere (λ s. W.lay waiters.now A C H s)) }
     ensures refused { OnErr result (Gains seat.old seat.new []) }
 {
     let mut seated = waiters.lock(rt, locked);
@@ -275,41 +283,45 @@ fn handed(told: Result<Receipt, ServiceFault>) -> Result<Receipt, ServiceFault>
     }
 }
 
-impl<A: Allocator + Clone, C: Ledger, H: Ledger> Place<A, C, H> {
-    ghost use Rattle.std.specs.Prelude.{◌++◌, List};
+impl<A: Allocator + Clone, C: Ledger, H: Ledger, W: Waiters> Place<A, C, H, W> {
+    ghost use Rattle.std.specs.Prelude.{List};
     ghost use Rattle.pf_service.specs.declared.TheConstants.{MAX_SEATS};
     ghost use Rattle.pf_service.specs.declared.event.Event.{Event as OneEvent};
+    ghost use Rattle.pf_service.specs.Said.{IsSaid};
+    ghost use Rattle.pf_service.specs.Tenants.{IsGivenThere, IsNotGivenThere, IsNotRetiredThere, IsRetiredThere};
     ghost use Rattle.pf_service.specs.Waited.{AreParked, IsAnswered, IsWaited};
 
-    /// The namespace of a number. Nobody waits there yet.
-    pub(crate) fn new(ns: u32, seated: Seated<A, C, H>) -> Self
-        ensures { result ≡ ns }
+    /// The namespace of a number, and who waits there: nobody yet.
+    pub(crate) fn new(ns: u32, seated: Seated<A, C, H>, next: W) -> Self
+        ensures { result ≡ record { ns = ns; next = next } }
     {
         Place {
             ns,
             seated: Mutex::new(seated),
-            next: NextEvent::new(),
+            next,
             apart: [0; 16],
         }
     }
 
     /// Its number.
     pub(crate) fn ns(&self) -> u32
-        ensures { result ≡ self.now }
+        ensures { result ≡ self.now.ns }
     {
         self.ns
     }
 
-    /// A seat, with the next number.
+    /// A seat, with the next number, where the namespace lives.
     pub(crate) fn seat<R: Wait>(&self, rt: &R, alloc: Global) -> Result<Seat, ServiceFault>
-        ensures seat { IfOk result (λ s. (s.ns ≡ self.now) × (s.number < MAX_SEATS) × (s.events ≡ [])) }
-        ensures fault { IfErr result IsRefusal }
+        ensures seat { IfOk result (λ s. (s.ns ≡ self.now.ns) × (s.number < MAX_SEATS) × (s.events ≡ [])) }
+        ensures given { IfOk result (λ s. IsGivenThere (λ t. W.lay self.now.next A C H t) s.number) }
+        ensures fault { IfErr result (IsNotGivenThere (λ s. W.lay self.now.next A C H s)) }
     {
-        let number = self.seated.lock(rt).give()?;
+        let number = self.next.lock(rt, &self.seated).give()?;
         Ok(Seat::new(alloc, self.ns, number))
     }
 
-    /// One event of a seat of the namespace (`call_at`).
+    /// One event of a seat of the namespace (`call_at`): those who wait at this place are woken behind it, but for an
+    /// event that is of no use to them.
     pub(crate) fn call<R: Wait, G: Gate>(
         &self,
         rt: &R,
@@ -318,18 +330,21 @@ impl<A: Allocator + Clone, C: Ledger, H: Ledger> Place<A, C, H> {
         seat: &mut Seat,
         step: &Step,
     ) -> Result<Receipt, ServiceFault>
-        requires own { seat.old.ns ≡ self.now }
+        requires own { seat.old.ns ≡ self.now.ns }
         ensures kept { IfOk result (λ r. Gains seat.old seat.new (event_at r.place step.now r.reply ∷ [])) }
         ensures told { IfOk result (λ r. (r.ns ≡ seat.old.ns) × Told step.now r.place r.reply) }
         ensures passed { IfOk result (λ r. G.passed gate.now r.ns r.place) }
-        ensures fault { IfErr result IsEventFault }
+        ensures happened { IfOk result (λ r. IsHappening (λ s. W.lay self.now.next A C H s)
+            (λ s. W.woken self.now.next A C H s) (G.framed gate.now r.ns) step.now r.place r.reply) }
+        ensures fault { IfErr result (IsRefusedThere (λ s. W.lay self.now.next A C H s)) }
         ensures refused { OnErr result (Gains seat.old seat.new []) }
     {
         handed(call_at(rt, gate, book, &self.seated, &self.next, seat, step))
     }
 
-    /// An event of a seat of the namespace, and, as long as its process waits, after each further event of the namespace a
-    /// Resume of that process. The receipt of each is appended.
+    /// An event of a seat of the namespace, and, as long as its process waits, after each further event of the
+    /// namespace a Resume of that process (`wait_at`). It waits at this place, and those who wait here are woken behind
+    /// each, but for one that is of no use to them. The receipt of each is appended.
     ///
     /// A Resume is the machine's: a call that the process waits in since is resumed too.
     pub(crate) fn call_waiting<R: Wait, G: Gate>(
@@ -341,13 +356,15 @@ impl<A: Allocator + Clone, C: Ledger, H: Ledger> Place<A, C, H> {
         step: &Step,
         receipts: &mut Vec<Receipt>,
     ) -> Result<(), ServiceFault>
-        requires own { seat.old.ns ≡ self.now }
+        requires own { seat.old.ns ≡ self.now.ns }
         ensures waited { (es : List OneEvent)
-            × IsWaited (λ s p r. Told s p r × G.passed gate.now seat.old.ns p) step.now seat.old seat.new
+            × IsWaited (IsSaid (λ n p. G.passed gate.now n p) (λ n. G.framed gate.now n)
+            (λ s. W.lay self.now.next A C H s) (λ s. W.woken self.now.next A C H s) seat.old.ns)
+            step.now seat.old seat.new
             receipts.old.items receipts.new.items es
             × OnOk result (IsAnswered es)
             × OnErr result (AreParked es) }
-        ensures fault { IfErr result IsEventFault }
+        ensures fault { IfErr result (IsRefusedThere (λ s. W.lay self.now.next A C H s)) }
     {
         wait_at(
             rt,
@@ -361,22 +378,25 @@ impl<A: Allocator + Clone, C: Ledger, H: Ledger> Place<A, C, H> {
         )
     }
 
-    /// The namespace is retired, where it lives and has no process.
+    /// The namespace is retired, where it lives and has no process. All who wait at this place are woken.
     pub(crate) fn retire<R: Wait, D: Returns>(
         &self,
         rt: &R,
         way: &D,
         book: &Mutex<DepotBook<C, H>>,
     ) -> Result<(), RetireFault>
-        ensures returned { OnOk result ((reserve : ℕ) × (stock : ℕ) × D.returned way.now self.now reserve stock) }
-        ensures fault { IfErr result IsRetirementFault }
+        ensures retired { OnOk result (IsRetiredThere (λ s. W.lay self.now.next A C H s)
+            (λ s. W.woken self.now.next A C H s) (λ reserve stock. D.returned way.now self.now.ns reserve stock)) }
+        ensures fault { IfErr result (IsNotRetiredThere (λ s. W.lay self.now.next A C H s)) }
     {
-        let mut seated = self.seated.lock(rt);
+        let mut seated = self.next.lock(rt, &self.seated);
         seated.retire(rt, way, book, self.ns, &self.next)
     }
 
     /// What the namespace was asked and told, and how many seats it gave.
     pub(crate) fn into_parts(self) -> (Transcript, u32)
+    where
+        W: Drop,
         ensures alone { IsLone result.0 }
     {
         let Place {

@@ -40,7 +40,8 @@ fn put<L: Drop>(tenant: &mut Tenant<L>, stays: Retired)
 
 impl<A: Allocator + Clone, C: Ledger, H: Ledger> Seated<A, C, H> {
     ghost use Rattle.std.specs.Prelude.{IfOk, IfErr, OnOk, OnErr};
-    ghost use Rattle.pf_service.specs.Tenants.{Lives, IsGiveFault, IsGoneFault, IsLivingAt, IsRetirement, IsRetireFault, IsReturned, transcript_of};
+    ghost use Rattle.pf_service.specs.Tenants.{Lives, IsGiveFault, IsGoneFault, IsLivingAt, IsRetirement};
+    ghost use Rattle.pf_service.specs.Tenants.{IsRetireFault, IsReturned, became, transcript_of};
     ghost use Rattle.pf_service.specs.Transcripts.{IsLone};
     ghost use Rattle.pf_service.specs.declared.TheConstants.{MAX_SEATS};
 
@@ -103,7 +104,7 @@ impl<A: Allocator + Clone, C: Ledger, H: Ledger> Seated<A, C, H> {
     ) -> Result<(), RetireFault>
         ensures retired { OnOk result (IsRetirement self.old.tenant self.new.tenant) }
         ensures returned { OnOk result (IsReturned (λ reserve stock. D.returned way.now ns reserve stock) self.old.tenant) }
-        ensures woken { OnOk result (W.woken waiters.now true) }
+        ensures woken { OnOk result (W.woken waiters.now A C H (became self.old self.new.tenant)) }
         ensures fault { IfErr result (IsRetireFault self.old.tenant) }
         ensures unchanged { OnErr result (self.new.tenant ≡ self.old.tenant) }
         ensures given { self.new.given ≡ self.old.given }
@@ -121,7 +122,7 @@ impl<A: Allocator + Clone, C: Ledger, H: Ledger> Seated<A, C, H> {
             unreachable!()
         };
         put(&mut self.tenant, living.retire(rt, way, book, ns));
-        waiters.wake_all(true);
+        waiters.wake_all(self);
         Ok(())
     }
 

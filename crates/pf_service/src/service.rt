@@ -1,7 +1,9 @@
 ghost use Rattle.std.specs.Prelude.{◌≡◌, ◌≤◌, IfOk, length, map};
 ghost use Rattle.std.specs.List.{range_with_len};
 ghost use Rattle.pf_base.specs.declared.TheConstants.{MAX_NAMESPACES};
+ghost use Rattle.pf_depot.specs.Blanks.{IsBlankOf};
 ghost use Rattle.pf_hub.specs.Opening.{limits_of};
+ghost use Rattle.pf_service.specs.Places.{numbers_of};
 
 use crate::fault::{CloseFault, ServiceFault};
 use crate::guests::Guests;
@@ -47,7 +49,7 @@ pub struct Service<A: Allocator, G: Gate, C: Ledger, H: Ledger> {
     gate: G,
 
     /// There is a place for each of the limits, and its number is that of the namespace.
-    pub ghost numbered: { places.items ≡ range_with_len 0 (length configs.items) },
+    pub ghost numbered: { numbers_of places.items ≡ range_with_len 0 (length configs.items) },
 
     pub ghost few: { length configs.items ≤ MAX_NAMESPACES },
 }
@@ -90,9 +92,7 @@ impl<A: Allocator + Clone, G: Gate, C: Ledger, H: Ledger> Service<A, G, C, H> {
     ) -> Result<Self, PoolFault>
     where
         G: Drop,
-        requires names { (credits.name ≡ C.name) × (held.name ≡ H.name) }
-        requires cut { (credits.parts ≡ C.parts) × (held.parts ≡ H.parts) }
-        requires parts { (MAX_NAMESPACES ≤ credits.parts) × (MAX_NAMESPACES ≤ held.parts) }
+        requires blanks { IsBlankOf C.name C.parts credits × IsBlankOf H.name H.parts held }
         ensures tested { IsOk result → first_fault (length frames.items) (limits_of configs.items) ≡ None }
         ensures limits { IfOk result (λ s. s ≡ limits_of configs.items) }
         ensures fault { IfErr result (IsFault (first_fault (length frames.items) (limits_of configs.items))) }
@@ -113,9 +113,7 @@ impl<A: Allocator + Clone, G: Gate, C: Ledger, H: Ledger> Service<A, G, C, H> {
     ) -> Result<Self, PoolFault>
     where
         G: Drop,
-        requires names { (credits.name ≡ C.name) × (held.name ≡ H.name) }
-        requires cut { (credits.parts ≡ C.parts) × (held.parts ≡ H.parts) }
-        requires parts { (MAX_NAMESPACES ≤ credits.parts) × (MAX_NAMESPACES ≤ held.parts) }
+        requires blanks { IsBlankOf C.name C.parts credits × IsBlankOf H.name H.parts held }
         ensures tested { IsOk result → first_fault (length frames.items) (limits_of configs.items) ≡ None }
         ensures limits { IfOk result (λ s. s ≡ limits_of configs.items) }
         ensures locked { OnOk result (AreLocked (λ ns log. L.locked way.now ns A log) configs.items) }
@@ -151,7 +149,7 @@ impl<A: Allocator + Clone, G: Gate, C: Ledger, H: Ledger> Service<A, G, C, H> {
 
     // The place of a namespace, whether it lives or is retired. The fault is that none has this number.
     fn place(&self, ns: u32) -> Result<&Place<A, C, H>, ServiceFault>
-        ensures found { IfOk result (λ p. (p.now ≡ ns) × (ns < MAX_NUMBERS)) }
+        ensures found { IfOk result (λ p. (p.now.ns ≡ ns) × (ns < MAX_NUMBERS)) }
         ensures missing { IfErr result (λ e. (e ≡ ServiceFault.NoSuchNamespace) × (length self.now ≤ ns)) }
         ensures past { MAX_NUMBERS ≤ ns → result ≡ Err ServiceFault.NoSuchNamespace }
     {

@@ -1,6 +1,7 @@
 ghost use Rattle.std.specs.Prelude.{◌≡◌, ℕ, ◌≤◌, List, length, All, IfOk};
 ghost use Rattle.std.specs.List.{range_with_len};
 ghost use Rattle.pf_base.specs.declared.TheConstants.{MAX_NUMBERS};
+ghost use Rattle.pf_service.specs.Places.{numbers_of};
 ghost use Rattle.pf_service.specs.Transcripts.{OneTranscript, IsLone};
 
 use crate::guests::Guests;
@@ -24,7 +25,7 @@ pub(crate) trait Unlocks {
         places: Vec<Place<A, C, H>>,
         guests: Guests<A, C, H>,
     ) -> Result<(Vec<Transcript>, Vec<u32>), AllocError>
-        requires numbered { places.items ≡ range_with_len 0 (length places.items) }
+        requires numbered { numbers_of places.items ≡ range_with_len 0 (length places.items) }
         requires few { length places.items ≤ MAX_NUMBERS }
         ensures lay { IfOk result (λ parts. lay self.now parts.0.items parts.1.items) }
         ensures each { IfOk result (λ parts. length parts.0.items ≡ length parts.1.items) }

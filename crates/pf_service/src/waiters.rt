@@ -1,6 +1,5 @@
-ghost use Rattle.std.specs.Prelude.{Bool, IsTrue};
-ghost use Rattle.pf_service.specs.declared.living.Living.{Living};
-ghost use Rattle.pf_service.specs.declared.seated.Tenant.{Tenant};
+ghost use Rattle.std.specs.Prelude.{IsTrue};
+ghost use Rattle.pf_service.specs.declared.seated.Seated.{Seated as OneSeated};
 
 use crate::seated::Seated;
 use std::alloc::Allocator;
@@ -9,19 +8,20 @@ use std::sync::{Condvar, Mutex, MutexGuard, Wait};
 
 /// Who waits for a namespace's next event, and how the namespace's lock is taken, and let go to wait.
 ///
-/// That all were woken is a fact which nobody but `wake_all` gives, and what lay behind the lock when it was taken is one
-/// which nobody but `lock` and `wait` give: a contract over any waiters can't see what these facts are. So whoever asks for
-/// them asks for calls, with just what lay there. That whoever was woken goes on, no contract says.
+/// That all were woken is a fact which nobody but `wake_all` gives, of what it is lent; and what lay behind the lock
+/// when it was taken is one which nobody but `lock` and `wait` give: a contract over any waiters can't see what these
+/// facts are. So whoever asks for them asks for calls, with just what lay there, and with what has become of that:
+/// nobody has it before the event. That whoever was woken goes on, no contract says.
 pub(crate) trait Waiters {
-    /// All who waited were woken, where anybody did.
-    ghost woken: { Self → Bool → Type 0 };
+    /// With this behind the lock, all who waited were woken, where anybody did.
+    ghost woken: { Self → (A C H : Type 0) → OneSeated A C H → Type 0 };
 
-    /// This namespace lay behind the lock, and so it was with whether anybody waited.
-    ghost lay: { Self → (A C H : Type 0) → Tenant (Living A C H) → Bool → Type 0 };
+    /// This lay behind the lock.
+    ghost lay: { Self → (A C H : Type 0) → OneSeated A C H → Type 0 };
 
-    /// Wakes all who wait, where anybody does.
-    fn wake_all(&self, is_awaited: bool)
-        ensures { woken self.now is_awaited };
+    /// Wakes all who wait, where anybody does: that stands behind the lock, beside what they are woken for.
+    fn wake_all<A: Allocator, C: Ledger, H: Ledger>(&self, seated: &Seated<A, C, H>)
+        ensures { woken self.now A C H seated.now };
 
     /// Takes the lock.
     fn lock<'a, A: Allocator, C: Ledger, H: Ledger, R: Wait>(
@@ -29,7 +29,7 @@ pub(crate) trait Waiters {
         rt: &R,
         seated: &'a Mutex<Seated<A, C, H>>,
     ) -> MutexGuard<'a, Seated<A, C, H>>
-        ensures { lay self.now A C H result.value.tenant result.value.is_awaited };
+        ensures { lay self.now A C H result.value };
 
     /// Lets the lock go until the next event, and takes it again. That somebody waits stands behind the lock, where whoever
     /// makes the event finds it.
@@ -39,7 +39,7 @@ pub(crate) trait Waiters {
         seated: MutexGuard<'a, Seated<A, C, H>>,
     ) -> MutexGuard<'a, Seated<A, C, H>>
         requires { IsTrue seated.value.is_awaited }
-        ensures { lay self.now A C H result.value.tenant result.value.is_awaited };
+        ensures { lay self.now A C H result.value };
 }
 
 /// A namespace's next event, as those see it who wait for it.
@@ -58,13 +58,13 @@ impl NextEvent {
 }
 
 impl Waiters for NextEvent {
-    ghost woken = { λ _ _. Unit {0} };
+    ghost woken = { λ _ _ _ _ _. Unit {0} };
 
-    ghost lay = { λ _ _ _ _ _ _. Unit {0} };
+    ghost lay = { λ _ _ _ _ _. Unit {0} };
 
     // A notification writes to memory that all callers of the namespace share.
-    fn wake_all(&self, is_awaited: bool) {
-        if is_awaited {
+    fn wake_all<A: Allocator, C: Ledger, H: Ledger>(&self, seated: &Seated<A, C, H>) {
+        if seated.is_awaited {
             self.came.notify_all();
         }
     }

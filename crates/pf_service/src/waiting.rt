@@ -4,7 +4,7 @@ ghost use Rattle.pf_base.specs.declared.step.Reply.TheVariants.{Parked};
 ghost use Rattle.pf_machine.specs.Machine.{pid_of};
 ghost use Rattle.pf_service.specs.declared.event.Event.{Event as OneEvent};
 ghost use Rattle.pf_service.specs.Faults.{IsApplyFault};
-ghost use Rattle.pf_service.specs.Tenants.{IsEvent, IsSameTenant, IsTenantFault, IsToldOfMore, is_idle_at};
+ghost use Rattle.pf_service.specs.Tenants.{IsEvent, IsSameTenant, IsTenantFault, IsToldOfMore, became, is_idle_at};
 ghost use Rattle.pf_service.specs.Seats.{Gains};
 ghost use Rattle.pf_service.specs.Said.{IsRefusedThere, IsSaid};
 ghost use Rattle.pf_service.specs.Told.{Told};
@@ -67,7 +67,7 @@ fn try_once<A: Allocator + Clone, R: Wait, G: Gate, C: Ledger, H: Ledger, W: Wai
         × (IsTrue waits ↔ (reply ≡ Parked))
         × IsEvent seated.old.tenant seated.new.tenant step.now place reply
         × (is_idle_at seated.old.tenant seated.new.tenant step.now reply ≡ false
-        → W.woken waiters.now seated.old.is_awaited)
+        → W.woken waiters.now A C H (became seated.old seated.new.tenant))
         × (is_idle_at seated.old.tenant seated.new.tenant step.now reply ≡ true
         → seated.new.is_awaited ≡ seated.old.is_awaited)) }
     ensures framed { OnOk result (IsToldOfMore (G.framed gate.now seat.old.ns)
@@ -93,10 +93,10 @@ fn try_once<A: Allocator + Clone, R: Wait, G: Gate, C: Ledger, H: Ledger, W: Wai
     }
 }
 
-/// An event of a seat of the namespace that lies behind a lock, and, as long as its process waits, after each further event of
-/// the namespace a Resume of that process. Each happens to what lay there, those who wait there are woken, and where the
-/// namespace then holds more frames, the gate was told. It is given up only where an event is refused because of what lay
-/// there.
+/// An event of a seat of the namespace that lies behind a lock, and, as long as its process waits, after each further
+/// event of the namespace a Resume of that process. Each happens to what lay there, those who wait there are woken
+/// behind it, but for an event that is of no use to them, and where the namespace then holds more frames, the gate was
+/// told. It is given up only where an event is refused because of what lay there.
 pub(crate) fn wait_at<A: Allocator + Clone, R: Wait, G: Gate, C: Ledger, H: Ledger, W: Waiters>(
     rt: &R,
     gate: &G,
@@ -109,12 +109,12 @@ pub(crate) fn wait_at<A: Allocator + Clone, R: Wait, G: Gate, C: Ledger, H: Ledg
 ) -> Result<(), ServiceFault>
     ensures waited { (es : List OneEvent)
         × IsWaited (IsSaid (λ n p. G.passed gate.now n p) (λ n. G.framed gate.now n)
-        (λ t awaited. W.lay waiters.now A C H t awaited) (λ awaited. W.woken waiters.now awaited) seat.old.ns)
+        (λ s. W.lay waiters.now A C H s) (λ s. W.woken waiters.now A C H s) seat.old.ns)
         step.now seat.old seat.new
         receipts.old.items receipts.new.items es
         × OnOk result (IsAnswered es)
         × OnErr result (AreParked es) }
-    ensures fault { IfErr result (IsRefusedThere (λ t awaited. W.lay waiters.now A C H t awaited)) }
+    ensures fault { IfErr result (IsRefusedThere (λ s. W.lay waiters.now A C H s)) }
 {
     let pid = maker(step);
     let mut seated = waiters.lock(rt, locked);

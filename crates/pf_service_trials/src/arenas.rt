@@ -1,15 +1,16 @@
-//! Namespaces whose files stand in arenas, of which one is full: who has that one can make no file, and nobody else feels it.
+//! Namespaces whose files stand in arenas, of which one is full: who has that one can make no file, and nobody else
+//! feels it. And a gate that looks at an arena: it is told of an event before a file is made there.
 
-ghost use Rattle.std.specs.Prelude.{◌≡◌, ◌≤◌};
-ghost use Rattle.pf_base.specs.declared.TheConstants.{MAX_NAMESPACES};
+ghost use Rattle.pf_depot.specs.Blanks.{IsBlankOf};
 
 use crate::services::{BLUE, RED, blank, config_of, old_frames, spawn};
 use bumpalo::Bump;
 use pf_base::{ByteString, Config, Reply, Step};
-use pf_service::{NoGate, Service, ServiceFault};
+use pf_service::{Gate, NoGate, Service, ServiceFault};
 use std::alloc::{AllocError, Allocator, Global};
 use std::marker::Brand;
 use std::sync::Wait;
+use std::sync::atomic::{AtomicU64, Ordering};
 use std::sync::ledger::{Blank, Ledger};
 use std::test::Fail;
 
@@ -22,10 +23,10 @@ fn mkfifo(alloc: Global) -> Result<Step, AllocError> {
 }
 
 // Whether a namespace's process can make a file.
-fn makes_a_file<A: Allocator + Copy, C: Ledger, H: Ledger, R: Wait>(
+fn makes_a_file<A: Allocator + Copy, G: Gate, C: Ledger, H: Ledger, R: Wait>(
     rt: &R,
     alloc: Global,
-    service: &Service<A, NoGate, C, H>,
+    service: &Service<A, G, C, H>,
     ns: u32,
 ) -> Result<bool, Fail> {
     let mut seat = service.seat(rt, ns)?;
@@ -60,26 +61,25 @@ fn who_makes_files<A: Allocator + Copy, C: Ledger, H: Ledger, R: Wait>(
 fn configs_in<A: Allocator + Copy>(alloc: Global, red: A, blue: A) -> Option<Vec<(Config, A)>> {
     let config = config_of(1)?;
     let mut configs = Vec::with_capacity(alloc, 2).ok()?;
-    configs.push((config, red)).ok()?;
-    configs.push((config, blue)).ok()?;
+    configs.push_reserved((config, red));
+    configs.push_reserved((config, blue));
     Some(configs)
 }
 
 // A service of these two, and two frames besides.
-fn service_in<A: Allocator + Copy, C: Ledger, H: Ledger>(
+fn service_in<A: Allocator + Copy, G: Gate + Drop, C: Ledger, H: Ledger>(
     alloc: Global,
     red: A,
     blue: A,
+    gate: G,
     credits: Blank,
     held: Blank,
-) -> Result<Service<A, NoGate, C, H>, Fail>
-    requires names { (credits.name ≡ C.name) × (held.name ≡ H.name) }
-    requires cut { (credits.parts ≡ C.parts) × (held.parts ≡ H.parts) }
-    requires parts { (MAX_NAMESPACES ≤ credits.parts) × (MAX_NAMESPACES ≤ held.parts) }
+) -> Result<Service<A, G, C, H>, Fail>
+    requires blanks { IsBlankOf C.name C.parts credits × IsBlankOf H.name H.parts held }
 {
     let frames = old_frames(alloc, 4)?;
     let configs = configs_in(alloc, red, blue).ok_or("limits")?;
-    match Service::new(alloc, frames, configs, NoGate, credits, held) {
+    match Service::new(alloc, frames, configs, gate, credits, held) {
         Ok(service) => Ok(service),
         Err(fault) => Err(Fail::from(fault)),
     }
@@ -95,11 +95,9 @@ fn played_named<A: Allocator + Copy, C: Ledger, H: Ledger, R: Wait>(
     credits: Blank,
     held: Blank,
 ) -> Result<[bool; 4], Fail>
-    requires names { (credits.name ≡ C.name) × (held.name ≡ H.name) }
-    requires cut { (credits.parts ≡ C.parts) × (held.parts ≡ H.parts) }
-    requires parts { (MAX_NAMESPACES ≤ credits.parts) × (MAX_NAMESPACES ≤ held.parts) }
+    requires blanks { IsBlankOf C.name C.parts credits × IsBlankOf H.name H.parts held }
 {
-    let service = service_in::<A, C, H>(alloc, red, blue, credits, held)?;
+    let service = service_in::<A, NoGate, C, H>(alloc, red, blue, NoGate, credits, held)?;
     let made = who_makes_files(rt, alloc, &service, red, blue);
     drop(service.close(Vec::new(alloc)));
     made
@@ -123,5 +121,69 @@ fn each_has_the_arena_that_it_was_given(rt: HostRuntime) -> Result<(), Fail> {
     assert_eq!(rt; made, [false, true, false, true]);
     let made = played(&rt, alloc, &free, &full)?;
     assert_eq!(rt; made, [true, false, true, false]);
+    Ok(())
+}
+
+// Looks, as it is told of an event, at how many bytes the arena of the namespace's files has asked for, and keeps what
+// it saw at the second one.
+#[derive(Drop)]
+struct Looks<'a> {
+    arena: &'a Bump,
+    bytes: &'a AtomicU64,
+}
+
+impl Gate for Looks<'_> {
+    ghost passed = { λ _ _ _. Unit {0} };
+
+    ghost framed = { λ _ _. Unit {0} };
+
+    fn pass(&self, ns: u32, place: u64) {
+        let _ = ns;
+        if place == 1 {
+            let bytes = self.arena.allocated_bytes();
+            self.bytes.store(bytes as u64, Ordering::SeqCst);
+        }
+    }
+
+    fn frame(&self, ns: u32) {
+        let _ = ns;
+    }
+}
+
+// Whether the first namespace can make a file in an arena at which a gate looks. The service is closed without its
+// seats.
+fn looked_named<C: Ledger, H: Ledger, R: Wait>(
+    rt: &R,
+    alloc: Global,
+    arena: &Bump,
+    gate: Looks<'_>,
+    credits: Blank,
+    held: Blank,
+) -> Result<bool, Fail>
+    requires blanks { IsBlankOf C.name C.parts credits × IsBlankOf H.name H.parts held }
+{
+    let service = service_in::<_, _, C, H>(alloc, arena, arena, gate, credits, held)?;
+    let made = makes_a_file(rt, alloc, &service, RED);
+    drop(service.close(Vec::new(alloc)));
+    made
+}
+
+fn looked<R: Wait>(rt: &R, alloc: Global, arena: &Bump, gate: Looks<'_>) -> Result<bool, Fail> {
+    looked_named::<Brand, Brand, R>(rt, alloc, arena, gate, blank(), blank())
+}
+
+// The second event is a Mkfifo, the first that asks the arena for anything.
+#[test]
+fn a_gate_is_told_before_a_file_is_made(rt: HostRuntime) -> Result<(), Fail> {
+    let alloc = rt.alloc();
+    let (arena, bytes) = (Bump::new(alloc), AtomicU64::new(u64::MAX));
+    let gate = Looks {
+        arena: &arena,
+        bytes: &bytes,
+    };
+    let made = looked(&rt, alloc, &arena, gate)?;
+    assert!(rt; made);
+    assert_eq!(rt; bytes.load(Ordering::SeqCst), 0);
+    assert!(rt; arena.allocated_bytes() > 0);
     Ok(())
 }

@@ -1,7 +1,8 @@
 //! What a service refuses: namespaces, seats and events past their numbers, and seats that it didn't give.
 
 use crate::services::{
-    BLUE, Callers, CallersOfTwo, Plain, RED, namespaces, repeat, serve, serve_two, spawn,
+    BLUE, Callers, CallersOfTwo, Plain, RED, is_new, namespaces, no_seat, refused, repeat, serve,
+    serve_two, spawn,
 };
 use pf_base::{Errno, Reply, Step};
 use pf_service::{CloseFault, MAX_SEATS, NoGate, Seat, ServiceFault};
@@ -21,15 +22,9 @@ impl Callers<NoGate> for SeatKeptBack {
         alloc: Global,
         service: &Plain<C, H>,
     ) -> Result<Vec<Seat>, Fail> {
-        assert_eq!(rt;
-            service.seat(rt, 2).err(),
-            Some(ServiceFault::NoSuchNamespace)
-        );
-        let kept = service.seat(rt, BLUE)?;
-        assert_eq!(rt;
-            (kept.ns(), kept.number(), kept.events().len()),
-            (BLUE, 0, 0)
-        );
+        let none = no_seat(service.seat(rt, 2));
+        assert_eq!(rt; none, Some(ServiceFault::NoSuchNamespace));
+        assert!(rt; is_new(service.seat(rt, BLUE), BLUE, 0));
         Ok(Vec::new(alloc))
     }
 }
@@ -37,7 +32,7 @@ impl Callers<NoGate> for SeatKeptBack {
 #[test]
 fn a_seat_kept_back_is_missing(rt: HostRuntime) -> Result<(), Fail> {
     let closed = serve(&rt, rt.alloc(), namespaces(2), NoGate, &SeatKeptBack)?;
-    assert_eq!(rt; closed.err(), Some(CloseFault::SeatsMissing));
+    assert_eq!(rt; refused(closed), Some(CloseFault::SeatsMissing));
     Ok(())
 }
 
@@ -108,7 +103,7 @@ impl CallersOfTwo for SeatOfAnother {
 fn the_seats_of_another_service_disagree(rt: HostRuntime) -> Result<(), Fail> {
     let (first, second) = (namespaces(1), namespaces(1));
     let closed = serve_two(&rt, rt.alloc(), first, second, &SeatOfAnother)?;
-    assert_eq!(rt; closed.err(), Some(CloseFault::Disagree { ns: 0 }));
+    assert_eq!(rt; refused(closed), Some(CloseFault::Disagree { ns: 0 }));
     Ok(())
 }
 
@@ -123,13 +118,11 @@ impl Callers<NoGate> for ManySeats {
         service: &Plain<C, H>,
     ) -> Result<Vec<Seat>, Fail> {
         for number in 0..MAX_SEATS {
-            assert_eq!(rt; service.seat(rt, BLUE)?.number(), number);
+            assert!(rt; is_new(service.seat(rt, BLUE), BLUE, number));
         }
-        assert_eq!(rt;
-            service.seat(rt, BLUE).err(),
-            Some(ServiceFault::TooManySeats)
-        );
-        assert_eq!(rt; service.seat(rt, RED)?.number(), 0);
+        let full = no_seat(service.seat(rt, BLUE));
+        assert_eq!(rt; full, Some(ServiceFault::TooManySeats));
+        assert!(rt; is_new(service.seat(rt, RED), RED, 0));
         Ok(Vec::new(alloc))
     }
 }
@@ -137,7 +130,7 @@ impl Callers<NoGate> for ManySeats {
 #[test]
 fn a_namespace_gives_4096_seats(rt: HostRuntime) -> Result<(), Fail> {
     let closed = serve(&rt, rt.alloc(), namespaces(2), NoGate, &ManySeats)?;
-    assert_eq!(rt; closed.err(), Some(CloseFault::SeatsMissing));
+    assert_eq!(rt; refused(closed), Some(CloseFault::SeatsMissing));
     Ok(())
 }
 

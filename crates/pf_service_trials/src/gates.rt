@@ -1,10 +1,10 @@
 //! A gate that remembers: it is told of each event once, with the event's numbers, in the order of the transcript, and
-//! while the lock is held, and of each frame under its namespace's number. That it is told before the step is made, a
-//! contract says. That it is told of a frame before that is taken is read in the code of a step: a service's public calls
-//! don't show which frames are free.
+//! while the lock is held, and of each frame under its namespace's number. That a gate is told before the step is made
+//! is a condition of the step's own (`Living::log`); that this is the service's gate, no clause says. That it is told
+//! of a frame before that is taken is the way of a `GatedDepot`, and no clause either: a service's public calls don't
+//! show which frames are free.
 
-ghost use Rattle.std.specs.Prelude.{◌≡◌, ◌≤◌};
-ghost use Rattle.pf_base.specs.declared.TheConstants.{MAX_NAMESPACES};
+ghost use Rattle.pf_depot.specs.Blanks.{IsBlankOf};
 
 use crate::services::{
     BLUE, Callers, Closed, RED, blank, both, closed, make, namespaces, seat_if, serve, service_of,
@@ -322,29 +322,28 @@ fn first_and_second<C: Ledger + Send + Sync, H: Ledger + Send + Sync, R: Threads
 fn two_callers_named<C: Ledger + Send + Sync, H: Ledger + Send + Sync, R: Threads + Wait + Sync>(
     rt: &R,
     alloc: Global,
-    told: &Told,
+    gate: Recorder<'_>,
+    first_in: &AtomicU64,
+    second_comes: &AtomicU64,
     credits: Blank,
     held: Blank,
 ) -> Closed
-    requires names { (credits.name ≡ C.name) × (held.name ≡ H.name) }
-    requires cut { (credits.parts ≡ C.parts) × (held.parts ≡ H.parts) }
-    requires parts { (MAX_NAMESPACES ≤ credits.parts) × (MAX_NAMESPACES ≤ held.parts) }
+    requires blanks { IsBlankOf C.name C.parts credits × IsBlankOf H.name H.parts held }
 {
-    let (inside, coming) = (AtomicU64::new(0), AtomicU64::new(0));
-    let (first_in, second_comes) = (&inside, &coming);
-    let gate = Recorder {
-        red: told,
-        blue: told,
-        held: first_in,
-        coming: second_comes,
-    };
     let service = service_of::<_, C, H>(alloc, namespaces(1), gate, credits, held)?;
     let seats = first_and_second(rt, alloc, &service, first_in, second_comes);
     closed(service, seats)
 }
 
 fn two_callers<R: Threads + Wait + Sync>(rt: &R, alloc: Global, told: &Told) -> Closed {
-    two_callers_named::<Brand, Brand, R>(rt, alloc, told, blank(), blank())
+    let (inside, coming) = (AtomicU64::new(0), AtomicU64::new(0));
+    let gate = Recorder {
+        red: told,
+        blue: told,
+        held: &inside,
+        coming: &coming,
+    };
+    two_callers_named::<Brand, Brand, R>(rt, alloc, gate, &inside, &coming, blank(), blank())
 }
 
 #[test]

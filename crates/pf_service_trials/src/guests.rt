@@ -1,11 +1,10 @@
 //! Namespaces that come and go at a service.
 
-ghost use Rattle.std.specs.Prelude.{◌≡◌, ◌≤◌};
-ghost use Rattle.pf_base.specs.declared.TheConstants.{MAX_NAMESPACES};
+ghost use Rattle.pf_depot.specs.Blanks.{IsBlankOf};
 
 use crate::services::{
     Callers, Closed, Plain, RED, Size, all_of_parts, blank, both, closed, config_of, make, makes,
-    replies_are, serve, service_of, spawn, steps_of_blue, steps_of_red,
+    no_seat, replies_are, serve, service_of, spawn, steps_of_blue, steps_of_red,
 };
 use pf_base::{AdmitFault, ByteString, Config, Reply, RetireFault, Step};
 use pf_service::{NoGate, Seat, ServiceFault};
@@ -25,9 +24,7 @@ fn no_room(slack: u32) -> Option<AdmitFault> {
 }
 
 // So many namespaces, and frames besides that nobody has reserved.
-fn roomy(namespaces: usize, slack: usize) -> Size
-    ensures { result ≡ record { namespaces = namespaces; slack = slack } }
-{
+fn roomy(namespaces: u8, slack: u8) -> Size {
     Size { namespaces, slack }
 }
 
@@ -44,10 +41,8 @@ impl Callers<NoGate> for OneComesAndGoes {
     ) -> Result<Vec<Seat>, Fail> {
         let (one, two) = (config_of(1).ok_or("one")?, config_of(2).ok_or("two")?);
         assert_eq!(rt; service.admit(rt, two, alloc).err(), no_room(1));
-        assert_eq!(rt;
-            service.seat(rt, 1).err(),
-            Some(ServiceFault::NoSuchNamespace)
-        );
+        let none = no_seat(service.seat(rt, 1));
+        assert_eq!(rt; none, Some(ServiceFault::NoSuchNamespace));
         assert_eq!(rt;
             service.retire(rt, 1).err(),
             Some(RetireFault::NoSuchNamespace)
@@ -87,7 +82,7 @@ fn is_gone<C: Ledger, H: Ledger, R: Wait + Abort>(
         service.retire(rt, ns).err(),
         Some(RetireFault::NoSuchNamespace)
     );
-    assert_eq!(rt; service.seat(rt, ns).err(), Some(ServiceFault::Gone));
+    assert_eq!(rt; no_seat(service.seat(rt, ns)), Some(ServiceFault::Gone));
     assert_eq!(rt;
         service.call(rt, seat, &step).err(),
         Some(ServiceFault::Gone)
@@ -308,9 +303,7 @@ fn four_threads_named<C: Ledger + Send + Sync, H: Ledger + Send + Sync, R: Threa
     credits: Blank,
     held: Blank,
 ) -> Closed
-    requires names { (credits.name ≡ C.name) × (held.name ≡ H.name) }
-    requires cut { (credits.parts ≡ C.parts) × (held.parts ≡ H.parts) }
-    requires parts { (MAX_NAMESPACES ≤ credits.parts) × (MAX_NAMESPACES ≤ held.parts) }
+    requires blanks { IsBlankOf C.name C.parts credits × IsBlankOf H.name H.parts held }
 {
     let service = service_of::<_, C, H>(alloc, roomy(0, 8), NoGate, credits, held)?;
     let seats = two_hundred(rt, alloc, &service);

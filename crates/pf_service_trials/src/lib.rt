@@ -14,6 +14,8 @@ mod guests;
 #[cfg(test)]
 mod limits;
 #[cfg(test)]
+mod logged;
+#[cfg(test)]
 mod overlap;
 #[cfg(test)]
 mod queries;

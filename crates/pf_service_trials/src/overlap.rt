@@ -2,8 +2,7 @@
 //! behind that and before the next, until the second namespace has taken a frame too. With one lock around both, or with the
 //! depot's kept behind a frame, the turns would be used up.
 
-ghost use Rattle.std.specs.Prelude.{◌≡◌, ◌≤◌};
-ghost use Rattle.pf_base.specs.declared.TheConstants.{MAX_NAMESPACES};
+ghost use Rattle.pf_depot.specs.Blanks.{IsBlankOf};
 
 use crate::services::{
     BLUE, Closed, RED, blank, both, closed, make, namespaces, service_of, spawn, with, write,
@@ -183,9 +182,7 @@ fn both_beside_named<C: Ledger + Send + Sync, H: Ledger + Send + Sync, R: Thread
     credits: Blank,
     held: Blank,
 ) -> Closed
-    requires names { (credits.name ≡ C.name) × (held.name ≡ H.name) }
-    requires cut { (credits.parts ≡ C.parts) × (held.parts ≡ H.parts) }
-    requires parts { (MAX_NAMESPACES ≤ credits.parts) × (MAX_NAMESPACES ≤ held.parts) }
+    requires blanks { IsBlankOf C.name C.parts credits × IsBlankOf H.name H.parts held }
 {
     let service = service_of::<_, C, H>(
         alloc,

@@ -1,11 +1,12 @@
 //! A service of some namespaces, the steps of two tenants, and what those tenants are told.
 
-ghost use Rattle.std.specs.Prelude.{◌≡◌, ◌≤◌, ◌<◌};
+ghost use Rattle.std.specs.Prelude.{◌≡◌};
 ghost use Rattle.pf_base.specs.declared.TheConstants.{MAX_NAMESPACES};
+ghost use Rattle.pf_depot.specs.Blanks.{IsBlankOf};
 
 use pf_base::{ByteString, Config, Groups, MAX_NAMESPACES, Reply, Step};
 use pf_frame::Frame;
-use pf_service::{CloseFault, Gate, NoGate, Seat, Service, Transcript, Transcripts};
+use pf_service::{CloseFault, Gate, NoGate, Seat, Service, ServiceFault, Transcript, Transcripts};
 use std::alloc::{AllocError, Global};
 use std::marker::Brand;
 use std::process::Abort;
@@ -54,14 +55,12 @@ pub(crate) type Closed = Result<Result<Transcripts, CloseFault>, Fail>;
 // How large a service is: how many namespaces it begins with, of 16 frames each, and how many frames nobody has reserved.
 #[derive(Clone, Copy)]
 pub(crate) struct Size {
-    pub(crate) namespaces: usize,
-    pub(crate) slack: usize,
+    pub(crate) namespaces: u8,
+    pub(crate) slack: u8,
 }
 
 // So many namespaces, and no frame besides.
-pub(crate) fn namespaces(namespaces: usize) -> Size
-    ensures { result ≡ record { namespaces = namespaces; slack = 0 } }
-{
+pub(crate) fn namespaces(namespaces: u8) -> Size {
     Size {
         namespaces,
         slack: 0,
@@ -75,9 +74,7 @@ pub(crate) fn serve<G: Gate + Drop, V: Callers<G>, R: Wait + Abort>(
     size: Size,
     gate: G,
     callers: &V,
-) -> Closed
-    requires few { (size.namespaces < 65) × (size.slack < 65) }
-{
+) -> Closed {
     serve_named::<Brand, Brand, G, V, R>(rt, alloc, size, gate, callers, blank(), blank())
 }
 
@@ -90,10 +87,7 @@ fn serve_named<C: Ledger, H: Ledger, G: Gate + Drop, V: Callers<G>, R: Wait + Ab
     credits: Blank,
     held: Blank,
 ) -> Closed
-    requires few { (size.namespaces < 65) × (size.slack < 65) }
-    requires names { (credits.name ≡ C.name) × (held.name ≡ H.name) }
-    requires cut { (credits.parts ≡ C.parts) × (held.parts ≡ H.parts) }
-    requires parts { (MAX_NAMESPACES ≤ credits.parts) × (MAX_NAMESPACES ≤ held.parts) }
+    requires blanks { IsBlankOf C.name C.parts credits × IsBlankOf H.name H.parts held }
 {
     let service = service_of::<G, C, H>(alloc, size, gate, credits, held)?;
     let seats = callers.work(rt, alloc, &service);
@@ -133,10 +127,7 @@ pub(crate) fn serve_two<V: CallersOfTwo, R: Wait + Abort>(
     first: Size,
     second: Size,
     callers: &V,
-) -> Closed
-    requires first { (first.namespaces < 65) × (first.slack < 65) }
-    requires second { (second.namespaces < 65) × (second.slack < 65) }
-{
+) -> Closed {
     serve_two_named::<Brand, Brand, Brand, Brand, V, R>(
         rt,
         alloc,
@@ -161,14 +152,8 @@ fn serve_two_named<C: Ledger, H: Ledger, D: Ledger, L: Ledger, V: CallersOfTwo, 
     spare: Blank,
     lent: Blank,
 ) -> Closed
-    requires first { (first.namespaces < 65) × (first.slack < 65) }
-    requires second { (second.namespaces < 65) × (second.slack < 65) }
-    requires names { (credits.name ≡ C.name) × (held.name ≡ H.name) }
-    requires cut { (credits.parts ≡ C.parts) × (held.parts ≡ H.parts) }
-    requires parts { (MAX_NAMESPACES ≤ credits.parts) × (MAX_NAMESPACES ≤ held.parts) }
-    requires theirs { (spare.name ≡ D.name) × (lent.name ≡ L.name) }
-    requires their_cut { (spare.parts ≡ D.parts) × (lent.parts ≡ L.parts) }
-    requires their_parts { (MAX_NAMESPACES ≤ spare.parts) × (MAX_NAMESPACES ≤ lent.parts) }
+    requires blanks { IsBlankOf C.name C.parts credits × IsBlankOf H.name H.parts held }
+    requires their_blanks { IsBlankOf D.name D.parts spare × IsBlankOf L.name L.parts lent }
 {
     let service = service_of::<NoGate, C, H>(alloc, first, NoGate, credits, held)?;
     let other = match service_of::<NoGate, D, L>(alloc, second, NoGate, spare, lent) {
@@ -188,13 +173,11 @@ pub(crate) fn service_of<G: Gate + Drop, C: Ledger, H: Ledger>(
     credits: Blank,
     held: Blank,
 ) -> Result<Service<Global, G, C, H>, Fail>
-    requires few { (size.namespaces < 65) × (size.slack < 65) }
-    requires names { (credits.name ≡ C.name) × (held.name ≡ H.name) }
-    requires cut { (credits.parts ≡ C.parts) × (held.parts ≡ H.parts) }
-    requires parts { (MAX_NAMESPACES ≤ credits.parts) × (MAX_NAMESPACES ≤ held.parts) }
+    requires blanks { IsBlankOf C.name C.parts credits × IsBlankOf H.name H.parts held }
 {
-    let frames = old_frames(alloc, 16 * size.namespaces + size.slack)?;
-    let configs = configs_of(alloc, size.namespaces).ok_or("limits")?;
+    let namespaces = usize::from(size.namespaces);
+    let frames = old_frames(alloc, 16 * namespaces + usize::from(size.slack))?;
+    let configs = configs_of(alloc, namespaces).ok_or("limits")?;
     match Service::new(alloc, frames, configs, gate, credits, held) {
         Ok(service) => Ok(service),
         Err(fault) => Err(Fail::from(fault)),
@@ -280,6 +263,30 @@ pub(crate) fn steps_of_blue(alloc: Global) -> Result<Vec<Step>, AllocError> {
 
 // A receipt or a seat is dear to prove where it is let go at several ways out, or in a loop. So loops have a seat lent, and
 // what is let go is handed to a function with one way out.
+
+// Why an end was refused, if it was.
+pub(crate) fn refused(closed: Result<Transcripts, CloseFault>) -> Option<CloseFault> {
+    match &closed {
+        Ok(_) => None,
+        Err(fault) => Some(*fault),
+    }
+}
+
+// Why a seat was refused, if it was.
+pub(crate) fn no_seat(seat: Result<Seat, ServiceFault>) -> Option<ServiceFault> {
+    match &seat {
+        Ok(_) => None,
+        Err(fault) => Some(*fault),
+    }
+}
+
+// Whether a seat is this one of this namespace, and keeps nothing yet.
+pub(crate) fn is_new(seat: Result<Seat, ServiceFault>, ns: u32, number: u32) -> bool {
+    match &seat {
+        Ok(seat) => seat.ns() == ns && seat.number() == number && seat.events().is_empty(),
+        Err(_) => false,
+    }
+}
 
 // Whether a step isn't refused.
 pub(crate) fn makes<R: Wait, G: Gate, C: Ledger, H: Ledger>(

@@ -1,7 +1,6 @@
 //! Callers on threads of their own: what they are told, and that their seats fit the transcripts.
 
-ghost use Rattle.std.specs.Prelude.{◌≡◌, ◌≤◌, ◌<◌};
-ghost use Rattle.pf_base.specs.declared.TheConstants.{MAX_NAMESPACES};
+ghost use Rattle.pf_depot.specs.Blanks.{IsBlankOf};
 
 use crate::services::{
     BLUE, Closed, Plain, RED, all_of, all_of_parts, blank, both, closed, make, namespaces, repeat,
@@ -51,9 +50,7 @@ fn two_threads_named<C: Ledger + Send + Sync, H: Ledger + Send + Sync, R: Thread
     credits: Blank,
     held: Blank,
 ) -> Closed
-    requires names { (credits.name ≡ C.name) × (held.name ≡ H.name) }
-    requires cut { (credits.parts ≡ C.parts) × (held.parts ≡ H.parts) }
-    requires parts { (MAX_NAMESPACES ≤ credits.parts) × (MAX_NAMESPACES ≤ held.parts) }
+    requires blanks { IsBlankOf C.name C.parts credits × IsBlankOf H.name H.parts held }
 {
     let service = service_of::<_, C, H>(alloc, namespaces(2), NoGate, credits, held)?;
     let seats = red_and_blue(rt, alloc, &service);
@@ -118,9 +115,7 @@ fn eight_threads_named<C: Ledger + Send + Sync, H: Ledger + Send + Sync, R: Thre
     credits: Blank,
     held: Blank,
 ) -> Closed
-    requires names { (credits.name ≡ C.name) × (held.name ≡ H.name) }
-    requires cut { (credits.parts ≡ C.parts) × (held.parts ≡ H.parts) }
-    requires parts { (MAX_NAMESPACES ≤ credits.parts) × (MAX_NAMESPACES ≤ held.parts) }
+    requires blanks { IsBlankOf C.name C.parts credits × IsBlankOf H.name H.parts held }
 {
     let service = service_of::<_, C, H>(alloc, namespaces(4), NoGate, credits, held)?;
     let seats = eight_callers(rt, alloc, &service);
@@ -175,11 +170,10 @@ fn eight_seats<R: Wait, C: Ledger, H: Ledger>(
     rt: &R,
     alloc: Global,
     service: &Plain<C, H>,
-    first: u32,
-) -> Result<Vec<Seat>, Fail>
-    requires { first < 64 }
-{
+    first: u8,
+) -> Result<Vec<Seat>, Fail> {
     let mut seats = Vec::with_capacity(alloc, 8)?;
+    let first = u32::from(first);
     for ns in first..first + 8 {
         seats.push(service.seat(rt, ns)?)?;
     }
@@ -193,7 +187,7 @@ fn eight_times_eight_seats<R: Wait, C: Ledger, H: Ledger>(
     service: &Plain<C, H>,
 ) -> Result<Vec<Vec<Seat>>, Fail> {
     let mut jobs = Vec::with_capacity(alloc, 8)?;
-    for n in 0..8u32 {
+    for n in 0..8u8 {
         jobs.push(eight_seats(rt, alloc, service, 8 * n)?)?;
     }
     Ok(jobs)
@@ -236,9 +230,7 @@ fn eight_times_eight_named<
     H: Ledger + Send + Sync,
     R: Threads + Wait + Sync,
 >(rt: &R, alloc: Global, credits: Blank, held: Blank) -> Closed
-    requires names { (credits.name ≡ C.name) × (held.name ≡ H.name) }
-    requires cut { (credits.parts ≡ C.parts) × (held.parts ≡ H.parts) }
-    requires parts { (MAX_NAMESPACES ≤ credits.parts) × (MAX_NAMESPACES ≤ held.parts) }
+    requires blanks { IsBlankOf C.name C.parts credits × IsBlankOf H.name H.parts held }
 {
     let service = service_of::<_, C, H>(alloc, namespaces(64), NoGate, credits, held)?;
     let seats = sixty_four_callers(rt, alloc, &service);

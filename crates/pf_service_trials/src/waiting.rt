@@ -1,7 +1,6 @@
 //! Calls that wait: what a reader is told once another thread has written, and that a waiter wakes nobody who can't go on.
 
-ghost use Rattle.std.specs.Prelude.{◌≡◌, ◌≤◌};
-ghost use Rattle.pf_base.specs.declared.TheConstants.{MAX_NAMESPACES};
+ghost use Rattle.pf_depot.specs.Blanks.{IsBlankOf};
 
 use crate::services::{
     Closed, RED, blank, both, closed, make, namespaces, seat_if, service_of, spawn, with, write_by,
@@ -274,9 +273,7 @@ fn pipe_between_two_named<
     H: Ledger + Send + Sync,
     R: Threads + Wait + Abort + Sync,
 >(rt: &R, alloc: Global, count: &Count, credits: Blank, held: Blank) -> Closed
-    requires names { (credits.name ≡ C.name) × (held.name ≡ H.name) }
-    requires cut { (credits.parts ≡ C.parts) × (held.parts ≡ H.parts) }
-    requires parts { (MAX_NAMESPACES ≤ credits.parts) × (MAX_NAMESPACES ≤ held.parts) }
+    requires blanks { IsBlankOf C.name C.parts credits × IsBlankOf H.name H.parts held }
 {
     let service = service_of::<_, C, H>(alloc, namespaces(1), Counter { count }, credits, held)?;
     let seats = one_reader(rt, alloc, &service, count);
@@ -357,9 +354,7 @@ fn pipe_among_three_named<
     H: Ledger + Send + Sync,
     R: Threads + Wait + Abort + Sync,
 >(rt: &R, alloc: Global, count: &Count, credits: Blank, held: Blank) -> Closed
-    requires names { (credits.name ≡ C.name) × (held.name ≡ H.name) }
-    requires cut { (credits.parts ≡ C.parts) × (held.parts ≡ H.parts) }
-    requires parts { (MAX_NAMESPACES ≤ credits.parts) × (MAX_NAMESPACES ≤ held.parts) }
+    requires blanks { IsBlankOf C.name C.parts credits × IsBlankOf H.name H.parts held }
 {
     let service = service_of::<_, C, H>(alloc, namespaces(1), Counter { count }, credits, held)?;
     let seats = readers_and_writer(rt, alloc, &service, count);

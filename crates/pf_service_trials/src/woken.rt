@@ -1,8 +1,7 @@
 //! A call that waits, and what wakes it: what another one writes that may wait too, and what ends its process, resumes it
 //! first, or lets it wait for something else.
 
-ghost use Rattle.std.specs.Prelude.{◌≡◌, ◌≤◌};
-ghost use Rattle.pf_base.specs.declared.TheConstants.{MAX_NAMESPACES};
+ghost use Rattle.pf_depot.specs.Blanks.{IsBlankOf};
 
 use crate::services::{
     RED, blank, both, closed, make, namespaces, service_of, spawn, with, write_by,
@@ -227,9 +226,7 @@ fn last_replies_named<
     credits: Blank,
     held: Blank,
 ) -> Result<(Reply, Reply), Fail>
-    requires names { (credits.name ≡ C.name) × (held.name ≡ H.name) }
-    requires cut { (credits.parts ≡ C.parts) × (held.parts ≡ H.parts) }
-    requires parts { (MAX_NAMESPACES ≤ credits.parts) × (MAX_NAMESPACES ≤ held.parts) }
+    requires blanks { IsBlankOf C.name C.parts credits × IsBlankOf H.name H.parts held }
 {
     let service = service_of::<_, C, H>(alloc, namespaces(1), Counter { events }, credits, held)?;
     let (seats, replies) = match played(rt, alloc, &service, events, steps) {

@@ -1,16 +1,14 @@
 -- What lay behind the lock is what is asked, or why nothing is told.
-use Rattle.std.specs.Prelude.{Bool}
 use Rattle.pf_machine.specs.Queries.{IsNext}
-use Rattle.pf_service.specs.declared.living.Living.{Living as OneLiving}
-use Rattle.pf_service.specs.declared.seated.Tenant.{Tenant}
+use Rattle.pf_service.specs.declared.seated.Seated.{Seated as OneSeated}
 use Rattle.pf_service.proofs.LockLaws.{gone_there, lay_at, of_one_there}
 use Rattle.pf_service.proofs.LogLaws.{after_some}
 use Rattle.pf_service.proofs.asked.next_to_go_on_at.Goals as goal
 
 pub returns-clause-answer : goal.returns-clause-answer
 returns-clause-answer g c =
-    let Lay : Tenant (OneLiving g.row.A.Denot g.row.C.Denot g.row.H.Denot) → Bool → Type 0
-    = λ t awaited. g.W.Waiters.lay c.args.waiters.now g.row.A.Denot g.row.C.Denot g.row.H.Denot t awaited in
+    let Lay : OneSeated g.row.A.Denot g.row.C.Denot g.row.H.Denot → Type 0
+    = λ s. g.W.Waiters.lay c.args.waiters.now g.row.A.Denot g.row.C.Denot g.row.H.Denot s in
     of_one_there Lay (λ log. IsNext log.limits log.state c.args.after c.next_to_go_on.result) c.deref.result.now c.in_ok-logged.logged.now
     (lay_at Lay _ _ c.deref.ensures c.lock-seated.ensures) c.in_ok-logged.ensures.living c.next_to_go_on.ensures.answer
 
@@ -20,7 +18,7 @@ returns-clause-after g c =
 
 pub returns-in_err-logged-clause-fault : goal.returns-in_err-logged-clause-fault
 returns-in_err-logged-clause-fault g c =
-    let Lay : Tenant (OneLiving g.row.A.Denot g.row.C.Denot g.row.H.Denot) → Bool → Type 0
-    = λ t awaited. g.W.Waiters.lay c.args.waiters.now g.row.A.Denot g.row.C.Denot g.row.H.Denot t awaited in
+    let Lay : OneSeated g.row.A.Denot g.row.C.Denot g.row.H.Denot → Type 0
+    = λ s. g.W.Waiters.lay c.args.waiters.now g.row.A.Denot g.row.C.Denot g.row.H.Denot s in
     gone_there Lay c.deref.result.now _ c.from_residual.result
     (lay_at Lay _ _ c.deref.ensures c.lock-seated.ensures) c.from_residual.ensures.1 c.in_err-logged.ensures.fault

@@ -1,8 +1,8 @@
 -- One place more, and as many limits as allotments are left.
-use Rattle.std.proofs.Common.{rules, ◌≡◌, ◌+◌, ◌∷◌, ◌++◌, [], length, drop, ℕ, suc, List, arith, length-append, ap, refl, ◌∙◌}
+use Rattle.std.proofs.Common.{rules, ◌≡◌, ◌+◌, ◌∷◌, ◌++◌, [], length, drop, ℕ, suc, List, arith, length-append, ap, ◌∙◌}
 use Rattle.pf_service.specs.Log.{new_log}
 use Rattle.std.proofs.lemmas.Option.{slice_get_within}
-use Rattle.pf_service.proofs.PlaceLaws.{next_number, next_left, put_there, locked_more}
+use Rattle.pf_service.proofs.PlaceLaws.{next_place, next_left, put_there, locked_more}
 use Rattle.pf_service.proofs.opening.places_of.Goals as goal
 
 pub loop-config-init : goal.loop-config-init
@@ -11,7 +11,7 @@ loop-config-init g c = record {
   reserved = search (c.into_iter-allotments.ensures.rest, c.into_iter-config-iterator.ensures.into_iter_gives, c.requires.reserved, rules);
   all = search rules;
   rest = search (c.in_ok-places.ensures, c.into_iter-config-iterator.ensures.into_iter_gives, rules);
-  locked = λ n e low is. absurd (omega (arith, low, ap (λ (ns : List ℕ). length ns) c.in_ok-places.ensures.items));
+  locked = λ n e low is. absurd (omega (arith, low, ap length c.in_ok-places.ensures.items));
   room = search rules;
 }
 
@@ -31,8 +31,8 @@ returns-clause-locked g c = λ n e is.
 pub loop-config-preserved : goal.loop-config-preserved
 loop-config-preserved g c =
     let old = c.loop-config.places.items in
-    let pushed : c.push_reserved.new.self.items ≡ old ++ length old ∷ [] = search rules in
-    let counted : length c.push_reserved.new.self.items ≡ length old + 1 = omega (arith, ap (λ (ns : List ℕ). length ns) pushed, length-append old (length old ∷ [])) in
+    let pushed : c.push_reserved.new.self.items ≡ old ++ c.lock.result ∷ [] = c.push_reserved.ensures.items in
+    let counted : length c.push_reserved.new.self.items ≡ length old + 1 = omega (arith, ap length pushed, length-append old (c.lock.result ∷ [])) in
     let counted' : length c.push_reserved.new.self.items ≡ suc (length old) = omega (arith, counted) in
     let left_over = next_left c.args.configs.items (length old) (c.in-Some.config, c.in-Some.tree) c.next.new.self.rest.items
     (c.loop-config.invariant.rest ∙ c.in-Some.ensures.steps.0) in
@@ -44,7 +44,8 @@ loop-config-preserved g c =
     let left = rw c.in-Some-next.ensures.items at (rw c.in-Some.ensures.steps.0 at c.loop-config.invariant.reserved) in
     let all = rw c.in-Some.ensures.steps.0 at c.loop-config.invariant.all in
     record {
-      numbered = next_number old c.push_reserved.new.self.items (length old) (length c.push_reserved.new.self.items) (length old) c.loop-config.invariant.numbered refl pushed counted;
+      numbered = next_place old c.push_reserved.new.self.items (length old) (length c.push_reserved.new.self.items) c.lock.result c.loop-config.invariant.numbered
+          (c.lock.ensures.number ∙ at) pushed counted;
       reserved = ap (λ (ns : List ℕ). drop 1 ns) left;
       all = omega (arith, all, counted);
       rest = ap (λ n. drop n c.args.configs.items) counted' ∙ left_over.1;

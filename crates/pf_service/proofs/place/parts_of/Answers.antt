@@ -8,7 +8,7 @@ use Rattle.pf_service.proofs.place.parts_of.Goals as goal
 
 pub loop-place-init : goal.loop-place-init
 loop-place-init g c =
-    let all = ap (λ (ns : List ℕ). length ns) c.into_iter-place-iterator.ensures.into_iter_gives.0 in
+    let all = ap length c.into_iter-place-iterator.ensures.into_iter_gives.0 in
     let counted : vec_len c.args.places ≡ length c.args.places.items = search rules in
     record {
       each = omega (arith, all, ap (λ (ts : List OneTranscript). length ts) c.in_ok-transcripts.ensures.items);
@@ -20,7 +20,7 @@ loop-place-init g c =
 
 pub loop-place-preserved : goal.loop-place-preserved
 loop-place-preserved g c =
-    let left = ap (λ (ns : List ℕ). length ns) c.in-Some.ensures.steps.0 in
+    let left = ap length c.in-Some.ensures.steps.0 in
     record {
       each = omega (
         arith,

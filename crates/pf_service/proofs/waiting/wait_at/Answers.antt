@@ -1,8 +1,7 @@
 -- The first event, and one more after each that was answered Parked.
 use Rattle.std.proofs.Common.{ℕ, [], ◌∷◌, ◌++◌, arith}
-use Rattle.std.specs.Prelude.{Bool, IsTrue}
-use Rattle.pf_service.specs.declared.living.Living.{Living as OneLiving}
-use Rattle.pf_service.specs.declared.seated.Tenant.{Tenant}
+use Rattle.std.specs.Prelude.{IsTrue}
+use Rattle.pf_service.specs.declared.seated.Seated.{Seated as OneSeated}
 use Rattle.pf_service.specs.Seats.{event_at}
 use Rattle.pf_service.specs.Said.{IsSaid}
 use Rattle.pf_service.specs.Waited.{resume_of}
@@ -14,9 +13,10 @@ use Rattle.pf_service.proofs.waiting.wait_at.Goals as goal
 
 pub loop-init : goal.loop-init
 loop-init g c =
-    let Lay : Tenant (OneLiving g.row.A.Denot g.row.C.Denot g.row.H.Denot) → Bool → Type 0
-    = λ t awaited. g.W.Waiters.lay c.args.waiters.now g.row.A.Denot g.row.C.Denot g.row.H.Denot t awaited in
-    let Woken : Bool → Type 0 = λ awaited. g.W.Waiters.woken c.args.waiters.now awaited in
+    let Lay : OneSeated g.row.A.Denot g.row.C.Denot g.row.H.Denot → Type 0
+    = λ s. g.W.Waiters.lay c.args.waiters.now g.row.A.Denot g.row.C.Denot g.row.H.Denot s in
+    let Woken : OneSeated g.row.A.Denot g.row.C.Denot g.row.H.Denot → Type 0
+    = λ s. g.W.Waiters.woken c.args.waiters.now g.row.A.Denot g.row.C.Denot g.row.H.Denot s in
     let Passed : ℕ → ℕ → Type 0 = λ n p. g.G.Gate.passed c.args.gate.now n p in
     let Framed : ℕ → Type 0 = λ n. g.G.Gate.framed c.args.gate.now n in
     let t = c.in_ok-waits.ensures.tried in
@@ -27,9 +27,10 @@ loop-init g c =
 
 pub returns-in_err-waits-clause-waited : goal.returns-in_err-waits-clause-waited
 returns-in_err-waits-clause-waited g c =
-    let Lay : Tenant (OneLiving g.row.A.Denot g.row.C.Denot g.row.H.Denot) → Bool → Type 0
-    = λ t awaited. g.W.Waiters.lay c.args.waiters.now g.row.A.Denot g.row.C.Denot g.row.H.Denot t awaited in
-    let Woken : Bool → Type 0 = λ awaited. g.W.Waiters.woken c.args.waiters.now awaited in
+    let Lay : OneSeated g.row.A.Denot g.row.C.Denot g.row.H.Denot → Type 0
+    = λ s. g.W.Waiters.lay c.args.waiters.now g.row.A.Denot g.row.C.Denot g.row.H.Denot s in
+    let Woken : OneSeated g.row.A.Denot g.row.C.Denot g.row.H.Denot → Type 0
+    = λ s. g.W.Waiters.woken c.args.waiters.now g.row.A.Denot g.row.C.Denot g.row.H.Denot s in
     let Passed : ℕ → ℕ → Type 0 = λ n p. g.G.Gate.passed c.args.gate.now n p in
     let Framed : ℕ → Type 0 = λ n. g.G.Gate.framed c.args.gate.now n in
     let none = nothing (IsSaid Passed Framed Lay Woken c.args.seat.now.ns) c.args.step.now c.args.seat.now c.try_once.new.seat
@@ -44,9 +45,10 @@ returns-then-not-waits-clause-waited g c =
 
 pub loop-preserved : goal.loop-preserved
 loop-preserved g c =
-    let Lay : Tenant (OneLiving g.row.A.Denot g.row.C.Denot g.row.H.Denot) → Bool → Type 0
-    = λ t awaited. g.W.Waiters.lay c.args.waiters.now g.row.A.Denot g.row.C.Denot g.row.H.Denot t awaited in
-    let Woken : Bool → Type 0 = λ awaited. g.W.Waiters.woken c.args.waiters.now awaited in
+    let Lay : OneSeated g.row.A.Denot g.row.C.Denot g.row.H.Denot → Type 0
+    = λ s. g.W.Waiters.lay c.args.waiters.now g.row.A.Denot g.row.C.Denot g.row.H.Denot s in
+    let Woken : OneSeated g.row.A.Denot g.row.C.Denot g.row.H.Denot → Type 0
+    = λ s. g.W.Waiters.woken c.args.waiters.now g.row.A.Denot g.row.C.Denot g.row.H.Denot s in
     let Passed : ℕ → ℕ → Type 0 = λ n p. g.G.Gate.passed c.args.gate.now n p in
     let Framed : ℕ → Type 0 = λ n. g.G.Gate.framed c.args.gate.now n in
     let i = c.loop.invariant.1 in
@@ -64,9 +66,10 @@ loop-preserved g c =
 
 pub returns-in_err-waits-2-clause-waited : goal.returns-in_err-waits-2-clause-waited
 returns-in_err-waits-2-clause-waited g c =
-    let Lay : Tenant (OneLiving g.row.A.Denot g.row.C.Denot g.row.H.Denot) → Bool → Type 0
-    = λ t awaited. g.W.Waiters.lay c.args.waiters.now g.row.A.Denot g.row.C.Denot g.row.H.Denot t awaited in
-    let Woken : Bool → Type 0 = λ awaited. g.W.Waiters.woken c.args.waiters.now awaited in
+    let Lay : OneSeated g.row.A.Denot g.row.C.Denot g.row.H.Denot → Type 0
+    = λ s. g.W.Waiters.lay c.args.waiters.now g.row.A.Denot g.row.C.Denot g.row.H.Denot s in
+    let Woken : OneSeated g.row.A.Denot g.row.C.Denot g.row.H.Denot → Type 0
+    = λ s. g.W.Waiters.woken c.args.waiters.now g.row.A.Denot g.row.C.Denot g.row.H.Denot s in
     let Passed : ℕ → ℕ → Type 0 = λ n p. g.G.Gate.passed c.args.gate.now n p in
     let Framed : ℕ → Type 0 = λ n. g.G.Gate.framed c.args.gate.now n in
     let i = c.loop.invariant.1 in
@@ -82,14 +85,14 @@ returns-in_err-waits-2-clause-waited g c =
 
 pub returns-in_err-waits-2-clause-fault : goal.returns-in_err-waits-2-clause-fault
 returns-in_err-waits-2-clause-fault g c =
-    let Lay : Tenant (OneLiving g.row.A.Denot g.row.C.Denot g.row.H.Denot) → Bool → Type 0
-    = λ t awaited. g.W.Waiters.lay c.args.waiters.now g.row.A.Denot g.row.C.Denot g.row.H.Denot t awaited in
+    let Lay : OneSeated g.row.A.Denot g.row.C.Denot g.row.H.Denot → Type 0
+    = λ s. g.W.Waiters.lay c.args.waiters.now g.row.A.Denot g.row.C.Denot g.row.H.Denot s in
     handed_on Lay c.deref_mut-in-loop-2.result.now _ c.from_residual-in_err-waits-2.result (lay_at Lay _ _ c.deref_mut-in-loop-2.ensures.value c.wait-seated.ensures)
     c.from_residual-in_err-waits-2.ensures.1 c.in_err-waits-2.ensures.fault
 
 pub returns-in_err-waits-clause-fault : goal.returns-in_err-waits-clause-fault
 returns-in_err-waits-clause-fault g c =
-    let Lay : Tenant (OneLiving g.row.A.Denot g.row.C.Denot g.row.H.Denot) → Bool → Type 0
-    = λ t awaited. g.W.Waiters.lay c.args.waiters.now g.row.A.Denot g.row.C.Denot g.row.H.Denot t awaited in
+    let Lay : OneSeated g.row.A.Denot g.row.C.Denot g.row.H.Denot → Type 0
+    = λ s. g.W.Waiters.lay c.args.waiters.now g.row.A.Denot g.row.C.Denot g.row.H.Denot s in
     handed_on Lay c.deref_mut.result.now _ c.from_residual.result (lay_at Lay _ _ c.deref_mut.ensures.value c.lock-seated.ensures)
     c.from_residual.ensures.1 c.in_err-waits.ensures.fault

@@ -11,6 +11,7 @@ abbrev pub invariant-loop : goal.invariant-loop
 invariant-loop g l = ((goal.iterator-loop g).can_next l.iterator' × (goal.iterator-loop g).is_finite l.iterator')
     × ((es : List Event) × (last : Event)
     × Going (IsSaid (λ n p. g.G.Gate.passed l.fn.gate n p) (λ n. g.G.Gate.framed l.fn.gate n)
-    (λ t awaited. g.W.Waiters.lay l.fn.waiters g.row.A.Denot g.row.C.Denot g.row.H.Denot t awaited)
-    (λ awaited. g.W.Waiters.woken l.fn.waiters awaited) l.fn.seat.ns) l.fn.step l.fn.seat l.seat l.fn.receipts.items l.receipts.items es last
+    (λ s. g.W.Waiters.lay l.fn.waiters g.row.A.Denot g.row.C.Denot g.row.H.Denot s)
+    (λ s. g.W.Waiters.woken l.fn.waiters g.row.A.Denot g.row.C.Denot g.row.H.Denot s) l.fn.seat.ns)
+    l.fn.step l.fn.seat l.seat l.fn.receipts.items l.receipts.items es last
     × (IsTrue l.waits ↔ (last.reply ≡ Parked)))

@@ -16,16 +16,16 @@ of_room rooms ns at of room same within is named =
 
 pub returns-clause-lodged : goal.returns-clause-lodged
 returns-clause-lodged g c =
-    let within : c.args.place < length c.args.self.now.rooms.items = omega (arith, c.requires, c.args.self.now.all) in
+    let within : c.args.place.ns < length c.args.self.now.rooms.items = omega (arith, c.requires, c.args.self.now.all) in
     MatchResult-weaker c.try_insert.result c.try_insert.ensures.ok
     (λ t p. (
       of_room _ _ _ _ c.index.result.now c.ns-ns.ensures within c.index.ensures p.0,
-      ap (λ b. b.value) p.1 ∙ c.replace.ensures.after,
+      ap (option_map (λ q. q.ns)) (ap (λ b. b.value) p.1 ∙ c.replace.ensures.after),
     )) (λ e q. q)
 
 pub returns-clause-taken : goal.returns-clause-taken
 returns-clause-taken g c =
-    let within : c.args.place < length c.args.self.now.rooms.items = omega (arith, c.requires, c.args.self.now.all) in
+    let within : c.args.place.ns < length c.args.self.now.rooms.items = omega (arith, c.requires, c.args.self.now.all) in
     MatchResult-weaker c.try_insert.result c.try_insert.ensures.err (λ t p. p)
     (λ e q. (
       of_room _ _ _ _ c.index.result.now c.ns-ns.ensures within c.index.ensures q.0,

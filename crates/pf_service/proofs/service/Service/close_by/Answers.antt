@@ -1,22 +1,21 @@
 -- What was compared is what lay behind the locks.
 use Rattle.std.proofs.Common.{◌≡◌, ℕ, List, length, ap, sym, ◌∙◌, subst, arith}
 use Rattle.std.specs.List.{range_with_len}
-use Rattle.std.proofs.lemmas.List.FromFn.{length-range_with_len}
 use Rattle.pf_service.specs.Seats.{AreGiven}
 use Rattle.pf_service.specs.Transcripts.{OneTranscript, IsLone, transcript_at}
 use Rattle.pf_service.proofs.JudgeLaws.{closed, unlocked_fault, lone_at}
+use Rattle.pf_service.proofs.PlaceLaws.{counted}
 use Rattle.pf_service.proofs.service.Service.close_by.Goals as goal
 
 pub unlock-requires-clause-numbered : goal.unlock-requires-clause-numbered
 unlock-requires-clause-numbered g c =
-    let all : length c.self.inside.places.items ≡ length c.self.inside.configs.items =
-    ap (λ (ns : List ℕ). length ns) c.self.inside.numbered ∙ length-range_with_len 0 (length c.self.inside.configs.items) in
+    let all : length c.self.inside.places.items ≡ length c.self.inside.configs.items
+    = counted c.self.inside.places.items (length c.self.inside.configs.items) c.self.inside.numbered in
     c.self.inside.numbered ∙ ap (range_with_len 0) (sym all)
 
 pub unlock-requires-clause-few : goal.unlock-requires-clause-few
 unlock-requires-clause-few g c =
-    let all = ap (λ (ns : List ℕ). length ns) c.self.inside.numbered in
-    omega (arith, all, length-range_with_len 0 (length c.self.inside.configs.items), c.self.inside.few)
+    omega (arith, counted c.self.inside.places.items (length c.self.inside.configs.items) c.self.inside.numbered, c.self.inside.few)
 
 pub returns-in_default-clause-fault : goal.returns-in_default-clause-fault
 returns-in_default-clause-fault g c = tt
