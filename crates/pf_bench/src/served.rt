@@ -1,7 +1,8 @@
 //! Pairs of a write and a read through a service: by one caller, and by four on threads of their own.
 
-ghost use Rattle.std.specs.Prelude.{◌≡◌, ◌≤◌};
+ghost use Rattle.std.specs.Prelude.{◌≡◌};
 ghost use Rattle.pf_base.specs.declared.TheConstants.{MAX_NAMESPACES};
+ghost use Rattle.pf_depot.specs.Blanks.{IsBlankOf};
 
 use crate::{BATCH, Pair, Shape, pipe, spawn};
 use pf_base::{MAX_NAMESPACES, PAGE_SIZE, Reply, Step};
@@ -48,9 +49,7 @@ fn service<C: Ledger, H: Ledger>(
     credits: Blank,
     held: Blank,
 ) -> Option<Shared<C, H>>
-    requires names { (credits.name ≡ C.name) × (held.name ≡ H.name) }
-    requires cut { (credits.parts ≡ C.parts) × (held.parts ≡ H.parts) }
-    requires parts { (MAX_NAMESPACES ≤ credits.parts) × (MAX_NAMESPACES ≤ held.parts) }
+    requires blanks { IsBlankOf C.name C.parts credits × IsBlankOf H.name H.parts held }
 {
     let frames = shape.frames(alloc).ok()?;
     let configs = shape.configs(alloc).ok()?;
@@ -235,9 +234,7 @@ fn all_agree<C: Ledger + Send + Sync, H: Ledger + Send + Sync, R: Threads + Wait
     pair: &Pair,
     pairs: u32,
 ) -> bool
-    requires names { (credits.name ≡ C.name) × (held.name ≡ H.name) }
-    requires cut { (credits.parts ≡ C.parts) × (held.parts ≡ H.parts) }
-    requires parts { (MAX_NAMESPACES ≤ credits.parts) × (MAX_NAMESPACES ≤ held.parts) }
+    requires blanks { IsBlankOf C.name C.parts credits × IsBlankOf H.name H.parts held }
 {
     let Some(service) = service::<C, H>(alloc, SHAPE, credits, held) else {
         return false;
@@ -415,9 +412,7 @@ fn time_this<C: Ledger + Send + Sync, H: Ledger + Send + Sync, R: Threads + Wait
     pair: &Pair,
     pairs: u32,
 ) -> io::Result<bool>
-    requires names { (credits.name ≡ C.name) × (held.name ≡ H.name) }
-    requires cut { (credits.parts ≡ C.parts) × (held.parts ≡ H.parts) }
-    requires parts { (MAX_NAMESPACES ≤ credits.parts) × (MAX_NAMESPACES ≤ held.parts) }
+    requires blanks { IsBlankOf C.name C.parts credits × IsBlankOf H.name H.parts held }
 {
     let Some(service) = service::<C, H>(rt.alloc(), SHAPE, credits, held) else {
         return Ok(false);

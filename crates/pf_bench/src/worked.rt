@@ -1,7 +1,6 @@
 //! The same load through a worker, whose namespace has its thread to itself, beside a hub's.
 
-ghost use Rattle.std.specs.Prelude.{◌≡◌, ◌≤◌};
-ghost use Rattle.pf_base.specs.declared.TheConstants.{MAX_NAMESPACES};
+ghost use Rattle.pf_depot.specs.Blanks.{IsBlankOf};
 
 use crate::served::blank;
 use crate::{Host, Shape, play_loads, starts, time_pairs};
@@ -47,9 +46,7 @@ fn opened<C: Ledger, H: Ledger>(
     credits: Blank,
     held: Blank,
 ) -> Option<(DepotBook<C, H>, Tenant<C, H>)>
-    requires names { (credits.name ≡ C.name) × (held.name ≡ H.name) }
-    requires cut { (credits.parts ≡ C.parts) × (held.parts ≡ H.parts) }
-    requires parts { (MAX_NAMESPACES ≤ credits.parts) × (MAX_NAMESPACES ≤ held.parts) }
+    requires blanks { IsBlankOf C.name C.parts credits × IsBlankOf H.name H.parts held }
 {
     let frames = shape.frames(alloc).ok()?;
     let configs = shape.configs(alloc).ok()?;
@@ -66,9 +63,7 @@ fn plays<R: Wait, C: Ledger, H: Ledger>(
     credits: Blank,
     held: Blank,
 ) -> Result<bool, AllocError>
-    requires names { (credits.name ≡ C.name) × (held.name ≡ H.name) }
-    requires cut { (credits.parts ≡ C.parts) × (held.parts ≡ H.parts) }
-    requires parts { (MAX_NAMESPACES ≤ credits.parts) × (MAX_NAMESPACES ≤ held.parts) }
+    requires blanks { IsBlankOf C.name C.parts credits × IsBlankOf H.name H.parts held }
 {
     let Some((book, worker)) = opened::<C, H>(alloc, shape, credits, held) else {
         return Ok(false);
@@ -106,9 +101,7 @@ fn times<R: Wait, C: Ledger, H: Ledger>(
     credits: Blank,
     held: Blank,
 ) -> io::Result<bool>
-    requires names { (credits.name ≡ C.name) × (held.name ≡ H.name) }
-    requires cut { (credits.parts ≡ C.parts) × (held.parts ≡ H.parts) }
-    requires parts { (MAX_NAMESPACES ≤ credits.parts) × (MAX_NAMESPACES ≤ held.parts) }
+    requires blanks { IsBlankOf C.name C.parts credits × IsBlankOf H.name H.parts held }
 {
     let Some((book, worker)) = opened::<C, H>(rt.alloc(), shape, credits, held) else {
         return Ok(false);

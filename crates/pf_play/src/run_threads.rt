@@ -50,9 +50,10 @@ fn replay_script_threads<T: Threads + Wait + Sync, W: Sink, G: Gate + Sync>(
 /// order in which the threads come to run. With one name chosen there is a thread for it alone.
 ///
 /// The gate is told of each step just before it is made, with the namespace's number in the script and the step's place
-/// among the namespace's own, while no lock is held; and of each frame before it is taken. A thread that can't be started
-/// counts as a growth of memory that was refused. The files stand in the global allocator's memory: a heap of
-/// `Options::tree_heap` is for one thread.
+/// among the namespace's own, while no lock is held; and of each frame before it is taken: that is the way of
+/// `pf_worker`'s `GatedDepot`, and no clause of this call's. A thread that can't be started counts as a growth of
+/// memory that was refused. The files stand in the global allocator's memory: a heap of `Options::tree_heap` is for one
+/// thread.
 ///
 /// A script that admits or retires a namespace needs one thread: it is refused before the chosen name is looked for.
 pub fn replay_threads<T: Threads + Wait + Sync, R: Source, W: Sink, G: Gate + Sync>(

@@ -4,8 +4,9 @@ ghost use Rattle.std.specs.Prelude.{◌≡◌, ◌≤◌, ◌<◌, ℕ, false, [
 ghost use Rattle.std.specs.List.{All};
 ghost use Rattle.std.specs.declared.alloc.Global.{Global};
 ghost use Rattle.std.specs.declared.vec.Vec.{Vec};
-ghost use Rattle.pf_base.specs.declared.TheConstants.{MAX_FRAMES, MAX_NAMESPACES};
+ghost use Rattle.pf_base.specs.declared.TheConstants.{MAX_FRAMES};
 ghost use Rattle.pf_depot.specs.AllLoans.{reserved_of};
+ghost use Rattle.pf_depot.specs.Blanks.{IsBlankOf};
 ghost use Rattle.pf_hub.specs.Opening.{limits_of, first_fault};
 ghost use Rattle.pf_play.specs.Answered.{IsRun};
 ghost use Rattle.pf_play.specs.Played.{IsChosen, comes_and_goes};
@@ -268,9 +269,7 @@ fn all_workers<C: Ledger, H: Ledger>(
     credits: Blank,
     held: Blank,
 ) -> Result<(DepotBook<C, H>, Vec<Worker<Global, C, H>>), AllocError>
-    requires names { (credits.name ≡ C.name) × (held.name ≡ H.name) }
-    requires cut { (credits.parts ≡ C.parts) × (held.parts ≡ H.parts) }
-    requires parts { (MAX_NAMESPACES ≤ credits.parts) × (MAX_NAMESPACES ≤ held.parts) }
+    requires blanks { IsBlankOf C.name C.parts credits × IsBlankOf H.name H.parts held }
     requires whole { script.now.opening ≡ length script.now.spaces }
     requires frames { length frames.items ≡ script.now.frames }
     ensures { IfOk result
@@ -299,9 +298,7 @@ fn play_all<
     credits: Blank,
     held: Blank,
 ) -> Result<Answered, AllocError>
-    requires names { (credits.name ≡ C.name) × (held.name ≡ H.name) }
-    requires cut { (credits.parts ≡ C.parts) × (held.parts ≡ H.parts) }
-    requires parts { (MAX_NAMESPACES ≤ credits.parts) × (MAX_NAMESPACES ≤ held.parts) }
+    requires blanks { IsBlankOf C.name C.parts credits × IsBlankOf H.name H.parts held }
     requires only { comes_and_goes script.now ≡ false }
     requires whole { script.now.opening ≡ length script.now.spaces }
     requires frames { length frames.items ≡ script.now.frames }
@@ -322,9 +319,7 @@ fn lone_book<C: Ledger, H: Ledger>(
     credits: Blank,
     held: Blank,
 ) -> Result<(DepotBook<C, H>, Vec<Allotment<C, H>>), AllocError>
-    requires names { (credits.name ≡ C.name) × (held.name ≡ H.name) }
-    requires cut { (credits.parts ≡ C.parts) × (held.parts ≡ H.parts) }
-    requires parts { (MAX_NAMESPACES ≤ credits.parts) × (MAX_NAMESPACES ≤ held.parts) }
+    requires blanks { IsBlankOf C.name C.parts credits × IsBlankOf H.name H.parts held }
     requires small { length frames.items ≤ MAX_FRAMES }
     requires fits { reserve ≤ length frames.items }
     ensures { IfOk result (λ made. map (λ a. reserved_of a.loans) made.1.items ≡ reserve ∷ []) }
@@ -361,9 +356,7 @@ fn lone_worker<C: Ledger, H: Ledger>(
     credits: Blank,
     held: Blank,
 ) -> Result<(DepotBook<C, H>, Worker<Global, C, H>), AllocError>
-    requires names { (credits.name ≡ C.name) × (held.name ≡ H.name) }
-    requires cut { (credits.parts ≡ C.parts) × (held.parts ≡ H.parts) }
-    requires parts { (MAX_NAMESPACES ≤ credits.parts) × (MAX_NAMESPACES ≤ held.parts) }
+    requires blanks { IsBlankOf C.name C.parts credits × IsBlankOf H.name H.parts held }
     requires small { length frames.items ≤ MAX_FRAMES }
     requires fits { config.reserve ≤ length frames.items }
     ensures { IfOk result (λ made. made.1 ≡ new_worker ns (config, alloc)) }
@@ -389,9 +382,7 @@ fn play_alone<
     credits: Blank,
     held: Blank,
 ) -> Result<Answered, AllocError>
-    requires names { (credits.name ≡ C.name) × (held.name ≡ H.name) }
-    requires cut { (credits.parts ≡ C.parts) × (held.parts ≡ H.parts) }
-    requires parts { (MAX_NAMESPACES ≤ credits.parts) × (MAX_NAMESPACES ≤ held.parts) }
+    requires blanks { IsBlankOf C.name C.parts credits × IsBlankOf H.name H.parts held }
     requires only { comes_and_goes script.now ≡ false }
     requires whole { script.now.opening ≡ length script.now.spaces }
     requires frames { length frames.items ≡ script.now.frames }
@@ -428,9 +419,7 @@ fn play_for<
     credits: Blank,
     held: Blank,
 ) -> Result<Answered, AllocError>
-    requires names { (credits.name ≡ C.name) × (held.name ≡ H.name) }
-    requires cut { (credits.parts ≡ C.parts) × (held.parts ≡ H.parts) }
-    requires parts { (MAX_NAMESPACES ≤ credits.parts) × (MAX_NAMESPACES ≤ held.parts) }
+    requires blanks { IsBlankOf C.name C.parts credits × IsBlankOf H.name H.parts held }
     requires only { comes_and_goes script.now ≡ false }
     requires whole { script.now.opening ≡ length script.now.spaces }
     requires frames { length frames.items ≡ script.now.frames }

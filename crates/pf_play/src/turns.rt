@@ -32,7 +32,8 @@ pub(crate) trait Turns {
         requires turn { (before : ℕ) → place ≡ before + 1 → answered self.now ns before }
         ensures { passed self.now ns place };
 
-    /// A worker's step is made, of which the gate was told. It is told of each frame before it is taken.
+    /// A worker's step is made, of which the gate was told. It is told of each frame before it is taken: that is the
+    /// way of `pf_worker`'s `GatedDepot`, and no clause of this step's.
     fn step<R: Wait, C: Ledger, H: Ledger>(
         &self,
         rt: &R,

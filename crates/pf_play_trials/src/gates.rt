@@ -1,5 +1,6 @@
 //! A gate that holds two namespaces' steps, so that a replay ends only where both are run at once, and where neither
-//! keeps the depot's lock between its steps; and one that counts the frames of each namespace.
+//! keeps the depot's lock between its steps; and one that counts the frames of each namespace, and looks at each step
+//! how many it was told of so far.
 
 use crate::patience::Patience;
 use crate::texts::played;
@@ -105,8 +106,8 @@ struct Frames {
     red: AtomicU64,
     blue: AtomicU64,
     all: AtomicU64,
-    /// Not 0: it was told of a step before the write in front of it had taken its frame.
-    early: AtomicU64,
+    /// Not 0: at a step it had been told of fewer frames than the steps in front of that take, or of more.
+    wrong: AtomicU64,
 }
 
 impl Frames {
@@ -115,7 +116,7 @@ impl Frames {
             red: AtomicU64::new(0),
             blue: AtomicU64::new(0),
             all: AtomicU64::new(0),
-            early: AtomicU64::new(0),
+            wrong: AtomicU64::new(0),
         }
     }
 
@@ -124,7 +125,7 @@ impl Frames {
         self.red.load(Ordering::SeqCst) == red
             && self.blue.load(Ordering::SeqCst) == blue
             && self.all.load(Ordering::SeqCst) == red.wrapping_add(blue)
-            && self.early.load(Ordering::SeqCst) == 0
+            && self.wrong.load(Ordering::SeqCst) == 0
     }
 }
 
@@ -133,9 +134,11 @@ impl Gate for Frames {
 
     ghost framed = { λ _ _. Unit {0} };
 
+    // The third step of each namespace is a write that takes a frame, and none but its last one takes another.
     fn pass(&self, ns: u32, place: u64) {
-        if ns == 0 && place >= 3 && self.red.load(Ordering::SeqCst) == 0 {
-            self.early.store(1, Ordering::SeqCst);
+        let frames = if ns == 0 { &self.red } else { &self.blue };
+        if frames.load(Ordering::SeqCst) != u64::from(place > 2) {
+            self.wrong.store(1, Ordering::SeqCst);
         }
     }
 
@@ -160,6 +163,7 @@ red write 1 3 63
 blue spawn 5 5 022
 blue pipe 1
 blue write 1 1 7a
+blue read 1 0 1
 ";
 
 const WRITTEN: &str = "== red
@@ -172,10 +176,11 @@ const WRITTEN: &str = "== red
 1: pid 1
 2: fds 0 1
 3: num 1
+4: bytes 1 7a
 ";
 
-/// The first namespace takes two frames, the first of them before the gate is told of its fourth step, and the second
-/// one.
+/// The first namespace takes two frames, and the second one. The gate is told of each between the step that takes it
+/// and the next one: of steps that are all made before it is told of any, it would be told of the frames apart.
 #[test]
 fn a_gate_is_told_of_each_frame(rt: HostRuntime) -> Result<(), Fail> {
     let gate = Frames::new();

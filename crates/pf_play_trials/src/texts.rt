@@ -71,8 +71,22 @@ pub(crate) fn played<T: Threads + Wait + Sync, G: Gate + Sync>(
     (end, writer)
 }
 
-/// Whether the whole text comes, or memory was wanted: by steps, or else before anything was written, and then the text
-/// comes the next time.
+/// Whether the whole text came, and no step wanted memory.
+fn is_whole(end: Result<Replayed, ReplayFault>, writer: &Compared) -> bool {
+    matches!(end, Ok(replayed) if replayed.nomem == 0) && writer.is_whole()
+}
+
+/// Whether memory was wanted: by steps, or else before anything was written.
+fn wants_memory(end: Result<Replayed, ReplayFault>, writer: &Compared) -> bool {
+    match end {
+        Ok(replayed) => replayed.nomem > 0,
+        Err(ReplayFault::NoMemory) => writer.is_empty(),
+        Err(_) => false,
+    }
+}
+
+/// Whether the whole text comes. Where memory was wanted it is to come the next time, since one growth is refused at
+/// most: with ample memory both times are alike, and a replay that wants some isn't let through.
 fn is_told<T: Threads + Wait + Sync>(
     rt: &T,
     alloc: Global,
@@ -80,14 +94,11 @@ fn is_told<T: Threads + Wait + Sync>(
     text: &'static str,
 ) -> bool {
     let (end, writer) = played(rt, alloc, script, text, &NoGate);
-    match end {
-        Ok(replayed) => replayed.nomem > 0 || writer.is_whole(),
-        Err(ReplayFault::NoMemory) => {
-            let (end, again) = played(rt, alloc, script, text, &NoGate);
-            writer.is_empty() && end.is_ok() && again.is_whole()
-        }
-        Err(_) => false,
+    if is_whole(end, &writer) {
+        return true;
     }
+    let (again, rest) = played(rt, alloc, script, text, &NoGate);
+    wants_memory(end, &writer) && is_whole(again, &rest)
 }
 
 /// Frames that another namespace wrote to tell nothing.

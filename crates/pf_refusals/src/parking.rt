@@ -1,7 +1,6 @@
 //! Rows that a service plays, one of whose steps waits for the next one, which is made on a thread of its own.
 
-ghost use Rattle.std.specs.Prelude.{◌≡◌, ◌≤◌};
-ghost use Rattle.pf_base.specs.declared.TheConstants.{MAX_NAMESPACES};
+ghost use Rattle.pf_depot.specs.Blanks.{IsBlankOf};
 
 use crate::end::End;
 use crate::row::Row;
@@ -273,9 +272,7 @@ fn play_over<R: Threads + Wait + Sync, C: Ledger + Send + Sync, H: Ledger + Send
     credits: Blank,
     held: Blank,
 ) -> Result<(), End>
-    requires names { (credits.name ≡ C.name) × (held.name ≡ H.name) }
-    requires cut { (credits.parts ≡ C.parts) × (held.parts ≡ H.parts) }
-    requires parts { (MAX_NAMESPACES ≤ credits.parts) × (MAX_NAMESPACES ≤ held.parts) }
+    requires blanks { IsBlankOf C.name C.parts credits × IsBlankOf H.name H.parts held }
 {
     let service = service_of::<_, C, H>(alloc, row, script, Counter { count }, credits, held)?;
     let mut seats = Vec::new(alloc);

@@ -1,7 +1,6 @@
 //! Rows that a service plays: a caller at each namespace makes the steps, and in the end the service is closed.
 
-ghost use Rattle.std.specs.Prelude.{◌≡◌, ◌≤◌};
-ghost use Rattle.pf_base.specs.declared.TheConstants.{MAX_NAMESPACES};
+ghost use Rattle.pf_depot.specs.Blanks.{IsBlankOf};
 
 use crate::end::End;
 use crate::host::{Host, make_all};
@@ -27,9 +26,7 @@ pub(crate) fn service_of<G: Gate + Drop, C: Ledger, H: Ledger>(
     credits: Blank,
     held: Blank,
 ) -> Result<Service<Global, G, C, H>, End>
-    requires names { (credits.name ≡ C.name) × (held.name ≡ H.name) }
-    requires cut { (credits.parts ≡ C.parts) × (held.parts ≡ H.parts) }
-    requires parts { (MAX_NAMESPACES ≤ credits.parts) × (MAX_NAMESPACES ≤ held.parts) }
+    requires blanks { IsBlankOf C.name C.parts credits × IsBlankOf H.name H.parts held }
 {
     let frames = frames_of(alloc, script.frames())?;
     let configs = configs_of(alloc, row, script)?;
@@ -185,9 +182,7 @@ fn play_over<R: Wait, C: Ledger, H: Ledger>(
     credits: Blank,
     held: Blank,
 ) -> Result<(), End>
-    requires names { (credits.name ≡ C.name) × (held.name ≡ H.name) }
-    requires cut { (credits.parts ≡ C.parts) × (held.parts ≡ H.parts) }
-    requires parts { (MAX_NAMESPACES ≤ credits.parts) × (MAX_NAMESPACES ≤ held.parts) }
+    requires blanks { IsBlankOf C.name C.parts credits × IsBlankOf H.name H.parts held }
 {
     let service = service_of::<_, C, H>(alloc, row, script, NoGate, credits, held)?;
     let mut seats = Vec::new(alloc);

@@ -1,7 +1,6 @@
 //! Rows that workers play: one for each namespace, over a depot that they share.
 
-ghost use Rattle.std.specs.Prelude.{◌≡◌, ◌≤◌};
-ghost use Rattle.pf_base.specs.declared.TheConstants.{MAX_NAMESPACES};
+ghost use Rattle.pf_depot.specs.Blanks.{IsBlankOf};
 
 use crate::end::End;
 use crate::host::{Host, make_all};
@@ -91,9 +90,7 @@ fn play_over<R: Wait, C: Ledger, H: Ledger>(
     credits: Blank,
     held: Blank,
 ) -> Result<(), End>
-    requires names { (credits.name ≡ C.name) × (held.name ≡ H.name) }
-    requires cut { (credits.parts ≡ C.parts) × (held.parts ≡ H.parts) }
-    requires parts { (MAX_NAMESPACES ≤ credits.parts) × (MAX_NAMESPACES ≤ held.parts) }
+    requires blanks { IsBlankOf C.name C.parts credits × IsBlankOf H.name H.parts held }
 {
     let frames = frames_of(alloc, script.frames())?;
     let configs = configs_of(alloc, row, script)?;

@@ -13,16 +13,17 @@ door-door-requires g c =
 pub index_mut-requires : goal.index_mut-requires
 index_mut-requires g c = let h = here c.self.invariant c.self.view_is c.requires.lives in search rules
 
-pub step-requires-clause-fact : goal.step-requires-clause-fact
-step-requires-clause-fact g c =
-    rw (c.door-door.ensures.ns, c.door-door.ensures.pool, c.self.invariant.doors)
-    (here c.self.invariant c.self.view_is c.requires.lives)
-
-pub step-requires-clause-owns : goal.step-requires-clause-owns
-step-requires-clause-owns g c =
+pub step-requires : goal.step-requires
+step-requires g c =
     let is_here = here c.self.invariant c.self.view_is c.requires.lives in
-    rw (c.door-door.ensures.ns, c.door-door.ensures.pool)
-    (owned_before is_here c.self.invariant c.index_mut.ensures.value)
+    record {
+      door = record {
+        fact = rw (c.door-door.ensures.ns, c.door-door.ensures.pool, c.self.invariant.doors) is_here;
+        owns =
+            rw (c.door-door.ensures.ns, c.door-door.ensures.pool)
+            (owned_before is_here c.self.invariant c.index_mut.ensures.value);
+      };
+    }
 
 pub invariant_of-self : goal.invariant_of-self
 invariant_of-self g c =
@@ -37,8 +38,8 @@ invariant_of-self g c =
       succeeds = c.step.ensures.succeeds;
     } in
     let pool = c.step.new.door.pool.now in
-    let rest = same_rest pool c.door-door.ensures.ns c.door-door.ensures.pool c.step.ensures.rest in
-    let door = same_door pool c.door-door.ensures.ns c.door-door.ensures.pool c.step.ensures.rest moved in
+    let rest = same_rest pool c.door-door.ensures.ns c.door-door.ensures.pool c.step.ensures.door.rest in
+    let door = same_door pool c.door-door.ensures.ns c.door-door.ensures.pool c.step.ensures.door.rest moved in
     plain_after is_here c.self.invariant c.index_mut.ensures.value pool rest door
 
 pub returns-clause-stepped : goal.returns-clause-stepped
@@ -54,8 +55,8 @@ returns-clause-stepped g c =
       succeeds = c.step.ensures.succeeds;
     } in
     let pool = c.step.new.door.pool.now in
-    let rest = same_rest pool c.door-door.ensures.ns c.door-door.ensures.pool c.step.ensures.rest in
-    let door = same_door pool c.door-door.ensures.ns c.door-door.ensures.pool c.step.ensures.rest moved in
+    let rest = same_rest pool c.door-door.ensures.ns c.door-door.ensures.pool c.step.ensures.door.rest in
+    let door = same_door pool c.door-door.ensures.ns c.door-door.ensures.pool c.step.ensures.door.rest moved in
     plain_stepped is_here c.self.invariant c.index_mut.ensures.value pool rest door c.self.view_is
 
 pub returns-clause-unchanged : goal.returns-clause-unchanged
