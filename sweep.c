@@ -1,32 +1,42 @@
 /* What ./sweep has a program loaded with. It counts the program's requests for memory, and refuses the one whose number
    stands in REFUSED. A request for SIGN bytes is a sign of the program's, is never refused, and begins the counting or
-   stops it; where COUNTED stands, it begins at once. In the end it tells how many requests it counted. */
+   stops it; where COUNTED is 'memory', it begins at once. Where COUNTED is 'starts', threads that are to be started are
+   counted in place of requests for memory, and one of them is refused. In the end it tells how many it counted. */
 
 #define SIGN 7777777UL
 
 typedef unsigned long size;
+typedef int starting(void *thread, const void *how, void *(*run)(void *), void *given);
 
 void *__libc_malloc(size bytes);
 void *__libc_calloc(size count, size bytes);
 void *__libc_realloc(void *old, size bytes);
 void *__libc_memalign(size align, size bytes);
+void *dlsym(void *library, const char *name);
 char *getenv(const char *name);
 size strtoul(const char *text, char **end, int base);
 int dprintf(int file, const char *format, ...);
 long syscall(long number, ...);
 int *__errno_location(void);
 
+#define TRY_AGAIN 11
 #define OUT_OF_MEMORY 12
+#define LIBRARIES_BEHIND ((void *)-1L)
 
 static size refused, counted;
-static int counting;
+static int counting, counting_starts;
+static starting *start;
+
+static int is_refused(void) {
+    return __atomic_add_fetch(&counted, 1, __ATOMIC_SEQ_CST) == refused;
+}
 
 static int refuses(size bytes) {
     if (bytes == SIGN) {
         counting = !counting;
         return 0;
     }
-    if (!counting || __atomic_add_fetch(&counted, 1, __ATOMIC_SEQ_CST) != refused) {
+    if (!counting || !is_refused()) {
         return 0;
     }
     *__errno_location() = OUT_OF_MEMORY;
@@ -53,10 +63,16 @@ int posix_memalign(void **to, size align, size bytes) {
     return (*to = aligned_alloc(align, bytes)) ? 0 : OUT_OF_MEMORY;
 }
 
+int pthread_create(void *thread, const void *how, void *(*run)(void *), void *given) {
+    return counting_starts && is_refused() ? TRY_AGAIN : start(thread, how, run, given);
+}
+
 __attribute__((constructor)) static void begin(void) {
-    const char *number = getenv("REFUSED");
+    const char *number = getenv("REFUSED"), *what = getenv("COUNTED");
     refused = number ? strtoul(number, 0, 10) : 0;
-    counting = getenv("COUNTED") != 0;
+    counting = what && *what == 'm';
+    counting_starts = what && *what == 's';
+    start = (starting *)dlsym(LIBRARIES_BEHIND, "pthread_create");
 }
 
 static void tell(void) {
