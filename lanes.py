@@ -29,6 +29,8 @@ from wrong_bodies import Trial, bytes_of, check, edits_of, functions_of, groups_
 DEAREST = 25  # how many wrong bodies are named at the end, with what each took
 CHECKS = 4  # how many checks of a crate with wrong bodies one lane makes, where another lane can take the others
 LANE_BYTES = 4 << 30  # what a check may take of memory
+LANE_ROOM = 8 << 30  # what a lane may take of the disk
+REASON = 240  # how many characters are said of why something wasn't done
 DAYS = 30  # how long what was seen is kept where no run asks for it
 
 Task = namedtuple("Task", "name waits work")  # waits: the names of tasks; work: what is done in a lane's folder
@@ -132,9 +134,19 @@ def checksum(edit):
 # Lanes
 
 
+def said_of(name):
+    """A task's name in words: that of a crate, or of a part of its wrong bodies."""
+    return name if isinstance(name, str) else f"{name[0]}, part {name[1] + 1} of its wrong bodies"
+
+
+def reason_of(error):
+    """Why files couldn't be written. Of a folder that was to be copied it is why the first of them couldn't."""
+    return str(error.args[0][0][-1] if isinstance(error, shutil.Error) else error)[:REASON]
+
+
 class Lanes:
     """Tasks that are done side by side, one at a time in each lane. One begins only where those that it waits for are
-    done, and isn't done where one of them came to nothing."""
+    done, and isn't done where one of them came to nothing. One whose files can't be written comes to nothing."""
 
     def __init__(self, tasks):
         self.waiting, self.given, self.changed = list(tasks), {}, threading.Condition()
@@ -155,6 +167,8 @@ class Lanes:
             given = None
             try:
                 given = task.work(tree) if all(self.given[it] for it in task.waits) else None
+            except OSError as error:  # no room on the disk, say
+                say(f"{said_of(task.name)}: it wasn't done: {reason_of(error)}")
             finally:
                 with self.changed:
                     self.given[task.name] = given
@@ -167,9 +181,12 @@ class Lanes:
 
 
 def lanes():
-    """How many checks are made side by side: GATE_LANES, or one for each processor for which there is memory."""
+    """How many checks are made side by side: GATE_LANES, or one for each processor for which there are memory, and room
+    on the disk, where the copies of the tree lie."""
     memory = os.sysconf("SC_PAGE_SIZE") * os.sysconf("SC_PHYS_PAGES")
-    return max(1, int(os.environ.get("GATE_LANES") or min(len(os.sched_getaffinity(0)), memory // LANE_BYTES)))
+    free = shutil.disk_usage(tempfile.gettempdir()).free
+    fit = min(len(os.sched_getaffinity(0)), memory // LANE_BYTES, free // LANE_ROOM)
+    return max(1, int(os.environ.get("GATE_LANES") or fit))
 
 
 def try_all(root, names, words, besides=()):
@@ -180,6 +197,7 @@ def try_all(root, names, words, besides=()):
         copied(root, trees[0])
         for tree in trees[1:]:
             shutil.copytree(trees[0], tree, symlinks=True)
+        say(f"copies of the tree: {len(trees)}")
         return WrongBodies(trees, names, words).play(besides)
 
 
@@ -266,7 +284,11 @@ class WrongBodies:
     def trial(self, tree, crate, number):
         """Tries a part of a crate's wrong bodies. What it saw is kept where the untouched text checks behind them."""
         part = self.parts[crate][number]
-        trial = Trial(tree, crate, self.words).play(part)
+        try:
+            trial = Trial(tree, crate, self.words).play(part)
+        except OSError:  # the half of a copy of out/ may stand there, and the next part makes it anew
+            shutil.rmtree(f"{tree}/proved.{crate}", ignore_errors=True)
+            raise
         refused = {it.name for it in trial.tried if it.verdict == wrong_bodies.WAS_REFUSED}
         if trial.holds:
             tried = [it for group in part for it in group]
