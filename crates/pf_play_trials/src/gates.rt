@@ -134,10 +134,16 @@ impl Gate for Frames {
 
     ghost framed = { λ _ _. Unit {0} };
 
-    // The third step of each namespace is a write that takes a frame, and none but its last one takes another.
+    // The third step of each namespace is a write that takes frames, the first one's two at once, and none but its last
+    // one takes another.
     fn pass(&self, ns: u32, place: u64) {
-        let frames = if ns == 0 { &self.red } else { &self.blue };
-        if frames.load(Ordering::SeqCst) != u64::from(place > 2) {
+        let (frames, number) = if ns == 0 {
+            (&self.red, 2)
+        } else {
+            (&self.blue, 1)
+        };
+        let taken = if place > 2 { number } else { 0 };
+        if frames.load(Ordering::SeqCst) != taken {
             self.wrong.store(1, Ordering::SeqCst);
         }
     }
@@ -152,14 +158,14 @@ impl Gate for Frames {
     }
 }
 
-const WRITES: &str = "pool 3
-space red 2
+const WRITES: &str = "pool 17
+space red 16
 space blue 1
 red spawn 5 5 022
 red pipe 1
-red write 1 1 6162
-red pipe 1
-red write 1 3 63
+red write 1 1 8192*61
+red getsize 1 1
+red write 1 1 62
 blue spawn 5 5 022
 blue pipe 1
 blue write 1 1 7a
@@ -169,8 +175,8 @@ blue read 1 0 1
 const WRITTEN: &str = "== red
 1: pid 1
 2: fds 0 1
-3: num 2
-4: fds 2 3
+3: num 8192
+4: num 65536
 5: num 1
 == blue
 1: pid 1
@@ -179,14 +185,15 @@ const WRITTEN: &str = "== red
 4: bytes 1 7a
 ";
 
-/// The first namespace takes two frames, and the second one. The gate is told of each between the step that takes it
-/// and the next one: of steps that are all made before it is told of any, it would be told of the frames apart.
+/// The first namespace takes three frames, two of them in one step, and the second one. The gate is told of each, and
+/// between the step that takes it and the next one: of steps that are all made before it is told of any, it would be
+/// told of the frames apart.
 #[test]
 fn a_gate_is_told_of_each_frame(rt: HostRuntime) -> Result<(), Fail> {
     let gate = Frames::new();
     let (end, writer) = played(&rt, rt.alloc(), WRITES, WRITTEN, &gate);
     assert!(rt; end.is_ok());
     assert!(rt; writer.is_whole());
-    assert!(rt; gate.are(2, 1));
+    assert!(rt; gate.are(3, 1));
     Ok(())
 }

@@ -6,7 +6,7 @@ ghost use Rattle.pf_depot.specs.Blanks.{IsBlankOf};
 use crate::services::{
     RED, blank, both, closed, make, namespaces, service_of, spawn, with, write_by,
 };
-use pf_base::{ByteString, Errno, Reply, Step};
+use pf_base::{ByteString, Errno, Reply, RetireFault, Step};
 use pf_service::{Gate, Seat, Service};
 use std::alloc::{AllocError, Global};
 use std::marker::Brand;
@@ -71,18 +71,17 @@ fn opening(alloc: Global) -> Result<Vec<Step>, AllocError> {
     Ok(steps)
 }
 
-// What a thread brings: its seat, its steps, and how many events are told before these. Only the last of them may wait.
-#[derive(Drop)]
+// What a thread brings: its steps, and how many events are told before these. Only the last of them may wait.
+#[derive(Clone, Copy)]
 struct Caller<'a> {
     alloc: Global,
-    seat: Seat,
     steps: &'a [Step],
     last: &'a Step,
     events: &'a AtomicU64,
     number: u64,
 }
 
-// Whether a host is told who can go on, and what an end is ready for.
+// Whether a host is told who can go on, what an end is ready for, and that a namespace with processes isn't retired.
 fn is_told<R: Wait, C: Ledger, H: Ledger>(
     rt: &R,
     service: &Service<Global, Counter<'_>, C, H>,
@@ -90,6 +89,7 @@ fn is_told<R: Wait, C: Ledger, H: Ledger>(
     service.can_go_on(rt, RED, 1).is_ok()
         && service.next_to_go_on(rt, RED, 0).is_ok()
         && service.readiness(rt, RED, 1, 0).is_ok()
+        && matches!(service.retire(rt, RED), Err(RetireFault::Alive { .. }))
 }
 
 // The last reply to a step that may wait.
@@ -105,27 +105,21 @@ fn last_reply<R: Wait, C: Ledger, H: Ledger>(
     Some(receipts.pop()?.reply)
 }
 
-// A thread's part: its steps, once so many events were told. Its seat comes back with the last reply.
+// A thread's part: its steps, once so many events were told, by a seat that it is given then. The seat comes back with
+// the last reply.
 fn call_last<R: Wait, C: Ledger, H: Ledger>(
     rt: &R,
     service: &Service<Global, Counter<'_>, C, H>,
     caller: Caller<'_>,
 ) -> Option<(Seat, Reply)> {
-    let Caller {
-        alloc,
-        seat,
-        steps,
-        last,
-        events,
-        number,
-    } = caller;
-    wait_for(events, number, TURNS);
-    // whoever waits by now is woken all the same behind what a host asks
+    wait_for(caller.events, caller.number, TURNS);
+    // whoever waits by now is woken all the same behind what a host asks and is refused, and behind a seat that is given
     if !is_told(rt, service) {
         return None;
     }
-    let mut seat = make(rt, service, seat, steps)?;
-    let reply = last_reply(rt, alloc, service, &mut seat, last)?;
+    let seat = service.seat(rt, RED).ok()?;
+    let mut seat = make(rt, service, seat, caller.steps)?;
+    let reply = last_reply(rt, caller.alloc, service, &mut seat, caller.last)?;
     Some((seat, reply))
 }
 
@@ -196,7 +190,6 @@ fn played<C: Ledger + Send + Sync, H: Ledger + Send + Sync, R: Threads + Wait + 
     let opened = opened(rt, alloc, service)?;
     let ours = Caller {
         alloc,
-        seat: service.seat(rt, RED)?,
         steps: &[],
         last: steps.first,
         events,
@@ -204,7 +197,6 @@ fn played<C: Ledger + Send + Sync, H: Ledger + Send + Sync, R: Threads + Wait + 
     };
     let theirs = Caller {
         alloc,
-        seat: service.seat(rt, RED)?,
         steps: steps.then,
         last: steps.last,
         events,
