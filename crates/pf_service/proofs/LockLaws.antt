@@ -19,7 +19,7 @@ use Rattle.pf_service.specs.Said.{IsSaid, IsRefusedThere}
 use Rattle.pf_service.specs.Seats.{OneSeat}
 use Rattle.pf_service.specs.Tenants.{IsEvent, IsGiveFault, IsGoneFault, IsGivenThere, IsHappening, IsLivingAt}
 use Rattle.pf_service.specs.Tenants.{IsNotGivenThere, IsNotRetiredThere, IsRetiredThere, IsRetireFault, IsRetirement}
-use Rattle.pf_service.specs.Tenants.{IsReturned, IsTenantFault, IsToldOfMore, Lives, became, is_idle_at}
+use Rattle.pf_service.specs.Tenants.{IsReturned, IsTenantFault, IsToldOfMore, Lives, became, became_awaited, is_idle_at}
 use Rattle.pf_service.specs.Told.{Told}
 use Rattle.pf_service.specs.Waited.{resume_of, Tries, IsWaited, IsTried}
 use Rattle.pf_service.proofs.FaultLaws.{unknown}
@@ -86,7 +86,7 @@ module _ {A C H : Type 0} (Lay : OneSeated A C H → Type 0) where
   pub retired_there : {T : Type 0} (Woken : OneSeated A C H → Type 0) (Returned : ℕ → ℕ → Type 0) (s : OneSeated A C H)
       (new : Tenant (OneLiving A C H)) (r : Result T RetireFault)
       → Lay s → OnOk r (IsRetirement s.tenant new) → OnOk r (IsReturned Returned s.tenant)
-      → OnOk r (Woken (became s new)) → OnOk r (IsRetiredThere Lay Woken Returned)
+      → OnOk r (Woken (became_awaited s new)) → OnOk r (IsRetiredThere Lay Woken Returned)
   retired_there Woken Returned s new (Ok x) lay retired returned woken = (s, new, lay, retired, returned, woken)
   retired_there Woken Returned s new (Err e) lay retired returned woken = tt
 

@@ -1,6 +1,6 @@
 -- A namespace of a service that lives, or is retired.
 
-use Rattle.std.specs.Prelude.{◌≡◌, ℕ, Bool, false, ◌<◌, ◌≤◌, ⊤, length}
+use Rattle.std.specs.Prelude.{◌≡◌, ℕ, Bool, true, false, ◌<◌, ◌≤◌, ⊤, length}
 use Rattle.pf_base.specs.declared.admission.RetireFault.{RetireFault}
 use Rattle.pf_base.specs.declared.admission.RetireFault.TheVariants.{NoSuchNamespace, Alive}
 use Rattle.pf_base.specs.declared.step.Reply.{Reply}
@@ -92,6 +92,10 @@ is_idle_at _ _ _ _ = false
 abbrev pub became : {A C H : Type 0} → OneSeated A C H → Tenant (OneLiving A C H) → OneSeated A C H
 became old new = record old { tenant = new }
 
+-- the same, as if somebody waited there
+abbrev pub became_awaited : {A C H : Type 0} → OneSeated A C H → Tenant (OneLiving A C H) → OneSeated A C H
+became_awaited old new = record old { tenant = new; is_awaited = true }
+
 -- one event happened to what lay behind a lock when it was taken; with what became of it those who wait there were
 -- woken, but for an event that is of no use to them; and where it holds more frames than before, a gate was told
 abbrev pub IsHappening : {A C H : Type 0} → (OneSeated A C H → Type 0) → (OneSeated A C H → Type 0) → Type 0
@@ -107,12 +111,12 @@ IsRetireFault (Living l) fault = (fault ≡ Alive (alive l.logged.state)) × (0 
 IsRetireFault (Retired t) fault = fault ≡ NoSuchNamespace
 
 -- what lay behind a lock when it was taken is retired, and gave back what it had at the depot; with what stays of it
--- all who wait there were woken
+-- all who wait there were woken, whether or not anybody was known to
 abbrev pub IsRetiredThere : {A C H : Type 0} → (OneSeated A C H → Type 0) → (OneSeated A C H → Type 0)
     → (ℕ → ℕ → Type 0) → Type 0
 IsRetiredThere {A} {C} {H} Lay Woken Returned =
     (old : OneSeated A C H) × (new : Tenant (OneLiving A C H)) × Lay old × IsRetirement old.tenant new
-    × IsReturned Returned old.tenant × Woken (became old new)
+    × IsReturned Returned old.tenant × Woken (became_awaited old new)
 
 -- it isn't, because of what lay there
 abbrev pub IsNotRetiredThere : {A C H : Type 0} → (OneSeated A C H → Type 0) → RetireFault → Type 0

@@ -41,7 +41,7 @@ fn put<L: Drop>(tenant: &mut Tenant<L>, stays: Retired)
 impl<A: Allocator + Clone, C: Ledger, H: Ledger> Seated<A, C, H> {
     ghost use Rattle.std.specs.Prelude.{IfOk, IfErr, OnOk, OnErr};
     ghost use Rattle.pf_service.specs.Tenants.{Lives, IsGiveFault, IsGoneFault, IsLivingAt, IsRetirement};
-    ghost use Rattle.pf_service.specs.Tenants.{IsRetireFault, IsReturned, became, transcript_of};
+    ghost use Rattle.pf_service.specs.Tenants.{IsRetireFault, IsReturned, became_awaited, transcript_of};
     ghost use Rattle.pf_service.specs.Transcripts.{IsLone};
     ghost use Rattle.pf_service.specs.declared.TheConstants.{MAX_SEATS};
 
@@ -91,7 +91,8 @@ impl<A: Allocator + Clone, C: Ledger, H: Ledger> Seated<A, C, H> {
     }
 
     /// The namespace, of this number, is retired, where it lives and has no process: what it has at the depot goes back
-    /// there, and what it was asked and told stays. Those who wait are woken.
+    /// there, and what it was asked and told stays. Those who wait are woken, whether or not anybody is known to: it is
+    /// the last that they could be woken for.
     ///
     /// It takes no memory, and holds the depot's lock once.
     pub(crate) fn retire<R: Wait, D: Returns, W: Waiters>(
@@ -104,11 +105,11 @@ impl<A: Allocator + Clone, C: Ledger, H: Ledger> Seated<A, C, H> {
     ) -> Result<(), RetireFault>
         ensures retired { OnOk result (IsRetirement self.old.tenant self.new.tenant) }
         ensures returned { OnOk result (IsReturned (λ reserve stock. D.returned way.now ns reserve stock) self.old.tenant) }
-        ensures woken { OnOk result (W.woken waiters.now A C H (became self.old self.new.tenant)) }
+        ensures woken { OnOk result (W.woken waiters.now A C H (became_awaited self.old self.new.tenant)) }
         ensures fault { IfErr result (IsRetireFault self.old.tenant) }
         ensures unchanged { OnErr result (self.new.tenant ≡ self.old.tenant) }
         ensures given { self.new.given ≡ self.old.given }
-        ensures awaited { self.new.is_awaited ≡ self.old.is_awaited }
+        ensures awaited { OnErr result (self.new.is_awaited ≡ self.old.is_awaited) }
     {
         let Tenant::Living(living) = &self.tenant else {
             return Err(RetireFault::NoSuchNamespace);
@@ -122,6 +123,7 @@ impl<A: Allocator + Clone, C: Ledger, H: Ledger> Seated<A, C, H> {
             unreachable!()
         };
         put(&mut self.tenant, living.retire(rt, way, book, ns));
+        self.is_awaited = true;
         waiters.wake_all(self);
         Ok(())
     }
