@@ -12,12 +12,12 @@ use Rattle.pf_machine.specs.Queue.{Segment, empty, with_capacity}
 use Rattle.pf_machine.specs.Numbered.{at, first_free}
 use Rattle.pf_machine.specs.Calls.{Transfer, Reading, Writing, Bringing, Call}
 use Rattle.pf_machine.specs.State.{itself, State, Process, End, Outcome, vacant, living, ready, end_of, with_process, without_process, with_queue, with_descriptor, told, done}
-use Rattle.pf_machine.specs.Descriptors.{named, without_descriptor, with_flag}
+use Rattle.pf_machine.specs.Descriptors.{without_descriptor, with_flag}
 use Rattle.pf_machine.specs.Pipes.{opened, first_descriptor, second_descriptor}
 use Rattle.pf_machine.specs.Files as files
 use Rattle.pf_machine.specs.Files.{with_files, with_new}
 use Rattle.pf_machine.specs.Attempts.{transfer, resume}
-use Rattle.pf_machine.specs.Opens.{Access, access_of, open_path}
+use Rattle.pf_machine.specs.Opens.{Access, open_path}
 use Rattle.pf_machine.specs.Machine.{call}
 use Rattle.pf_machine.specs.Replies.{reply_length}
 use Rattle.pf_base.specs.declared.TheConstants.{PAGE_SIZE, MAX_DESCRIPTORS}
@@ -151,13 +151,9 @@ module _ (s : State Segment ℕ) where
       file-made pid kind path bits = by_ready pid _ (λ p f. carries Q (mode_of bits) _ (λ mode.
           gives Q (calls.make kind s.files s.files_made p.cred path mode) _ (k.made p.cred kind path mode)))
 
+      -- Most calls are look-ups and refusals, and then one of these changes, or what is to hold besides: of all of them
+      -- the last line finds which. A change that is told what was looked up has a line of its own
       pub step-keeps : (x : Step) → Moves x → Holds Q (call c s x)
-      step-keeps (steps.Spawn uid gid umask groups) t =
-          let made = k.spawned (record { uid = uid; gid = gid; groups = groups; umask = umask }) in
-          search (passes, made)
-      step-keeps (steps.Exit pid) t = by_living pid _ (k.exited pid)
-      step-keeps (steps.Resume pid) t = by_living pid _ t
-      step-keeps (steps.Fork pid) t = by_ready pid _ (λ p f. let made = k.forked pid p f in search (passes, made))
       step-keeps (steps.Mkdir pid path mode) t = file-made pid kinds.Directory path mode
       step-keeps (steps.Mkfifo pid path mode) t = file-made pid kinds.Fifo path mode
       step-keeps (steps.Unlink pid path) t = by_ready pid _ (λ p f.
@@ -166,22 +162,23 @@ module _ (s : State Segment ℕ) where
           gives Q (calls.rmdir s.files p.cred path) _ (λ files e. k.filed p.cred files (Removed path e)))
       step-keeps (steps.Chmod pid path bits) t = by_ready pid _ (λ p f. carries Q (mode_of bits) _ (λ mode.
           gives Q (calls.chmod s.files p.cred path mode) _ (λ files e. k.filed p.cred files (Remoded path mode e))))
-      step-keeps (steps.Stat pid path) t = by_ready pid _ (λ p f.
-          carries Q (calls.stat s.files p.cred path) _ (λ meta. k.looked (replies.Meta meta) tt refl))
-      step-keeps (steps.List pid path) t = by_ready pid _ t
-      step-keeps (steps.Open pid path flags) t = by_ready pid _ (λ p f. k.opened c pid p path (access_of flags.0) f)
-      step-keeps (steps.Pipe pid nonblock) t = by_ready pid _ (λ p f.
-          let made = k.piped pid p nonblock f in search (passes, carries, made))
       step-keeps (steps.Dup pid fd) t = by_ready pid _ (λ p f.
           found Q EBADF (at p.descriptors fd) _ (λ n e. let made = k.duped pid p fd n f e in search (passes, made)))
-      step-keeps (steps.Close pid fd) t = by_ready pid _ (λ p f. carries Q (named p fd) _ (λ n. k.closed pid p fd f))
-      step-keeps (steps.Read pid fd n) t = by_ready pid _ t
-      step-keeps (steps.Write pid fd x) t = by_ready pid _ t
-      step-keeps (steps.Tee pid i o n flag) t = by_ready pid _ t
-      step-keeps (steps.Splice pid i o n flag) t = by_ready pid _ t
       step-keeps (steps.SetSize pid fd bytes) t = by_ready pid _ (λ p f. gives Q (end_of itself s p fd) _ (λ e is.
           let made = k.sized p fd e is (pages_for bytes) in search (passes, made)))
-      step-keeps (steps.GetSize pid fd) t = by_ready pid _ (λ p f.
-          carries Q (end_of itself s p fd) _ (λ e. k.looked (replies.Num (PAGE_SIZE * e.pipe.queue.capacity)) tt refl))
-      step-keeps (steps.SetNonblock pid fd on) t =
-          by_ready pid _ (λ p f. carries Q (named p fd) _ (λ n. k.flagged n on))
+      step-keeps _ t =
+          search (
+            by_ready,
+            by_living,
+            carries,
+            passes,
+            t,
+            k.spawned,
+            k.forked,
+            k.exited,
+            k.closed,
+            k.flagged,
+            k.piped,
+            k.looked,
+            k.opened,
+          )
