@@ -1,18 +1,62 @@
--- One more try of a call that waits.
+-- Who waits, and one more try of a call that waits.
 
-use Rattle.std.proofs.Common.{◌≡◌, ◌≢◌, ℕ, List, [], ◌∷◌, ◌++◌, map, refl, ap, sym, ◌∙◌, subst, arith}
-use Rattle.std.specs.Prelude.{All}
+use Rattle.std.proofs.Common.{◌≡◌, ◌≢◌, ℕ, true, false, Ok, Err, List, [], ◌∷◌, ◌++◌, map, refl, ap, sym, ◌∙◌, subst}
+use Rattle.std.proofs.Common.{arith}
+use Rattle.std.specs.Prelude.{All, Result}
 use Rattle.std.proofs.lemmas.List.{append_assoc, map-append, append-nil}
 use Rattle.std.proofs.lemmas.List.Elements.{All-head, All-tail, All-push}
+use Rattle.pf_base.specs.Limits.{Limits}
+use Rattle.pf_base.specs.declared.errno.Errno.{Errno}
 use Rattle.pf_base.specs.declared.step.Step.{Step}
-use Rattle.pf_base.specs.declared.step.Step.TheVariants.{Resume}
+use Rattle.pf_base.specs.declared.step.Step.TheVariants.{Spawn, Read, Write, Tee, Splice, Open, Resume}
 use Rattle.pf_base.specs.declared.step.Reply.{Reply}
 use Rattle.pf_base.specs.declared.step.Reply.TheVariants.{Parked}
+use Rattle.pf_machine.specs.Queue.{Segment}
+use Rattle.pf_machine.specs.State.{State, Outcome, settle}
+use Rattle.pf_machine.specs.Machine.{call, step_of, pid_of, is_parked}
+use Rattle.pf_machine.proofs.HoldsLaws.{Holds, carries, passes}
 use Rattle.pf_service.specs.declared.event.Event.{Event}
+use Rattle.pf_service.specs.declared.living.Living.{Living as OneLiving}
 use Rattle.pf_service.specs.declared.receipt.Receipt.{Receipt}
+use Rattle.pf_service.specs.declared.seated.Tenant.{Tenant}
+use Rattle.pf_service.specs.declared.seated.Tenant.TheVariants.{Living, Retired}
 use Rattle.pf_service.specs.Seats.{OneSeat, Gains, event_at}
+use Rattle.pf_service.specs.Tenants.{IsEvent}
 use Rattle.pf_service.specs.Told.{Told}
-use Rattle.pf_service.specs.Waited.{resume_of, Tries, IsAnswered, IsWaited, IsTried, receipt_of}
+use Rattle.pf_service.specs.Waited.{maker, waiter, resume_of, Tries, IsAnswered, IsWaited, IsTried, receipt_of}
+
+-- Who may be told Parked
+
+-- what isn't told Parked
+abbrev Ends : Outcome Segment ℕ → Type 0
+Ends o = is_parked o.reply ≡ false
+
+-- where a call comes to that, its reply isn't Parked
+ends : (s : State Segment ℕ) (r : Result (Outcome Segment ℕ) Errno) → Holds Ends r → (settle s r).reply ≡ Parked → ⊥
+ends s (Ok o) over e = let yes : is_parked o.reply ≡ true = ap is_parked e in absurd (cc)
+ends s (Err x) over e = absurd (cc)
+
+-- who waits is who made the step: a call of another kind isn't told Parked, whatever it comes to
+waits_as : (c : Limits) (s : State Segment ℕ) (x : Step) → (step_of c s x).reply ≡ Parked
+    → waiter x ≡ maker (pid_of x)
+waits_as c s (Read pid fd n) e = refl
+waits_as c s (Write pid fd payload) e = refl
+waits_as c s (Tee pid source sink n nonblock) e = refl
+waits_as c s (Splice pid source sink n nonblock) e = refl
+waits_as c s (Open pid path flags) e = refl
+waits_as c s (Resume pid) e = refl
+waits_as c s (Spawn uid gid umask groups) e = refl
+waits_as c s x e = absurd (ends s (call c s x) (search (carries, passes)) e)
+
+-- of what happened to a namespace
+pub waits_at : {A C H : Type 0} (old new : Tenant (OneLiving A C H)) (step : Step) (place : ℕ) (reply : Reply)
+    → IsEvent old new step place reply → reply ≡ Parked → waiter step ≡ maker (pid_of step)
+waits_at (Living l) (Living m) step place reply e parked =
+    waits_as l.logged.limits l.logged.state step (sym (ap (λ (o : Outcome Segment ℕ). o.reply) e.2.told) ∙ parked)
+waits_at (Living l) (Retired u) step place reply e parked = absurd e
+waits_at (Retired t) m step place reply e parked = absurd e
+
+-- Tries
 
 abbrev pub IsParked : Event → Type 0
 IsParked e = e.reply ≡ Parked

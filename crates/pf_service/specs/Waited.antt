@@ -3,7 +3,7 @@
 use Rattle.std.specs.Prelude.{◌≡◌, ◌≢◌, ℕ, List, [], ◌∷◌, ◌++◌, map, Option, Some, None, All}
 use Rattle.pf_machine.specs.Machine.{pid_of}
 use Rattle.pf_base.specs.declared.step.Step.{Step}
-use Rattle.pf_base.specs.declared.step.Step.TheVariants.{Resume}
+use Rattle.pf_base.specs.declared.step.Step.TheVariants.{Read, Write, Tee, Splice, Open, Resume}
 use Rattle.pf_base.specs.declared.step.Reply.{Reply}
 use Rattle.pf_base.specs.declared.step.Reply.TheVariants.{Parked}
 use Rattle.pf_service.specs.declared.event.Event.{Event}
@@ -18,6 +18,17 @@ maker (Some pid) = pid
 -- the step that tries the call of a step again. It is its own again, and a Spawn never waits
 abbrev pub resume_of : Step → Step
 resume_of step = Resume (maker (pid_of step))
+
+-- the process of a step of a kind that may be told Parked; of another kind 0. Where one is told Parked, it made the step
+-- (proofs/WaitingLaws, waits_at)
+abbrev pub waiter : Step → ℕ
+waiter (Read pid fd n) = pid
+waiter (Write pid fd payload) = pid
+waiter (Tee pid source sink n nonblock) = pid
+waiter (Splice pid source sink n nonblock) = pid
+waiter (Open pid path flags) = pid
+waiter (Resume pid) = pid
+waiter _ = 0
 
 -- first this step; then, as long as the reply is Parked, Resumes of its process; and of each something is said
 abbrev pub Tries : (Step → ℕ → Reply → Type 0) → Step → List Event → Type 0

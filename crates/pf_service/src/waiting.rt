@@ -1,14 +1,13 @@
 ghost use Rattle.std.specs.Prelude.{◌≡◌, ℕ, ◌↔◌, ◌<◌, ◌++◌, [], ◌∷◌, List, length, vec_capacity, false, true, IsTrue, IfOk, IfErr, OnOk, OnErr};
 ghost use Rattle.pf_base.specs.declared.step.Reply.{Reply as OneReply};
 ghost use Rattle.pf_base.specs.declared.step.Reply.TheVariants.{Parked};
-ghost use Rattle.pf_machine.specs.Machine.{pid_of};
 ghost use Rattle.pf_service.specs.declared.event.Event.{Event as OneEvent};
 ghost use Rattle.pf_service.specs.Faults.{IsApplyFault};
 ghost use Rattle.pf_service.specs.Tenants.{IsEvent, IsSameTenant, IsTenantFault, IsToldOfMore, became, is_idle_at};
 ghost use Rattle.pf_service.specs.Seats.{Gains};
 ghost use Rattle.pf_service.specs.Said.{IsRefusedThere, IsSaid};
 ghost use Rattle.pf_service.specs.Told.{Told};
-ghost use Rattle.pf_service.specs.Waited.{maker, resume_of, IsTried, IsWaited, IsAnswered, AreParked};
+ghost use Rattle.pf_service.specs.Waited.{waiter, resume_of, IsTried, IsWaited, IsAnswered, AreParked};
 
 use crate::fault::ServiceFault;
 use crate::living::Living;
@@ -24,13 +23,18 @@ use std::alloc::Allocator;
 use std::sync::ledger::Ledger;
 use std::sync::{Mutex, Wait};
 
-// The process that makes a step: 0, which is no process, for a Spawn.
-fn maker(step: &Step) -> u32
-    ensures { result ≡ maker (pid_of step.now) }
+// The process of a step that may wait: 0, which is no process, for any other.
+fn waiter(step: &Step) -> u32
+    ensures { result ≡ waiter step.now }
 {
-    match pf_space::maker(step) {
-        Some(pid) => pid,
-        None => 0,
+    match step {
+        Step::Read { pid, .. }
+        | Step::Write { pid, .. }
+        | Step::Tee { pid, .. }
+        | Step::Splice { pid, .. }
+        | Step::Open { pid, .. }
+        | Step::Resume { pid } => *pid,
+        _ => 0,
     }
 }
 
@@ -116,7 +120,7 @@ pub(crate) fn wait_at<A: Allocator + Clone, R: Wait, G: Gate, C: Ledger, H: Ledg
         × OnErr result (AreParked es) }
     ensures fault { IfErr result (IsRefusedThere (λ s. W.lay waiters.now A C H s)) }
 {
-    let pid = maker(step);
+    let pid = waiter(step);
     let mut seated = waiters.lock(rt, locked);
     let mut waits = try_once(rt, gate, book, &mut *seated, waiters, seat, step, receipts)?;
     for _ in rt.forever() {

@@ -8,4 +8,4 @@ pub mod space;
 /// pipes, and of what the replies say of it.
 pub use pf_laws as laws;
 pub use placed::Placed;
-pub use space::{Space, maker};
+pub use space::Space;

@@ -1,5 +1,4 @@
-ghost use Rattle.std.specs.Prelude.{◌≡◌, ◌≢◌, Err};
-ghost use Rattle.pf_machine.specs.Machine.{call, pid_of};
+ghost use Rattle.std.specs.Prelude.{◌≡◌};
 
 use pf_base::{Answer, Config, Crossing, Fault, Kind, Reply, Step};
 use pf_frame::Frames;
@@ -29,37 +28,6 @@ impl<A: Allocator> Model for Space<A> {
     ghost Value = { Namespace };
 
     ghost view = { λ s. s.tables };
-}
-
-/// The process that makes a step: nobody makes a Spawn.
-#[inline(always)]
-pub fn maker(step: &Step) -> Option<u32>
-    ensures { result ≡ pid_of step.now }
-{
-    match step {
-        Step::Spawn { .. } => None,
-        Step::Exit { pid }
-        | Step::Fork { pid }
-        | Step::Resume { pid }
-        | Step::Pipe { pid, .. }
-        | Step::Close { pid, .. }
-        | Step::Read { pid, .. }
-        | Step::Write { pid, .. }
-        | Step::Tee { pid, .. }
-        | Step::Splice { pid, .. }
-        | Step::SetSize { pid, .. }
-        | Step::GetSize { pid, .. }
-        | Step::Dup { pid, .. }
-        | Step::SetNonblock { pid, .. }
-        | Step::Mkdir { pid, .. }
-        | Step::Mkfifo { pid, .. }
-        | Step::Open { pid, .. }
-        | Step::Unlink { pid, .. }
-        | Step::Rmdir { pid, .. }
-        | Step::Chmod { pid, .. }
-        | Step::Stat { pid, .. }
-        | Step::List { pid, .. } => Some(*pid),
-    }
 }
 
 // What the tables told of a call. It is moved once, into the step's answer: where a call puts it there itself, the

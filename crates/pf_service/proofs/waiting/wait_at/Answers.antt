@@ -1,5 +1,5 @@
 -- The first event, and one more after each that was answered Parked.
-use Rattle.std.proofs.Common.{ℕ, [], ◌∷◌, ◌++◌, arith}
+use Rattle.std.proofs.Common.{ℕ, [], ◌∷◌, ◌++◌, ◌∙◌, arith}
 use Rattle.std.specs.Prelude.{IsTrue}
 use Rattle.pf_service.specs.declared.seated.Seated.{Seated as OneSeated}
 use Rattle.pf_service.specs.Seats.{event_at}
@@ -8,7 +8,7 @@ use Rattle.pf_service.specs.Waited.{resume_of}
 use Rattle.std.proofs.lemmas.List.Elements.{All-push}
 use Rattle.pf_service.proofs.FaultLaws.{on_ok, on_err}
 use Rattle.pf_service.proofs.LockLaws.{lay_at, happened, happened_at, handed_on, said_of}
-use Rattle.pf_service.proofs.WaitingLaws.{begun, gone_on, answered, left, nothing, tried_at, IsParked}
+use Rattle.pf_service.proofs.WaitingLaws.{waits_at, begun, gone_on, answered, left, nothing, tried_at, IsParked}
 use Rattle.pf_service.proofs.waiting.wait_at.Goals as goal
 
 pub loop-init : goal.loop-init
@@ -22,8 +22,16 @@ loop-init g c =
     let t = c.in_ok-waits.ensures.tried in
     let here = lay_at Lay _ _ c.deref_mut.ensures.value c.lock-seated.ensures in
     let it = happened Lay Woken (Framed c.args.seat.now.ns) c.deref_mut.result.now _ c.args.step.now t.0 t.1 here t.4 t.5 c.in_ok-waits.ensures.framed in
-    let said = said_of Lay Woken Passed Framed c.args.seat.now.ns c.args.step.now _ _ _ _ t.0 t.1 t.2 it in
-    ((tt, tt), ([], event_at t.0 c.args.step.now t.1, begun _ c.args.step.now _ _ _ _ t.0 t.1 said, t.3))
+    let said = said_of Lay Woken Passed Framed c.args.seat.now.ns c.args.step.now _ _ _ _ t.0 t.1 t.2 it in (
+      (tt, tt),
+      (
+        [],
+        event_at t.0 c.args.step.now t.1,
+        begun _ c.args.step.now _ _ _ _ t.0 t.1 said,
+        t.3,
+        λ waits. waits_at c.deref_mut.result.now.tenant _ c.args.step.now t.0 t.1 t.4 (t.3.0 waits),
+      ),
+    )
 
 pub returns-in_err-waits-clause-waited : goal.returns-in_err-waits-clause-waited
 returns-in_err-waits-clause-waited g c =
@@ -54,15 +62,16 @@ loop-preserved g c =
     let i = c.loop.invariant.1 in
     let t = c.in_ok-waits-2.ensures.tried in
     let waits : IsTrue c.loop.waits = c.if-not-waits.false in
-    let again = tried_at Passed c.loop.seat.ns c.args.seat.now.ns c.maker-pid.result _ c.loop.seat c.try_once-in-loop.new.seat
-    c.loop.receipts.items c.try_once-in-loop.new.receipts.items t.0 t.1 i.2.waited.gains.ns c.maker-pid.ensures t.2 in
+    let who = c.waiter-pid.ensures ∙ i.4 waits in
+    let again = tried_at Passed c.loop.seat.ns c.args.seat.now.ns c.waiter-pid.result _ c.loop.seat c.try_once-in-loop.new.seat
+    c.loop.receipts.items c.try_once-in-loop.new.receipts.items t.0 t.1 i.2.waited.gains.ns who t.2 in
     let here = lay_at Lay _ _ c.deref_mut-in-loop-2.ensures.value c.wait-seated.ensures in
     let it = happened Lay Woken (Framed c.loop.seat.ns) c.deref_mut-in-loop-2.result.now _ _ t.0 t.1 here t.4 t.5 c.in_ok-waits-2.ensures.framed in
     let said = said_of Lay Woken Passed Framed c.args.seat.now.ns (resume_of c.args.step.now) _ _ _ _ t.0 t.1 again
-    (happened_at Lay Woken Framed c.loop.seat.ns c.args.seat.now.ns c.maker-pid.result _ t.0 t.1 i.2.waited.gains.ns c.maker-pid.ensures it) in
+    (happened_at Lay Woken Framed c.loop.seat.ns c.args.seat.now.ns c.waiter-pid.result _ t.0 t.1 i.2.waited.gains.ns who it) in
     let go = gone_on (IsSaid Passed Framed Lay Woken c.args.seat.now.ns) c.args.step.now
     c.args.seat.now c.loop.seat c.try_once-in-loop.new.seat c.args.receipts.now.items c.loop.receipts.items c.try_once-in-loop.new.receipts.items i.0 i.1 t.0 t.1 i.2 (i.3.0 waits) said in
-    ((tt, tt), (i.0 ++ i.1 ∷ [], event_at t.0 (resume_of c.args.step.now) t.1, go, t.3))
+    ((tt, tt), (i.0 ++ i.1 ∷ [], event_at t.0 (resume_of c.args.step.now) t.1, go, t.3, λ _. i.4 waits))
 
 pub returns-in_err-waits-2-clause-waited : goal.returns-in_err-waits-2-clause-waited
 returns-in_err-waits-2-clause-waited g c =
