@@ -23,7 +23,7 @@ use Rattle.pf_base.specs.declared.fault.Fault.TheVariants as faults
 use Rattle.pf_base.specs.declared.step.Reply.TheVariants as replies
 use Rattle.pf_base.specs.declared.step.Step.TheVariants as steps
 use Rattle.pf_frame.specs.declared.frames.Frames.{Ghosts}
-use Rattle.pf_space.specs.Door.{Serves}
+use Rattle.pf_tables.specs.Door.{Serves}
 use Rattle.pf_tables.specs.Tables.{over, woken, awoken}
 use Rattle.pf_tables.specs.Told.{Says}
 use Rattle.pf_machine.specs.Maps.{if_ok}

@@ -79,7 +79,7 @@ impl<A: Allocator + Clone> Placed<A> {
     ghost use Rattle.pf_tables.specs.Buffers.{Lies, Replied, answer_in, number_in};
     ghost use Rattle.pf_tables.specs.Meaning.{meaning};
     ghost use Rattle.pf_tables.specs.Owns.{Owns};
-    ghost use Rattle.pf_space.specs.Door.{Serves, HandsOn};
+    ghost use Rattle.pf_tables.specs.Door.{Serves, HandsOn};
 
     /// A namespace at its opening state, with its files in memory of this allocator. They get clones of it.
     pub fn new(alloc: Global, allocator: A, config: Config) -> Result<Self, AllocError>

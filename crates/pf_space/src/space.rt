@@ -50,7 +50,7 @@ impl<A: Allocator + Clone> Space<A> {
     ghost use Rattle.pf_tables.specs.Meaning.{meaning, occupied, AreEmpty};
     ghost use Rattle.pf_tables.specs.Owns.{Owns};
     ghost use Rattle.pf_tables.specs.Told.{Told};
-    ghost use Rattle.pf_space.specs.Door.{Serves, HandsOn};
+    ghost use Rattle.pf_tables.specs.Door.{Serves, HandsOn};
 
     /// A namespace at its opening state, with its files in memory of an allocator of their own. Nothing else stands
     /// there. No clause names this allocator: `Placed` is a namespace beside one that clauses name.

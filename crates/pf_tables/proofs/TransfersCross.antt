@@ -21,15 +21,18 @@ use Rattle.pf_base.specs.declared.progress.Crossing.{Crossing}
 use Rattle.pf_base.specs.declared.progress.Progress.{Progress}
 use Rattle.pf_base.specs.declared.progress.Side.TheVariants as sides
 use Rattle.pf_fds.specs.Registry.{if_placed}
+use Rattle.pf_frame.specs.declared.frames.Frames.{Ghosts}
 use Rattle.pf_pipe.specs.Pipe.{Crosses}
+use Rattle.pf_ring.specs.Door.{HoldsBoth}
 use Rattle.pf_ring.proofs.TableLaws.{no_source, source_at, rings_stand, queue_stays}
 use Rattle.pf_tables.proofs.MeaningLaws.{settled-meaning}
 use Rattle.pf_tables.proofs.OwnsLaws.{pages-without, pages_within, occupied_pages, used-rings}
-use Rattle.pf_tables.specs.Told.{HasCrossed}
-use Rattle.pf_tables.proofs.Ends.{end_of_rows, Agree, ends as pipe_ends, reaches, counted}
+use Rattle.pf_tables.specs.Door.{Serves}
+use Rattle.pf_tables.specs.Told.{HasCrossed, Refused}
+use Rattle.pf_tables.proofs.Ends.{end_of_rows, reaches}
 use Rattle.pf_tables.proofs.TablesShown.{find_was}
 use Rattle.pf_tables.proofs.TablesSettled.{settled}
-use Rattle.pf_tables.proofs.Transfers.{owned}
+use Rattle.pf_tables.proofs.Transfers.{owned, its, counts}
 use Rattle.pf_tables.proofs.PipesRing.{there, ring_is, same_pipes, refilled-whole, refilled-joined, refilled-means}
 
 -- two look-ups by one process, and what goes on from both
@@ -49,13 +52,36 @@ set_around (x ∷ xs) zero (suc k) a b c ne = ap (λ ys. a ∷ ys) (set-set xs k
 set_around (x ∷ xs) (suc i) zero a b c ne = refl
 set_around (x ∷ xs) (suc i) (suc k) a b c ne = ap (λ ys. x ∷ ys) (set_around xs i k a b c (λ e. ne (ap suc e)))
 
--- what is known before
-module _ {files : Files} {files_made : ℕ} {f : Live} {limits : Limits} {charges : UserPages} {es : List (ℕ × Key)}
+module _ {files : Files} {files_made : ℕ} {limits : Limits} {charges : UserPages} {es : List (ℕ × Key)}
     {ps : ProcessRows} {ds : DescriptionRows} {pipes : PipeRows} (rows : Whole charges es ps ds pipes) {n : Namespace}
-    (view : record { limits = limits; state = state_of ps ds pipes files files_made } ≡ n)
-    (owns : Owns f n) where
-  own : Owns f (record { limits = limits; state = state_of ps ds pipes files files_made })
-  own = owned rows.kept view owns
+    (view : record { limits = limits; state = state_of ps ds pipes files files_made } ≡ n) {D : Type 0} {F : Ghosts D}
+    {x : D} (served : Serves F x n) where
+  abbrev f : Live
+  f = F.live x
+
+  abbrev t : State Window ℕ
+  t = state_of ps ds pipes files files_made
+
+  abbrev here : State Segment ℕ
+  here = meaning f t
+
+  own : Owns f (record { limits = limits; state = t })
+  own = owned rows.kept view served.owns
+
+  -- No count comes near the end of its type: all slots together are within the reservation
+  few : (o : Description) (s : Pipe) → find pipes o.pipe.slot o.pipe.serial ≡ Some s → limits.reserve ≤ MAX_RESERVE
+      → f.shares + s.ring.capacity < 2 ^ 32
+  few o s to most =
+      let one : s.ring.capacity ≤ pages t =
+      pages_at (pipes_of pipes) o.pipe.serial (pipe_of (o.pipe.slot, s))
+      (there ps ds pipes files files_made o.pipe s (find_was pipes o.pipe.slot o.pipe.serial s to)) in
+      let all : sum_by slots_used (rings_of t) ≡ occupied t = used-rings (pipes_of pipes) in
+      let it : Namespace = record { limits = limits; state = t } in
+      omega (arith, own.joined.total, all, one, most, occupied_pages f it own, pages_within f it own)
+    where
+      pages_at : (xs : List (Option (machine.Pipe Window))) (j : ℕ) (p : machine.Pipe Window) → at xs j ≡ Some p
+          → p.queue.capacity ≤ sum_of (λ (q : machine.Pipe Window). q.queue.capacity) xs
+      pages_at xs j p h = omega (arith, pages-without xs j p h)
 
   -- The two pipes that were found, where one is taken out and the other handed out. rest: the pipes that are left
   module _ (i o : Description) (differ : i.pipe.serial ≢ o.pipe.serial) {rest : PipeRows}
@@ -68,9 +94,6 @@ module _ {files : Files} {files_made : ℕ} {f : Live} {limits : Limits} {charge
 
     module _ {r s : Pipe} (from : find rest i.pipe.slot i.pipe.serial ≡ Some r)
         (to : find pipes o.pipe.slot o.pipe.serial ≡ Some s) where
-      abbrev t : State Window ℕ
-      t = state_of ps ds pipes files files_made
-
       source_stands : at pipes i.pipe.serial ≡ Some (i.pipe.slot, r)
       source_stands = find_was pipes i.pipe.slot i.pipe.serial r (sym source_is ∙ from)
 
@@ -80,12 +103,16 @@ module _ {files : Files} {files_made : ℕ} {f : Live} {limits : Limits} {charge
       source_ring : ring_at (rings_of t) i.pipe.serial ≡ r.ring
       source_ring = ring_is ps ds pipes files files_made i.pipe r source_stands
 
-      pub stand_together : Stands f (r.ring.segments ++ s.ring.segments)
-      stand_together =
-          subst (λ (x : Ring). Stands f (r.ring.segments ++ x.segments))
-          (ring_is ps ds pipes files files_made o.pipe s sink_stands)
-          (subst (λ (x : Ring). Stands f (x.segments ++ (ring_at (rings_of t) o.pipe.serial).segments)) source_ring
-          (rings_stand f (rings_of t) i.pipe.serial o.pipe.serial (λ e. differ (sym e)) own.joined))
+      pub holds_both : limits.reserve ≤ MAX_RESERVE → HoldsBoth F x r.ring.segments s.ring.segments s.ring.capacity
+      holds_both most = record {
+        fact = served.fact;
+        stands =
+            subst (λ (z : Ring). Stands f (r.ring.segments ++ z.segments))
+            (ring_is ps ds pipes files files_made o.pipe s sink_stands)
+            (subst (λ (z : Ring). Stands f (z.segments ++ (ring_at (rings_of t) o.pipe.serial).segments)) source_ring
+            (rings_stand f (rings_of t) i.pipe.serial o.pipe.serial (λ e. differ (sym e)) own.joined));
+        few = few o s to most;
+      }
 
       -- what was found is put back as it was, or with other windows
       module _ (r' s' : Pipe) where
@@ -103,7 +130,7 @@ module _ {files : Files} {files_made : ℕ} {f : Live} {limits : Limits} {charge
 
         same_view : r' ≡ r → s' ≡ s → record { limits = limits; state = state_of ps ds back files files_made } ≡ n
         same_view e d =
-            ap (λ x. record { limits = limits; state = state_of ps ds x files files_made })
+            ap (λ xs. record { limits = limits; state = state_of ps ds xs files files_made })
             (in_turn
             ∙ ap (λ (xs : PipeRows). put_at xs i.pipe.serial (i.pipe.slot, r'))
             (same_pipes ps ds pipes files files_made o.pipe s sink_stands s' d)
@@ -133,7 +160,7 @@ module _ {files : Files} {files_made : ℕ} {f : Live} {limits : Limits} {charge
 
         source_bound : (q j : ℕ) → reach q r.ring.segments ≤ limit q (ring_at (rings_of t) j).segments
         source_bound =
-            subst (λ (x : Ring). (q j : ℕ) → reach q x.segments ≤ limit q (ring_at (rings_of t) j).segments) source_ring
+            subst (λ (z : Ring). (q j : ℕ) → reach q z.segments ≤ limit q (ring_at (rings_of t) j).segments) source_ring
             (source_at f (rings_of t) i.pipe.serial own.joined)
 
         joined_between : Joined between (rings_of u)
@@ -141,7 +168,7 @@ module _ {files : Files} {files_made : ℕ} {f : Live} {limits : Limits} {charge
             refilled-joined ps ds pipes files files_made o.pipe s sink_stands s' c.sink_is own.joined source_bound
             c.moves.copied
 
-        pub crossed-owns : Owns g (record { limits = limits; state = state_of ps ds (back r' s') files files_made })
+        crossed-owns : Owns g (record { limits = limits; state = state_of ps ds (back r' s') files files_made })
         crossed-owns = record {
           joined =
               subst (λ (xs : PipeRows). Joined g (rings_of (state_of ps ds xs files files_made))) (sym (in_turn r' s'))
@@ -153,59 +180,32 @@ module _ {files : Files} {files_made : ℕ} {f : Live} {limits : Limits} {charge
         -- what was put shows the same once the source has lost it
         sink_stays : queue_of between s'.ring ≡ queue_of g s'.ring
         sink_stays =
-            sym (subst (λ (x : Ring). queue_of g x ≡ queue_of between x)
+            sym (subst (λ (z : Ring). queue_of g z ≡ queue_of between z)
             (ring_is ps ds (mid r' s') files files_made o.pipe s'
             (at-put_same pipes o.pipe.serial (Some (o.pipe.slot, s'))
             (at_within pipes o.pipe.serial (o.pipe.slot, s) sink_stands)))
             (queue_stays between g (rings_of u) i.pipe.serial o.pipe.serial r'.ring [] joined_between
-            (subst (λ (x : Ring). Keeps [] x.segments r'.ring.segments between g)
+            (subst (λ (z : Ring). Keeps [] z.segments r'.ring.segments between g)
             (sym (ring_is ps ds (mid r' s') files files_made i.pipe r (source_still r' s'))) c.moves.dropped)
             (λ e. differ (sym e))))
 
-        pub crossed-state : meaning g (state_of ps ds (back r' s') files files_made)
-            ≡ sweep itself (with_queue (with_queue (meaning f t) o.pipe.serial m.sink) i.pipe.serial m.source)
+        crossed-state : meaning g (state_of ps ds (back r' s') files files_made)
+            ≡ sweep itself (with_queue (with_queue here o.pipe.serial m.sink) i.pipe.serial m.source)
         crossed-state =
             ap (λ (xs : PipeRows). meaning g (state_of ps ds xs files files_made)) (in_turn r' s')
             ∙ settled-meaning g (state_of ps ds (put_at (mid r' s') i.pipe.serial (i.pipe.slot, r')) files files_made)
             (settled files files_made whole_in_turn.kept.tied)
             ∙ ap (sweep itself) (refilled-means ps ds (mid r' s') files files_made i.pipe r (source_still r' s') r'
             c.source_is joined_between (no_source (rings_of u)) c.moves.dropped
-            ∙ ap (λ x. with_queue x i.pipe.serial (queue_of g r'.ring)) (refilled-means ps ds pipes files files_made
+            ∙ ap (λ z. with_queue z i.pipe.serial (queue_of g r'.ring)) (refilled-means ps ds pipes files files_made
             o.pipe s sink_stands s' c.sink_is own.joined source_bound c.moves.copied
-            ∙ ap (with_queue (meaning f t) o.pipe.serial) sink_stays)
-            ∙ ap (λ (x : Crossed). with_queue (with_queue (meaning f t) o.pipe.serial x.sink) i.pipe.serial x.source)
+            ∙ ap (with_queue here o.pipe.serial) sink_stays)
+            ∙ ap (λ (z : Crossed). with_queue (with_queue here o.pipe.serial z.sink) i.pipe.serial z.source)
             (sym c.told))
-
-  -- No count comes near the end of its type: all slots together are within the reservation
-  pub few : (o : Description) (s : Pipe) → find pipes o.pipe.slot o.pipe.serial ≡ Some s → limits.reserve ≤ MAX_RESERVE
-      → f.shares + s.ring.capacity < 2 ^ 32
-  few o s to most =
-      let st : State Window ℕ = state_of ps ds pipes files files_made in
-      let one : s.ring.capacity ≤ pages st =
-      pages_at (pipes_of pipes) o.pipe.serial (pipe_of (o.pipe.slot, s))
-      (there ps ds pipes files files_made o.pipe s (find_was pipes o.pipe.slot o.pipe.serial s to)) in
-      let all : sum_by slots_used (rings_of st) ≡ occupied st = used-rings (pipes_of pipes) in
-      let it : Namespace = record { limits = limits; state = st } in
-      omega (arith, own.joined.total, all, one, most, occupied_pages f it own, pages_within f it own)
-    where
-      pages_at : (xs : List (Option (machine.Pipe Window))) (j : ℕ) (p : machine.Pipe Window) → at xs j ≡ Some p
-          → p.queue.capacity ≤ sum_of (λ (q : machine.Pipe Window). q.queue.capacity) xs
-      pages_at xs j p h = omega (arith, pages-without xs j p h)
 
   -- What the machine does, from what the tables find
 
   module _ (c : Crossing) (pid source sink m : ℕ) where
-    abbrev s : State Segment ℕ
-    s = meaning f (state_of ps ds pipes files files_made)
-
-    pub at_source : Agree (pipe_meaning f) pipes (end_in (Some sides.Read) ps ds pid source)
-        (ready s pid >>= (λ p. reading_end itself s p source))
-    at_source = pipe_ends (pipe_meaning f) (Some sides.Read) files files_made rows.kept.tied pid source
-
-    pub at_sink : Agree (pipe_meaning f) pipes (end_in (Some sides.Write) ps ds pid sink)
-        (ready s pid >>= (λ p. writing_end itself s p sink))
-    at_sink = pipe_ends (pipe_meaning f) (Some sides.Write) files files_made rows.kept.tied pid sink
-
     abbrev ends : End Segment ℕ → End Segment ℕ → Ends
     ends i o = record { source = i; sink = o }
 
@@ -214,99 +214,91 @@ module _ {files : Files} {files_made : ℕ} {f : Live} {limits : Limits} {charge
     test i o = refuse_if (nat_eq i.description.pipe o.description.pipe) EINVAL >> Ok (ends i o)
 
     abbrev tries : Ends → Result Tried Errno
-    tries e = Ok (try_cross c s e m)
+    tries e = Ok (try_cross c here e m)
 
     -- what the call comes to, by what is found of each end
     abbrev brings : Result (End Segment ℕ) Errno → Result (End Segment ℕ) Errno → Result Tried Errno
-    brings x y = (x >>= (λ i. y >>= (λ o. test i o))) >>= tries
+    brings y z = (y >>= (λ i. z >>= (λ o. test i o))) >>= tries
 
-    by_ends : {x y : Result (End Segment ℕ) Errno} → (ready s pid >>= (λ p. reading_end itself s p source)) ≡ x
-        → (ready s pid >>= (λ p. writing_end itself s p sink)) ≡ y
-        → attempted (meaning f n.state) pid (Bringing c source sink m) ≡ brings x y
-    by_ends {x} {y} from to =
-        subst (λ (v : Namespace). attempted (meaning f v.state) pid (Bringing c source sink m) ≡ brings x y) view
-        (both (ready s pid) (λ p. reading_end itself s p source) (λ p. writing_end itself s p sink) test tries
+    by_ends : {y z : Result (End Segment ℕ) Errno} → (ready here pid >>= (λ p. reading_end itself here p source)) ≡ y
+        → (ready here pid >>= (λ p. writing_end itself here p sink)) ≡ z
+        → attempted (meaning f n.state) pid (Bringing c source sink m) ≡ brings y z
+    by_ends {y} {z} from to =
+        subst (λ (v : Namespace). attempted (meaning f v.state) pid (Bringing c source sink m) ≡ brings y z) view
+        (both (ready here pid) (λ p. reading_end itself here p source) (λ p. writing_end itself here p sink) test tries
         ∙ (λ j. brings (from j) (to j)))
 
-    pub no_source_end : (e : Errno) → end_in (Some sides.Read) ps ds pid source ≡ Err e
-        → attempted (meaning f n.state) pid (Bringing c source sink m) ≡ Err e
-    no_source_end e h = by_ends (at_source.refused h) refl
+    pub no_source_end : {e : Errno} → end_in (Some sides.Read) ps ds pid source ≡ Err e
+        → Refused F.live x x n n pid (Bringing c source sink m) e
+    no_source_end h = (by_ends ((its rows view served pid source (Some sides.Read)).refused h) refl, (refl, refl))
 
-    module _ (i : Description) (reads : end_in (Some sides.Read) ps ds pid source ≡ Ok i) where
-      pub no_sink_end : (e : Errno) → end_in (Some sides.Write) ps ds pid sink ≡ Err e
-          → attempted (meaning f n.state) pid (Bringing c source sink m) ≡ Err e
-      no_sink_end e h = by_ends (at_source.found reads).is (at_sink.refused h)
+    module _ {i : Description} (reads : end_in (Some sides.Read) ps ds pid source ≡ Ok i) where
+      pub no_sink_end : {e : Errno} → end_in (Some sides.Write) ps ds pid sink ≡ Err e
+          → Refused F.live x x n n pid (Bringing c source sink m) e
+      no_sink_end h = (
+        by_ends ((its rows view served pid source (Some sides.Read)).found reads).is
+            ((its rows view served pid sink (Some sides.Write)).refused h),
+        (refl, refl),
+      )
 
-      module _ (o : Description) (writes : end_in (Some sides.Write) ps ds pid sink ≡ Ok o) where
+      module _ {o : Description} (writes : end_in (Some sides.Write) ps ds pid sink ≡ Ok o) where
         pub one_pipe : i.pipe.serial ≡ o.pipe.serial
-            → attempted (meaning f n.state) pid (Bringing c source sink m) ≡ Err EINVAL
+            → Refused F.live x x n n pid (Bringing c source sink m) EINVAL
         one_pipe e =
-            let from = at_source.found reads in
-            let to = at_sink.found writes in
-            by_ends from.is to.is
-            ∙ ap (λ b. (refuse_if b EINVAL >> Ok (ends (end_of_rows (pipe_meaning f) i from.pipe)
-            (end_of_rows (pipe_meaning f) o to.pipe))) >>= tries) (eq-eqb i.pipe.serial o.pipe.serial e)
+            let from = (its rows view served pid source (Some sides.Read)).found reads in
+            let to = (its rows view served pid sink (Some sides.Write)).found writes in (
+              by_ends from.is to.is
+                  ∙ ap (λ b. (refuse_if b EINVAL >> Ok (ends (end_of_rows (pipe_meaning f) i from.pipe)
+                  (end_of_rows (pipe_meaning f) o to.pipe))) >>= tries) (eq-eqb i.pipe.serial o.pipe.serial e),
+              (refl, refl),
+            )
 
--- What it left, over a door that went from x to y
-module _ {files : Files} {files_made : ℕ} {limits : Limits} {charges : UserPages} {es : List (ℕ × Key)}
-    {ps : ProcessRows} {ds : DescriptionRows} {pipes : PipeRows} (rows : Whole charges es ps ds pipes) {n : Namespace}
-    (view : record { limits = limits; state = state_of ps ds pipes files files_made } ≡ n) {D : Type 0}
-    (live : D → Live) {x : D} (owns : Owns (live x) n) (c : Crossing) (pid source sink m : ℕ) (i : Description)
-    (reads : end_in (Some sides.Read) ps ds pid source ≡ Ok i) (o : Description)
-    (writes : end_in (Some sides.Write) ps ds pid sink ≡ Ok o) (differ : i.pipe.serial ≢ o.pipe.serial)
-    {rest : PipeRows} (out : rest ≡ clear_at pipes o.pipe.serial) {r t : Pipe}
-    (from : find rest i.pipe.slot i.pipe.serial ≡ Some r) (to : find pipes o.pipe.slot o.pipe.serial ≡ Some t) where
-  abbrev here : State Segment ℕ
-  here = meaning (live x) (state_of ps ds pipes files files_made)
+        -- What it left, over a door that went from x to y
+        module _ (differ : i.pipe.serial ≢ o.pipe.serial) {rest : PipeRows}
+            (out : rest ≡ clear_at pipes o.pipe.serial) {r s : Pipe}
+            (from : find rest i.pipe.slot i.pipe.serial ≡ Some r)
+            (to : find pipes o.pipe.slot o.pipe.serial ≡ Some s) where
+          abbrev those : Ends
+          those = ends (end_of_rows (pipe_meaning f) i r) (end_of_rows (pipe_meaning f) o s)
 
-  abbrev those : Ends
-  those =
-      ends rows view owns c pid source sink m (end_of_rows (pipe_meaning (live x)) i r)
-      (end_of_rows (pipe_meaning (live x)) o t)
+          was : find pipes i.pipe.slot i.pipe.serial ≡ Some r
+          was = sym (source_is i o differ out) ∙ from
 
-  was : find pipes i.pipe.slot i.pipe.serial ≡ Some r
-  was = sym (source_is rows view owns i o differ out) ∙ from
+          is_tried : attempted (meaning f n.state) pid (Bringing c source sink m) ≡ Ok (try_cross c here those m)
+          is_tried =
+              by_ends (reaches (its rows view served pid source (Some sides.Read)) reads was)
+              (reaches (its rows view served pid sink (Some sides.Write)) writes to)
+              ∙ ap (λ b. (refuse_if b EINVAL >> Ok those) >>= tries) (ne_eqb i.pipe.serial o.pipe.serial differ)
 
-  is_tried : attempted (meaning (live x) n.state) pid (Bringing c source sink m) ≡ Ok (try_cross c here those m)
-  is_tried =
-      by_ends rows view owns c pid source sink m (reaches (at_source rows view owns c pid source sink m) reads was)
-      (reaches (at_sink rows view owns c pid source sink m) writes to)
-      ∙ ap (λ b. (refuse_if b EINVAL >> Ok those) >>= (λ z. Ok (try_cross c here z m)))
-      (ne_eqb i.pipe.serial o.pipe.serial differ)
+          abbrev goes : ℕ → ℕ → Crossed
+          goes writing reading = cross_now c (queue_of f r.ring) (queue_of f s.ring) writing reading m
 
-  abbrev goes : ℕ → ℕ → Crossed
-  goes writing reading = cross_now c (queue_of (live x) r.ring) (queue_of (live x) t.ring) writing reading m
+          same_result : goes r.writers s.readers
+              ≡ goes (writers itself here i.pipe.serial) (readers itself here o.pipe.serial)
+          same_result =
+              λ j. goes (sym (counts rows view served i was).1 j) (sym (counts rows view served o to).0 j)
 
-  same_result : goes r.writers t.readers
-      ≡ goes (writers itself here i.pipe.serial) (readers itself here o.pipe.serial)
-  same_result =
-      let counts_of : (d : Description) (p : Pipe) → find pipes d.pipe.slot d.pipe.serial ≡ Some p
-      → (readers itself here d.pipe.serial ≡ p.readers) × (writers itself here d.pipe.serial ≡ p.writers) =
-      λ d p h. counted (pipe_meaning (live x)) None files files_made rows.kept.tied pid source d.pipe.serial
-      d.pipe.slot p (find_was pipes d.pipe.slot d.pipe.serial p h) in
-      λ j. goes (sym (counts_of i r was).1 j) (sym (counts_of o t to).0 j)
-
-  -- in whatever form the rows are given
-  pub arrived : {y : D} {r' t' : Pipe} {progress : Progress}
-      → Crosses r r' t t' (live x) (live y) progress (goes r.writers t.readers)
-      → (moved progress ≡ 0 → (r' ≡ r) × (t' ≡ t) × (y ≡ x)) → {after : PipeRows}
-      → after ≡ put_at (put_at rest i.pipe.serial (i.pipe.slot, r')) o.pipe.serial (o.pipe.slot, t')
-      → HasCrossed live x y n (record { limits = limits; state = state_of ps ds after files files_made }) pid
-      (Bringing c source sink m) (Ok progress)
-  arrived {y} {r'} {t'} {progress} crosses untouched {after} e =
-      subst (λ (xs : PipeRows). HasCrossed live x y n (record {
-        limits = limits;
-        state = state_of ps ds xs files files_made;
-      }) pid (Bringing c source sink m) (Ok progress)) (sym e) (record {
-        tried = try_cross c here those m;
-        is = is_tried;
-        progress_is = ap (λ (z : Crossed). z.progress) (sym same_result ∙ crosses.told);
-        holds = tt;
-        owns = crossed-owns rows view owns i o differ out from to crosses;
-        limits = ap (λ (z : Namespace). z.limits) view;
-        state =
-            crossed-state rows view owns i o differ out from to
-            (subst (Crosses r r' t t' (live x) (live y) progress) same_result crosses);
-        untouched = λ zero. let same = untouched zero in
-            (same_view rows view owns i o differ out from to r' t' same.0 same.1, same.2);
-      })
+          -- in whatever form the rows are given
+          pub arrived : {y : D} {r' s' : Pipe} {progress : Progress}
+              → Crosses r r' s s' f (F.live y) progress (goes r.writers s.readers)
+              → (moved progress ≡ 0 → (r' ≡ r) × (s' ≡ s) × (y ≡ x)) → {after : PipeRows}
+              → after ≡ put_at (put_at rest i.pipe.serial (i.pipe.slot, r')) o.pipe.serial (o.pipe.slot, s')
+              → HasCrossed F.live x y n (record { limits = limits; state = state_of ps ds after files files_made }) pid
+              (Bringing c source sink m) (Ok progress)
+          arrived {y} {r'} {s'} {progress} crosses untouched {after} e =
+              subst (λ (xs : PipeRows). HasCrossed F.live x y n (record {
+                limits = limits;
+                state = state_of ps ds xs files files_made;
+              }) pid (Bringing c source sink m) (Ok progress)) (sym e) (record {
+                tried = try_cross c here those m;
+                is = is_tried;
+                progress_is = ap (λ (z : Crossed). z.progress) (sym same_result ∙ crosses.told);
+                holds = tt;
+                owns = crossed-owns i o differ out from to crosses;
+                limits = ap (λ (z : Namespace). z.limits) view;
+                state =
+                    crossed-state i o differ out from to
+                    (subst (Crosses r r' s s' f (F.live y) progress) same_result crosses);
+                untouched = λ zero. let same = untouched zero in
+                    (same_view i o differ out from to r' s' same.0 same.1, same.2);
+              })

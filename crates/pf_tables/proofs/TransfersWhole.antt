@@ -1,23 +1,23 @@
 -- A write that comes to its end at once, or stops short of it; and whether a descriptor's description has O_NONBLOCK.
 
-use Rattle.std.proofs.Common.{◌≡◌, ℕ, zero, suc, ◌<◌, ◌≤◌, Bool, true, false, List, length, nat_eq, nat_lt, nat_le}
-use Rattle.std.proofs.Common.{Some, None, Result, Ok, Err, inl, inr, if◌then◌else◌, refl, sym, ap, subst, ◌∙◌, arith}
-use Rattle.std.proofs.lemmas.Bool.{eqb-true, eqb-false, le-ltb, le-leb, lt-leb}
-use Rattle.pf_tables.proofs.Common.{Files, Limits, ◌>>=◌, ◌>>◌, refuse_if, Segment, Queue, room_of, Passed, itself}
-use Rattle.pf_tables.proofs.Common.{State, End, ready, writing_end, readers, Tried, PIPE_BUF, MAX_WRITE, Errno, EINVAL}
-use Rattle.pf_tables.proofs.Common.{find, Live, queue_of, Window, UserPages, Namespace, meaning, pipe_meaning}
-use Rattle.pf_tables.proofs.Common.{ProcessRows, DescriptionRows, PipeRows, Description, Pipe, state_of, end_in, Tied}
-use Rattle.pf_tables.proofs.Common.{Kept, attempted}
+use Rattle.std.proofs.Common.{◌≡◌, ℕ, zero, suc, ◌<◌, ◌≤◌, Bool, true, false, List, length, nat_eq, nat_le, Some, None}
+use Rattle.std.proofs.Common.{Result, Ok, Err, inl, inr, if◌then◌else◌, refl, sym, ap, subst, ◌∙◌, arith}
+use Rattle.std.proofs.lemmas.Bool.{eqb-true, eqb-false, le-leb, lt-leb}
+use Rattle.pf_tables.proofs.Common.{Files, Limits, ◌>>=◌, Queue, room_of, Passed, itself, State, End, ready, readers}
+use Rattle.pf_tables.proofs.Common.{PIPE_BUF, MAX_WRITE, Errno, find, queue_of, Window, UserPages, Namespace, meaning}
+use Rattle.pf_tables.proofs.Common.{pipe_meaning, ProcessRows, DescriptionRows, PipeRows, Description, Pipe, Key}
+use Rattle.pf_tables.proofs.Common.{state_of, end_in, Tied, Whole, attempted}
 use Rattle.pf_machine.specs.Calls.{Writing}
 use Rattle.pf_machine.specs.Progress.{portion, put_some, write_now}
 use Rattle.pf_machine.specs.State.{Process, end_of}
 use Rattle.pf_machine.specs.Transfers.{try_write}
 use Rattle.pf_base.specs.declared.progress.Progress.TheVariants.{Moved}
 use Rattle.pf_base.specs.declared.progress.Side.TheVariants.{Write}
+use Rattle.pf_frame.specs.declared.frames.Frames.{Ghosts}
+use Rattle.pf_tables.specs.Door.{Serves}
 use Rattle.pf_tables.specs.Told.{flag_of, is_nonblocking_at, IsDone, IsShort, Stops}
-use Rattle.pf_tables.proofs.Ends.{end_of_rows, kept_ends, ends as pipe_ends, reaches, counted}
-use Rattle.pf_tables.proofs.TablesShown.{find_was}
-use Rattle.pf_tables.proofs.Refusals.{bind-bind}
+use Rattle.pf_tables.proofs.Ends.{end_of_rows, kept_ends}
+use Rattle.pf_tables.proofs.Transfers.{tried_write, counts}
 
 -- How far a write comes
 
@@ -104,32 +104,21 @@ module _ {ps : ProcessRows} {ds : DescriptionRows} {pipes : PipeRows} (tied : Ti
   pub no_flag : (e : Errno) → end_in None ps ds pid fd ≡ Err e → false ≡ is_nonblocking_at n.state pid fd
   no_flag e h = found_flag ((kept_ends None files files_made tied pid fd).refused h)
 
-module _ {files : Files} {files_made : ℕ} (f : Live) {limits : Limits} {charges : UserPages} {ps : ProcessRows}
-    {ds : DescriptionRows} {pipes : PipeRows} (kept : Kept charges ps ds pipes) {n : Namespace}
-    (view : record { limits = limits; state = state_of ps ds pipes files files_made } ≡ n)
-    (pid fd : ℕ) where
-  abbrev s : State Segment ℕ
-  s = meaning f (state_of ps ds pipes files files_made)
-
-  -- a write into a pipe that was found, which has readers and no room for all bytes, stops short of its end
-  pub stops_at : (d : Description) (r : Pipe) (x : List ℕ) → end_in (Some Write) ps ds pid fd ≡ Ok d
-      → find pipes d.pipe.slot d.pipe.serial ≡ Some r → length x ≤ MAX_WRITE
-      → 0 < r.readers → room_of (queue_of f r.ring) < length x
-      → Stops (attempted (meaning f n.state) pid (Writing fd x 0)) (length x)
-  stops_at d r x h handed fits some short =
-      let counts =
-      counted (pipe_meaning f) (Some Write) files files_made kept.tied pid fd d.pipe.serial d.pipe.slot
-      r (find_was pipes d.pipe.slot d.pipe.serial r handed) in
-      let go : Bool → Result Tried Errno =
-      λ b. refuse_if b EINVAL >> Ok (try_write s (end_of_rows (pipe_meaning f) d r) x 0) in
-      subst (λ (v : Namespace). Stops (attempted (meaning f v.state) pid (Writing fd x 0)) (length x)) view
+-- a write into a pipe that was found, which has readers and no room for all bytes, stops short of its end
+module _ {files : Files} {files_made : ℕ} {limits : Limits} {charges : UserPages} {es : List (ℕ × Key)}
+    {ps : ProcessRows} {ds : DescriptionRows} {pipes : PipeRows} (rows : Whole charges es ps ds pipes) {n : Namespace}
+    (view : record { limits = limits; state = state_of ps ds pipes files files_made } ≡ n) {D : Type 0} {F : Ghosts D}
+    {x : D} (served : Serves F x n) (d : Description) {r : Pipe}
+    (handed : find pipes d.pipe.slot d.pipe.serial ≡ Some r) where
+  pub stops_at : (pid fd : ℕ) (w : List ℕ) → end_in (Some Write) ps ds pid fd ≡ Ok d → length w ≤ MAX_WRITE
+      → 0 < r.readers → room_of (queue_of (F.live x) r.ring) < length w
+      → Stops (attempted (meaning (F.live x) n.state) pid (Writing fd w 0)) (length w)
+  stops_at pid fd w h fits some short =
+      let s = meaning (F.live x) (state_of ps ds pipes files files_made) in
+      subst (λ (v : Namespace). Stops (attempted (meaning (F.live x) v.state) pid (Writing fd w 0)) (length w)) view
       (record {
-        tried = try_write s (end_of_rows (pipe_meaning f) d r) x 0;
-        is =
-            bind-bind (ready s pid) (λ p. writing_end itself s p fd) _
-            ∙ ap (λ m. m >>= (λ e. refuse_if (nat_lt MAX_WRITE (length x)) EINVAL >> Ok (try_write s e x 0)))
-            (reaches (pipe_ends (pipe_meaning f) (Some Write) files files_made kept.tied pid fd) h handed)
-            ∙ ap go (le-ltb MAX_WRITE (length x) fits);
-        short = stops (queue_of f r.ring) (nat_le (length x) PIPE_BUF) x (readers itself s d.pipe.serial)
-            (subst (λ k. 0 < k) (sym counts.0) some) short;
+        tried = try_write s (end_of_rows (pipe_meaning (F.live x)) d r) w 0;
+        is = tried_write rows view served pid fd w 0 h handed fits;
+        short = stops (queue_of (F.live x) r.ring) (nat_le (length w) PIPE_BUF) w (readers itself s d.pipe.serial)
+            (subst (λ k. 0 < k) (sym (counts rows view served d handed).0) some) short;
       })

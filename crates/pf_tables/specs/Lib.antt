@@ -1,5 +1,6 @@
 pub mod Bounds
 pub mod Buffers
+pub mod Door
 pub mod Held
 pub mod Meaning
 pub mod Opened

@@ -6,7 +6,7 @@ ghost use Rattle.pf_ring.specs.Windows.{Keeps, Stands};
 ghost use Rattle.pf_tables.specs.Meaning.{meaning};
 ghost use Rattle.pf_tables.specs.Tables.{descriptor, emptied};
 ghost use Rattle.pf_tables.specs.Told.{Becomes, Told};
-ghost use Rattle.pf_space.specs.Door.{Serves, HandsOn};
+ghost use Rattle.pf_tables.specs.Door.{Serves, HandsOn};
 
 use super::Space;
 use pf_base::{Fault, MAX_DESCRIPTORS, Reply, Step};

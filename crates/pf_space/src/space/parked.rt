@@ -7,7 +7,7 @@ ghost use Rattle.pf_tables.specs.Buffers.{Replied, number_told};
 ghost use Rattle.pf_tables.specs.Meaning.{meaning, occupied, AreEmpty};
 ghost use Rattle.pf_tables.specs.Owns.{Owns};
 ghost use Rattle.pf_tables.specs.Told.{Told, ended};
-ghost use Rattle.pf_space.specs.Door.{Serves, HandsOn};
+ghost use Rattle.pf_tables.specs.Door.{Serves, HandsOn};
 
 use super::Space;
 use pf_base::{Answer, Errno, Fault, Progress, Reply, Step};

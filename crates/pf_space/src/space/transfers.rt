@@ -10,7 +10,7 @@ ghost use Rattle.pf_tables.specs.Buffers.{Lies, answer_in, number_in, told_in};
 ghost use Rattle.pf_tables.specs.Meaning.{meaning, occupied, AreEmpty};
 ghost use Rattle.pf_tables.specs.Owns.{Owns};
 ghost use Rattle.pf_tables.specs.Told.{Told, tried_call, is_nonblocking_at, write_ended, Parks};
-ghost use Rattle.pf_space.specs.Door.{Serves, HandsOn};
+ghost use Rattle.pf_tables.specs.Door.{Serves, HandsOn};
 
 use super::Space;
 use pf_base::{Answer, ByteString, Crossing, Errno, Fault, Progress, Reply, Step};

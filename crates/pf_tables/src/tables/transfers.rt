@@ -5,8 +5,8 @@ ghost use Rattle.std.specs.Prelude.{◌≡◌, ◌≤◌, Err, None, IsOk, drop,
 ghost use Rattle.pf_machine.specs.Calls.{Reading, Writing, Bringing};
 ghost use Rattle.pf_machine.specs.State.{ready};
 ghost use Rattle.pf_tables.specs.Buffers.{HasReadInto, HasReadTruncated};
+ghost use Rattle.pf_tables.specs.Door.{Serves, HandsOn};
 ghost use Rattle.pf_tables.specs.Meaning.{meaning};
-ghost use Rattle.pf_tables.specs.Owns.{Owns};
 ghost use Rattle.pf_tables.specs.Told.{is_nonblocking_at, HasRead, HasCrossed, Wrote, WroteWhole};
 
 use super::{Tables, end, reading_end, writing_end};
@@ -43,10 +43,8 @@ impl<A: Allocator> Tables<A> {
         fd: u32,
         bytes: &[u8],
     ) -> Result<Option<Progress>, Errno>
-        requires fact { F.fact door.old }
-        requires owns { Owns (F.live door.old) self.old }
-        ensures fact { F.fact door.new }
-        ensures rest { F.rest door.new ≡ F.rest door.old }
+        requires door { Serves F.Frames door.old self.old }
+        ensures door { HandsOn F.Frames door.old door.new }
         // It came to the machine's end, or the machine's would wait, or is refused. Where no byte went in, nothing has
         // changed.
         ensures written { WroteWhole F.live door.old door.new self.old self.new pid (Writing fd bytes.now 0) bytes.now
@@ -77,10 +75,8 @@ impl<A: Allocator> Tables<A> {
         written: usize,
     ) -> Result<Progress, Errno>
         requires written { written ≤ length bytes.now }
-        requires fact { F.fact door.old }
-        requires owns { Owns (F.live door.old) self.old }
-        ensures fact { F.fact door.new }
-        ensures rest { F.rest door.new ≡ F.rest door.old }
+        requires door { Serves F.Frames door.old self.old }
+        ensures door { HandsOn F.Frames door.old door.new }
         // It came as far as the machine's write, or is refused as that is. Where no byte went in, nothing has changed.
         ensures wrote { Wrote F.live door.old door.new self.old self.new pid (Writing fd bytes.now written)
             (drop written bytes.now) result }
@@ -105,10 +101,8 @@ impl<A: Allocator> Tables<A> {
         fd: u32,
         n: u64,
     ) -> Result<Taken, Fault>
-        requires fact { F.fact door.old }
-        requires owns { Owns (F.live door.old) self.old }
-        ensures fact { F.fact door.new }
-        ensures rest { F.rest door.new ≡ F.rest door.old }
+        requires door { Serves F.Frames door.old self.old }
+        ensures door { HandsOn F.Frames door.old door.new }
         // It came as far as the machine's read, or is refused as that is, or memory was wanted for a process that
         // lives. Where no byte came out, nothing has changed.
         ensures read { HasRead F.live door.old door.new self.old self.new pid (Reading fd n) result }
@@ -131,10 +125,8 @@ impl<A: Allocator> Tables<A> {
         fd: u32,
         buffer: &mut [u8],
     ) -> Result<Progress, Errno>
-        requires fact { F.fact door.old }
-        requires owns { Owns (F.live door.old) self.old }
-        ensures fact { F.fact door.new }
-        ensures rest { F.rest door.new ≡ F.rest door.old }
+        requires door { Serves F.Frames door.old self.old }
+        ensures door { HandsOn F.Frames door.old door.new }
         // It came as far as the machine's read, or is refused as that is. Where no byte came out, nothing has changed.
         ensures read { HasReadInto F.live door.old door.new self.old self.new pid fd buffer.old buffer.new result }
     {
@@ -154,10 +146,8 @@ impl<A: Allocator> Tables<A> {
         n: u64,
         buffer: &mut [u8],
     ) -> Result<Progress, Errno>
-        requires fact { F.fact door.old }
-        requires owns { Owns (F.live door.old) self.old }
-        ensures fact { F.fact door.new }
-        ensures rest { F.rest door.new ≡ F.rest door.old }
+        requires door { Serves F.Frames door.old self.old }
+        ensures door { HandsOn F.Frames door.old door.new }
         // It came as far as the machine's read, or is refused as that is. Where no byte came out, nothing has changed.
         ensures read { HasReadTruncated F.live door.old door.new self.old self.new pid (Reading fd n) buffer.old
             buffer.new result }
@@ -182,10 +172,8 @@ impl<A: Allocator> Tables<A> {
         sink: u32,
         n: u64,
     ) -> Result<Progress, Errno>
-        requires fact { F.fact door.old }
-        requires owns { Owns (F.live door.old) self.old }
-        ensures fact { F.fact door.new }
-        ensures rest { F.rest door.new ≡ F.rest door.old }
+        requires door { Serves F.Frames door.old self.old }
+        ensures door { HandsOn F.Frames door.old door.new }
         // It came as far as the machine's, or is refused as that is. Where no byte came, nothing has changed.
         ensures crossed { HasCrossed F.live door.old door.new self.old self.new pid (Bringing crossing source sink n)
             result }

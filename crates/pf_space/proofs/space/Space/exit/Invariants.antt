@@ -1,5 +1,5 @@
 use Rattle.std.proofs.Common.{◌-◌}
-use Rattle.pf_space.specs.Door.{HandsOn}
+use Rattle.pf_tables.specs.Door.{HandsOn}
 use Rattle.pf_space.proofs.Closes.{Exits}
 use Rattle.pf_space.proofs.space.Space.exit.Given as goal
 

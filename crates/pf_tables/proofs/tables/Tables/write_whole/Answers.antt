@@ -12,54 +12,51 @@ use Rattle.pf_tables.proofs.tables.Tables.write_whole.Goals.{else-readers-gt0-vi
 pub returns-in_err-end-clause-written : goal.returns-in_err-end-clause-written
 returns-in_err-end-clause-written g c =
     let refused =
-    lemmas.no_write c.self.invariant c.self.view_is c.args.pid c.args.fd c.requires.owns c.args.bytes.now 0 _
+    lemmas.no_write c.self.invariant c.self.view_is c.requires.door c.args.pid c.args.fd c.args.bytes.now 0
     (sym c.in_err-end.ensures) in
     search rules
 
 pub returns-then-bytes-gt-MAX_WRITE-clause-written : goal.returns-then-bytes-gt-MAX_WRITE-clause-written
-returns-then-bytes-gt-MAX_WRITE-clause-written g c = (
-  lemmas.too_long c.self.invariant c.self.view_is c.args.pid c.args.fd c.requires.owns c.in_ok-end.end
-      c.args.bytes.now 0 (sym c.in_ok-end.ensures) c.if-bytes-gt-MAX_WRITE.true,
-  (refl, refl),
-)
+returns-then-bytes-gt-MAX_WRITE-clause-written g c =
+    lemmas.too_long c.self.invariant c.self.view_is c.requires.door c.args.pid c.args.fd c.args.bytes.now 0
+    (sym c.in_ok-end.ensures) c.if-bytes-gt-MAX_WRITE.true
 
 pub value_mut-pipe-requires : goal.value_mut-pipe-requires
 value_mut-pipe-requires g c = record {
   stands =
-      lemmas.pipe_there c.self.invariant c.self.view_is c.args.pid c.args.fd c.requires.owns c.in_ok-end.end
-      (Some Write) (sym c.in_ok-end.ensures);
+      lemmas.pipe_stands c.self.invariant c.self.view_is c.requires.door c.args.pid c.args.fd (Some Write)
+      (sym c.in_ok-end.ensures);
 }
 
 pub invariant_of-self : goal.invariant_of-self
 invariant_of-self g c =
-    lemmas.same-whole c.self.invariant c.self.view_is c.in_ok-end.end c.value_mut-pipe.ensures.value refl
+    lemmas.same-whole c.self.invariant c.self.view_is c.requires.door c.in_ok-end.end c.value_mut-pipe.ensures.value
+    refl
 
 pub returns-then-room-bytes-clause-written : goal.returns-then-room-bytes-clause-written
 returns-then-room-bytes-clause-written g c = (
-  stops_at (g.F.Frames.live c.args.door.now) c.self.invariant.kept c.self.view_is c.args.pid c.args.fd c.in_ok-end.end _
-      c.args.bytes.now (sym c.in_ok-end.ensures) c.value_mut-pipe.ensures.value c.if-bytes-gt-MAX_WRITE.false
+  stops_at c.self.invariant c.self.view_is c.requires.door c.in_ok-end.end c.value_mut-pipe.ensures.value c.args.pid
+      c.args.fd c.args.bytes.now (sym c.in_ok-end.ensures) c.if-bytes-gt-MAX_WRITE.false
       (subst (λ k. 0 < k) c.readers.ensures c.if-readers-gt0.true)
       (subst (λ k. k < length c.args.bytes.now) (c.room.ensures (g.F.Frames.live c.args.door.now))
       c.if-room-bytes.true),
   (
-    lemmas.same_view c.self.invariant c.self.view_is c.in_ok-end.end c.value_mut-pipe.ensures.value refl,
+    lemmas.same_view c.self.invariant c.self.view_is c.requires.door c.in_ok-end.end c.value_mut-pipe.ensures.value
+        refl,
     refl,
   ),
 )
 
 pub write_now-requires : goal.write_now-requires
-write_now-requires g c =
-    let stands =
-    lemmas.stands_in c.self.invariant.kept c.self.view_is c.requires.owns c.in_ok-end.end
-    c.value_mut-pipe.ensures.value in
-    let credits =
-    lemmas.credits c.self.invariant.kept c.self.view_is c.requires.owns c.in_ok-end.end
-    c.value_mut-pipe.ensures.value (g.met.F.Frames.sound _ c.requires.fact) in
-    record { door = record { fact = c.requires.fact; stands = stands; credits = credits } }
+write_now-requires g c = record {
+  door =
+      lemmas.affords c.self.invariant c.self.view_is c.requires.door c.in_ok-end.end c.value_mut-pipe.ensures.value
+      g.met.F.Frames.sound;
+}
 
 pub invariant_of-self-2 : goal.invariant_of-self-2
 invariant_of-self-2 g c =
-    lemmas.passed-whole c.self.invariant c.self.view_is c.in_ok-end.end c.value_mut-pipe.ensures.value
+    lemmas.passed-whole c.self.invariant c.self.view_is c.requires.door c.in_ok-end.end c.value_mut-pipe.ensures.value
     c.write_now.ensures.passes
 
 -- somebody reads the pipe only where there is room for all bytes
@@ -73,9 +70,9 @@ fits g c some = elim c.else-readers-gt0.branch [
 
 pub returns-clause-written : goal.returns-clause-written
 returns-clause-written g c = (
-  lemmas.wrote c.self.invariant c.self.view_is g.F.Frames.live c.requires.owns c.args.pid c.args.fd
-      c.in_ok-end.end _ c.value_mut-pipe.ensures.value c.write_now.ensures.untouched c.args.bytes.now 0 _
-      (sym c.in_ok-end.ensures) c.if-bytes-gt-MAX_WRITE.false refl c.write_now.ensures.passes,
+  lemmas.wrote c.self.invariant c.self.view_is c.requires.door c.in_ok-end.end c.value_mut-pipe.ensures.value
+      c.args.pid c.args.fd c.write_now.ensures.untouched c.args.bytes.now 0 _ (sym c.in_ok-end.ensures)
+      c.if-bytes-gt-MAX_WRITE.false refl c.write_now.ensures.passes,
   subst (λ (m : Passed). IsDone m.progress (length c.args.bytes.now)) c.write_now.ensures.passes.told
       (ends _ _ c.args.bytes.now _ (fits g c)),
 )
