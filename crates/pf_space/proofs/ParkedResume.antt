@@ -234,15 +234,10 @@ module _ (f : Live) {tables old mid : Namespace} (view : tables ≡ old) (pid : 
       ∙ set_same ps (pid - 1) (Some w.p) (sym w.stands)) ∙ view
 
 -- the frames are the namespace's own when its process is woken
-pub woken_owns : (f : Live) {tables old mid : Namespace} → tables ≡ old → Owns f old → (pid : ℕ)
-    → mid ≡ record tables { state = awoken tables.state pid } → mid.state ≡ sweep itself mid.state → Owns f mid
-woken_owns f {tables} {old} {mid} view owns pid is still =
-    let woken = woken-left f tables mid pid is still (subst (Owns f) (sym view) owns) in woken.owns
-
-pub woken_served : {D : Type 0} (F : Ghosts D) {d : D} {tables old mid : Namespace} → tables ≡ old → Serves F d old
+pub woken_served : {D : Type 0} {F : Ghosts D} {d : D} {tables old mid : Namespace} → tables ≡ old → Serves F d old
     → (pid : ℕ) → mid ≡ record tables { state = awoken tables.state pid } → mid.state ≡ sweep itself mid.state
     → Serves F d mid
-woken_served F {d} view served pid is still = record {
-  fact = served.fact;
-  owns = woken_owns (F.live d) view served.owns pid is still;
-}
+woken_served {F = F} {d = d} {tables = tables} {mid = mid} view served pid is still =
+    let f = F.live d in
+    let woken = woken-left f tables mid pid is still (subst (Owns f) (sym view) served.owns) in
+    record { fact = served.fact; owns = woken.owns }

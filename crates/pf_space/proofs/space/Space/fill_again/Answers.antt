@@ -5,7 +5,7 @@ use Rattle.std.proofs.Common.{◌≡◌, Some, Err, refl, sym, ap, subst, rules,
 use Rattle.pf_space.proofs.Common.{Reading, Moving, Namespace, meaning, Owns}
 use Rattle.pf_machine.specs.Machine.{call_of}
 use Rattle.pf_space.proofs.ParkedInto as lemmas
-use Rattle.pf_space.proofs.ParkedResume.{woken_owns}
+use Rattle.pf_space.proofs.ParkedResume.{woken_served}
 use Rattle.pf_space.proofs.space.Space.fill_again.Goals as goal
 
 pub wake-requires : goal.wake-requires
@@ -16,17 +16,19 @@ wake-requires g c =
     (sym c.self.view_is) c.requires.waits in
     record { lives = lemmas.lives_there (meaning f c.self.inside.tables.state) c.args.pid c.args.fd c.args.n waits }
 
-pub read_truncated-requires-clause-owns : goal.read_truncated-requires-clause-owns
-read_truncated-requires-clause-owns g c =
-    woken_owns _ c.self.view_is c.requires.door.owns c.args.pid c.wake.ensures.namespace c.wake.ensures.swept
+pub read_truncated-requires : goal.read_truncated-requires
+read_truncated-requires g c = record {
+  door = woken_served c.self.view_is c.requires.door c.args.pid c.wake.ensures.namespace c.wake.ensures.swept;
+}
 
 pub returns-in_err-number-clause-answers : goal.returns-in_err-number-clause-answers
 returns-in_err-number-clause-answers g c =
-    let owns =
-    woken_owns _ c.self.view_is c.requires.door.owns c.args.pid c.wake.ensures.namespace c.wake.ensures.swept in
+    let served =
+    woken_served c.self.view_is c.requires.door c.args.pid c.wake.ensures.namespace c.wake.ensures.swept in
     let told =
     lemmas.is_refused g.F.Frames.live c.self.view_is _ c.requires.waits c.wake.ensures.namespace c.settled.ensures
-    {told = Err c.in_err-number.field-0.0} _ c.in_err-number.ensures.read.0 owns refl c.in_err-number.ensures.read.1 in
+    {told = Err c.in_err-number.field-0.0} _ c.in_err-number.ensures.read.0 served.owns refl
+    c.in_err-number.ensures.read.1 in
     search rules
 
 pub returns-in-Moved-clause-answers : goal.returns-in-Moved-clause-answers

@@ -19,23 +19,17 @@ returns-then-branch-clause-told g c =
 
 pub read_on-requires : goal.read_on-requires
 read_on-requires g c = record {
-  door =
-      lemmas.woken_served g.F.Frames c.self.view_is c.requires.door c.args.pid c.wake.ensures.namespace
-      c.wake.ensures.swept;
+  door = lemmas.woken_served c.self.view_is c.requires.door c.args.pid c.wake.ensures.namespace c.wake.ensures.swept;
 }
 
 pub write_on-requires : goal.write_on-requires
 write_on-requires g c = record {
-  door =
-      lemmas.woken_served g.F.Frames c.self.view_is c.requires.door c.args.pid c.wake.ensures.namespace
-      c.wake.ensures.swept;
+  door = lemmas.woken_served c.self.view_is c.requires.door c.args.pid c.wake.ensures.namespace c.wake.ensures.swept;
 }
 
 pub cross-requires : goal.cross-requires
 cross-requires g c = record {
-  door =
-      lemmas.woken_served g.F.Frames c.self.view_is c.requires.door c.args.pid c.wake.ensures.namespace
-      c.wake.ensures.swept;
+  door = lemmas.woken_served c.self.view_is c.requires.door c.args.pid c.wake.ensures.namespace c.wake.ensures.swept;
 }
 
 pub returns-in-Some-Write-clause-told : goal.returns-in-Some-Write-clause-told
