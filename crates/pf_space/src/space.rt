@@ -66,6 +66,7 @@ impl<A: Allocator + Clone> Space<A> {
     // It and `call` are inlined, so that what a transfer replies is put into the answer where it is made. What the
     // tables tell is moved there (`handed`).
     #[inline(always)]
+    #[tactic(auto, using(crate::proofs::Steps::none_live))]
     pub fn step<F: Frames>(&mut self, door: &mut F, step: &Step) -> Answer
         requires door { Serves F.Frames door.old self.old }
         // The door is left as it is to be, and the live frames are those of this namespace.

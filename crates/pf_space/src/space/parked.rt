@@ -42,6 +42,7 @@ impl<A: Allocator + Clone> Space<A> {
     /// leaves with a `Step::Resume`, and what it is told is the same number, the same wait and the same error. Of a
     /// read the number is how many bytes it hands out, at most as many as it asked for when it began to wait: the first
     /// of them lie at the buffer's front, as many as it has room for, and the others are lost. It takes no memory.
+    #[tactic(auto, using(crate::proofs::Steps::none_live))]
     pub fn resume_into<F: Frames>(
         &mut self,
         door: &mut F,

@@ -54,6 +54,7 @@ impl<A: Allocator + Clone> Space<A> {
     /// The step that writes these bytes into the pipe that a process's descriptor names (write(2)): its answer and what
     /// it leaves are those of `step` with a `Step::Write` of them. A copy of them is made only where the write waits.
     #[inline(always)]
+    #[tactic(auto, using(crate::proofs::Steps::none_live))]
     pub fn write_from<F: Frames>(&mut self, door: &mut F, pid: u32, fd: u32, bytes: &[u8]) -> Answer
         requires door { Serves F.Frames door.old self.old }
         // The door is left as it is to be, and the live frames are those of this namespace.
@@ -85,6 +86,7 @@ impl<A: Allocator + Clone> Space<A> {
     /// told are the same bytes, the same wait and the same error. The bytes lie at the buffer's front, and their
     /// number is given out; none is where the read waits. It takes no memory.
     #[inline(always)]
+    #[tactic(auto, using(crate::proofs::Steps::none_live))]
     pub fn read_into<F: Frames>(
         &mut self,
         door: &mut F,

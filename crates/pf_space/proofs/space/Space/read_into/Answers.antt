@@ -1,8 +1,7 @@
--- It hands on what its read is told, and adds what follows for frames: no more are live than slots in use, and none
--- where no pipe has a byte.
+-- It hands on what its read is told. What it adds for frames is that no more are live than slots in use.
 
 use Rattle.pf_tables.proofs.MeaningLaws.{settled-meaning}
-use Rattle.pf_tables.proofs.OwnsLaws.{held_occupied, none_empty}
+use Rattle.pf_tables.proofs.OwnsLaws.{held_occupied}
 use Rattle.pf_space.proofs.Steps.{read_step}
 use Rattle.pf_space.proofs.space.Space.read_into.Goals as goal
 
@@ -15,7 +14,3 @@ returns-clause-answers g c =
 pub returns-clause-spread : goal.returns-clause-spread
 returns-clause-spread g c =
     held_occupied _ c.fill.new.self (g.met.F.Frames.sound _ c.fill.ensures.door.fact) c.fill.ensures.told.owns
-
-pub returns-clause-none : goal.returns-clause-none
-returns-clause-none g c =
-    none_empty _ c.fill.new.self (g.met.F.Frames.sound _ c.fill.ensures.door.fact) c.fill.ensures.told.owns

@@ -1,10 +1,9 @@
--- It hands on what its call is told, and adds what follows for frames: no more are live than slots in use, and none
--- where no pipe has a byte.
+-- Which call it is, is seen of the tables inside. What it adds for frames is that no more are live than slots in use.
 
 use Rattle.std.proofs.Common.{◌≡◌, false, Some, subst}
 use Rattle.pf_space.proofs.Common.{Reading, Moving, Namespace, meaning}
 use Rattle.pf_machine.specs.Machine.{call_of, hands_out}
-use Rattle.pf_tables.proofs.OwnsLaws.{held_occupied, none_empty}
+use Rattle.pf_tables.proofs.OwnsLaws.{held_occupied}
 use Rattle.pf_space.proofs.ParkedInto.{read_is, no_read}
 use Rattle.pf_space.proofs.space.Space.resume_into.Goals as goal
 
@@ -26,19 +25,10 @@ returns-in-Some-clause-spread g c =
     held_occupied _ c.fill_again.new.self (g.met.F.Frames.sound _ c.fill_again.ensures.door.fact)
     c.fill_again.ensures.owns
 
-pub returns-in-Some-clause-none : goal.returns-in-Some-clause-none
-returns-in-Some-clause-none g c =
-    none_empty _ c.fill_again.new.self (g.met.F.Frames.sound _ c.fill_again.ensures.door.fact) c.fill_again.ensures.owns
-
 pub returns-in-None-clause-answers : goal.returns-in-None-clause-answers
 returns-in-None-clause-answers g c = c.resume_others.ensures.answers c.args.buffer.now
 
 pub returns-in-None-clause-spread : goal.returns-in-None-clause-spread
 returns-in-None-clause-spread g c =
     held_occupied _ c.resume_others.new.self (g.met.F.Frames.sound _ c.resume_others.ensures.door.fact)
-    c.resume_others.ensures.owns
-
-pub returns-in-None-clause-none : goal.returns-in-None-clause-none
-returns-in-None-clause-none g c =
-    none_empty _ c.resume_others.new.self (g.met.F.Frames.sound _ c.resume_others.ensures.door.fact)
     c.resume_others.ensures.owns

@@ -1,19 +1,15 @@
--- It hands on what its write is told, and adds what follows for frames: no more are live than slots in use, and none
--- where no pipe has a byte.
+-- It hands on what its write is told: a refused write leaves what it found, which was swept before. What it adds for
+-- frames is that no more are live than slots in use.
 
 use Rattle.pf_base.specs.declared.step.Step.TheVariants as steps
 use Rattle.pf_tables.proofs.MeaningLaws.{settled-meaning}
-use Rattle.pf_tables.proofs.OwnsLaws.{held_occupied, none_empty}
+use Rattle.pf_tables.proofs.OwnsLaws.{held_occupied}
 use Rattle.pf_space.proofs.Steps.{refused_step}
 use Rattle.pf_space.proofs.space.Space.write_from.Goals as goal
 
 pub returns-in-Ok-clause-spread : goal.returns-in-Ok-clause-spread
 returns-in-Ok-clause-spread g c =
     held_occupied _ c.write.new.self (g.met.F.Frames.sound _ c.write.ensures.door.fact) c.write.ensures.told.owns
-
-pub returns-in-Ok-clause-none : goal.returns-in-Ok-clause-none
-returns-in-Ok-clause-none g c =
-    none_empty _ c.write.new.self (g.met.F.Frames.sound _ c.write.ensures.door.fact) c.write.ensures.told.owns
 
 pub returns-in-Err-Errno-clause-answers : goal.returns-in-Err-Errno-clause-answers
 returns-in-Err-Errno-clause-answers g c =
@@ -26,14 +22,6 @@ pub returns-in-Err-Errno-clause-spread : goal.returns-in-Err-Errno-clause-spread
 returns-in-Err-Errno-clause-spread g c =
     held_occupied _ c.write.new.self (g.met.F.Frames.sound _ c.write.ensures.door.fact) c.write.ensures.told.owns
 
-pub returns-in-Err-Errno-clause-none : goal.returns-in-Err-Errno-clause-none
-returns-in-Err-Errno-clause-none g c =
-    none_empty _ c.write.new.self (g.met.F.Frames.sound _ c.write.ensures.door.fact) c.write.ensures.told.owns
-
 pub returns-in-Err-NoMemory-clause-spread : goal.returns-in-Err-NoMemory-clause-spread
 returns-in-Err-NoMemory-clause-spread g c =
     held_occupied _ c.write.new.self (g.met.F.Frames.sound _ c.write.ensures.door.fact) c.write.ensures.told.owns
-
-pub returns-in-Err-NoMemory-clause-none : goal.returns-in-Err-NoMemory-clause-none
-returns-in-Err-NoMemory-clause-none g c =
-    none_empty _ c.write.new.self (g.met.F.Frames.sound _ c.write.ensures.door.fact) c.write.ensures.told.owns
