@@ -124,73 +124,72 @@ bared m o {i} {fd} b is = record {
       | inr past ↦ at_past (clear_at xs n) n (omega (arith, length-set xs n None, past))
     ]
 
-module _ (f : Live) (old : Namespace) (pid : ℕ) where
-  -- so many of its descriptors are gone; and where the process goes too, as much is left as it leaves of the namespace
-  -- before
-  pub record Exits (fd : ℕ) (g : Live) (m : Namespace) : Type 0 where
-    pub owns : Owns g m
-    pub limits : m.limits ≡ old.limits
-    pub ends : sweep itself (without_process (meaning g m.state) pid)
-        ≡ sweep itself (without_process (meaning f old.state) pid)
-    pub bare : IsBare m.state (pid - 1) fd
+-- so many of its descriptors are gone; and where the process goes too, as much is left as it leaves of the namespace
+-- before
+pub record Exits (f : Live) (old : Namespace) (pid fd : ℕ) (g : Live) (m : Namespace) : Type 0 where
+  pub owns : Owns g m
+  pub limits : m.limits ≡ old.limits
+  pub ends : sweep itself (without_process (meaning g m.state) pid)
+      ≡ sweep itself (without_process (meaning f old.state) pid)
+  pub bare : IsBare m.state (pid - 1) fd
 
-  -- what a process was is forgotten when it goes
-  forgotten : (g h : Live) (m o : Namespace) (change : Process ℕ → Process ℕ)
-      → Becomes g h m o (machine.change_process change (meaning g m.state) pid)
-      → sweep itself (without_process (meaning h o.state) pid) ≡ sweep itself (without_process (meaning g m.state) pid)
-  forgotten g h m o change b =
-      let s = meaning g m.state in
-      let ps = change_at change s.processes (pid - 1) in
-      ap (λ u. sweep itself (without_process u pid)) b.state
-      ∙ sweep-sweep itself s ps (clear_at ps (pid - 1))
-      (λ k. sum_of-falls (λ p. named_in itself k (names_of p)) ps (pid - 1) None (omega arith))
-      ∙ ap (λ qs. sweep itself (with_processes s qs))
-      (set-set s.processes (pid - 1) (option_map change (at s.processes (pid - 1))) None)
+-- what a process was is forgotten when it goes
+forgotten : (pid : ℕ) (g h : Live) (m o : Namespace) (change : Process ℕ → Process ℕ)
+    → Becomes g h m o (machine.change_process change (meaning g m.state) pid)
+    → sweep itself (without_process (meaning h o.state) pid) ≡ sweep itself (without_process (meaning g m.state) pid)
+forgotten pid g h m o change b =
+    let s = meaning g m.state in
+    let ps = change_at change s.processes (pid - 1) in
+    ap (λ u. sweep itself (without_process u pid)) b.state
+    ∙ sweep-sweep itself s ps (clear_at ps (pid - 1))
+    (λ k. sum_of-falls (λ p. named_in itself k (names_of p)) ps (pid - 1) None (omega arith))
+    ∙ ap (λ qs. sweep itself (with_processes s qs))
+    (set-set s.processes (pid - 1) (option_map change (at s.processes (pid - 1))) None)
 
-  pub begun : {m : Namespace} → Begun old m pid → Owns f old → (next : ℕ)
-      → ((fd : ℕ) → 0 ≤ fd → fd < next → descriptor m.state (pid - 1) fd ≡ None) → Exits next f m
-  begun {m} b owns next none =
-      let w = woken-left f old m pid b.namespace b.swept owns in
-      record {
-        owns = w.owns;
-        limits = w.limits;
-        ends = forgotten f f old m woken w;
-        bare = passed b.bare next none;
-      }
-
-  module _ {fd : ℕ} {g : Live} {m : Namespace} (x : Exits fd g m) where
-    pub one_more : {h : Live} {o : Namespace} → Becomes g h m o (emptied (meaning g m.state) (pid - 1) fd)
-        → Exits (fd + 1) h o
-    one_more {h} {o} b = record {
-      owns = b.owns;
-      limits = b.limits ∙ x.limits;
-      ends = forgotten g h m o (without_descriptor fd) b ∙ x.ends;
-      bare = bared m o x.bare (ap (λ (s : State Segment ℕ). s.processes) b.state);
+pub begun : {f : Live} {old m : Namespace} {pid : ℕ} → Begun old m pid → Owns f old → (next : ℕ)
+    → ((fd : ℕ) → 0 ≤ fd → fd < next → descriptor m.state (pid - 1) fd ≡ None) → Exits f old pid next f m
+begun {f} {old} {m} {pid} b owns next none =
+    let w = woken-left f old m pid b.namespace b.swept owns in
+    record {
+      owns = w.owns;
+      limits = w.limits;
+      ends = forgotten pid f f old m woken w;
+      bare = passed b.bare next none;
     }
 
-    pub one_more_next : {h : Live} {o : Namespace} → Becomes g h m o (emptied (meaning g m.state) (pid - 1) fd)
-        → (next : ℕ) → ((d : ℕ) → fd + 1 ≤ d → d < next → descriptor o.state (pid - 1) d ≡ None) → Exits next h o
-    one_more_next b next none =
-        let y = one_more b in
-        record { owns = y.owns; limits = y.limits; ends = y.ends; bare = passed y.bare next none }
+module _ {f : Live} {old : Namespace} {pid fd : ℕ} {g : Live} {m : Namespace} (x : Exits f old pid fd g m) where
+  pub one_more : {h : Live} {o : Namespace} → Becomes g h m o (emptied (meaning g m.state) (pid - 1) fd)
+      → Exits f old pid (fd + 1) h o
+  one_more {h} {o} b = record {
+    owns = b.owns;
+    limits = b.limits ∙ x.limits;
+    ends = forgotten pid g h m o (without_descriptor fd) b ∙ x.ends;
+    bare = bared m o x.bare (ap (λ (s : State Segment ℕ). s.processes) b.state);
+  }
 
-    pub all_bare : MAX_DESCRIPTORS ≤ fd → IsBare m.state (pid - 1) MAX_DESCRIPTORS
-    all_bare past = passed x.bare MAX_DESCRIPTORS (λ d from l. absurd (omega (arith, from, l, past)))
+  pub one_more_next : {h : Live} {o : Namespace} → Becomes g h m o (emptied (meaning g m.state) (pid - 1) fd)
+      → (next : ℕ) → ((d : ℕ) → fd + 1 ≤ d → d < next → descriptor o.state (pid - 1) d ≡ None)
+      → Exits f old pid next h o
+  one_more_next b next none =
+      let y = one_more b in
+      record { owns = y.owns; limits = y.limits; ends = y.ends; bare = passed y.bare next none }
 
-    -- the process goes
-    pub exited : {begun o : Namespace} → Begun old begun pid → Makes m o (exit m.state pid) (Num 0)
-        → Told f g old o (Ok (Num 0)) (call old.limits (meaning f old.state) (steps.Exit pid))
-    exited {o = o} b made =
-        let made_is : ◌≡◌ {A = Result (Outcome Window ℕ) Errno} (Ok (done (without_process m.state pid) 0))
-        (Ok (done o.state 0)) = made.is in
-        let is : done (without_process m.state pid) 0 ≡ done o.state 0 = cc in
-        leaves
-        (record {
-          owns = made.owned g x.owns;
-          limits = made.limits ∙ x.limits;
-          state =
-              settled-meaning g o.state made.swept ∙ ap (λ (x : Outcome Window ℕ). sweep itself (meaning g x.state))
-              (sym is)
-              ∙ x.ends;
-        })
-        (ap (λ r. r >>= (λ p. exit (meaning f old.state) pid)) b.lives)
+  pub all_bare : MAX_DESCRIPTORS ≤ fd → IsBare m.state (pid - 1) MAX_DESCRIPTORS
+  all_bare past = passed x.bare MAX_DESCRIPTORS (λ d from l. absurd (omega (arith, from, l, past)))
+
+  -- the process goes
+  pub exited : {begun o : Namespace} → Begun old begun pid → Makes m o (exit m.state pid) (Num 0)
+      → Told f g old o (Ok (Num 0)) (call old.limits (meaning f old.state) (steps.Exit pid))
+  exited {o = o} b made =
+      let made_is : ◌≡◌ {A = Result (Outcome Window ℕ) Errno} (Ok (done (without_process m.state pid) 0))
+      (Ok (done o.state 0)) = made.is in
+      let is : done (without_process m.state pid) 0 ≡ done o.state 0 = cc in
+      leaves
+      (record {
+        owns = made.owned g x.owns;
+        limits = made.limits ∙ x.limits;
+        state =
+            settled-meaning g o.state made.swept
+            ∙ ap (λ (z : Outcome Window ℕ). sweep itself (meaning g z.state)) (sym is) ∙ x.ends;
+      })
+      (ap (λ r. r >>= (λ p. exit (meaning f old.state) pid)) b.lives)

@@ -2,17 +2,15 @@
 -- there.
 
 use Rattle.std.proofs.lemmas.List.{nil_from_length}
-use Rattle.std.proofs.Common.{◌≡◌, ◌⊎◌, inl, inr, ℕ, ◌≤◌, true, false, List, [], Option, Some, None, is_ok, IsOk}
+use Rattle.std.proofs.Common.{◌≡◌, ◌⊎◌, inl, inr, ℕ, ◌≤◌, true, false, List, [], Option, Some, None}
 use Rattle.std.proofs.Common.{Result, Ok, Err, refl, sym, ap, subst, ◌∙◌, arith}
 use Rattle.pf_space.proofs.Common.{Reading, Writing, Bringing, Call, Moving, Finished, transfer_told, call, Segment}
-use Rattle.pf_space.proofs.Common.{or_refuse, itself, State, Process, Outcome, sweep, Tried, Errno, ESRCH, Fault}
-use Rattle.pf_space.proofs.Common.{Progress, Moved, WouldBlock, EndOfFile, NoReader, Reply, Live, Namespace, meaning}
-use Rattle.pf_space.proofs.Common.{Owns, Told, tried_call, waits_in, ended}
+use Rattle.pf_space.proofs.Common.{itself, Outcome, sweep, Tried, Errno, Fault, Progress, Moved, WouldBlock, EndOfFile}
+use Rattle.pf_space.proofs.Common.{NoReader, Reply, Live, Namespace, meaning, Owns, Told, tried_call, waits_in, ended}
 use Rattle.pf_machine.specs.Calls.{Opening}
 use Rattle.pf_machine.specs.Machine.{Answers, call_of, hands_out, step_of}
 use Rattle.pf_machine.specs.Progress.{moved}
 use Rattle.pf_machine.specs.Replies.{reply_length}
-use Rattle.pf_machine.specs.State.{living}
 use Rattle.pf_machine.proofs.ReplyLaws.{resume-few, few}
 use Rattle.pf_base.specs.declared.fault.Fault.TheVariants as faults
 use Rattle.pf_base.specs.declared.step.Answer.TheVariants.{Done}
@@ -24,7 +22,7 @@ use Rattle.pf_tables.specs.declared.tables.parked.ParkedRead.{ParkedRead}
 use Rattle.pf_tables.specs.Buffers.{read_in, Truncates, Replied, number_told, bytes_told}
 use Rattle.pf_tables.specs.Tables.{awoken}
 use Rattle.pf_tables.specs.Told.{Came, Refused}
-use Rattle.pf_space.proofs.ParkedResume.{waiter, resumed}
+use Rattle.pf_space.proofs.ParkedResume.{resumed}
 use Rattle.pf_space.proofs.ParkedTransfers.{parks, finishes, refuses}
 use Rattle.pf_space.proofs.Steps.{made_step, refused_step}
 
@@ -52,13 +50,6 @@ no_read (Some (Opening description kept)) e = refl
 no_read (Some (Moving (Reading fd n))) e = absurd (cc)
 no_read (Some (Moving (Writing fd bytes written))) e = refl
 no_read (Some (Moving (Bringing crossing source sink n))) e = refl
-
--- who waits in one lives
-pub lives_there : (s : State Segment ℕ) (pid fd n : ℕ) → call_of s pid ≡ Some (Moving (Reading fd n))
-    → IsOk (living s pid)
-lives_there s pid fd n waits =
-    let w = waiter s pid (Reading fd n) waits in
-    ap (λ (o : Option (Process ℕ)). is_ok (or_refuse ESRCH o)) w.lives
 
 -- A read
 

@@ -14,7 +14,7 @@ pub loop-fd-init : goal.loop-fd-init
 loop-fd-init g c = record {
   door = record { fact = c.requires.door.fact; rest = refl };
   exits =
-      lemmas.begun (g.F.Frames.live c.args.door.now) _ c.args.pid
+      lemmas.begun
       (subst (λ (n : Namespace). Begun n c.begin_exit.new.self c.args.pid) c.self.view_is
       c.in_ok-begin_exit.ensures.begins) c.requires.door.owns _ c.next_descriptor-fd.ensures.between;
 }
@@ -22,8 +22,7 @@ loop-fd-init g c = record {
 pub loop-fd-preserved-then-empty : goal.loop-fd-preserved-then-empty
 loop-fd-preserved-then-empty g c = record {
   door = record { fact = c.empty.ensures.door.fact; rest = c.empty.ensures.door.rest ∙ c.loop-fd.invariant.door.rest };
-  exits =
-      lemmas.one_more (g.F.Frames.live c.args.door.now) _ c.args.pid c.loop-fd.invariant.exits c.empty.ensures.emptied;
+  exits = lemmas.one_more c.loop-fd.invariant.exits c.empty.ensures.emptied;
 }
 
 -- where there was none, the next one is looked for
@@ -31,8 +30,7 @@ pub loop-fd-preserved : goal.loop-fd-preserved
 loop-fd-preserved g c = record {
   door = record { fact = c.empty.ensures.door.fact; rest = c.empty.ensures.door.rest ∙ c.loop-fd.invariant.door.rest };
   exits =
-      lemmas.one_more_next (g.F.Frames.live c.args.door.now) _ c.args.pid c.loop-fd.invariant.exits
-      c.empty.ensures.emptied _
+      lemmas.one_more_next c.loop-fd.invariant.exits c.empty.ensures.emptied _
       (λ d from before. ap (λ (n : Namespace). descriptor n.state (c.args.pid - 1) d) (sym c.self-in-loop-fd.view_is)
       ∙ c.next_descriptor-fd-else-empty.ensures.between d from before);
 }
@@ -40,7 +38,7 @@ loop-fd-preserved g c = record {
 pub end_exit-requires-clause-bare : goal.end_exit-requires-clause-bare
 end_exit-requires-clause-bare g c =
     subst (λ (n : Namespace). IsBare n.state (c.args.pid - 1) MAX_DESCRIPTORS) (sym c.self-2.view_is)
-    (lemmas.all_bare (g.F.Frames.live c.args.door.now) _ c.args.pid c.loop-fd.invariant.exits c.loop-fd-test.false)
+    (lemmas.all_bare c.loop-fd.invariant.exits c.loop-fd-test.false)
 
 pub returns-in_err-begin_exit-clause-told : goal.returns-in_err-begin_exit-clause-told
 returns-in_err-begin_exit-clause-told g c =
@@ -52,7 +50,7 @@ returns-in_err-begin_exit-clause-told g c =
 
 pub returns-clause-told : goal.returns-clause-told
 returns-clause-told g c =
-    lemmas.exited (g.F.Frames.live c.args.door.now) _ c.args.pid c.loop-fd.invariant.exits
+    lemmas.exited c.loop-fd.invariant.exits
     (subst (λ (n : Namespace). Begun n c.begin_exit.new.self c.args.pid) c.self.view_is
     c.in_ok-begin_exit.ensures.begins)
     (subst (λ (n : Namespace). Makes n c.end_exit.new.self (exit n.state c.args.pid) (Num 0)) c.self-2.view_is

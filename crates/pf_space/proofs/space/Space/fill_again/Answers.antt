@@ -1,11 +1,11 @@
 -- It chains three changes: the call is taken from its process, the read is made as a first one would be, and where it
 -- has to wait the process parks again.
 
-use Rattle.std.proofs.Common.{◌≡◌, Some, Err, refl, sym, ap, subst, rules, ◌∙◌}
-use Rattle.pf_space.proofs.Common.{Reading, Moving, Namespace, meaning, Owns}
+use Rattle.std.proofs.Common.{◌≡◌, ℕ, Option, Some, Err, is_ok, refl, sym, ap, subst, rules, ◌∙◌}
+use Rattle.pf_space.proofs.Common.{Reading, Moving, Process, or_refuse, ESRCH, Namespace, meaning, Owns}
 use Rattle.pf_machine.specs.Machine.{call_of}
 use Rattle.pf_space.proofs.ParkedInto as lemmas
-use Rattle.pf_space.proofs.ParkedResume.{woken_served}
+use Rattle.pf_space.proofs.ParkedResume.{waiter, woken_served}
 use Rattle.pf_space.proofs.space.Space.fill_again.Goals as goal
 
 pub wake-requires : goal.wake-requires
@@ -14,7 +14,8 @@ wake-requires g c =
     let waits =
     subst (λ (o : Namespace). call_of (meaning f o.state) c.args.pid ≡ Some (Moving (Reading c.args.fd c.args.n)))
     (sym c.self.view_is) c.requires.waits in
-    record { lives = lemmas.lives_there (meaning f c.self.inside.tables.state) c.args.pid c.args.fd c.args.n waits }
+    let w = waiter (meaning f c.self.inside.tables.state) c.args.pid (Reading c.args.fd c.args.n) waits in
+    record { lives = ap (λ (o : Option (Process ℕ)). is_ok (or_refuse ESRCH o)) w.lives }
 
 pub read_truncated-requires : goal.read_truncated-requires
 read_truncated-requires g c = record {
