@@ -1,7 +1,7 @@
 -- An open of a FIFO: its ends are counted, and its description is made.
 
 use Rattle.std.proofs.Common.{◌≡◌, ◌≢◌, ℕ, ◌+◌, ◌-◌, ◌<◌, ◌≤◌, Bool, true, false, List, [], ◌∷◌, ◌++◌, length, set}
-use Rattle.std.proofs.Common.{Option, Some, None, refl, sym, ap, subst, ◌∙◌, arith}
+use Rattle.std.proofs.Common.{Option, Some, None, if◌then◌else◌, refl, sym, ap, subst, ◌∙◌, arith}
 use Rattle.std.proofs.lemmas.List.{map-set}
 use Rattle.pf_tables.proofs.TablesTied.{in_place, by_set, found, finds-new, miss, sides, once, repiped, described}
 use Rattle.pf_tables.proofs.TablesTied.{piped, moved, put, pipe_row}
@@ -115,6 +115,6 @@ entered-fifos es {drawn} {more} a pipes k p stands more_is f =
     few : NoMore drawn (k.slot, p.opens)
     few = f.few k.serial (k.slot, p.opens) was
 
-    once_more : (b : Bool) (n : ℕ) → n ≤ drawn → n + one_if b ≤ more
+    once_more : (b : Bool) (n : ℕ) → n ≤ drawn → (if b then n + 1 else n) ≤ more
     once_more true n le = omega (arith, le, more_is)
     once_more false n le = omega (arith, le, more_is)

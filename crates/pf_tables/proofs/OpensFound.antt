@@ -1,13 +1,13 @@
 -- An open of a FIFO that somebody has open: all that it keeps and tells.
 
-use Rattle.std.proofs.Common.{◌≡◌, ℕ, ◌-◌, ◌^◌, ◌<◌, List, [], ◌∷◌, length, Some, None, Result, Ok, Err, nat_eq, refl}
+use Rattle.std.proofs.Common.{◌≡◌, ℕ, ◌-◌, ◌^◌, ◌<◌, List, [], ◌∷◌, length, Some, None, Ok, IsOk, nat_eq, refl}
 use Rattle.std.proofs.Common.{sym, ap, subst, ◌∙◌, arith}
 use Rattle.std.proofs.lemmas.Bool.{leb-false, ltb-false}
 use Rattle.std.proofs.lemmas.List.{length-map}
 use Rattle.pf_tables.proofs.DescriptorsDup.{at_most_one, sum-le-length}
 use Rattle.pf_tables.proofs.Refusals.{same_ok}
 use Rattle.pf_tables.proofs.Common.{option_map, lookup, Window, Files, Limits, at, put_at, first_free, State, Reply}
-use Rattle.pf_tables.proofs.Common.{MAX_DESCRIPTORS, Errno, find, UserPages, Namespace, access_seen, before, counted}
+use Rattle.pf_tables.proofs.Common.{MAX_DESCRIPTORS, find, UserPages, Namespace, access_seen, before, counted}
 use Rattle.pf_tables.proofs.Common.{may_open, Describes, ProcessRows, DescriptionRows, PipeRows, Key, Process, Pipe}
 use Rattle.pf_tables.proofs.Common.{process_in, ready_in, process_of, description_of, opens_at, state_of, reads_it}
 use Rattle.pf_tables.proofs.Common.{writes_it, TiedWith, Whole, Makes}
@@ -16,9 +16,9 @@ use Rattle.pf_machine.specs.State as machine
 use Rattle.pf_machine.specs.Opens as opens
 use Rattle.pf_tables.specs.declared.tables.opens.Access.{Access as Stored}
 use Rattle.pf_tables.specs.Opened.{IsFew, end_of, opening, HasFree}
-use Rattle.pf_tables.proofs.ProcessTableReady.{shown_in, ready_shown, is_living}
+use Rattle.pf_tables.proofs.ProcessTableReady.{found_in, ready_shown, readies, is_living}
 use Rattle.pf_tables.proofs.Ends.{as_kept, counted as ends_counted}
-use Rattle.pf_tables.proofs.OpensOutcome.{Opener, ready_is, entered-whole, entered-makes}
+use Rattle.pf_tables.proofs.OpensOutcome.{ready_is, entered-whole, entered-makes}
 use Rattle.pf_tables.proofs.OpensDescribe.{IsSided, entered}
 use Rattle.pf_tables.proofs.OpensFind.{fifo_is}
 use Rattle.pf_tables.proofs.TablesShown.{shown, find_was}
@@ -35,21 +35,14 @@ module _ {files : Files} {files_made : ℕ} {limits : Limits} {charges : UserPag
   may_here = subst (λ (m : Namespace). may_open m.state pid (access_seen a) file ≡ Ok tt) (sym view) may
 
   pub caller : (q : Process) × (ready_in ps pid ≡ Ok q) × (first_free q.descriptors < MAX_DESCRIPTORS)
-  caller = by_row (ready_in ps pid) refl
-    where
-      seen : Opener s pid (access_seen a) file
-      seen = ready_is s pid (access_seen a) file may_here
-
-      by_row : (r : Result Process Errno) → ready_in ps pid ≡ r
-          → (q : Process) × (ready_in ps pid ≡ Ok q) × (first_free q.descriptors < MAX_DESCRIPTORS)
-      by_row (Err e) h = let shows = sym seen.1 ∙ ready_shown ps pid ∙ ap shown_in h in absurd (cc)
-      by_row (Ok q) h =
-          let same : seen.0 ≡ process_of q = same_ok (sym seen.1 ∙ ready_shown ps pid ∙ ap shown_in h) in
-          let free =
-          ap (λ (x : machine.Process ℕ). first_free x.descriptors) same
-          ∙ first_free-map (λ (k : Key). k.serial) q.descriptors in
-          let under = leb-false _ _ seen.2 in
-          (q, h, omega (arith, free, under))
+  caller =
+      let seen = ready_is s pid (access_seen a) file may_here in
+      let q = found_in (ready_in ps pid) (subst IsOk (sym seen.1 ∙ ready_shown ps pid) refl) in
+      let same : seen.0 ≡ process_of q.0 = same_ok (sym seen.1 ∙ readies ps pid q.0 q.1) in
+      let free =
+      ap (λ (x : machine.Process ℕ). first_free x.descriptors) same
+      ∙ first_free-map (λ (k : Key). k.serial) q.0.descriptors in
+      (q.0, q.1, omega (arith, free, leb-false _ _ seen.2))
 
   pub same_caller : (q : Process) → process_in ps pid ≡ Ok q → caller.0 ≡ q
   same_caller q h = same_ok (sym (is_living ps pid caller.0 caller.1) ∙ h)

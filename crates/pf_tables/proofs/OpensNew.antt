@@ -1,18 +1,18 @@
 -- The first open of a FIFO: its pipe is made, and all that this keeps and tells.
 
-use Rattle.std.proofs.Common.{◌≡◌, ℕ, ◌+◌, ◌-◌, ◌^◌, ◌<◌, ◌≤◌, Bool, true, false, List, [], ◌∷◌, ◌++◌, length, map}
+use Rattle.std.proofs.Common.{◌≡◌, ℕ, ◌+◌, ◌-◌, ◌^◌, ◌<◌, ◌≤◌, false, List, [], ◌∷◌, ◌++◌, length, map}
 use Rattle.std.proofs.Common.{Option, Some, None, Result, Ok, Err, nat_eq, if◌then◌else◌, refl, sym, ap, subst, ◌∙◌}
 use Rattle.std.proofs.Common.{arith}
 use Rattle.std.proofs.Math.Seq.{set-append_seam}
 use Rattle.std.proofs.lemmas.Bool.{ltb-false}
 use Rattle.std.proofs.lemmas.List.{map_push, length-map}
 use Rattle.pf_tables.proofs.Fifos.{fifos-pushed}
-use Rattle.pf_tables.proofs.Refusals.{not_refused, same_ok, same_some}
+use Rattle.pf_tables.proofs.Refusals.{not_refused, same_ok, same_some, then-bind}
 use Rattle.pf_tables.proofs.Common.{option_map, lookup, told_as, Window, Files, Limits, at, put_at, first_free, sum_of}
 use Rattle.pf_tables.proofs.Common.{readers, writers, total, fifo_pipe, capacity_for, is_spent, empty, ◌>>=◌, ◌>>◌}
 use Rattle.pf_tables.proofs.Common.{refuse_if, itself, State, ready, Errno, ENFILE, Reply, UserPages, Charges, unopened}
 use Rattle.pf_tables.proofs.Common.{Joined, Namespace, ring_or, AreCharged, access_seen, before, counted, may_open}
-use Rattle.pf_tables.proofs.Common.{Describes, ProcessRows, DescriptionRows, PipeRows, Key, Process, Pipe, Opens}
+use Rattle.pf_tables.proofs.Common.{Describes, ProcessRows, DescriptionRows, PipeRows, Key, Process, Pipe}
 use Rattle.pf_tables.proofs.Common.{ready_in, process_of, pipe_of, pipes_of, opens_at, opens_of, state_of, UsedRow}
 use Rattle.pf_tables.proofs.Common.{AreFifos, Whole, TiedWith, read_by, written_by, Makes}
 use Rattle.pf_machine.proofs.NumberedLaws.{at_past, at-push_new}
@@ -31,25 +31,21 @@ use Rattle.pf_tables.proofs.OpensFind.{fifo_shown}
 use Rattle.pf_tables.proofs.OpensFound.{caller, has_free}
 use Rattle.pf_tables.proofs.TablesSettled.{readers_shown, writers_shown}
 
--- The keys
-
--- the same FIFOs have the same keys
-pub fifos-alike : (es fs : List (ℕ × Key)) {drawn : ℕ} {opens : List (Option (ℕ × Opens))} → SameKeys es fs
-    → AreFifos es drawn opens → AreFifos fs drawn opens
-fifos-alike es fs {drawn} {opens} same a = record {
-  keys = record {
-    finds = λ file k h. a.keys.finds file k (sym (same file) ∙ h);
-    there = λ n place file h. same file ∙ a.keys.there n place file h;
-  };
-  few = a.few;
-}
-
--- nothing but their order has changed
+-- nothing but the order of the FIFOs' keys has changed
 pub whole-alike : {charges charges' : UserPages} {es fs : List (ℕ × Key)} {ps : ProcessRows} {ds ds' : DescriptionRows}
     {pipes pipes' : PipeRows} → charges' ≡ charges → ds' ≡ ds → pipes' ≡ pipes → SameKeys es fs
     → Whole charges es ps ds pipes → Whole charges' fs ps ds' pipes'
-whole-alike {es = es} {fs = fs} same rows stored keys w =
-    rw (same, rows, stored) (record { kept = w.kept; filed = fifos-alike es fs keys w.filed })
+whole-alike same rows stored keys w =
+    rw (same, rows, stored) (record {
+      kept = w.kept;
+      filed = record {
+        keys = record {
+          finds = λ file k h. w.filed.keys.finds file k (sym (keys file) ∙ h);
+          there = λ n place file h. keys file ∙ w.filed.keys.there n place file h;
+        };
+        few = w.filed.few;
+      };
+    })
 
 -- The machine makes its pipe
 
@@ -63,23 +59,15 @@ module _ (c : Limits) (s : State Window ℕ) (pid : ℕ) where
     pipe = length s.pipes;
   }
 
-  made_as : (q : machine.Process ℕ) (file : ℕ)
-      → opens.pipe_of c s q file None ≡ (gives q >>= (λ n. Ok (with_slots q file n)))
-  made_as q file = by_test (is_spent s.pipes 1) (told_as ENOMEM (capacity_for c s q.cred))
-    where
-      by_test : (b : Bool) (r : Result ℕ Errno)
-          → (refuse_if b ENFILE >> (r >>= (λ n. Ok (with_slots q file n))))
-          ≡ ((refuse_if b ENFILE >> r) >>= (λ n. Ok (with_slots q file n)))
-      by_test true r = refl
-      by_test false r = refl
-
   module _ {q : machine.Process ℕ} (lives : ready s pid ≡ Ok q) {r : Result ℕ Errno}
       (given : fifo_capacity c s pid ≡ r) where
     given_here : gives q ≡ r
     given_here = sym (ap (λ x. x >>= gives) lives) ∙ given
 
     pub made_for : (file : ℕ) → opens.pipe_of c s q file None ≡ (r >>= (λ n. Ok (with_slots q file n)))
-    made_for file = made_as q file ∙ ap (λ x. x >>= (λ n. Ok (with_slots q file n))) given_here
+    made_for file =
+        then-bind (refuse_if (is_spent s.pipes 1) ENFILE) (told_as ENOMEM (capacity_for c s q.cred))
+        (λ n. Ok (with_slots q file n)) ∙ ap (λ x. x >>= (λ n. Ok (with_slots q file n))) given_here
 
   pub unspent_in : {q : machine.Process ℕ} → ready s pid ≡ Ok q → {slots : ℕ} → fifo_capacity c s pid ≡ Ok slots
       → is_spent s.pipes 1 ≡ false

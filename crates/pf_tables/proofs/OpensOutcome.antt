@@ -2,12 +2,11 @@
 
 use Rattle.std.proofs.Common.{◌≡◌, ℕ, zero, suc, ◌+◌, ◌-◌, ◌<◌, Bool, true, false, List, [], ◌∷◌, ◌++◌, length, map}
 use Rattle.std.proofs.Common.{Option, Some, None, Result, Ok, Err, nat_le, if◌then◌else◌, refl, sym, ap, subst, ◌∙◌}
-use Rattle.std.proofs.Common.{arith}
 use Rattle.std.proofs.lemmas.List.{map-set, map_push, length_push, length-map}
 use Rattle.pf_tables.proofs.TablesShown.{shown_change, shown}
-use Rattle.pf_tables.proofs.Refusals.{both_came, not_refused}
+use Rattle.pf_tables.proofs.Refusals.{both_came, not_refused, goes_in_turn, stops_in_turn}
 use Rattle.pf_tables.proofs.Common.{option_map, ◌>>=◌, ◌>>◌, refuse_if, Files, Limits, Live, Joined, Window, Opening}
-use Rattle.pf_tables.proofs.Common.{at, put_at, change_at, first_free, one_if, itself, State, Outcome, ready}
+use Rattle.pf_tables.proofs.Common.{at, put_at, change_at, first_free, itself, State, Outcome, ready}
 use Rattle.pf_tables.proofs.Common.{with_descriptor, waiting, told, readers, writers, is_spent, Access, fifo_pipe}
 use Rattle.pf_tables.proofs.Common.{MAX_DESCRIPTORS, Errno, EMFILE, ENFILE, Reply, Num, UserPages, Namespace, ring_or}
 use Rattle.pf_tables.proofs.Common.{AreCharged, access_seen, before, counted, other_opens, may_open, Describes, Owns}
@@ -47,10 +46,8 @@ module _ (s : State Window ℕ) (pid : ℕ) (a : Access) (file : ℕ) where
     abbrev goes_on : machine.Process ℕ → Result (Outcome Window ℕ) Errno
     goes_on q = on q (pipe_for c s q file (fifo_pipe s file))
 
-    abbrev opens_for : machine.Process ℕ → Result (Outcome Window ℕ) Errno
-    opens_for q = opens.open_fifo itself (length s.descriptions) itself c s pid q a file
-
-    judged : (q : machine.Process ℕ) → opens_for q ≡ (judge q >>= (λ _. goes_on q))
+    judged : (q : machine.Process ℕ) → opens.open_fifo itself (length s.descriptions) itself c s pid q a file
+        ≡ (judge q >>= (λ _. goes_on q))
     judged q =
         by_tests (nat_le MAX_DESCRIPTORS (first_free q.descriptors)) (lacks_readers s a file)
         (is_spent s.descriptions 1) (goes_on q)
@@ -63,25 +60,19 @@ module _ (s : State Window ℕ) (pid : ℕ) (a : Access) (file : ℕ) where
         by_tests false false true rest = refl
         by_tests false false false rest = refl
 
+    in_turn : opening c s pid a file ≡ (ready s pid >>= (λ q. judge q >>= (λ _. goes_on q)))
+    in_turn i = ready s pid >>= (λ q. judged q i)
+
     pub goes : may_open s pid a file ≡ Ok tt → (q : machine.Process ℕ) → ready s pid ≡ Ok q
         → opening c s pid a file ≡ goes_on q
-    goes may q lives =
-        ap (λ r. r >>= opens_for) lives ∙ judged q
-        ∙ ap (λ r. r >>= (λ _. goes_on q)) (sym (ap (λ r. r >>= judge) lives) ∙ may)
+    goes may q lives = in_turn ∙ goes_in_turn judge (λ q _. goes_on q) (ready s pid) q tt lives may
 
     pub stops : (e : Errno) → may_open s pid a file ≡ Err e → opening c s pid a file ≡ Err e
-    stops e refused = by_caller (ready s pid) refused
-      where
-        by_caller : (r : Result (machine.Process ℕ) Errno) → (r >>= judge) ≡ Err e → (r >>= opens_for) ≡ Err e
-        by_caller (Ok q) h = judged q ∙ ap (λ r. r >>= (λ _. goes_on q)) h
-        by_caller (Err x) h = let same : x ≡ e = cc in ap Err same
+    stops e refused = in_turn ∙ stops_in_turn judge (λ q _. goes_on q) (ready s pid) e refused
 
   -- who opens it has a free descriptor, and a description can be drawn
-  abbrev pub Opener : Type 0
-  Opener = (q : machine.Process ℕ) × (ready s pid ≡ Ok q)
+  pub ready_is : may_open s pid a file ≡ Ok tt → (q : machine.Process ℕ) × (ready s pid ≡ Ok q)
       × (nat_le MAX_DESCRIPTORS (first_free q.descriptors) ≡ false) × (is_spent s.descriptions 1 ≡ false)
-
-  pub ready_is : may_open s pid a file ≡ Ok tt → Opener
   ready_is may =
       let w = both_came (ready s pid) judge may in
       let free = not_refused (nat_le MAX_DESCRIPTORS (first_free w.0.descriptors)) EMFILE _ w.2 in
@@ -152,26 +143,13 @@ module _ (a : Stored) (k : Key) (p : Pipe) {ps : ProcessRows} {ds : DescriptionR
     low : first_free (process_of z.p).descriptors ≡ first_free z.p.descriptors
     low = first_free-map (λ (x : Key). x.serial) z.p.descriptors
 
-    once_more : (b : Bool) (n : ℕ) → n + one_if b ≡ (if b then n + 1 else n)
-    once_more true n = refl
-    once_more false n = omega arith
-
-    counted_shown : pipe_of (k.slot, counted a p) ≡ opens.counted (access_seen a) (pipe_of (k.slot, p))
-    counted_shown i = record (pipe_of (k.slot, p)) {
-      read_opens = once_more a.reads p.opens.read i;
-      write_opens = once_more a.writes p.opens.write i;
-    }
-
     there : at s.pipes k.serial ≡ Some (pipe_of (k.slot, p))
     there = shown pipe_of pipes k.serial (k.slot, p) stands
-
-    pipes_set : pipes_of pipes' ≡ put_at s.pipes k.serial (pipe_of (k.slot, counted a p))
-    pipes_set = map-set (option_map pipe_of) pipes k.serial (Some (k.slot, counted a p))
 
     pipes_shown : pipes_of pipes' ≡ made.pipes
     pipes_shown =
         shown_change pipe_of (opens.counted (access_seen a)) pipes k.serial (k.slot, p) (k.slot, counted a p) stands
-        counted_shown
+        refl
 
     seated_shown : (o : Option ℕ) → processes_of (put_at ps (pid - 1) (taking o z.k z.p)) ≡ seated o
     seated_shown None =
@@ -220,8 +198,9 @@ module _ (a : Stored) (k : Key) (p : Pipe) {ps : ProcessRows} {ds : DescriptionR
           (opening n.limits n.state pid (access_seen a) file) reply
       entered-makes found counts joins =
           makes_over tied' files files_made view refl
-          (λ f o. subst (Joined f) (sym (ap (map ring_or) pipes_set ∙ ring_stays s.pipes k.serial
-          (pipe_of (k.slot, p)) (pipe_of (k.slot, counted a p)) there refl)) (joins f o))
+          (λ f o. subst (Joined f) (sym (ap (map ring_or) (map-set (option_map pipe_of) pipes k.serial
+          (Some (k.slot, counted a p))) ∙ ring_stays s.pipes k.serial (pipe_of (k.slot, p))
+          (pipe_of (k.slot, counted a p)) there refl)) (joins f o))
           (λ m. opening m.limits m.state pid (access_seen a) file) reply
           (goes (of_pipes was) pid (access_seen a) file limits
           (subst (λ (m : Namespace). may_open m.state pid (access_seen a) file ≡ Ok tt) (sym view) may)

@@ -1,8 +1,8 @@
 -- A path is resolved to a FIFO, and what its open is told.
 
-use Rattle.std.proofs.Common.{◌≡◌, ℕ, ◌+◌, ◌<◌, Bool, true, false, not, ◌&&◌, List, length, Result, Ok, Err, refl, sym}
+use Rattle.std.proofs.Common.{◌≡◌, ℕ, ◌+◌, ◌<◌, Bool, true, false, not, ◌&&◌, List, length, Result, Ok, Err, sym}
 use Rattle.std.proofs.Common.{ap, ◌∙◌, arith}
-use Rattle.pf_tables.proofs.Refusals.{bind-bind}
+use Rattle.pf_tables.proofs.Refusals.{bind-bind, in_turn as turn}
 use Rattle.pf_tables.proofs.Common.{Files, one_if, Access, Limits, Window, ◌>>=◌, ◌>>◌, refuse_if, itself, State}
 use Rattle.pf_tables.proofs.Common.{Outcome, ready, of_ready, Cred, Errno, EINVAL, Fault, Namespace, Says}
 use Rattle.pf_machine.specs.Opens.{openable, open_fifo, open_path}
@@ -32,14 +32,10 @@ module _ (c : Limits) (s : State Window ℕ) (pid : ℕ) (path : List ℕ) {a b 
 
   -- first its number is found, and then it is opened
   in_turn : opens b ≡ (fifo_named s pid path a >>= opening c s pid a)
-  in_turn = ap opens (sym asked) ∙ by_caller (ready s pid)
-    where
-      by_caller : (r : Result (Process ℕ) Errno)
-          → (r >>= (λ p. openable s.files p.cred path a >>= (λ x. go_on p x.number)))
-          ≡ ((r >>= (λ p. openable s.files p.cred path a >>= (λ x. Ok x.number)))
-          >>= (λ file. r >>= (λ p. go_on p file)))
-      by_caller (Ok p) = bind-bind (openable s.files p.cred path a) (λ x. Ok x.number) (go_on p)
-      by_caller (Err e) = refl
+  in_turn =
+      ap opens (sym asked)
+      ∙ (λ i. ready s pid >>= (λ p. bind-bind (openable s.files p.cred path a) (λ x. Ok x.number) (go_on p) i))
+      ∙ turn (λ p. openable s.files p.cred path a >>= (λ x. Ok x.number)) go_on (ready s pid)
 
   -- it was not found, or may not be opened
   pub not_named : (old new : Namespace) (fault : Fault)

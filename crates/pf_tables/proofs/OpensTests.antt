@@ -1,9 +1,8 @@
 -- Whether a FIFO may be opened, whether an open is over, and what its description is.
 
 use Rattle.std.proofs.lemmas.Option.{option_and_then_some}
-use Rattle.std.proofs.Common.{◌≡◌, ℕ, ◌-◌, ◌^◌, ◌<◌, ◌≤◌, Bool, true, false, length, Some, None, Result, Ok, Err}
-use Rattle.std.proofs.Common.{nat_lt, nat_le, refl, sym, ap, subst, ◌∙◌, arith}
-use Rattle.std.proofs.lemmas.Bool.Decides.{nat_tests}
+use Rattle.std.proofs.Common.{◌≡◌, ℕ, ◌+◌, ◌-◌, Bool, length, Some, None, Result, Ok, Err}
+use Rattle.std.proofs.Common.{nat_lt, nat_le, sym, ap, subst, ◌∙◌}
 use Rattle.std.proofs.lemmas.List.{length-map}
 use Rattle.pf_tables.proofs.Common.{option_map, ◌>>=◌, ◌>>◌, refuse_if, or_refuse, Files, Limits, told_as, at}
 use Rattle.pf_tables.proofs.Common.{first_free, Access, is_privileged, capacity_for, is_spent, Window, total, itself}
@@ -12,6 +11,7 @@ use Rattle.pf_tables.proofs.Common.{value_of, find, UserPages, charged_to, Open,
 use Rattle.pf_tables.proofs.Common.{ProcessRows, DescriptionRows, PipeRows, Key, Process, Description, Pipe, process_in}
 use Rattle.pf_tables.proofs.Common.{ready_in, process_of, description_of, pipe_of, state_of, Kept}
 use Rattle.pf_base.specs.Capacities.{new_capacity}
+use Rattle.pf_base.specs.declared.TheConstants.{MAX_MADE}
 use Rattle.pf_machine.proofs.NumberedLaws.{first_free-map}
 use Rattle.pf_machine.specs.Attempts.{open_told}
 use Rattle.pf_base.specs.declared.errno.Errno.TheVariants.{ENXIO, ENOMEM}
@@ -53,58 +53,29 @@ module _ {files : Files} {files_made : ℕ} {charges : UserPages} {limits : Limi
     pipes_drawn : length s.pipes ≡ length pipes
     pipes_drawn = sym (ap (λ (m : Namespace). length m.state.pipes) view) ∙ length-map pipes (option_map pipe_of)
 
-    module _ (a : Access) (file : ℕ) (low : ℕ) (lowest : low ≡ first_free p.descriptors) where
-      free_is : first_free (process_of p).descriptors ≡ low
-      free_is = first_free-map (λ (k : Key). k.serial) p.descriptors ∙ sym lowest
-
-      judged : (full lacks spent : Bool) → nat_le MAX_DESCRIPTORS low ≡ full → lacks_readers s a file ≡ lacks
-          → is_spent s.descriptions 1 ≡ spent
-          → may_open s pid a file ≡ (refuse_if full EMFILE >> (refuse_if lacks ENXIO >> refuse_if spent ENFILE))
-      judged full lacks spent x y z =
-          ap (λ r. r >>= (λ q. refuse_if (nat_le MAX_DESCRIPTORS (first_free q.descriptors)) EMFILE
-          >> (refuse_if (lacks_readers s a file) ENXIO >> refuse_if (is_spent s.descriptions 1) ENFILE))) opener
-          ∙ (λ i. refuse_if ((ap (nat_le MAX_DESCRIPTORS) free_is ∙ x) i) EMFILE
-          >> (refuse_if (y i) ENXIO >> refuse_if (z i) ENFILE))
-
-      pub full_refused : MAX_DESCRIPTORS ≤ low → may_open s pid a file ≡ Err EMFILE
-      full_refused past =
-          judged true (lacks_readers s a file) (is_spent s.descriptions 1) (grind (arith, nat_tests)) refl refl
-
-      module _ (within : low < MAX_DESCRIPTORS) where
-        fits : nat_le MAX_DESCRIPTORS low ≡ false
-        fits = grind (arith, nat_tests)
-
-        pub lacking_refused : lacks_readers s a file ≡ true → may_open s pid a file ≡ Err ENXIO
-        lacking_refused lacks = judged false true (is_spent s.descriptions 1) fits lacks refl
-
-        pub spent_refused : lacks_readers s a file ≡ false → length ds ≡ 2 ^ 64 - 1 → may_open s pid a file ≡ Err ENFILE
-        spent_refused none all = judged false false true fits none (let number = drawn_is in grind (arith, nat_tests))
-
-        pub opens_it : lacks_readers s a file ≡ false → length ds < 2 ^ 64 - 1 → may_open s pid a file ≡ Ok tt
-        opens_it none some = judged false false false fits none (let number = drawn_is in grind (arith, nat_tests))
+    -- by the tests of the code
+    pub judged : (a : Access) (file : ℕ) {low : ℕ} → low ≡ first_free p.descriptors → (full lacks spent : Bool)
+        → nat_le MAX_DESCRIPTORS low ≡ full → lacks_readers s a file ≡ lacks → is_spent ds 1 ≡ spent
+        → (refuse_if full EMFILE >> (refuse_if lacks ENXIO >> refuse_if spent ENFILE)) ≡ may_open s pid a file
+    judged a file {low} lowest full lacks spent x y z =
+        sym (ap (λ r. r >>= (λ q. refuse_if (nat_le MAX_DESCRIPTORS (first_free q.descriptors)) EMFILE
+        >> (refuse_if (lacks_readers s a file) ENXIO >> refuse_if (is_spent s.descriptions 1) ENFILE))) opener
+        ∙ (λ i. refuse_if ((ap (nat_le MAX_DESCRIPTORS) (first_free-map (λ (k : Key). k.serial) p.descriptors
+        ∙ sym lowest) ∙ x) i) EMFILE
+        >> (refuse_if (y i) ENXIO >> refuse_if ((ap (λ m. nat_lt MAX_MADE (m + 1)) drawn_is ∙ z) i) ENFILE)))
 
     -- How many slots its pipe gets
-    module _ (same : limits ≡ charges.limits) where
-      abbrev slots : Result ℕ Errno
-      slots =
-          told_as ENOMEM
-          (new_capacity charges.limits (is_privileged p.cred) (charged_to charges p.cred.uid) charges.total)
-
-      capacity : (spent : Bool) → is_spent s.pipes 1 ≡ spent
-          → fifo_capacity n.limits s pid ≡ (refuse_if spent ENFILE >> slots)
-      capacity spent x =
-          ap (λ r. r >>= (λ q. refuse_if (is_spent s.pipes 1) ENFILE >> told_as ENOMEM
-          (capacity_for n.limits s q.cred)))
-          opener
-          ∙ (λ j. refuse_if (x j) ENFILE >> told_as ENOMEM (capacity_for (sym view j).limits (sym view j).state p.cred))
-          ∙ (λ j. refuse_if spent ENFILE >> told_as ENOMEM (new_capacity (same j) (is_privileged p.cred)
-          (sym (kept.charged.users p.cred.uid) j) (sym kept.charged.total j)))
-
-      pub capacity_is : length pipes < 2 ^ 64 - 1 → fifo_capacity n.limits s pid ≡ slots
-      capacity_is some = capacity false (let number = pipes_drawn in grind (arith, nat_tests))
-
-      pub capacity_spent : length pipes ≡ 2 ^ 64 - 1 → fifo_capacity n.limits s pid ≡ Err ENFILE
-      capacity_spent all = capacity true (let number = pipes_drawn in grind (arith, nat_tests))
+    pub capacity_is : limits ≡ charges.limits → (spent : Bool) → is_spent pipes 1 ≡ spent
+        → fifo_capacity n.limits s pid ≡ (refuse_if spent ENFILE >> told_as ENOMEM
+        (new_capacity charges.limits (is_privileged p.cred) (charged_to charges p.cred.uid) charges.total))
+    capacity_is same spent x =
+        ap (λ r. r >>= (λ q. refuse_if (is_spent s.pipes 1) ENFILE >> told_as ENOMEM
+        (capacity_for n.limits s q.cred)))
+        opener
+        ∙ (λ j. refuse_if ((ap (λ m. nat_lt MAX_MADE (m + 1)) pipes_drawn ∙ x) j) ENFILE
+        >> told_as ENOMEM (capacity_for (sym view j).limits (sym view j).state p.cred))
+        ∙ (λ j. refuse_if spent ENFILE >> told_as ENOMEM (new_capacity (same j) (is_privileged p.cred)
+        (sym (kept.charged.users p.cred.uid) j) (sym kept.charged.total j)))
 
   -- Whether an open is over
   module _ (d : Key) (before : ℕ) (waits : call_in ps pid ≡ Some (Open d before)) where

@@ -6,7 +6,7 @@ use Rattle.std.proofs.Common.{◌∙◌, arith, append_assoc}
 use Rattle.std.proofs.lemmas.Bool.Decides.{nat_tests}
 use Rattle.std.proofs.lemmas.List.{map-set, length-map, map_push, length_push, set-set}
 use Rattle.std.proofs.Math.Seq.{set-append_seam}
-use Rattle.pf_tables.proofs.Refusals.{not_refused, same_ok}
+use Rattle.pf_tables.proofs.Refusals.{not_refused, same_ok, then-bind}
 use Rattle.pf_tables.proofs.Common.{option_map, Window, ◌>>=◌, ◌>>◌, refuse_if, Files, at, put_at, change_at}
 use Rattle.pf_tables.proofs.Common.{first_free, told_as, is_privileged, empty, State, Outcome, ready, of_ready, told}
 use Rattle.pf_tables.proofs.Common.{is_spent, capacity_for, MAX_DESCRIPTORS, Errno, EMFILE, ENFILE, one_more, Joined}
@@ -130,12 +130,6 @@ module _ (ps : ProcessRows) (ds : DescriptionRows) (pipes : PipeRows) (pid : ℕ
         (k.slot, once (writing r nonblocking)) ∷ []
     pub set_to : ps' ≡ set ps (pid - 1) (with_keys free.0 j free.1 k (at ps (pid - 1)))
 
--- a refusal stands before what goes on
-stops : {A B : Type 0} (full : Bool) (a : A) (go : A → Result B Errno)
-    → (refuse_if full EMFILE >> go a) ≡ ((refuse_if full EMFILE >> Ok a) >>= go)
-stops true a go = refl
-stops false a go = refl
-
 -- What stands before and after
 
 module _ {files : Files} {files_made : ℕ} {charges : UserPages} {ps : ProcessRows} {ds : DescriptionRows}
@@ -175,8 +169,8 @@ module _ {files : Files} {files_made : ℕ} {charges : UserPages} {ps : ProcessR
       subst (λ m. calls m ≡ found free spent slots) view
       (ap (λ r. r >>= (λ q. pipe (length s.descriptions) (length s.descriptions + 1) (length s.pipes) charges.limits s
       pid q nonblocking)) (readies ps pid p is)
-      ∙ stops (nat_le MAX_DESCRIPTORS (second_free (process_of p).descriptors))
-      (first_free (process_of p).descriptors, second_free (process_of p).descriptors) (λ two. found (Ok two)
+      ∙ then-bind (refuse_if (nat_le MAX_DESCRIPTORS (second_free (process_of p).descriptors)) EMFILE)
+      (Ok (first_free (process_of p).descriptors, second_free (process_of p).descriptors)) (λ two. found (Ok two)
       (is_spent s.descriptions 2 || is_spent s.pipes 1) (told_as ENFILE (capacity_for charges.limits s p.cred)))
       ∙ (λ i. found ((two_shown ∙ sym free_is) i) ((spent_shown ∙ sym spent_is) i) ((capacity_shown ∙ sym slots_is) i)))
     where
@@ -213,15 +207,6 @@ module _ {files : Files} {files_made : ℕ} {charges : UserPages} {ps : ProcessR
     first_is : free.0 ≡ first_free p.descriptors
     first_is = (known p.descriptors free two).0
 
-    next_is : (k : Key) → free.1 ≡ first_free (put_at p.descriptors free.0 k)
-    next_is k =
-        (known p.descriptors free two).1
-        ∙ second_left p.descriptors k
-        ∙ ap (λ a. first_free (put_at p.descriptors a k)) (sym first_is)
-
-    first_in : free.0 < MAX_DESCRIPTORS
-    first_in = omega (arith, in_order p.descriptors, first_is, (known p.descriptors free two).1, within)
-
     abbrev one : Process
     one = record p { descriptors = put_at p.descriptors free.0 m.j }
 
@@ -244,8 +229,8 @@ module _ {files : Files} {files_made : ℕ} {charges : UserPages} {ps : ProcessR
     processes_are = m.set_to ∙ ap (λ o. set ps (pid - 1) (with_keys free.0 m.j free.1 m.k o)) stands
 
     -- the chain: a pipe, its two descriptions, their two keys
-    now_tied : Tied (put_at ps (pid - 1) both) ds2 pipes1
-    now_tied =
+    tied_after : Tied ps' ds' pipes'
+    tied_after =
         let a = sides (reading m.r nonblocking) in
         let b = sides (writing m.r nonblocking) in
         let new = finds-new pipes (two_ended slots p.cred.uid) m.r m.r_is in
@@ -258,15 +243,18 @@ module _ {files : Files} {files_made : ℕ} {charges : UserPages} {ps : ProcessR
         (omega (arith, a.0, b.0)) (omega (arith, a.1, b.1)) (omega arith) kept.tied in
         let with_reading = described m.j (reading m.r nonblocking) m.j_is with_pipe in
         let with_both = described m.k (writing m.r nonblocking) m.k_is with_reading in
+        let first_in : free.0 < MAX_DESCRIPTORS =
+        omega (arith, in_order p.descriptors, first_is, (known p.descriptors free two).1, within) in
+        let next : free.1 ≡ first_free one.descriptors =
+        (known p.descriptors free two).1 ∙ second_left p.descriptors m.j
+        ∙ ap (λ a. first_free (put_at p.descriptors a m.j)) (sym first_is) in
         let with_first = put (pid - 1) free.0 p stands first_in m.j
         (ap (at p.descriptors) first_is ∙ at-first_free p.descriptors) (swapped m.j m.k with_both) in
         let with_second = put (pid - 1) free.1 one
         (at-put_same ps (pid - 1) (Some one) (at_within ps (pid - 1) p stands)) within m.k
-        (ap (at one.descriptors) (next_is m.j) ∙ at-first_free one.descriptors) with_first in
-        subst (λ x. Tied x ds2 pipes1) (set-set ps (pid - 1) (Some one) (Some both)) with_second
-
-    tied_after : Tied ps' ds' pipes'
-    tied_after = rw (processes_are, m.named_to, m.piped_to) now_tied
+        (ap (at one.descriptors) next ∙ at-first_free one.descriptors) with_first in
+        rw (processes_are, m.named_to, m.piped_to)
+        (subst (λ x. Tied x ds2 pipes1) (set-set ps (pid - 1) (Some one) (Some both)) with_second)
 
     pub opened-kept : {charges' : UserPages} → Charges charges charges' p.cred.uid slots → Kept charges' ps' ds' pipes'
     opened-kept {charges'} more = record {

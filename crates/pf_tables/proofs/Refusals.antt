@@ -1,6 +1,6 @@
 -- What came through a chain of refusals: each of its steps gave what the next went on with.
 
-use Rattle.std.proofs.Common.{◌≡◌, Bool, true, false, Option, Some, None, is_some, Result, Ok, Err, refl}
+use Rattle.std.proofs.Common.{◌≡◌, Bool, true, false, Option, Some, None, is_some, Result, Ok, Err, refl, ap, ◌∙◌}
 use Rattle.pf_tables.proofs.Common.{◌>>=◌, ◌>>◌, refuse_if, or_refuse, Errno}
 
 -- a first step, and one that went on from it
@@ -35,3 +35,22 @@ pub bind-bind : {A B C : Type 0} (m : Result A Errno) (h : A → Result B Errno)
     → (m >>= (λ a. h a >>= go)) ≡ ((m >>= h) >>= go)
 bind-bind (Ok a) h go = refl
 bind-bind (Err e) h go = refl
+
+-- what follows a test is refused with it
+pub then-bind : {A B : Type 0} (m : Result (Unit {0}) Errno) (r : Result A Errno) (go : A → Result B Errno)
+    → (m >> (r >>= go)) ≡ ((m >> r) >>= go)
+then-bind (Ok x) r go = refl
+then-bind (Err e) r go = refl
+
+-- what is found by the second step, where the third asks the first as well
+module _ {A B C : Type 0} (h : A → Result B Errno) (go : A → B → Result C Errno) where
+  pub in_turn : (m : Result A Errno) → (m >>= (λ a. h a >>= go a)) ≡ ((m >>= h) >>= (λ b. m >>= (λ a. go a b)))
+  in_turn (Ok a) = refl
+  in_turn (Err e) = refl
+
+  pub stops_in_turn : (m : Result A Errno) (e : Errno) → (m >>= h) ≡ Err e → (m >>= (λ a. h a >>= go a)) ≡ Err e
+  stops_in_turn m e is = in_turn m ∙ ap (λ r. r >>= (λ b. m >>= (λ a. go a b))) is
+
+  pub goes_in_turn : (m : Result A Errno) (a : A) (b : B) → m ≡ Ok a → (m >>= h) ≡ Ok b
+      → (m >>= (λ x. h x >>= go x)) ≡ go a b
+  goes_in_turn m a b first second = in_turn m ∙ (λ i. second i >>= (λ y. first i >>= (λ x. go x y)))

@@ -46,7 +46,10 @@ abbrev pub counted : Stored → Pipe → Pipe
 counted a p = record p {
   readers = p.readers + one_if a.reads;
   writers = p.writers + one_if a.writes;
-  opens = record p.opens { read = p.opens.read + one_if a.reads; write = p.opens.write + one_if a.writes };
+  opens = record p.opens {
+    read = if a.reads then p.opens.read + 1 else p.opens.read;
+    write = if a.writes then p.opens.write + 1 else p.opens.write;
+  };
 }
 
 -- one end or open more passes the end of no count
