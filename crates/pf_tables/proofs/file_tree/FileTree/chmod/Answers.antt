@@ -1,6 +1,7 @@
-use Rattle.pf_tables.proofs.FileTree as lemmas
+use Rattle.pf_machine.proofs.FileLimitLaws.{chmod-within}
+use Rattle.pf_tables.proofs.FileTree.{within}
 use Rattle.pf_tables.proofs.file_tree.FileTree.chmod.Goals as goal
 
 pub invariant_of-self : goal.invariant_of-self
 invariant_of-self g c =
-    lemmas.chmoded _ _ _ c.args.cred.now c.args.path.now c.args.mode c.self.invariant c.chmod.ensures
+    within _ _ _ _ c.self.invariant c.chmod.ensures (chmod-within _ c.args.cred.now c.args.path.now c.args.mode c.self.invariant)

@@ -1,7 +1,7 @@
-use Rattle.pf_tables.proofs.FileTree as lemmas
+use Rattle.pf_machine.proofs.FileLimitLaws.{make-within}
+use Rattle.pf_tables.proofs.FileTree.{within}
 use Rattle.pf_tables.proofs.file_tree.FileTree.make.Goals as goal
 
 pub invariant_of-self : goal.invariant_of-self
 invariant_of-self g c =
-    lemmas.made _ _ _ c.args.kind c.args.made c.args.cred.now c.args.path.now c.args.mode c.self.invariant
-    c.make.ensures.changed
+    within _ _ _ _ c.self.invariant c.make.ensures.changed (make-within c.args.kind _ c.args.made c.args.cred.now c.args.path.now c.args.mode c.self.invariant)

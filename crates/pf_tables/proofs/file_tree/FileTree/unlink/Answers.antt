@@ -1,5 +1,7 @@
-use Rattle.pf_tables.proofs.FileTree as lemmas
+use Rattle.pf_machine.proofs.FileLimitLaws.{unlink-within}
+use Rattle.pf_tables.proofs.FileTree.{within}
 use Rattle.pf_tables.proofs.file_tree.FileTree.unlink.Goals as goal
 
 pub invariant_of-self : goal.invariant_of-self
-invariant_of-self g c = lemmas.unlinked _ _ _ c.args.cred.now c.args.path.now c.self.invariant c.unlink.ensures
+invariant_of-self g c =
+    within _ _ _ _ c.self.invariant c.unlink.ensures (unlink-within _ c.args.cred.now c.args.path.now c.self.invariant)

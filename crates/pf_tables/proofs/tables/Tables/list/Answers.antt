@@ -1,5 +1,5 @@
-use Rattle.std.proofs.Common.{ℕ, List, Vec, Global, Ok, Err, refl, subst, rules}
-use Rattle.pf_tables.proofs.Common.{Files, Told}
+use Rattle.std.proofs.Common.{ℕ, List, Vec, Global, Ok, Err, refl, rules}
+use Rattle.pf_tables.proofs.Common.{told, state_of}
 use Rattle.pf_machine.specs.FileCalls as calls
 use Rattle.pf_machine.specs.Files.{list}
 use Rattle.pf_base.specs.declared.step.Reply.TheVariants as replies
@@ -8,21 +8,19 @@ use Rattle.pf_tables.proofs.tables.Tables.list.Goals as goal
 
 pub returns-in_ok-new-in-Ok-clause-says : goal.returns-in_ok-new-in-Ok-clause-says
 returns-in_ok-new-in-Ok-clause-says g c =
-    let cred = c.in_ok-cred.field-0.now.cred in
-    let shows : Vec ℕ Global → List ℕ = λ names. names.items in
+    let i = c.self.inside in
+    let s = state_of i.processes i.descriptions.items i.pipes.items i.files i.files_made in
     let said =
     tells c.self.invariant.kept.tied c.self.view_is c.args.pid c.in_ok-cred.ensures (λ t q. list t q c.args.path.now)
-    shows (calls.list c.self.inside.files cred c.args.path.now) replies.Names refl c.in-Ok.names
-    (subst (λ (fs : Files). Told shows (Ok c.in-Ok.names) (calls.list fs cred c.args.path.now)) c.tree.ensures
-    c.in-Ok.ensures) in
+    (calls.list i.files c.in_ok-cred.field-0.now.cred c.args.path.now) (λ x. Ok (told s (replies.Names x))) refl
+    c.in-Ok.names.items (replies.Names c.in-Ok.names.items) (rw c.tree.ensures at c.in-Ok.ensures) refl in
     search rules
 
 pub returns-in-Err-clause-says : goal.returns-in-Err-clause-says
 returns-in-Err-clause-says g c =
-    let cred = c.in_ok-cred.field-0.now.cred in
-    let shows : Vec ℕ Global → List ℕ = λ names. names.items in
+    let i = c.self.inside in
+    let s = state_of i.processes i.descriptions.items i.pipes.items i.files i.files_made in
     tells_not c.self.invariant.kept.tied c.self.view_is c.args.pid c.in_ok-cred.ensures
-    (λ t q. list t q c.args.path.now) shows (calls.list c.self.inside.files cred c.args.path.now) replies.Names refl
-    c.in-Err.fault
-    (subst (λ (fs : Files). Told shows (Err c.in-Err.fault) (calls.list fs cred c.args.path.now)) c.tree.ensures
-    c.in-Err.ensures)
+    (λ t q. list t q c.args.path.now) (calls.list i.files c.in_ok-cred.field-0.now.cred c.args.path.now)
+    (λ x. Ok (told s (replies.Names x))) refl (λ (names : Vec ℕ Global). names.items) c.args.self.now c.in-Err.fault
+    (rw c.tree.ensures at c.in-Err.ensures)

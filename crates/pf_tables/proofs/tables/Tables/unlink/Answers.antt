@@ -1,5 +1,4 @@
 use Rattle.std.proofs.Common.{refl}
-use Rattle.pf_tables.proofs.Common.{with_files}
 use Rattle.pf_machine.specs.FileCalls as calls
 use Rattle.pf_machine.specs.Files.{unlink}
 use Rattle.pf_tables.proofs.Files.{changed}
@@ -7,7 +6,6 @@ use Rattle.pf_tables.proofs.tables.Tables.unlink.Goals as goal
 
 pub returns-clause-says : goal.returns-clause-says
 returns-clause-says g c =
-    changed c.self.invariant.kept.tied c.self.view_is c.args.pid c.in_ok-cred.ensures
-    (λ t q. unlink t q c.args.path.now)
-    (calls.unlink c.self.inside.files c.in_ok-cred.field-0.now.cred c.args.path.now) with_files refl c.unlink.new.self
-    c.self.inside.files_made refl c.unlink.result c.unlink.ensures c.made_reply.ensures
+    rw c.made_reply.ensures (changed c.self.invariant.kept.tied c.self.view_is c.args.pid c.in_ok-cred.ensures
+    (λ t q. unlink t q c.args.path.now) (calls.unlink c.self.inside.files c.in_ok-cred.field-0.now.cred c.args.path.now) refl
+    c.unlink.new.self c.unlink.result c.unlink.ensures)
