@@ -3,17 +3,16 @@
 use Rattle.std.proofs.Common.{◌≡◌, ℕ, ◌+◌, ◌-◌, ◌*◌, ◌<◌, ◌≤◌, Bool, true, false, not, ◌&&◌, List, length, set, Option}
 use Rattle.std.proofs.Common.{Some, None, IsSome, Result, Ok, Err, nat_lt, refl, sym, ap, subst, ◌∙◌, arith}
 use Rattle.std.proofs.Common.{if◌then◌else◌, inl, inr}
-use Rattle.std.proofs.lemmas.Bool.{lt-ltb, le-ltb, ltb-false, cases_lt}
+use Rattle.std.proofs.lemmas.Bool.{le-ltb, cases_lt}
 use Rattle.std.proofs.lemmas.List.{map-set, length-map}
 use Rattle.pf_tables.proofs.Common.{option_map, sum_by, Window, Files, Limits, is_privileged, ◌>>=◌, ◌>>◌, refuse_if}
 use Rattle.pf_tables.proofs.Common.{told_as, at, put_at, itself, State, Outcome, ready, of_ready, with_queue, done}
-use Rattle.pf_tables.proofs.Common.{Errno, EINVAL, EBUSY, Reply, Num, Fault, find, Live, UserPages, charged_to, Ring}
+use Rattle.pf_tables.proofs.Common.{Errno, EINVAL, EBUSY, Num, Fault, find, Live, UserPages, charged_to, Ring}
 use Rattle.pf_tables.proofs.Common.{Joined, ring_at, slots_of, slots_used, Namespace, ring_or, rings_of, Charged, Owns}
 use Rattle.pf_tables.proofs.Common.{ProcessRows, DescriptionRows, PipeRows, Process, Description, Pipe, process_of, Key}
 use Rattle.pf_tables.proofs.Common.{pipe_of, pipes_of, state_of, ready_in, end_in, Whole, Makes, Says}
 use Rattle.pf_machine.specs.Queue.{with_capacity}
 use Rattle.pf_base.specs.Capacities.{pages_for, may_grow}
-use Rattle.pf_base.specs.declared.capacity.LimitFault.TheVariants.{Hard, Reserve, Soft}
 use Rattle.pf_machine.proofs.NumberedLaws.{at_within}
 use Rattle.pf_machine.specs.Pipes.{may_resize, set_size, get_size}
 use Rattle.pf_machine.specs.State as machine
@@ -23,28 +22,16 @@ use Rattle.pf_base.specs.declared.errno.Errno.TheVariants.{EPERM}
 use Rattle.pf_base.specs.declared.fault.Fault.TheVariants as faults
 use Rattle.pf_limits.proofs.SumLaws.{covers}
 use Rattle.pf_ring.proofs.TableLaws.{joined_resized}
-use Rattle.pf_tables.proofs.OwnsLaws.{slots-rings, pages-without, recharged, charged-same}
+use Rattle.pf_tables.proofs.OwnsLaws.{slots-rings, recharged, charged-same}
 use Rattle.pf_tables.proofs.TablesTied.{requeued}
-use Rattle.pf_tables.proofs.TablesSettled.{settled, makes_over}
+use Rattle.pf_tables.proofs.TablesSettled.{makes, makes_over}
 use Rattle.pf_tables.specs.Tables.{verdict, Resizes, Refuses, Resizing}
 use Rattle.pf_tables.proofs.ProcessTableReady.{readies}
 use Rattle.pf_tables.proofs.Ends.{end_of_rows, as_kept, Agree, kept_ends, pipe_there as there_is, reaches}
 use Rattle.pf_tables.proofs.Fifos.{fifos-put}
 use Rattle.pf_tables.proofs.PipesRing.{there, ring_is, same_pipes, shows}
 use Rattle.pf_tables.proofs.TablesShown.{find_at, find_was}
-use Rattle.pf_tables.proofs.Refusals.{bind-bind}
-
--- what is found by the second step, where the third asks the first as well
-module _ {A B C : Type 0} (h : A → Result B Errno) (go : A → B → Result C Errno) where
-  in_turn : (m : Result A Errno) → (m >>= (λ a. h a >>= go a)) ≡ ((m >>= h) >>= (λ b. m >>= (λ a. go a b)))
-  in_turn (Ok a) = refl
-  in_turn (Err e) = refl
-
-  stops : (m : Result A Errno) (e : Errno) → (m >>= h) ≡ Err e → (m >>= (λ a. h a >>= go a)) ≡ Err e
-  stops m e is = in_turn m ∙ ap (λ r. r >>= (λ b. m >>= (λ a. go a b))) is
-
-  goes : (m : Result A Errno) (a : A) (b : B) → m ≡ Ok a → (m >>= h) ≡ Ok b → (m >>= (λ x. h x >>= go x)) ≡ go a b
-  goes m a b first second = in_turn m ∙ (λ i. second i >>= (λ y. first i >>= (λ x. go x y)))
+use Rattle.pf_tables.proofs.Refusals.{bind-bind, goes_in_turn, stops_in_turn}
 
 -- a change that was refused, whatever the reason
 pub refuses : (u v : UserPages) (p q : Pipe) (privileged : Bool) (to : ℕ) (fault : Fault)
@@ -81,13 +68,13 @@ module _ {charges : UserPages} {limits : Limits} {es : List (ℕ × Key)} {ps : 
   pub no_size : {e : Errno} → end_in None ps ds pid fd ≡ Err e → gets n.state ≡ Err e
   no_size {e} h =
       subst (λ (m : Namespace). gets m.state ≡ Err e) view
-      (stops (λ p. end_of itself s p fd) (λ p x. Ok (done s (PAGE_SIZE * x.pipe.queue.capacity))) (ready s pid) e
+      (stops_in_turn (λ p. end_of itself s p fd) (λ p x. Ok (done s (PAGE_SIZE * x.pipe.queue.capacity))) (ready s pid) e
       (its.refused h))
 
   pub not_sized : (bytes : ℕ) {e : Errno} → end_in None ps ds pid fd ≡ Err e → sets bytes n ≡ Err e
   not_sized bytes {e} h =
       subst (λ (m : Namespace). sets bytes m ≡ Err e) view
-      (stops (λ p. end_of itself s p fd) (set_at bytes) (ready s pid) e (its.refused h))
+      (stops_in_turn (λ p. end_of itself s p fd) (set_at bytes) (ready s pid) e (its.refused h))
 
   module _ {d : Description} (h : end_in None ps ds pid fd ≡ Ok d) where
     pub stands : (r : Pipe) × (find pipes d.pipe.slot d.pipe.serial ≡ Some r)
@@ -139,15 +126,11 @@ module _ {charges : UserPages} {limits : Limits} {es : List (ℕ × Key)} {ps : 
 
       pub tells_size : (size : ℕ) → size ≡ PAGE_SIZE * r.ring.capacity → Makes n n (gets n.state) (Num size)
       tells_size size all =
-          subst (λ (m : Namespace). Makes m m (gets m.state) (Num size)) view (record {
-            is =
-                bind-bind (ready s pid) (λ q. end_of itself s q fd) size_of
-                ∙ ap (λ x. x >>= size_of) (reaches its h handed)
-                ∙ ap (λ m. Ok (done s m)) (sym all);
-            limits = refl;
-            owned = λ f o. o;
-            swept = settled files files_made rows.kept.tied;
-          })
+          subst (λ (m : Namespace). Makes n m (gets n.state) (Num size)) view
+          (makes rows.kept.tied files files_made view refl gets (Num size)
+          (bind-bind (ready s pid) (λ q. end_of itself s q fd) size_of
+          ∙ ap (λ x. x >>= size_of) (reaches its h handed)
+          ∙ ap (λ m. Ok (done s m)) (sym all)))
 
       module _ (p : Process) (is : ready_in ps pid ≡ Ok p) (bytes : ℕ) where
         -- what the call says, test by test
@@ -166,42 +149,30 @@ module _ {charges : UserPages} {limits : Limits} {es : List (ℕ × Key)} {ps : 
         set_is : sets bytes (record { limits = limits; state = s })
             ≡ tests (nat_lt MAX_SIZE bytes) over (may (pages_for bytes))
         set_is =
-            goes (λ q. end_of itself s q fd) (set_at bytes) (ready s pid) (process_of p) (end_of_rows as_kept d r)
+            goes_in_turn (λ q. end_of itself s q fd) (set_at bytes) (ready s pid) (process_of p) (end_of_rows as_kept d r)
             (readies ps pid p is) (reaches its h handed)
 
-        pub too_many : MAX_SIZE < bytes → sets bytes n ≡ Err EINVAL
-        too_many long =
-            subst (λ (m : Namespace). sets bytes m ≡ Err EINVAL) view
-            (set_is ∙ ap (λ b. tests b over (may (pages_for bytes))) (lt-ltb MAX_SIZE bytes long))
+        pub judged : (long large : Bool) {o : Result (Unit {0}) Errno} → nat_lt MAX_SIZE bytes ≡ long → over ≡ large
+            → may (pages_for bytes) ≡ o → sets bytes n ≡ tests long large o
+        judged long large {o} x y z =
+            subst (λ (m : Namespace). sets bytes m ≡ tests long large o) view (set_is ∙ (λ j. tests (x j) (y j) (z j)))
 
-        module _ (short : bytes ≤ MAX_SIZE) where
-          pub too_large : over ≡ true → sets bytes n ≡ Err EPERM
-          too_large large =
-              subst (λ (m : Namespace). sets bytes m ≡ Err EPERM) view
-              (set_is ∙ (λ j. tests (le-ltb MAX_SIZE bytes short j) (large j) (may (pages_for bytes))))
+        -- where the bytes are not too many, nor above pipe-max-size, it goes by the test of the counters
+        module _ (to : ℕ) (slots : to ≡ pages_for bytes) (same : limits ≡ charges.limits) where
+          pub verdict_is : may (pages_for bytes) ≡ verdict charges (is_privileged p.cred) r to
+          verdict_is =
+              λ j. if nat_lt r.ring.capacity (sym slots j)
+              then told_as EPERM (may_grow (same j) (is_privileged p.cred) (sym (rows.kept.charged.users r.owner) j)
+              (sym rows.kept.charged.total j) r.ring.capacity (sym slots j))
+              else refuse_if (nat_lt (sym slots j) (length r.ring.segments)) EBUSY
 
-          -- where the bytes are not too many, nor above pipe-max-size, it goes by the test of the counters
-          module _ (under : over ≡ false) (to : ℕ) (slots : to ≡ pages_for bytes) (same : limits ≡ charges.limits) where
-            verdict_is : may (pages_for bytes) ≡ verdict charges (is_privileged p.cred) r to
-            verdict_is =
-                λ j. if nat_lt r.ring.capacity (sym slots j)
-                then told_as EPERM (may_grow (same j) (is_privileged p.cred) (sym (rows.kept.charged.users r.owner) j)
-                (sym rows.kept.charged.total j) r.ring.capacity (sym slots j))
-                else refuse_if (nat_lt (sym slots j) (length r.ring.segments)) EBUSY
-
-            set_as : (o : Result (Unit {0}) Errno) → verdict charges (is_privileged p.cred) r to ≡ o
-                → sets bytes (record { limits = limits; state = s }) ≡ tests false false o
-            set_as o said =
-                set_is ∙ (λ j. tests (le-ltb MAX_SIZE bytes short j) (under j) ((verdict_is ∙ said) j))
-
-            -- it is refused, whatever the reason
-            pub told : (m : Namespace) (o : Result Reply Fault) (charges' : UserPages) (r' : Pipe) (fault : Fault)
-                → Resizing charges charges' r r' (is_privileged p.cred) to (Err fault) → o ≡ Err fault
-                → Says n m o (sets bytes n)
-            told m o charges' r' (faults.Errno e) z is =
-                subst (λ x. Says n m x (sets bytes n)) (sym is)
-                (subst (λ (m : Namespace). sets bytes m ≡ Err e) view (set_as (Err e) z.0))
-            told m o charges' r' faults.NoMemory z is = subst (λ x. Says n m x (sets bytes n)) (sym is) tt
+          -- it is refused, whatever the reason
+          pub told : bytes ≤ MAX_SIZE → over ≡ false → (m : Namespace) (charges' : UserPages) (r' : Pipe) (fault : Fault)
+              → Resizing charges charges' r r' (is_privileged p.cred) to (Err fault)
+              → Says n m (Err fault) (sets bytes n)
+          told short under m charges' r' (faults.Errno e) z =
+              judged false false (le-ltb MAX_SIZE bytes short) under (verdict_is ∙ z.0)
+          told short under m charges' r' faults.NoMemory z = tt
 
       -- It has other slots
       module _ (p : Process) (charges' : UserPages) (r' : Pipe) (to : ℕ)
@@ -231,41 +202,16 @@ module _ {charges : UserPages} {limits : Limits} {es : List (ℕ × Key)} {ps : 
           filed = fifos-put es pipes d.pipe r r' was (ap (λ (q : Pipe). q.opens) z.pipe) rows.filed;
         }
 
-        -- all slots stay within the reservation: those of a pipe that grew, by the test, and those of one that shrank
-        -- anyway
-        by_tests : (soft hard reserve : Bool)
-            → told_as {A = Unit {0}} EPERM
-            (if soft then Err Soft else if hard then Err Hard else if reserve then Err Reserve else Ok tt) ≡ Ok tt
-            → reserve ≡ false
-        by_tests true hard reserve h = absurd (cc)
-        by_tests false true reserve h = absurd (cc)
-        by_tests false false true h = absurd (cc)
-        by_tests false false false h = refl
-
         module _ (same : limits ≡ charges.limits) where
-          grown : r.ring.capacity < to → charges.total - r.ring.capacity + to ≤ limits.reserve
-          grown more =
-              let asked : told_as EPERM (may_grow charges.limits (is_privileged p.cred) (charged_to charges r.owner)
-              charges.total r.ring.capacity to) ≡ Ok tt =
-              sym (ap (λ b. if b
-              then told_as EPERM (may_grow charges.limits (is_privileged p.cred) (charged_to charges r.owner)
-              charges.total r.ring.capacity to)
-              else refuse_if (nat_lt to (length r.ring.segments)) EBUSY) (lt-ltb r.ring.capacity to more)) ∙ z.may in
-              let none : nat_lt charges.limits.reserve (charges.total - r.ring.capacity + to) ≡ false =
-              by_tests _ _ _ asked in
-              omega (arith, ltb-false _ _ none, ap (λ (l : Limits). l.reserve) same)
-
           module _ (f : Live) (o : Owns f (record { limits = limits; state = s })) where
+            -- all slots stay within the reservation: those of a pipe that grew, and those of one that shrank anyway
             reserve_kept : sum_by slots_of (rings_of s) + to ≤ f.reserved + r.ring.capacity
             reserve_kept =
                 let all : sum_by slots_of (rings_of s) ≡ charges.total =
                 slots-rings (pipes_of pipes) ∙ sym rows.kept.charged.total in
-                let own : r.ring.capacity ≤ charges.total =
-                let rest = pages-without (pipes_of pipes) d.pipe.serial (pipe_of (d.pipe.slot, r))
-                (there ps ds pipes files files_made d.pipe r was) in
-                omega (arith, rows.kept.charged.total, rest) in
+                let most = ap (λ (l : Limits). l.reserve) (z.charges.limits ∙ sym same) in
                 elim (cases_lt r.ring.capacity to) [
-                  | inl more ↦ omega (arith, all, own, grown more, o.reserve)
+                  | inl more ↦ omega (arith, all, z.charges.total, z.room more, most, o.reserve)
                   | inr less ↦ omega (arith, less, o.joined.reserve)
                 ]
 
@@ -298,6 +244,8 @@ module _ {charges : UserPages} {limits : Limits} {es : List (ℕ × Key)} {ps : 
           resized is bytes size short under slots all =
               makes_over resized-whole.kept.tied files files_made view (z.charges.limits ∙ sym same)
               (λ f o. resized-joined f o) (sets bytes) (Num size)
-              (set_as p is bytes short under to slots same (Ok tt) z.may
+              (set_is p is bytes
+              ∙ (λ j. tests p is bytes (le-ltb MAX_SIZE bytes short j) (under j) ((verdict_is p is bytes to slots same
+              ∙ z.may) j))
               ∙ (λ j. Ok (done (with_queue s d.pipe.serial (with_capacity (sym slots j) r.ring)) (sym all j)))
               ∙ ap (λ t. Ok (done t size)) (sym shows_it))

@@ -144,6 +144,7 @@ pub record Resizes (u v : UserPages) (p q : rows.Pipe) (privileged : Bool) (to :
   pub pipe : q ≡ record p { ring = record { capacity = to; segments = p.ring.segments } }
   pub fits : length p.ring.segments ≤ to
   pub charges : Recharges u v p.owner p.ring.capacity to
+  pub room : p.ring.capacity < to → v.total ≤ v.limits.reserve
 
 pub record Refuses (u v : UserPages) (p q : rows.Pipe) : Type 0 where
   pub pipe : q ≡ p

@@ -1,4 +1,5 @@
-use Rattle.std.proofs.Common.{Err, ◌≡◌, ◌*◌, sym, ◌∙◌, refl, subst, arith, rules}
+use Rattle.std.proofs.Common.{Err, ◌≡◌, ◌*◌, true, false, sym, ◌∙◌, refl, subst, arith, rules}
+use Rattle.std.proofs.lemmas.Bool.{lt-ltb, le-ltb}
 use Rattle.pf_base.specs.Capacities.{pages_for}
 use Rattle.pf_base.specs.declared.TheConstants.{PAGE_SIZE}
 use Rattle.pf_tables.specs.Tables.{Resizing}
@@ -13,11 +14,10 @@ returns-in_err-end-clause-says g c =
 
 pub returns-then-bytes-gt-MAX_SIZE-clause-says : goal.returns-then-bytes-gt-MAX_SIZE-clause-says
 returns-then-bytes-gt-MAX_SIZE-clause-says g c =
-    let pipe =
-    lemmas.stands c.self.invariant c.self.view_is c.args.pid c.args.fd (sym c.in_ok-end.ensures) in
+    let pipe = lemmas.stands c.self.invariant c.self.view_is c.args.pid c.args.fd (sym c.in_ok-end.ensures) in
     let refused =
-    lemmas.too_many c.self.invariant c.self.view_is c.args.pid c.args.fd (sym c.in_ok-end.ensures) pipe.1
-    c.in_ok-ready.field-0.now c.in_ok-ready.ensures c.args.bytes c.if-bytes-gt-MAX_SIZE.true in
+    lemmas.judged c.self.invariant c.self.view_is c.args.pid c.args.fd (sym c.in_ok-end.ensures) pipe.1 _
+    c.in_ok-ready.ensures c.args.bytes true _ (lt-ltb _ _ c.if-bytes-gt-MAX_SIZE.true) refl refl in
     search rules
 
 pub value_mut-pipe-requires : goal.value_mut-pipe-requires
@@ -31,12 +31,11 @@ returns-then-is_too_large-clause-says g c =
     let size : c.pages_for-slots.result * 4096 ≡ PAGE_SIZE * pages_for c.args.bytes =
     omega (arith, c.pages_for-slots.ensures.number) in
     let over = rw (c.is_privileged-privileged.ensures, c.config.ensures, size) at c.is_too_large.ensures in
-    let pipe =
-    lemmas.stands c.self.invariant c.self.view_is c.args.pid c.args.fd (sym c.in_ok-end.ensures) in
+    let pipe = lemmas.stands c.self.invariant c.self.view_is c.args.pid c.args.fd (sym c.in_ok-end.ensures) in
     let refused =
-    lemmas.too_large c.self.invariant c.self.view_is c.args.pid c.args.fd (sym c.in_ok-end.ensures) pipe.1
-    c.in_ok-ready.field-0.now c.in_ok-ready.ensures c.args.bytes (omega (arith, c.if-bytes-gt-MAX_SIZE.false))
-    (sym over ∙ c.if-is_too_large.true) in
+    lemmas.judged c.self.invariant c.self.view_is c.args.pid c.args.fd (sym c.in_ok-end.ensures) pipe.1 _
+    c.in_ok-ready.ensures c.args.bytes false true (le-ltb _ _ c.if-bytes-gt-MAX_SIZE.false)
+    (sym over ∙ c.if-is_too_large.true) refl in
     search rules
 
 pub resize-requires : goal.resize-requires
@@ -72,7 +71,7 @@ returns-clause-says g c =
     let z = rw c.is_privileged-privileged.ensures at c.in_ok-resize.ensures in
     lemmas.resized c.self.invariant c.self.view_is c.args.pid c.args.fd (sym c.in_ok-end.ensures)
     c.value_mut-pipe.ensures.value c.in_ok-ready.field-0.now _ _ _ z refl c.in_ok-ready.ensures c.args.bytes _
-    (omega (arith, c.if-bytes-gt-MAX_SIZE.false)) (sym over ∙ c.if-is_too_large.false) c.pages_for-slots.ensures.number
+    c.if-bytes-gt-MAX_SIZE.false (sym over ∙ c.if-is_too_large.false) c.pages_for-slots.ensures.number
     size
 
 pub returns-in_err-resize-clause-says : goal.returns-in_err-resize-clause-says
@@ -85,8 +84,6 @@ returns-in_err-resize-clause-says g c =
     c.pages_for-slots.result (Err c.in_err-resize.field-0.0)) c.is_privileged-privileged.ensures
     c.in_err-resize.ensures in
     let gives : c.from_residual-in_err-resize.result ≡ Err c.in_err-resize.field-0.0 = search rules in
-    lemmas.told c.self.invariant c.self.view_is c.args.pid c.args.fd (sym c.in_ok-end.ensures)
-    c.value_mut-pipe.ensures.value c.in_ok-ready.field-0.now c.in_ok-ready.ensures c.args.bytes
-    (omega (arith, c.if-bytes-gt-MAX_SIZE.false)) (sym over ∙ c.if-is_too_large.false) _
-    c.pages_for-slots.ensures.number
-    refl _ _ _ _ _ z gives
+    rw gives (lemmas.told c.self.invariant c.self.view_is c.args.pid c.args.fd (sym c.in_ok-end.ensures)
+    c.value_mut-pipe.ensures.value _ c.in_ok-ready.ensures c.args.bytes _ c.pages_for-slots.ensures.number refl
+    c.if-bytes-gt-MAX_SIZE.false (sym over ∙ c.if-is_too_large.false) _ _ _ _ z)
