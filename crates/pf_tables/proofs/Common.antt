@@ -1,4 +1,5 @@
--- The words of the definitions that many proofs of this crate use, passed on from one place. Declares nothing.
+-- The words of the definitions and the laws below that many proofs of this crate use, passed on from one place. Declares
+-- nothing.
 
 pub use Rattle.pf_base.specs.Capacities.{told_as}
 pub use Rattle.pf_base.specs.Limits.{Limits}
@@ -15,6 +16,8 @@ pub use Rattle.pf_fds.specs.Descriptions.{names_of, one_more, value_of}
 pub use Rattle.pf_fds.specs.Registry.{find}
 pub use Rattle.pf_frame.specs.Live.{IsSound, Live}
 pub use Rattle.pf_limits.specs.UserPages.{Charges, UserPages, charged_to}
+pub use Rattle.pf_machine.proofs.NumberedLaws.{at-first_free, at-map, at-push_new, at-push_old, at-put_other, at-put_same}
+pub use Rattle.pf_machine.proofs.NumberedLaws.{at_past, at_within, first_free-map}
 pub use Rattle.pf_machine.specs.Calls.{Opening}
 pub use Rattle.pf_machine.specs.Counts.{ends, readers, total, writers}
 pub use Rattle.pf_machine.specs.FileMap.{Files}
@@ -50,6 +53,8 @@ pub use Rattle.pf_tables.specs.Rows.{written_by}
 pub use Rattle.pf_tables.specs.Tables.{LetsGo, Makes, Says, awoken, descriptor, over, woken}
 pub use Rattle.pf_tables.specs.Told.{attempted}
 pub use Rattle.pf_walk.specs.Told.{Told}
+pub use Rattle.std.proofs.lemmas.Bool.{cases_lt, eq-eqb, le-leb, le-ltb, lt-leb, lt-ltb}
+pub use Rattle.std.proofs.lemmas.List.{length-map, length_push, map-set, map_push, set-set}
 pub use Rattle.std.specs.List.{sum_by}
 pub use Rattle.std.specs.Map.{lookup}
 pub use Rattle.std.specs.Option.{option_and_then, option_map}

@@ -2,7 +2,6 @@
 
 use Rattle.std.proofs.Common.{◌≡◌, ◌≢◌, ℕ, ◌+◌, ◌-◌, ◌<◌, ◌≤◌, Bool, true, false, List, [], ◌∷◌, ◌++◌, length, set}
 use Rattle.std.proofs.Common.{Option, Some, None, if◌then◌else◌, refl, sym, ap, subst, ◌∙◌, arith}
-use Rattle.std.proofs.lemmas.List.{map-set}
 use Rattle.pf_tables.proofs.TablesTied.{in_place, by_set, found, finds-new, miss, sides, once, repiped, described}
 use Rattle.pf_tables.proofs.TablesTied.{piped, moved, put, pipe_row}
 use Rattle.pf_tables.specs.Rows.{AreKeys, file_at, holding}
@@ -11,8 +10,7 @@ use Rattle.pf_tables.proofs.TablesShown.{shown_same, shown}
 use Rattle.pf_tables.proofs.Common.{option_map, Window, at, put_at, first_free, one_if, MAX_DESCRIPTORS, Reply}
 use Rattle.pf_tables.proofs.Common.{UserPages, AreCharged, counted, Describes, ProcessRows, DescriptionRows, PipeRows}
 use Rattle.pf_tables.proofs.Common.{Key, Description, Pipe, made_by, reads_it, writes_it, opens_at, opens_of, pipe_of}
-use Rattle.pf_tables.proofs.Common.{pipes_of, NoMore, AreFifos, TiedWith, Tied}
-use Rattle.pf_machine.proofs.NumberedLaws.{at_within, at-first_free}
+use Rattle.pf_tables.proofs.Common.{pipes_of, NoMore, AreFifos, TiedWith, Tied, map-set, at_within, at-first_free}
 use Rattle.pf_machine.specs.State as machine
 use Rattle.pf_limits.proofs.SumLaws.{kept}
 use Rattle.pf_tables.specs.declared.tables.opens.Access.{Access as Stored}

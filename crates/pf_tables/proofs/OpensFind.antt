@@ -2,13 +2,12 @@
 
 use Rattle.std.proofs.Common.{◌≡◌, ◌≢◌, ℕ, zero, suc, Bool, true, false, List, [], ◌∷◌, Option, Some, None, IsSome}
 use Rattle.std.proofs.Common.{is_some, nat_eq, if◌then◌else◌, refl, sym, ap, subst, ◌∙◌, arith}
-use Rattle.std.proofs.lemmas.Bool.{eq-eqb}
 use Rattle.pf_tables.proofs.Fifos.{of_file}
 use Rattle.pf_tables.specs.Rows.{file_at, files_of}
 use Rattle.pf_tables.proofs.Refusals.{same_some}
 use Rattle.pf_tables.proofs.Common.{option_map, lookup, itself, Files, Limits, at, fifo_pipe, find, UserPages}
 use Rattle.pf_tables.proofs.Common.{Namespace, ProcessRows, DescriptionRows, PipeRows, Key, Pipe, opens_at, opens_of}
-use Rattle.pf_tables.proofs.Common.{pipe_of, state_of, AreFifos, Whole}
+use Rattle.pf_tables.proofs.Common.{pipe_of, state_of, AreFifos, Whole, eq-eqb}
 use Rattle.pf_machine.specs.Opens.{first_where, is_of_file, fifo_readers}
 use Rattle.pf_tables.proofs.Ends.{as_kept, counted}
 use Rattle.pf_tables.proofs.TablesShown.{find_at, was}

@@ -3,15 +3,13 @@
 use Rattle.std.proofs.Common.{◌≡◌, ℕ, ◌-◌, ◌^◌, ◌<◌, List, [], ◌∷◌, length, Some, None, Ok, IsOk, nat_eq, refl}
 use Rattle.std.proofs.Common.{sym, ap, subst, ◌∙◌, arith}
 use Rattle.std.proofs.lemmas.Bool.{leb-false, ltb-false}
-use Rattle.std.proofs.lemmas.List.{length-map}
 use Rattle.pf_tables.proofs.DescriptorsDup.{at_most_one, sum-le-length}
 use Rattle.pf_tables.proofs.Refusals.{same_ok}
 use Rattle.pf_tables.proofs.Common.{option_map, lookup, Window, Files, Limits, at, put_at, first_free, State, Reply}
-use Rattle.pf_tables.proofs.Common.{MAX_DESCRIPTORS, find, UserPages, Namespace, access_seen, before, counted}
-use Rattle.pf_tables.proofs.Common.{may_open, Describes, ProcessRows, DescriptionRows, PipeRows, Key, Process, Pipe}
-use Rattle.pf_tables.proofs.Common.{process_in, ready_in, process_of, description_of, opens_at, state_of, reads_it}
-use Rattle.pf_tables.proofs.Common.{writes_it, TiedWith, Whole, Makes}
-use Rattle.pf_machine.proofs.NumberedLaws.{first_free-map}
+use Rattle.pf_tables.proofs.Common.{MAX_DESCRIPTORS, find, UserPages, Namespace, access_seen, before, counted, may_open}
+use Rattle.pf_tables.proofs.Common.{Describes, ProcessRows, DescriptionRows, PipeRows, Key, Process, Pipe, process_in}
+use Rattle.pf_tables.proofs.Common.{ready_in, process_of, description_of, opens_at, state_of, reads_it, writes_it}
+use Rattle.pf_tables.proofs.Common.{TiedWith, Whole, Makes, length-map, first_free-map}
 use Rattle.pf_machine.specs.State as machine
 use Rattle.pf_machine.specs.Opens as opens
 use Rattle.pf_tables.specs.declared.tables.opens.Access.{Access as Stored}

@@ -5,17 +5,16 @@ use Rattle.std.proofs.Common.{Option, Some, None, Result, Ok, Err, nat_eq, if◌
 use Rattle.std.proofs.Common.{arith}
 use Rattle.std.proofs.Math.Seq.{set-append_seam}
 use Rattle.std.proofs.lemmas.Bool.{ltb-false}
-use Rattle.std.proofs.lemmas.List.{map_push, length-map}
 use Rattle.pf_tables.proofs.Fifos.{fifos-pushed}
 use Rattle.pf_tables.proofs.Refusals.{not_refused, same_ok, same_some, then-bind}
 use Rattle.pf_tables.proofs.Common.{option_map, lookup, told_as, Window, Files, Limits, at, put_at, first_free, sum_of}
 use Rattle.pf_tables.proofs.Common.{readers, writers, total, fifo_pipe, capacity_for, is_spent, empty, ◌>>=◌, ◌>>◌}
 use Rattle.pf_tables.proofs.Common.{refuse_if, itself, State, ready, Errno, ENFILE, Reply, UserPages, Charges, unopened}
 use Rattle.pf_tables.proofs.Common.{Joined, Namespace, ring_or, AreCharged, access_seen, before, counted, may_open}
-use Rattle.pf_tables.proofs.Common.{Describes, ProcessRows, DescriptionRows, PipeRows, Key, Process, Pipe}
-use Rattle.pf_tables.proofs.Common.{ready_in, process_of, pipe_of, pipes_of, opens_at, opens_of, state_of, UsedRow}
-use Rattle.pf_tables.proofs.Common.{AreFifos, Whole, TiedWith, read_by, written_by, Makes}
-use Rattle.pf_machine.proofs.NumberedLaws.{at_past, at-push_new}
+use Rattle.pf_tables.proofs.Common.{Describes, ProcessRows, DescriptionRows, PipeRows, Key, Process, Pipe, ready_in}
+use Rattle.pf_tables.proofs.Common.{process_of, pipe_of, pipes_of, opens_at, opens_of, state_of, UsedRow, AreFifos}
+use Rattle.pf_tables.proofs.Common.{Whole, TiedWith, read_by, written_by, Makes, map_push, length-map, at_past}
+use Rattle.pf_tables.proofs.Common.{at-push_new}
 use Rattle.pf_machine.specs.Opens as opens
 use Rattle.pf_machine.specs.Pipes.{new_pipe}
 use Rattle.pf_machine.specs.State as machine

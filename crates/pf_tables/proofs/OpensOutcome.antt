@@ -2,18 +2,16 @@
 
 use Rattle.std.proofs.Common.{◌≡◌, ℕ, zero, suc, ◌+◌, ◌-◌, ◌<◌, Bool, true, false, List, [], ◌∷◌, ◌++◌, length, map}
 use Rattle.std.proofs.Common.{Option, Some, None, Result, Ok, Err, nat_le, if◌then◌else◌, refl, sym, ap, subst, ◌∙◌}
-use Rattle.std.proofs.lemmas.List.{map-set, map_push, length_push, length-map}
 use Rattle.pf_tables.proofs.TablesShown.{shown_change, shown}
 use Rattle.pf_tables.proofs.Refusals.{both_came, not_refused, goes_in_turn, stops_in_turn}
 use Rattle.pf_tables.proofs.Common.{option_map, ◌>>=◌, ◌>>◌, refuse_if, Files, Limits, Live, Joined, Window, Opening}
-use Rattle.pf_tables.proofs.Common.{at, put_at, change_at, first_free, itself, State, Outcome, ready}
-use Rattle.pf_tables.proofs.Common.{with_descriptor, waiting, told, readers, writers, is_spent, Access, fifo_pipe}
-use Rattle.pf_tables.proofs.Common.{MAX_DESCRIPTORS, Errno, EMFILE, ENFILE, Reply, Num, UserPages, Namespace, ring_or}
-use Rattle.pf_tables.proofs.Common.{AreCharged, access_seen, before, counted, other_opens, may_open, Describes, Owns}
-use Rattle.pf_tables.proofs.Common.{ProcessRows, DescriptionRows, PipeRows, Key, Pipe, ready_in, process_of}
-use Rattle.pf_tables.proofs.Common.{description_of, pipe_of, processes_of, pipes_of, opens_of, state_of, AreFifos}
-use Rattle.pf_tables.proofs.Common.{TiedWith, Tied, Whole, Makes}
-use Rattle.pf_machine.proofs.NumberedLaws.{first_free-map}
+use Rattle.pf_tables.proofs.Common.{at, put_at, change_at, first_free, itself, State, Outcome, ready, with_descriptor}
+use Rattle.pf_tables.proofs.Common.{waiting, told, readers, writers, is_spent, Access, fifo_pipe, MAX_DESCRIPTORS}
+use Rattle.pf_tables.proofs.Common.{Errno, EMFILE, ENFILE, Reply, Num, UserPages, Namespace, ring_or, AreCharged}
+use Rattle.pf_tables.proofs.Common.{access_seen, before, counted, other_opens, may_open, Describes, Owns, ProcessRows}
+use Rattle.pf_tables.proofs.Common.{DescriptionRows, PipeRows, Key, Pipe, ready_in, process_of, description_of, pipe_of}
+use Rattle.pf_tables.proofs.Common.{processes_of, pipes_of, opens_of, state_of, AreFifos, TiedWith, Tied, Whole, Makes}
+use Rattle.pf_tables.proofs.Common.{map-set, map_push, length_push, length-map, first_free-map}
 use Rattle.pf_machine.specs.State as machine
 use Rattle.pf_machine.specs.State.{change_pipe}
 use Rattle.pf_machine.specs.Attempts.{Waits, given, first}

@@ -2,15 +2,13 @@
 
 use Rattle.std.proofs.Common.{◌≡◌, ℕ, ◌-◌, Bool, true, false, Option, Some, None, set, if◌then◌else◌, Ok, refl, sym, ap}
 use Rattle.std.proofs.Common.{subst, ◌∙◌}
-use Rattle.std.proofs.lemmas.List.{set-set}
 use Rattle.pf_tables.proofs.Refusals.{is_there}
 use Rattle.pf_tables.proofs.Common.{option_map, option_and_then, Opening, at, first_free, ◌>>=◌, itself, State, process}
 use Rattle.pf_tables.proofs.Common.{with_process, with_descriptor, waiting, told, sweep, ESRCH, Num, Window, Namespace}
-use Rattle.pf_tables.proofs.Common.{Owns, over, woken, awoken}
+use Rattle.pf_tables.proofs.Common.{Owns, over, woken, awoken, set-set, at_within, at-put_same}
 use Rattle.pf_machine.specs.Attempts.{Attempt, Waits, again, given, reopened}
 use Rattle.pf_machine.specs.Calls.{Call}
 use Rattle.pf_machine.specs.Machine.{call_of}
-use Rattle.pf_machine.proofs.NumberedLaws.{at_within, at-put_same}
 use Rattle.pf_machine.specs.State.{Process, of_living, change_process}
 use Rattle.pf_base.specs.declared.step.Reply.TheVariants.{Parked}
 use Rattle.pf_tables.specs.Opened.{IsOver, Reopens}

@@ -3,16 +3,15 @@
 use Rattle.std.proofs.lemmas.Option.{option_and_then_some}
 use Rattle.std.proofs.Common.{◌≡◌, ℕ, ◌+◌, ◌-◌, Bool, length, Some, None, Result, Ok, Err}
 use Rattle.std.proofs.Common.{nat_lt, nat_le, sym, ap, subst, ◌∙◌}
-use Rattle.std.proofs.lemmas.List.{length-map}
 use Rattle.pf_tables.proofs.Common.{option_map, ◌>>=◌, ◌>>◌, refuse_if, or_refuse, Files, Limits, told_as, at}
 use Rattle.pf_tables.proofs.Common.{first_free, Access, is_privileged, capacity_for, is_spent, Window, total, itself}
 use Rattle.pf_tables.proofs.Common.{State, ready, end_at, MAX_DESCRIPTORS, Errno, EMFILE, ENFILE, EBADF, ESRCH, Fault}
 use Rattle.pf_tables.proofs.Common.{value_of, find, UserPages, charged_to, Open, Namespace, may_open, other_opens}
 use Rattle.pf_tables.proofs.Common.{ProcessRows, DescriptionRows, PipeRows, Key, Process, Description, Pipe, process_in}
-use Rattle.pf_tables.proofs.Common.{ready_in, process_of, description_of, pipe_of, state_of, Kept}
+use Rattle.pf_tables.proofs.Common.{ready_in, process_of, description_of, pipe_of, state_of, Kept, length-map}
+use Rattle.pf_tables.proofs.Common.{first_free-map}
 use Rattle.pf_base.specs.Capacities.{new_capacity}
 use Rattle.pf_base.specs.declared.TheConstants.{MAX_MADE}
-use Rattle.pf_machine.proofs.NumberedLaws.{first_free-map}
 use Rattle.pf_machine.specs.Attempts.{open_told}
 use Rattle.pf_base.specs.declared.errno.Errno.TheVariants.{ENXIO, ENOMEM}
 use Rattle.pf_base.specs.declared.fault.Fault.TheVariants as faults

@@ -4,7 +4,6 @@ use Rattle.std.proofs.Common.{◌≡◌, ℕ, suc, ◌+◌, ◌-◌, ◌<◌, �
 use Rattle.std.proofs.Common.{Option, Some, None, ◌||◌, Result, Ok, Err, IsOk, nat_lt, nat_le, refl, sym, ap, subst}
 use Rattle.std.proofs.Common.{◌∙◌, arith, append_assoc}
 use Rattle.std.proofs.lemmas.Bool.Decides.{nat_tests}
-use Rattle.std.proofs.lemmas.List.{map-set, length-map, map_push, length_push, set-set}
 use Rattle.std.proofs.Math.Seq.{set-append_seam}
 use Rattle.pf_tables.proofs.Refusals.{not_refused, same_ok, then-bind}
 use Rattle.pf_tables.proofs.Common.{option_map, Window, ◌>>=◌, ◌>>◌, refuse_if, Files, at, put_at, change_at}
@@ -13,8 +12,8 @@ use Rattle.pf_tables.proofs.Common.{is_spent, capacity_for, MAX_DESCRIPTORS, Err
 use Rattle.pf_tables.proofs.Common.{unopened, UserPages, charged_to, Charges, Namespace, AreCharged, rings_of}
 use Rattle.pf_tables.proofs.Common.{ProcessRows, DescriptionRows, PipeRows, Key, Process, Description, Pipe, ready_in}
 use Rattle.pf_tables.proofs.Common.{process_of, description_of, pipe_of, pipes_of, state_of, NamedRow, TiedWith, Tied}
-use Rattle.pf_tables.proofs.Common.{Kept, Named, Makes}
-use Rattle.pf_machine.proofs.NumberedLaws.{at-push_new, at_within, at-put_same, at-first_free, first_free-map}
+use Rattle.pf_tables.proofs.Common.{Kept, Named, Makes, map-set, length-map, map_push, length_push, set-set}
+use Rattle.pf_tables.proofs.Common.{at-push_new, at_within, at-put_same, at-first_free, first_free-map}
 use Rattle.pf_machine.proofs.MapLaws.{second_free-map}
 use Rattle.pf_base.specs.Capacities.{new_capacity}
 use Rattle.pf_machine.specs.State as machine

@@ -3,17 +3,15 @@
 use Rattle.std.proofs.Common.{◌≡◌, ℕ, ◌+◌, ◌-◌, ◌*◌, ◌<◌, ◌≤◌, Bool, true, false, not, ◌&&◌, List, length, set, Option}
 use Rattle.std.proofs.Common.{Some, None, IsSome, Result, Ok, Err, nat_lt, refl, sym, ap, subst, ◌∙◌, arith}
 use Rattle.std.proofs.Common.{if◌then◌else◌, inl, inr}
-use Rattle.std.proofs.lemmas.Bool.{le-ltb, cases_lt}
-use Rattle.std.proofs.lemmas.List.{map-set, length-map}
 use Rattle.pf_tables.proofs.Common.{option_map, sum_by, Window, Files, Limits, is_privileged, ◌>>=◌, ◌>>◌, refuse_if}
 use Rattle.pf_tables.proofs.Common.{told_as, at, put_at, itself, State, Outcome, ready, of_ready, with_queue, done}
-use Rattle.pf_tables.proofs.Common.{Errno, EINVAL, EBUSY, Num, Fault, find, Live, UserPages, charged_to, Ring}
-use Rattle.pf_tables.proofs.Common.{Joined, ring_at, slots_of, slots_used, Namespace, ring_or, rings_of, Charged, Owns}
+use Rattle.pf_tables.proofs.Common.{Errno, EINVAL, EBUSY, Num, Fault, find, Live, UserPages, charged_to, Ring, Joined}
+use Rattle.pf_tables.proofs.Common.{ring_at, slots_of, slots_used, Namespace, ring_or, rings_of, Charged, Owns}
 use Rattle.pf_tables.proofs.Common.{ProcessRows, DescriptionRows, PipeRows, Process, Description, Pipe, process_of, Key}
-use Rattle.pf_tables.proofs.Common.{pipe_of, pipes_of, state_of, ready_in, end_in, Whole, Makes, Says}
+use Rattle.pf_tables.proofs.Common.{pipe_of, pipes_of, state_of, ready_in, end_in, Whole, Makes, Says, le-ltb, cases_lt}
+use Rattle.pf_tables.proofs.Common.{map-set, length-map, at_within}
 use Rattle.pf_machine.specs.Queue.{with_capacity}
 use Rattle.pf_base.specs.Capacities.{pages_for, may_grow}
-use Rattle.pf_machine.proofs.NumberedLaws.{at_within}
 use Rattle.pf_machine.specs.Pipes.{may_resize, set_size, get_size}
 use Rattle.pf_machine.specs.State as machine
 use Rattle.pf_machine.specs.State.{end_of, holding}
