@@ -1,4 +1,4 @@
--- The words of the definitions and the laws below that many proofs of this crate use, passed on from one place. Declares
+-- The words of the definitions and the laws that many proofs of this crate use, passed on from one place. Declares
 -- nothing.
 
 pub use Rattle.pf_base.specs.Capacities.{told_as}
@@ -16,8 +16,8 @@ pub use Rattle.pf_fds.specs.Descriptions.{names_of, one_more, value_of}
 pub use Rattle.pf_fds.specs.Registry.{find}
 pub use Rattle.pf_frame.specs.Live.{IsSound, Live}
 pub use Rattle.pf_limits.specs.UserPages.{Charges, UserPages, charged_to}
-pub use Rattle.pf_machine.proofs.NumberedLaws.{at-first_free, at-map, at-push_new, at-push_old, at-put_other, at-put_same}
-pub use Rattle.pf_machine.proofs.NumberedLaws.{at_past, at_within, first_free-map}
+pub use Rattle.pf_machine.proofs.NumberedLaws.{at-first_free, at-map, at-push_new, at-push_old, at-put_other}
+pub use Rattle.pf_machine.proofs.NumberedLaws.{at-put_same, at_past, at_within, first_free-map}
 pub use Rattle.pf_machine.specs.Calls.{Opening}
 pub use Rattle.pf_machine.specs.Counts.{ends, readers, total, writers}
 pub use Rattle.pf_machine.specs.FileMap.{Files}

@@ -187,23 +187,20 @@ module _ {files : Files} {files_made : ℕ} {limits : Limits} {charges : UserPag
             (λ f e. ap (λ q. lookup (nat_eq q) es) (sym (same_some e)) ∙ no_key) w.filed)))
 
         -- the machine's pipe is this one, under the same number
-        same_found : with_slots limits s pid (process_of z.p) file slots ≡ found
-        same_found =
-            let uid = ap (λ (x : Process). x.cred.uid) (sym same_opener) in
-            let number : length s.pipes ≡ k.serial = length-map pipes (option_map pipe_of) ∙ sym k_is in
-            λ i. record {
-              state = record s {
-                pipes = (ap (λ u. s.pipes ++ Some (new_pipe (empty slots) u (Some file)) ∷ []) uid ∙ sym pushed) i;
-              };
-              pipe = number i;
-            }
-
         found_is : opens.pipe_of limits s (process_of z.p) file (fifo_pipe s file) ≡ Ok found
         found_is =
             let no_pipe : fifo_pipe s file ≡ None =
             subst (λ (x : Namespace). fifo_pipe x.state file ≡ None) (sym view) closed in
+            let uid = ap (λ (x : Process). x.cred.uid) (sym same_opener) in
+            let number : length s.pipes ≡ k.serial = length-map pipes (option_map pipe_of) ∙ sym k_is in
             ap (opens.pipe_of limits s (process_of z.p) file) no_pipe
-            ∙ made_for limits s pid (readies ps pid z.p ready_now) given_now file ∙ ap Ok same_found
+            ∙ made_for limits s pid (readies ps pid z.p ready_now) given_now file
+            ∙ (λ i. Ok (record {
+              state = record s {
+                pipes = (ap (λ u. s.pipes ++ Some (new_pipe (empty slots) u (Some file)) ∷ []) uid ∙ sym pushed) i;
+              };
+              pipe = number i;
+            }))
 
         pub founded-makes : {limits' : Limits} {pipes' : PipeRows} → limits' ≡ limits
             → pipes' ≡ pipes ++ Some (k.slot, counted a fresh) ∷ [] → total n.state + slots ≤ n.limits.reserve

@@ -144,11 +144,6 @@ module _ (a : Stored) (k : Key) (p : Pipe) {ps : ProcessRows} {ds : DescriptionR
     there : at s.pipes k.serial ≡ Some (pipe_of (k.slot, p))
     there = shown pipe_of pipes k.serial (k.slot, p) stands
 
-    pipes_shown : pipes_of pipes' ≡ made.pipes
-    pipes_shown =
-        shown_change pipe_of (opens.counted (access_seen a)) pipes k.serial (k.slot, p) (k.slot, counted a p) stands
-        refl
-
     seated_shown : (o : Option ℕ) → processes_of (put_at ps (pid - 1) (taking o z.k z.p)) ≡ seated o
     seated_shown None =
         map-set (option_map process_of) ps (pid - 1) (Some (taking None z.k z.p))
@@ -166,7 +161,9 @@ module _ (a : Stored) (k : Key) (p : Pipe) {ps : ProcessRows} {ds : DescriptionR
       processes = (ap processes_of (seated_is pipes' z awake free held) ∙ seated_shown (before a p)) i;
       descriptions =
           (ap (map (option_map description_of)) z.described ∙ map_push (option_map description_of) ds _) i;
-      pipes = pipes_shown i;
+      pipes =
+          shown_change pipe_of (opens.counted (access_seen a)) pipes k.serial (k.slot, p) (k.slot, counted a p) stands
+          refl i;
       files = files;
       files_made = files_made;
     }

@@ -45,13 +45,6 @@ module _ {files : Files} {files_made : ℕ} {charges : UserPages} {limits : Limi
     opener : ready s pid ≡ Ok (process_of p)
     opener = subst (λ (m : Namespace). ready m.state pid ≡ Ok (process_of p)) view (readies ps pid p is)
 
-    drawn_is : length s.descriptions ≡ length ds
-    drawn_is =
-        sym (ap (λ (m : Namespace). length m.state.descriptions) view) ∙ length-map ds (option_map description_of)
-
-    pipes_drawn : length s.pipes ≡ length pipes
-    pipes_drawn = sym (ap (λ (m : Namespace). length m.state.pipes) view) ∙ length-map pipes (option_map pipe_of)
-
     -- by the tests of the code
     pub judged : (a : Access) (file : ℕ) {low : ℕ} → low ≡ first_free p.descriptors → (full lacks spent : Bool)
         → nat_le MAX_DESCRIPTORS low ≡ full → lacks_readers s a file ≡ lacks → is_spent ds 1 ≡ spent
@@ -61,7 +54,8 @@ module _ {files : Files} {files_made : ℕ} {charges : UserPages} {limits : Limi
         >> (refuse_if (lacks_readers s a file) ENXIO >> refuse_if (is_spent s.descriptions 1) ENFILE))) opener
         ∙ (λ i. refuse_if ((ap (nat_le MAX_DESCRIPTORS) (first_free-map (λ (k : Key). k.serial) p.descriptors
         ∙ sym lowest) ∙ x) i) EMFILE
-        >> (refuse_if (y i) ENXIO >> refuse_if ((ap (λ m. nat_lt MAX_MADE (m + 1)) drawn_is ∙ z) i) ENFILE)))
+        >> (refuse_if (y i) ENXIO >> refuse_if ((ap (λ (m : Namespace). is_spent m.state.descriptions 1) (sym view)
+        ∙ ap (λ m. nat_lt MAX_MADE (m + 1)) (length-map ds (option_map description_of)) ∙ z) i) ENFILE)))
 
     -- How many slots its pipe gets
     pub capacity_is : limits ≡ charges.limits → (spent : Bool) → is_spent pipes 1 ≡ spent
@@ -71,7 +65,8 @@ module _ {files : Files} {files_made : ℕ} {charges : UserPages} {limits : Limi
         ap (λ r. r >>= (λ q. refuse_if (is_spent s.pipes 1) ENFILE >> told_as ENOMEM
         (capacity_for n.limits s q.cred)))
         opener
-        ∙ (λ j. refuse_if ((ap (λ m. nat_lt MAX_MADE (m + 1)) pipes_drawn ∙ x) j) ENFILE
+        ∙ (λ j. refuse_if ((ap (λ (m : Namespace). is_spent m.state.pipes 1) (sym view)
+        ∙ ap (λ m. nat_lt MAX_MADE (m + 1)) (length-map pipes (option_map pipe_of)) ∙ x) j) ENFILE
         >> told_as ENOMEM (capacity_for (sym view j).limits (sym view j).state p.cred))
         ∙ (λ j. refuse_if spent ENFILE >> told_as ENOMEM (new_capacity (same j) (is_privileged p.cred)
         (sym (kept.charged.users p.cred.uid) j) (sym kept.charged.total j)))

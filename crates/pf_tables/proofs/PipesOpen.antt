@@ -171,23 +171,13 @@ module _ {files : Files} {files_made : ℕ} {charges : UserPages} {ps : ProcessR
       ∙ then-bind (refuse_if (nat_le MAX_DESCRIPTORS (second_free (process_of p).descriptors)) EMFILE)
       (Ok (first_free (process_of p).descriptors, second_free (process_of p).descriptors)) (λ two. found (Ok two)
       (is_spent s.descriptions 2 || is_spent s.pipes 1) (told_as ENFILE (capacity_for charges.limits s p.cred)))
-      ∙ (λ i. found ((two_shown ∙ sym free_is) i) ((spent_shown ∙ sym spent_is) i) ((capacity_shown ∙ sym slots_is) i)))
-    where
-      two_shown : two_free (process_of p).descriptors ≡ two_free p.descriptors
-      two_shown i =
-          let second = second_free-map serial_of p.descriptors i in
-          refuse_if (nat_le MAX_DESCRIPTORS second) EMFILE >> Ok (first_free-map serial_of p.descriptors i, second)
-
-      spent_shown : (is_spent s.descriptions 2 || is_spent s.pipes 1) ≡ (is_spent ds 2 || is_spent pipes 1)
-      spent_shown i =
-          nat_lt MAX_MADE (length-map ds (option_map description_of) i + 2)
-          || nat_lt MAX_MADE (length-map pipes (option_map pipe_of) i + 1)
-
-      capacity_shown : told_as ENFILE (capacity_for charges.limits s p.cred) ≡ capacity
-      capacity_shown i =
-          told_as ENFILE
-          (new_capacity charges.limits (is_privileged p.cred) (sym (kept.charged.users p.cred.uid) i)
-          (sym kept.charged.total i))
+      ∙ (λ i. let second = second_free-map serial_of p.descriptors i in
+      found (refuse_if (nat_le MAX_DESCRIPTORS second) EMFILE >> Ok (first_free-map serial_of p.descriptors i, second))
+      (nat_lt MAX_MADE (length-map ds (option_map description_of) i + 2)
+      || nat_lt MAX_MADE (length-map pipes (option_map pipe_of) i + 1))
+      (told_as ENFILE (new_capacity charges.limits (is_privileged p.cred) (sym (kept.charged.users p.cred.uid) i)
+      (sym kept.charged.total i))))
+      ∙ (λ i. found (sym free_is i) (sym spent_is i) (sym slots_is i)))
 
   -- nothing stands against it
   pub goes : {free : ℕ × ℕ} {slots : ℕ} → Ok free ≡ two_free p.descriptors

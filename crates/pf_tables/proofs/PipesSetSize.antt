@@ -66,8 +66,8 @@ module _ {charges : UserPages} {limits : Limits} {es : List (ℕ × Key)} {ps : 
   pub no_size : {e : Errno} → end_in None ps ds pid fd ≡ Err e → gets n.state ≡ Err e
   no_size {e} h =
       subst (λ (m : Namespace). gets m.state ≡ Err e) view
-      (stops_in_turn (λ p. end_of itself s p fd) (λ p x. Ok (done s (PAGE_SIZE * x.pipe.queue.capacity))) (ready s pid) e
-      (its.refused h))
+      (stops_in_turn (λ p. end_of itself s p fd) (λ p x. Ok (done s (PAGE_SIZE * x.pipe.queue.capacity)))
+      (ready s pid) e (its.refused h))
 
   pub not_sized : (bytes : ℕ) {e : Errno} → end_in None ps ds pid fd ≡ Err e → sets bytes n ≡ Err e
   not_sized bytes {e} h =
@@ -147,8 +147,8 @@ module _ {charges : UserPages} {limits : Limits} {es : List (ℕ × Key)} {ps : 
         set_is : sets bytes (record { limits = limits; state = s })
             ≡ tests (nat_lt MAX_SIZE bytes) over (may (pages_for bytes))
         set_is =
-            goes_in_turn (λ q. end_of itself s q fd) (set_at bytes) (ready s pid) (process_of p) (end_of_rows as_kept d r)
-            (readies ps pid p is) (reaches its h handed)
+            goes_in_turn (λ q. end_of itself s q fd) (set_at bytes) (ready s pid) (process_of p)
+            (end_of_rows as_kept d r) (readies ps pid p is) (reaches its h handed)
 
         pub judged : (long large : Bool) {o : Result (Unit {0}) Errno} → nat_lt MAX_SIZE bytes ≡ long → over ≡ large
             → may (pages_for bytes) ≡ o → sets bytes n ≡ tests long large o
@@ -165,8 +165,8 @@ module _ {charges : UserPages} {limits : Limits} {es : List (ℕ × Key)} {ps : 
               else refuse_if (nat_lt (sym slots j) (length r.ring.segments)) EBUSY
 
           -- it is refused, whatever the reason
-          pub told : bytes ≤ MAX_SIZE → over ≡ false → (m : Namespace) (charges' : UserPages) (r' : Pipe) (fault : Fault)
-              → Resizing charges charges' r r' (is_privileged p.cred) to (Err fault)
+          pub told : bytes ≤ MAX_SIZE → over ≡ false → (m : Namespace) (charges' : UserPages) (r' : Pipe)
+              (fault : Fault) → Resizing charges charges' r r' (is_privileged p.cred) to (Err fault)
               → Says n m (Err fault) (sets bytes n)
           told short under m charges' r' (faults.Errno e) z =
               judged false false (le-ltb MAX_SIZE bytes short) under (verdict_is ∙ z.0)

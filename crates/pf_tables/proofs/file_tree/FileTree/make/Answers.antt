@@ -4,4 +4,5 @@ use Rattle.pf_tables.proofs.file_tree.FileTree.make.Goals as goal
 
 pub invariant_of-self : goal.invariant_of-self
 invariant_of-self g c =
-    within _ _ _ _ c.self.invariant c.make.ensures.changed (make-within c.args.kind _ c.args.made c.args.cred.now c.args.path.now c.args.mode c.self.invariant)
+    within _ _ _ _ c.self.invariant c.make.ensures.changed
+    (make-within c.args.kind _ c.args.made c.args.cred.now c.args.path.now c.args.mode c.self.invariant)

@@ -86,4 +86,4 @@ returns-in_err-resize-clause-says g c =
     let gives : c.from_residual-in_err-resize.result ≡ Err c.in_err-resize.field-0.0 = search rules in
     rw gives (lemmas.told c.self.invariant c.self.view_is c.args.pid c.args.fd (sym c.in_ok-end.ensures)
     c.value_mut-pipe.ensures.value _ c.in_ok-ready.ensures c.args.bytes _ c.pages_for-slots.ensures.number refl
-    c.if-bytes-gt-MAX_SIZE.false (sym over ∙ c.if-is_too_large.false) _ _ _ _ z)
+    c.if-bytes-gt-MAX_SIZE.false (sym over ∙ c.if-is_too_large.false) c.args.self.now _ _ _ z)

@@ -7,5 +7,6 @@ use Rattle.pf_tables.proofs.tables.Tables.unlink.Goals as goal
 pub returns-clause-says : goal.returns-clause-says
 returns-clause-says g c =
     rw c.made_reply.ensures (changed c.self.invariant.kept.tied c.self.view_is c.args.pid c.in_ok-cred.ensures
-    (λ t q. unlink t q c.args.path.now) (calls.unlink c.self.inside.files c.in_ok-cred.field-0.now.cred c.args.path.now) refl
+    (λ t q. unlink t q c.args.path.now)
+    (calls.unlink c.self.inside.files c.in_ok-cred.field-0.now.cred c.args.path.now) refl
     c.unlink.new.self c.unlink.result c.unlink.ensures)
