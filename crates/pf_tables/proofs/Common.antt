@@ -48,8 +48,7 @@ pub use Rattle.pf_tables.specs.Rows.{AreFifos, Description, DescriptionRows, Kep
 pub use Rattle.pf_tables.specs.Rows.{Pipe, PipeRows, Process, ProcessRows, Tied, TiedWith, UsedRow, Whole}
 pub use Rattle.pf_tables.specs.Rows.{description_of, descriptions_of, end_in, held, key_in, keys_of, keys_to, made_by}
 pub use Rattle.pf_tables.specs.Rows.{names_it, opens_at, opens_of, pipe_of, pipes_of, process_in, process_of}
-pub use Rattle.pf_tables.specs.Rows.{processes_of, read_by, reads_it, ready_in, state_of, with_first_names, writes_it}
-pub use Rattle.pf_tables.specs.Rows.{written_by}
+pub use Rattle.pf_tables.specs.Rows.{processes_of, read_by, reads_it, ready_in, state_of, writes_it, written_by}
 pub use Rattle.pf_tables.specs.Tables.{LetsGo, Makes, Says, awoken, descriptor, over, woken}
 pub use Rattle.pf_tables.specs.Told.{attempted}
 pub use Rattle.pf_walk.specs.Told.{Told}

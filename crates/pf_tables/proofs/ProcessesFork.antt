@@ -2,17 +2,17 @@
 -- the process that has them all is put down.
 
 use Rattle.std.proofs.Common.{◌≡◌, ℕ, zero, suc, ◌+◌, ◌-◌, ◌^◌, ◌<◌, ◌≤◌, Bool, true, false, nat_le, List, [], ◌∷◌}
-use Rattle.std.proofs.Common.{length, map, Option, Some, None, IsSome, is_some, Result, Ok, Err, refl, sym, ap, subst}
-use Rattle.std.proofs.Common.{◌∙◌, arith, length-set}
+use Rattle.std.proofs.Common.{length, map, drop, Option, Some, None, IsSome, is_some, Result, Ok, Err, refl, sym, ap}
+use Rattle.std.proofs.Common.{subst, ◌∙◌, arith, length-set}
 use Rattle.std.proofs.lemmas.Bool.Decides.{nat_tests}
-use Rattle.std.proofs.lemmas.List.{map-set}
+use Rattle.std.proofs.lemmas.List.{map-set, at_drop_more}
 use Rattle.pf_tables.proofs.Refusals.{same_some}
 use Rattle.pf_tables.proofs.Common.{option_map, Files, Limits, at, put_at, change_at, first_free, sum_of, weight, ◌>>=◌}
 use Rattle.pf_tables.proofs.Common.{◌>>◌, refuse_if, State, Outcome, of_ready, with_process, told, MAX_PROCESSES, Errno}
 use Rattle.pf_tables.proofs.Common.{names_of, one_more, find, UserPages, Window, Namespace, ProcessRows}
 use Rattle.pf_tables.proofs.Common.{DescriptionRows, PipeRows, Key, Named, Process, Description, ready_in, made_by}
 use Rattle.pf_tables.proofs.Common.{keys_of, keys_to, names_it, held, process_of, description_of, processes_of}
-use Rattle.pf_tables.proofs.Common.{descriptions_of, pipes_of, state_of, with_first_names, TiedWith, Tied, Kept, Makes}
+use Rattle.pf_tables.proofs.Common.{state_of, TiedWith, Tied, Kept, Makes}
 use Rattle.pf_machine.proofs.NumberedLaws.{at-map, at_within, at-first_free, first_free-map}
 use Rattle.pf_machine.specs.Processes.{fork}
 use Rattle.pf_base.specs.declared.errno.Errno.TheVariants.{EAGAIN}
@@ -20,8 +20,8 @@ use Rattle.pf_base.specs.declared.step.Reply.TheVariants.{Pid}
 use Rattle.pf_tables.specs.Rows.{holding, Finds, AllFind, AreFew, with_name, named_once_more}
 use Rattle.pf_tables.proofs.ProcessTableReady.{readies, place_is, is_awake}
 use Rattle.pf_tables.proofs.TablesTied.{finds, by_set, held-holding, reseated}
-use Rattle.pf_tables.proofs.DescriptorsDup.{few_names, named_row, named_again}
-use Rattle.pf_tables.proofs.TablesShown.{find_at, set_same}
+use Rattle.pf_tables.proofs.DescriptorsDup.{few_names, named_row, names_are, named_again}
+use Rattle.pf_tables.proofs.TablesShown.{find_at}
 use Rattle.pf_tables.proofs.TablesSettled.{makes}
 
 -- What one name more leaves of the rows
@@ -29,157 +29,111 @@ use Rattle.pf_tables.proofs.TablesSettled.{makes}
 abbrev Row : Type 0
 Row = ℕ × Named Description
 
+-- whatever doesn't see how many names there are is the same
 module _ {Y : Type 0} (g : Row → Y) (same : (e : Row) → g (one_more e) ≡ g e) where
   changed : (ds : DescriptionRows) (n : ℕ) → map (option_map g) (change_at one_more ds n) ≡ map (option_map g) ds
-  changed ds n =
-      map-set (option_map g) ds n (option_map one_more (at ds n))
-      ∙ set_same (map (option_map g) ds) n (option_map g (option_map one_more (at ds n)))
-      (by_row (at ds n) ∙ sym (at-map g ds n))
-    where
-      by_row : (o : Option Row) → option_map g (option_map one_more o) ≡ option_map g o
-      by_row None = refl
-      by_row (Some e) = ap Some (same e)
+  changed [] n = refl
+  changed (None ∷ ds) zero = refl
+  changed (Some e ∷ ds) zero = ap (λ y. Some y ∷ map (option_map g) ds) (same e)
+  changed (o ∷ ds) (suc n) = ap (λ ys. option_map g o ∷ ys) (changed ds n)
 
-  all_changed : (n : ℕ) (ks : List (Option Key)) (ds : DescriptionRows)
-      → map (option_map g) (with_first_names n ks ds) ≡ map (option_map g) ds
-  all_changed zero ks ds = refl
-  all_changed (suc n) ks ds = by_key (at ks n) ∙ all_changed n ks ds
-    where
-      by_key : (o : Option Key) → map (option_map g) (with_name o (with_first_names n ks ds))
-          ≡ map (option_map g) (with_first_names n ks ds)
-      by_key None = refl
-      by_key (Some k) = changed (with_first_names n ks ds) k.serial
+  all_changed : (ks : List (Option Key)) (ds : DescriptionRows)
+      → map (option_map g) (named_once_more ks ds) ≡ map (option_map g) ds
+  all_changed [] ds = refl
+  all_changed (None ∷ ks) ds = all_changed ks ds
+  all_changed (Some k ∷ ks) ds = all_changed ks (change_at one_more ds k.serial) ∙ changed ds k.serial
 
--- where there is no key for some of them, nothing changes
-pub names_skip : (ks : List (Option Key)) (ds : DescriptionRows) (n d : ℕ)
-    → ((k : ℕ) → n ≤ k → k < n + d → at ks k ≡ None)
-    → with_first_names n ks ds ≡ with_first_names (n + d) ks ds
-names_skip ks ds n zero none = let same : n ≡ n + 0 = omega arith in ap (λ m. with_first_names m ks ds) same
-names_skip ks ds n (suc d) none =
-    let same : suc (n + d) ≡ n + suc d = omega arith in
-    names_skip ks ds n d (λ k from before. none k from (omega arith))
-    ∙ ap (λ o. with_name o (with_first_names (n + d) ks ds)) (sym (none (n + d) (omega arith) (omega arith)))
-    ∙ ap (λ m. with_first_names m ks ds) same
+pub as_many : (ks : List (Option Key)) (ds : DescriptionRows) → length (named_once_more ks ds) ≡ length ds
+as_many [] ds = refl
+as_many (None ∷ ks) ds = as_many ks ds
+as_many (Some k ∷ ks) ds =
+    as_many ks (change_at one_more ds k.serial) ∙ length-set ds k.serial (option_map one_more (at ds k.serial))
 
-pub names_next : (ks : List (Option Key)) (ds : DescriptionRows) (n m : ℕ) → n ≤ m
-    → ((k : ℕ) → n ≤ k → k < m → at ks k ≡ None)
-    → with_first_names n ks ds ≡ with_first_names m ks ds
-names_next ks ds n m more none =
-    let same : n + (m - n) ≡ m = omega arith in
-    names_skip ks ds n (m - n) (λ k from before. none k from (omega arith)) ∙ ap (λ j. with_first_names j ks ds) same
+abbrev place_of : Row → ℕ
+place_of e = e.0
 
--- the names of one key more
-pub one_named : (ks : List (Option Key)) (ds rows : DescriptionRows) (n : ℕ) (o : Option Key) → at ks n ≡ o
-    → rows ≡ with_first_names n ks ds → with_name o rows ≡ with_first_names (n + 1) ks ds
-one_named ks ds rows n o here is =
-    let same : suc n ≡ n + 1 = omega arith in
-    ap (with_name o) is ∙ ap (λ k. with_name k (with_first_names n ks ds)) (sym here)
-    ∙ ap (λ m. with_first_names m ks ds) same
+pub still_finds : (ds : DescriptionRows) (n : ℕ) (k : Key) → Finds ds k → Finds (change_at one_more ds n) k
+still_finds ds n k h =
+    sym (at-map place_of (change_at one_more ds n) k.serial)
+    ∙ ap (λ xs. at xs k.serial) (changed place_of (λ e. refl) ds n) ∙ at-map place_of ds k.serial ∙ h
+
+-- The names are given key by key: those that are left give the same
+
+pub one_named : (ks : List (Option Key)) (ds : DescriptionRows) (n : ℕ) (o : Option Key) → n < length ks → at ks n ≡ o
+    → named_once_more (drop n ks) ds ≡ named_once_more (drop (n + 1) ks) (with_name o ds)
+one_named ks ds n o l here =
+    at_drop_more (λ rest. named_once_more rest ds) ks n None l
+    ∙ ap (λ k. named_once_more (drop (n + 1) ks) (with_name k ds)) here
+
+-- also where there is no key for some of them
+pub skipped : (ks : List (Option Key)) (ds : DescriptionRows) (n m : ℕ) → n ≤ m
+    → ((k : ℕ) → n ≤ k → k < m → at ks k ≡ None) → named_once_more (drop n ks) ds ≡ named_once_more (drop m ks) ds
+skipped ks ds zero zero le none = refl
+skipped ks ds (suc n) zero le none = absurd (omega arith)
+skipped [] ds zero (suc m) le none = refl
+skipped [] ds (suc n) (suc m) le none = refl
+skipped (o ∷ ks) ds zero (suc m) le none =
+    ap (λ k. named_once_more (k ∷ ks) ds) (none 0 (omega arith) (omega arith))
+    ∙ skipped ks ds zero m (omega arith) (λ k from before. none (suc k) (omega arith) (omega arith))
+skipped (o ∷ ks) ds (suc n) (suc m) le none =
+    skipped ks ds n m (omega arith) (λ k from before. none (suc k) (omega arith) (omega arith))
 
 pub nothing : {X : Type 0} (o : Option X) → ((x : X) → o ≡ Some x → ⊥) → o ≡ None
 nothing None h = refl
 nothing (Some x) h = absurd (h x refl)
 
-abbrev place_of : Row → ℕ
-place_of e = e.0
+-- before a key is named, its description stands and has few names, and afterwards one more
+module _ (ds : DescriptionRows) (k : Key) (f : Finds ds k) (most : ℕ)
+    (few : (n : ℕ) (e : Row) → at ds n ≡ Some e → e.1.names ≤ most) where
+  row : (e : Named Description) × (at ds k.serial ≡ Some (k.slot, e))
+  row = finds ds k f
 
-module _ (n : ℕ) (ks : List (Option Key)) (ds : DescriptionRows) where
-  names_unshown : descriptions_of (with_first_names n ks ds) ≡ descriptions_of ds
-  names_unshown = all_changed description_of (λ e. refl) n ks ds
+  pub stands : IsSome (find ds k.slot k.serial)
+  stands = ap is_some (find_at ds k.slot k.serial row.0 row.1)
 
-  still_finds : (k : Key) → Finds ds k → Finds (with_first_names n ks ds) k
-  still_finds k h =
-      sym (at-map place_of (with_first_names n ks ds) k.serial)
-      ∙ ap (λ xs. at xs k.serial) (all_changed place_of (λ e. refl) n ks ds) ∙ at-map place_of ds k.serial ∙ h
+  pub below : most < 2 ^ 32 - 1 → names_of (find ds k.slot k.serial) < 2 ^ 32 - 1
+  below l = omega (arith, names_are ds k row.0 row.1, few k.serial (k.slot, row.0) row.1, l)
 
--- before each of its keys is named, its description stands and has few names
-module _ (ks : List (Option Key)) (ds : DescriptionRows) (all : AllFind ks ds) (few : AreFew ds) where
-  abbrev FewAfter : ℕ → DescriptionRows → Type 0
-  FewAfter n rows = (m : ℕ) (e : Row) → at rows m ≡ Some e → e.1.names ≤ 65792 + n
+  pub few_more : (n : ℕ) (e : Row) → at (change_at one_more ds k.serial) n ≡ Some e → e.1.names ≤ most + 1
+  few_more n e =
+      by_set (λ _ x. x ≡ Some e → e.1.names ≤ most + 1) ds k.serial (option_map one_more (at ds k.serial))
+      (at_within ds k.serial (k.slot, row.0) row.1)
+      (λ i. let it = same_some (ap (option_map one_more) (sym row.1) ∙ i) in
+      omega (arith, ap (λ (x : Row). x.1.names) it, few k.serial (k.slot, row.0) row.1))
+      (λ j _ i. omega (arith, few j e i)) n
 
-  few_first : (n : ℕ) → FewAfter n (with_first_names n ks ds)
-  few_first zero = λ m e h. omega (arith, few m e h)
-  few_first (suc n) = by_key (at ks n) refl (few_first n)
-    where
-      by_key : (o : Option Key) → at ks n ≡ o → FewAfter n (with_first_names n ks ds)
-          → FewAfter (suc n) (with_name o (with_first_names n ks ds))
-      by_key None g so_far = λ m e h. omega (arith, so_far m e h)
-      by_key (Some k) g so_far =
-          let r = finds (with_first_names n ks ds) k (still_finds n ks ds k (all n k g)) in
-          let more = record r.0 { names = r.0.names + 1 } in
-          λ m e h. by_set (λ _ x. x ≡ Some e → e.1.names ≤ 65792 + suc n) (with_first_names n ks ds) k.serial
-          (Some (k.slot, more)) (at_within (with_first_names n ks ds) k.serial (k.slot, r.0) r.1)
-          (λ i. omega (arith, ap (λ (x : Row). x.1.names) (same_some i), so_far k.serial (k.slot, r.0) r.1))
-          (λ j _ i. omega (arith, so_far j e i)) m (sym
-          (ap (λ xs. at xs m) (named_row (with_first_names n ks ds) k r.0 r.1)) ∙ h)
+-- The keys that the child is to have come into the hand
 
-  module _ (n : ℕ) (k : Key) (is : at ks n ≡ Some k) where
-    row : (e : Named Description) × (at (with_first_names n ks ds) k.serial ≡ Some (k.slot, e))
-    row = finds (with_first_names n ks ds) k (still_finds n ks ds k (all n k is))
+abbrev hand : List (Option Key) → List Key → List Key
+hand [] K = K
+hand (o ∷ ks) K = hand ks (holding o K)
 
-    found : find (with_first_names n ks ds) k.slot k.serial ≡ Some row.0
-    found = find_at (with_first_names n ks ds) k.slot k.serial row.0 row.1
+held_hand : (h : Key → ℕ) (ks : List (Option Key)) (K : List Key) → held h (hand ks K) ≡ sum_of h ks + held h K
+held_hand h [] K = omega arith
+held_hand h (o ∷ ks) K = omega (arith, held_hand h ks (holding o K), held-holding h o K)
 
-    pub stands : IsSome (find (with_first_names n ks ds) k.slot k.serial)
-    stands = ap is_some found
-
-    pub below : n < 256 → names_of (find (with_first_names n ks ds) k.slot k.serial) < 2 ^ 32 - 1
-    below l = omega (arith, ap names_of found, few_first n k.serial (k.slot, row.0) row.1, l)
-
--- The keys that the child is to have are in the hand, the last one on top
-
-abbrev hand : ℕ → List (Option Key) → List Key
-hand zero ks = []
-hand (suc n) ks = holding (at ks n) (hand n ks)
-
--- each of them counts
-held_first : (h : Key → ℕ) (n : ℕ) (x : Option Key) (ks : List (Option Key))
-    → held h (hand (suc n) (x ∷ ks)) ≡ weight h x + held h (hand n ks)
-held_first h zero x ks = held-holding h x []
-held_first h (suc n) x ks =
-    let longer = held-holding h (at ks n) (hand (suc n) (x ∷ ks)) in
-    omega (arith, longer, held-holding h (at ks n) (hand n ks), held_first h n x ks)
-
-held_all : (h : Key → ℕ) (ks : List (Option Key)) → held h (hand (length ks) ks) ≡ sum_of h ks
-held_all h [] = refl
-held_all h (x ∷ ks) = omega (arith, held_first h (length ks) x ks, held_all h ks)
-
-module _ (ps : ProcessRows) (ds : DescriptionRows) (pipes : PipeRows) (t : Tied ps ds pipes) (i : ℕ) (p : Process)
-    (there : at ps i ≡ Some p) (asleep : p.parked ≡ None) where
-  tied_first : (n : ℕ) → TiedWith (hand n p.descriptors) [] ps (with_first_names n p.descriptors ds) pipes
-  tied_first zero = t
-  tied_first (suc n) = by_key (at p.descriptors n) refl (tied_first n)
-    where
-      by_key : (o : Option Key) → at p.descriptors n ≡ o
-          → TiedWith (hand n p.descriptors) [] ps (with_first_names n p.descriptors ds) pipes
-          → TiedWith (holding o (hand n p.descriptors)) [] ps (with_name o (with_first_names n p.descriptors ds)) pipes
-      by_key None h u = u
-      by_key (Some k) h u =
-          let r = finds (with_first_names n p.descriptors ds) k (u.finds i (suc n) p k there h) in
-          subst (λ x. TiedWith (k ∷ hand n p.descriptors) [] ps x pipes)
-          (sym (named_row (with_first_names n p.descriptors ds) k r.0 r.1)) (named_again k r.0 r.1 u)
+module _ (ps : ProcessRows) (pipes : PipeRows) where
+  in_hand : (ks : List (Option Key)) (K : List Key) (ds : DescriptionRows) → AllFind ks ds → TiedWith K [] ps ds pipes
+      → TiedWith (hand ks K) [] ps (named_once_more ks ds) pipes
+  in_hand [] K ds all t = t
+  in_hand (None ∷ ks) K ds all t = in_hand ks K ds (λ m. all (suc m)) t
+  in_hand (Some k ∷ ks) K ds all t =
+      let r = finds ds k (all 0 k refl) in
+      in_hand ks (k ∷ K) (change_at one_more ds k.serial) (λ m j h. still_finds ds k.serial j (all (suc m) j h))
+      (subst (λ x. TiedWith (k ∷ K) [] ps x pipes) (sym (named_row ds k r.0 r.1)) (named_again k r.0 r.1 t))
 
   -- and are put down at once
-  module _ (j : ℕ) (free : at ps j ≡ None) (j_in : j < MAX_PROCESSES) where
-    forked-tied : Tied (put_at ps j p) (named_once_more p.descriptors ds) pipes
-    forked-tied =
-        let u = tied_first (length p.descriptors) in
-        reseated u j (omega (arith, t.places, j_in)) (Some p) []
-        (λ q e. let it : p ≡ q = cc in ap (λ (x : Process). length x.descriptors) (sym it) ∙ t.wide i p there)
-        (λ m q k e g. let it : p ≡ q = cc in u.finds i m p k there (ap (λ (x : Process). at (keys_of x) m) it ∙ g)) tt
-        (λ n. let none = ap (λ o. weight (names_it n) (made_by o)) asleep in
-        omega (arith, ap (weight (keys_to n)) free, none, held_all (names_it n) p.descriptors))
+  forked-tied : (ds : DescriptionRows) → Tied ps ds pipes → (i : ℕ) (p : Process) → at ps i ≡ Some p → p.parked ≡ None
+      → (j : ℕ) → at ps j ≡ None → j < MAX_PROCESSES → Tied (put_at ps j p) (named_once_more p.descriptors ds) pipes
+  forked-tied ds t i p there asleep j free j_in =
+      let u = in_hand p.descriptors [] ds (λ m k h. t.finds i (suc m) p k there h) t in
+      reseated u j (omega (arith, t.places, j_in)) (Some p) []
+      (λ q e. let it : p ≡ q = cc in ap (λ (x : Process). length x.descriptors) (sym it) ∙ t.wide i p there)
+      (λ m q k e g. let it : p ≡ q = cc in u.finds i m p k there (ap (λ (x : Process). at (keys_of x) m) it ∙ g)) tt
+      (λ n. let none = ap (λ o. weight (names_it n) (made_by o)) asleep in
+      omega (arith, ap (weight (keys_to n)) free, none, held_hand (names_it n) p.descriptors []))
 
 -- What the machine says, and what is left
-
--- no description is drawn
-named_length : (o : Option Key) (ds : DescriptionRows) → length (with_name o ds) ≡ length ds
-named_length None ds = refl
-named_length (Some k) ds = length-set ds k.serial (option_map one_more (at ds k.serial))
-
-pub as_many : (n : ℕ) (ks : List (Option Key)) (ds : DescriptionRows) → length (with_first_names n ks ds) ≡ length ds
-as_many zero ks ds = refl
-as_many (suc n) ks ds = named_length (at ks n) (with_first_names n ks ds) ∙ as_many n ks ds
 
 module _ {charges : UserPages} {limits : Limits} {ps : ProcessRows} {ds : DescriptionRows} {pipes : PipeRows}
     {files : Files} {files_made : ℕ} (kept : Kept charges ps ds pipes) {n : Namespace}
@@ -227,7 +181,7 @@ module _ {charges : UserPages} {limits : Limits} {ps : ProcessRows} {ds : Descri
       now_tied : Tied qs es pipes
       now_tied =
           rw (put_is, named_is)
-          (forked-tied ps ds pipes kept.tied (pid - 1) p there (is_awake ps pid p caller) i
+          (forked-tied ps pipes ds kept.tied (pid - 1) p there (is_awake ps pid p caller) i
           (ap (at ps) lowest ∙ at-first_free ps) i_in)
 
       pub forked-kept : Kept charges qs es pipes
@@ -236,12 +190,9 @@ module _ {charges : UserPages} {limits : Limits} {ps : ProcessRows} {ds : Descri
       now_shown : state_of qs es pipes files files_made ≡ with_process s (i + 1) (process_of p)
       now_shown =
           (λ j. state_of (put_is j) (named_is j) pipes files files_made)
-          ∙ (λ j. record {
+          ∙ (λ j. record s {
             processes = map-set (option_map process_of) ps i (Some p) j;
-            descriptions = names_unshown (length p.descriptors) p.descriptors ds j;
-            pipes = pipes_of pipes;
-            files = files;
-            files_made = files_made;
+            descriptions = all_changed description_of (λ e. refl) p.descriptors ds j;
           })
           ∙ (let place : i ≡ i + 1 - 1 = omega arith in
           ap (λ m. record s { processes = put_at (processes_of ps) m (process_of p) }) place)

@@ -290,13 +290,10 @@ abbrev pub with_name : Option Key → DescriptionRows → DescriptionRows
 with_name None ds = ds
 with_name (Some k) ds = change_at one_more ds k.serial
 
--- one name more for each of the first n keys, and for each of all
-abbrev pub with_first_names : ℕ → List (Option Key) → DescriptionRows → DescriptionRows
-with_first_names zero ks ds = ds
-with_first_names (suc n) ks ds = with_name (at ks n) (with_first_names n ks ds)
-
+-- one name more for each of these keys
 abbrev pub named_once_more : List (Option Key) → DescriptionRows → DescriptionRows
-named_once_more ks ds = with_first_names (length ks) ks ds
+named_once_more [] ds = ds
+named_once_more (k ∷ ks) ds = named_once_more ks (with_name k ds)
 
 -- a description row by how many name it: nothing stands where nothing names it
 abbrev pub NamedRow : ℕ → Option (ℕ × Named Description) → Type 0

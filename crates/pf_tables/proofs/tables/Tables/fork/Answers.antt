@@ -44,8 +44,7 @@ invariant_of-self g c =
           c.lowest-i.ensures.lowest c.if-i-ge-MAX_PROCESSES.false (same g c) c.put.ensures c.name_all.ensures;
       filed =
           fifos-changed _ _ _ (ap length c.name_all.ensures
-          ∙ lemmas.as_many (length c.in_ok-descriptors.descriptors) c.in_ok-descriptors.descriptors
-          c.self.inside.descriptions.items) c.self.invariant.filed;
+          ∙ lemmas.as_many c.in_ok-descriptors.descriptors c.self.inside.descriptions.items) c.self.invariant.filed;
     }
 
 pub returns-clause-says : goal.returns-clause-says
