@@ -1,6 +1,6 @@
 -- How the meaning of a state goes through looking up, changing and sweeping.
 
-use Rattle.std.proofs.Common.{◌≡◌, ◌≢◌, ℕ, zero, suc, List, [], ◌∷◌, length, map, set, refl, ap, sym, ◌∙◌, arith, subst}
+use Rattle.std.proofs.Common.{◌≡◌, ◌≢◌, ℕ, zero, suc, List, [], ◌∷◌, length, map, set, refl, ap, sym, ◌∙◌, subst}
 use Rattle.std.specs.Prelude.{Option, Some, None, nat_lt, slice_index_or, slice_set}
 use Rattle.std.proofs.lemmas.List.{length-map}
 use Rattle.pf_tables.proofs.TablesShown.{was}
@@ -18,14 +18,9 @@ use Rattle.pf_tables.specs.Told.{Becomes}
 module _ (f : Live) where
   -- the segments of all queues are the slots in use of all rings
   pub occupied-meaning : (s : State Window ℕ) → sum_of (λ p. length p.queue.segments) (meaning f s).pipes ≡ occupied s
-  occupied-meaning s = segments s.pipes
-    where
-      segments : (ps : List (Option (Pipe Window)))
-          → sum_of (λ p. length p.queue.segments) (map (option_map (pipe_meaning f)) ps)
-          ≡ sum_of (λ p. length p.queue.segments) ps
-      segments [] = refl
-      segments (None ∷ ps) = omega (arith, segments ps)
-      segments (Some p ∷ ps) = omega (arith, length-map p.queue.segments (segment_of f), segments ps)
+  occupied-meaning s =
+      sum_of-map (pipe_meaning f) (λ p. length p.queue.segments) s.pipes
+      ∙ (λ i. sum_of (λ (p : Pipe Window). length-map p.queue.segments (segment_of f) i) s.pipes)
 
   -- where no ring shows a byte, no queue has one
   pub empty-meaning : (s : State Window ℕ) → AreEmpty f s → (n : ℕ) (p : Pipe Segment)
@@ -38,15 +33,10 @@ module _ (f : Live) where
   total-meaning s = sum_of-map (pipe_meaning f) (λ p. p.queue.capacity) s.pipes
 
   pub sweep-meaning : (s : State Window ℕ) → sweep itself (meaning f s) ≡ meaning f (sweep itself s)
-  sweep-meaning s = λ i. record {
-    processes = s.processes;
-    descriptions = live_descriptions itself s.processes s.descriptions;
-    pipes =
-        keep_from-map (pipe_meaning f) (λ p. nat_lt 0
-        (ends itself (live_descriptions itself s.processes s.descriptions) p)) 0 s.pipes i;
-    files = s.files;
-    files_made = s.files_made;
-  }
+  sweep-meaning s =
+      ap (λ ps. record (meaning f (sweep itself s)) { pipes = ps })
+      (keep_from-map (pipe_meaning f)
+      (λ p. nat_lt 0 (ends itself (live_descriptions itself s.processes s.descriptions) p)) 0 s.pipes)
 
   pub settled-meaning : (s : State Window ℕ) → s ≡ sweep itself s → meaning f s ≡ sweep itself (meaning f s)
   settled-meaning s e = ap (meaning f) e ∙ sym (sweep-meaning s)
@@ -84,31 +74,18 @@ module _ (f g : Live) where
   pub record Others (pipes : List (Option (Pipe Window))) (n : ℕ) : Type 0 where
     pub stay : (k : ℕ) → k ≢ n → option_map (pipe_meaning g) (at pipes k) ≡ option_map (pipe_meaning f) (at pipes k)
 
-  pub pipe_stays : (pipes : List (Option (Pipe Window))) (k : ℕ)
-      → queue_of g (ring_or (at pipes k)) ≡ queue_of f (ring_or (at pipes k))
-      → option_map (pipe_meaning g) (at pipes k) ≡ option_map (pipe_meaning f) (at pipes k)
-  pipe_stays pipes k = stays (at pipes k)
+  pub others_stay : (pipes : List (Option (Pipe Window))) (n : ℕ)
+      → ((k : ℕ) → k ≢ n → queue_of g (slice_index_or (map ring_or pipes) k no_ring)
+      ≡ queue_of f (slice_index_or (map ring_or pipes) k no_ring)) → Others pipes n
+  others_stay pipes n h = record {
+    stay = λ k ne. stays (at pipes k)
+        (subst (λ (r : Ring). queue_of g r ≡ queue_of f r) (ring_at-rings pipes k) (h k ne));
+  }
     where
       stays : (o : Option (Pipe Window)) → queue_of g (ring_or o) ≡ queue_of f (ring_or o)
           → option_map (pipe_meaning g) o ≡ option_map (pipe_meaning f) o
       stays None e = refl
-      stays (Some p) e =
-          λ i. Some (record {
-            queue = e i;
-            owner = p.owner;
-            file = p.file;
-            read_opens = p.read_opens;
-            write_opens = p.write_opens;
-          })
-
-  pub others_stay : (pipes : List (Option (Pipe Window))) (n : ℕ)
-      → ((k : ℕ) → k ≢ n → queue_of g (slice_index_or (map ring_or pipes) k no_ring)
-      ≡ queue_of f (slice_index_or (map ring_or pipes) k no_ring)) → Others pipes n
-  others_stay pipes n h =
-      record {
-        stay = λ k ne. pipe_stays pipes k (subst (λ (r : Ring). queue_of g r ≡ queue_of f r)
-            (ring_at-rings pipes k) (h k ne));
-      }
+      stays (Some p) e = ap (λ q. Some (record (pipe_meaning f p) { queue = q })) e
 
   -- a pipe's ring changes
   pipes-with_queue : (pipes : List (Option (Pipe Window))) (n : ℕ) (r : Ring) → Others pipes n
@@ -127,13 +104,7 @@ module _ (f g : Live) where
   pub meaning-with_queue : (s : State Window ℕ) (n : ℕ) (r : Ring) → Others s.pipes n
       → meaning g (with_queue s n r) ≡ with_queue (meaning f s) n (queue_of g r)
   meaning-with_queue s n r o =
-      λ i. record {
-        processes = s.processes;
-        descriptions = s.descriptions;
-        pipes = pipes-with_queue s.pipes n r o i;
-        files = s.files;
-        files_made = s.files_made;
-      }
+      ap (λ ps. record (meaning f s) { pipes = ps }) (pipes-with_queue s.pipes n r o)
 
   -- a pipe goes
   pub pipes-without : (pipes : List (Option (Pipe Window))) (n : ℕ) → Others pipes n

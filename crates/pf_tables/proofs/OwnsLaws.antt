@@ -6,13 +6,11 @@ use Rattle.std.specs.Prelude.{Option, Some, None}
 use Rattle.std.proofs.lemmas.List.{set-set, get_or-set_same, length-map, map-set, map_push}
 use Rattle.std.proofs.lemmas.List.Sums.{sum_by-cons}
 use Rattle.pf_tables.proofs.Common.{sum_by, option_map, Limits, empty, bytes_of, at, clear_at, sum_of, weight, State}
-use Rattle.pf_tables.proofs.Common.{with_queue, Live, IsSound, UserPages, Ring, queue_of, reach, limit, Keeps, Stands}
-use Rattle.pf_tables.proofs.Common.{Window, Joined, ring_at, slots_of, slots_used, Namespace, ring_or, rings_of, pages}
-use Rattle.pf_tables.proofs.Common.{Charged, occupied, Owns}
+use Rattle.pf_tables.proofs.Common.{with_queue, Live, IsSound, UserPages, charged_to, Ring, queue_of, reach, limit}
+use Rattle.pf_tables.proofs.Common.{Keeps, Stands, Window, Joined, ring_at, slots_of, slots_used, Namespace, ring_or}
+use Rattle.pf_tables.proofs.Common.{rings_of, pages, Charged, occupied, Owns}
 use Rattle.pf_machine.proofs.NumberedLaws.{at_within, sum_of-set, sum_of-le}
 use Rattle.pf_machine.specs.State.{Pipe, opening, holding}
-use Rattle.pf_limits.specs.Sums.{AreSumsOf}
-use Rattle.pf_limits.proofs.SumLaws.{kept}
 use Rattle.pf_ring.specs.Ring.{no_ring}
 use Rattle.pf_ring.proofs.TableLaws.{joined_after, queue_stays, joined_pushed, joined_cleared, joined_nothing}
 use Rattle.pf_ring.proofs.TableLaws.{ring_stands, credits_for, held_le_used, none_held_bytes}
@@ -25,13 +23,17 @@ pub ring_at-pipe : (pipes : List (Option (Pipe Window))) (n : ℕ) (p : Pipe Win
     → ring_at (map ring_or pipes) n ≡ p.queue
 ring_at-pipe pipes n p there = ring_at-rings pipes n ∙ ap ring_or there
 
+-- what is summed over all rings is summed over all pipes
+sum-rings : (h : Ring → ℕ) → h no_ring ≡ 0 → (pipes : List (Option (Pipe Window)))
+    → sum_by h (map ring_or pipes) ≡ sum_of (λ p. h p.queue) pipes
+sum-rings h none [] = refl
+sum-rings h none (None ∷ ps) = omega (arith, sum_by-cons h no_ring (map ring_or ps), none, sum-rings h none ps)
+sum-rings h none (Some p ∷ ps) = omega (arith, sum_by-cons h p.queue (map ring_or ps), sum-rings h none ps)
+
 -- the slots of all rings are the pages that all pipes are charged with
 pub slots-rings : (pipes : List (Option (Pipe Window)))
     → sum_by slots_of (map ring_or pipes) ≡ sum_of (λ p. p.queue.capacity) pipes
-slots-rings [] = refl
-slots-rings (None ∷ ps) = sum_by-cons slots_of no_ring (map ring_or ps) ∙ ap (λ n. 0 + n) (slots-rings ps)
-slots-rings (Some p ∷ ps) =
-    sum_by-cons slots_of p.queue (map ring_or ps) ∙ ap (λ n. p.queue.capacity + n) (slots-rings ps)
+slots-rings = sum-rings slots_of refl
 
 -- at the opening state nothing is live
 pub owns_opening : (f : Live) (limits : Limits) → ((q : ℕ) → f.count q ≡ 0) → f.shares ≡ 0 → limits.reserve ≡ f.reserved
@@ -100,16 +102,7 @@ credits_at f s n p sound joined there =
     subst (λ (r : Ring). f.held + (r.capacity - length r.segments) ≤ f.reserved) (ring_at-pipe s.pipes n p there)
     (credits_for f (rings_of s) n sound joined)
 
--- the counters stay the sums where a ring keeps its capacity
-pub charged-with_queue : (charges : UserPages) (s : State Window ℕ) (n : ℕ) (p : Pipe Window) (r : Ring)
-    → at s.pipes n ≡ Some p → r.capacity ≡ p.queue.capacity → Charged charges s → Charged charges (with_queue s n r)
-charged-with_queue charges s n p r there same is =
-    subst (λ (o : Option (Pipe Window)). AreSumsOf (λ (q : Pipe Window). q.owner)
-    (λ (q : Pipe Window). q.queue.capacity) charges (set s.pipes n (option_map (holding r) o))) (sym there)
-    (kept (λ (q : Pipe Window). q.owner) (λ (q : Pipe Window). q.queue.capacity) charges s.pipes n p (holding r p) is
-    there refl same)
-
--- and where its owner is charged with what it has then
+-- the counters stay the sums where a pipe's owner is charged with what its ring has then
 pub recharged : (old new : UserPages) (s : State Window ℕ) (n : ℕ) (p : Pipe Window) (r : Ring) → at s.pipes n ≡ Some p
     → Recharges old new p.owner p.queue.capacity r.capacity → Charged old s → Charged new (with_queue s n r)
 recharged old new s n p r there re is =
@@ -124,6 +117,16 @@ recharged old new s n p r there re is =
           let h : Pipe Window → ℕ = λ (x : Pipe Window). x.queue.capacity in
           omega (arith, re.total, is.total, sum_of-set h s.pipes n q l, ap (weight h) there, ap (weight h) after);
     }
+
+-- and where a ring keeps its capacity
+pub charged-with_queue : (charges : UserPages) (s : State Window ℕ) (n : ℕ) (p : Pipe Window) (r : Ring)
+    → at s.pipes n ≡ Some p → r.capacity ≡ p.queue.capacity → Charged charges s → Charged charges (with_queue s n r)
+charged-with_queue charges s n p r there same =
+    recharged charges charges s n p r there (record {
+      users = λ u. ap (λ m. charged_to charges u + (if nat_eq p.owner u then m else 0)) (sym same);
+      total = ap (λ m. charges.total + m) (sym same);
+      limits = refl;
+    })
 
 -- nobody is charged otherwise
 pub charged-same : (old new : UserPages) (owner : ℕ) (s : State Window ℕ) → Recharges old new owner 0 0 → Charged old s
@@ -148,10 +151,7 @@ pages_within f n o =
 -- the slots in use are those of all rings
 pub used-rings : (pipes : List (Option (Pipe Window)))
     → sum_by slots_used (map ring_or pipes) ≡ sum_of (λ p. length p.queue.segments) pipes
-used-rings [] = refl
-used-rings (None ∷ ps) = sum_by-cons slots_used no_ring (map ring_or ps) ∙ ap (λ n. 0 + n) (used-rings ps)
-used-rings (Some p ∷ ps) =
-    sum_by-cons slots_used p.queue (map ring_or ps) ∙ ap (λ n. length p.queue.segments + n) (used-rings ps)
+used-rings = sum-rings slots_used refl
 
 pub held_occupied : (f : Live) (n : Namespace) → IsSound f → Owns f n → f.held ≤ occupied n.state
 held_occupied f n sound o =
