@@ -106,12 +106,7 @@ module _ {charges : UserPages} {limits : Limits} {es : List (ℕ × Key)} {ps : 
 
   bare_all : (m : ℕ) → at (keys_of w.0) m ≡ None
   bare_all zero =
-      no_key w.0.parked
-      (none_was rows.call_of w.0.parked (ap (λ (q : machine.Process ℕ). q.parked) w.2 ∙ b.awake))
-    where
-      no_key : (o : Option (rows.Call Key)) → o ≡ None → rows.made_by o ≡ None
-      no_key None h = refl
-      no_key (Some call) h = absurd (cc)
+      ap rows.made_by (none_was rows.call_of w.0.parked (ap (λ (q : machine.Process ℕ). q.parked) w.2 ∙ b.awake))
   bare_all (suc fd) = elim (cases_lt fd MAX_DESCRIPTORS) [
     | inl l ↦ none_was (λ (j : Key). j.serial) (at w.0.descriptors fd)
         (sym (at-map (λ (j : Key). j.serial) w.0.descriptors fd)

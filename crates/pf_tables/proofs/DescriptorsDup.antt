@@ -10,7 +10,7 @@ use Rattle.pf_tables.proofs.Common.{option_map, Files, Limits, at, put_at, chang
 use Rattle.pf_tables.proofs.Common.{refuse_if, State, Outcome, of_ready, with_process, with_descriptor, done}
 use Rattle.pf_tables.proofs.Common.{MAX_DESCRIPTORS, Errno, EMFILE, Num, names_of, one_more, find, UserPages, Window}
 use Rattle.pf_tables.proofs.Common.{Namespace, ProcessRows, DescriptionRows, PipeRows, Key, Named, Process, Description}
-use Rattle.pf_tables.proofs.Common.{ready_in, key_in, process_of, description_of, descriptions_of, pipes_of, state_of}
+use Rattle.pf_tables.proofs.Common.{ready_in, key_in, process_of, description_of, descriptions_of, state_of}
 use Rattle.pf_tables.proofs.Common.{keys_of, names_it, held, NamedRow, TiedWith, Tied, Kept, Makes}
 use Rattle.pf_machine.proofs.NumberedLaws.{at-first_free, first_free-map}
 use Rattle.pf_machine.specs.Descriptors.{dup}
@@ -136,12 +136,9 @@ module _ {charges : UserPages} {limits : Limits} {ps : ProcessRows} {ds : Descri
     now_shown : state_of (put_at ps (pid - 1) p') ds' pipes files files_made
         ≡ with_process s pid (with_descriptor to k.serial (process_of p))
     now_shown =
-        (λ i. record {
+        (λ i. record s {
           processes = map-set (option_map process_of) ps (pid - 1) (Some p') i;
           descriptions = recounted_shown ds k row.0 row.1 (row.0.names + 1) i;
-          pipes = pipes_of pipes;
-          files = files;
-          files_made = files_made;
         })
         ∙ ap (λ xs. with_process s pid (record {
           cred = p.cred;

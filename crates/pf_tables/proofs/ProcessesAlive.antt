@@ -1,11 +1,11 @@
 -- How many processes live, and that nothing is left where none does.
 
-use Rattle.std.proofs.Common.{◌≡◌, ℕ, suc, Bool, false, List, [], ◌∷◌, length, Option, Some, None, nat_lt}
+use Rattle.std.proofs.Common.{◌≡◌, ℕ, List, [], ◌∷◌, length, Option, Some, None, nat_lt}
 use Rattle.std.proofs.Common.{if◌then◌else◌, refl, ap, ◌∙◌, arith}
-use Rattle.pf_tables.proofs.Common.{weight, sum_of, itself, State, ends, sweep, Namespace, occupied, Process}
+use Rattle.pf_tables.proofs.Common.{at, sum_of, itself, State, ends, sweep, Namespace, occupied, Process}
 use Rattle.pf_tables.proofs.Common.{ProcessRows, process_of, processes_of}
-use Rattle.pf_machine.specs.Numbered.{keep_from, keep}
-use Rattle.pf_machine.proofs.NumberedLaws.{sum_of-map}
+use Rattle.pf_machine.specs.Numbered.{keep}
+use Rattle.pf_machine.proofs.NumberedLaws.{at-keep, sum_of-map, sum_of-none}
 use Rattle.pf_machine.specs.State.{Pipe}
 use Rattle.pf_machine.specs.Counts.{names}
 use Rattle.pf_machine.specs.Processes.{alive}
@@ -27,17 +27,13 @@ module _ {X : Type 0} where
   none_summed h (Some x ∷ xs) e = absurd (omega arith)
 
   -- where no number stays, nothing stands
-  none_kept_from : (h : X → ℕ) (test : ℕ → Bool) (n : ℕ) (xs : List (Option X)) → ((k : ℕ) → test k ≡ false)
-      → sum_of h (keep_from test n xs) ≡ 0
-  none_kept_from h test n [] fails = refl
-  none_kept_from h test n (x ∷ xs) fails =
-      let gone : (if test n then x else None) ≡ None = ap (λ (b : Bool). if b then x else None) (fails n) in
-      omega (arith, ap (weight h) gone, none_kept_from h test (suc n) xs fails)
-
   none_kept : (h : X → ℕ) (count : ℕ → ℕ) (xs : List (Option X)) → ((k : ℕ) → count k ≡ 0)
       → sum_of h (keep (λ n. nat_lt 0 (count n)) xs) ≡ 0
   none_kept h count xs zeros =
-      none_kept_from h (λ n. nat_lt 0 (count n)) 0 xs (λ k. ap (λ (n : ℕ). nat_lt 0 n) (zeros k))
+      sum_of-none h (keep (λ n. nat_lt 0 (count n)) xs) (λ k x there.
+      let gone : at (keep (λ n. nat_lt 0 (count n)) xs) k ≡ None =
+      at-keep (λ n. nat_lt 0 (count n)) xs k ∙ ap (λ n. if nat_lt 0 n then at xs k else None) (zeros k) in
+      absurd (cc))
 
 module _ {X : Type 0} (s : State X ℕ) (nobody : alive s ≡ 0) where
   unnamed : (n : ℕ) → names itself s.processes n ≡ 0
