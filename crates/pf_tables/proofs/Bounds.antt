@@ -1,21 +1,20 @@
 -- How much a reply hands out, as the tables know it.
 
-use Rattle.std.proofs.Common.{◌≡◌, ℕ, ◌≤◌, not, List, length, Option, Some, None, Result, Ok, Err, refl, sym, ap, subst}
+use Rattle.std.proofs.Common.{◌≡◌, ℕ, ◌≤◌, not, List, length, Option, Some, None, Result, Ok, Err, refl, ap, subst}
 use Rattle.std.proofs.Common.{◌∙◌, arith}
 use Rattle.std.specs.Prelude.{min}
-use Rattle.pf_tables.proofs.Common.{◌>>=◌, option_map, option_and_then, Window, Files, Limits, refuse_if, or_refuse}
-use Rattle.pf_tables.proofs.Common.{Segment, bytes_of, at, weight, itself, State, End, ready, end_at, reading_end}
-use Rattle.pf_tables.proofs.Common.{Errno, EBADF, find, Live, IsSound, UserPages, Ring, queue_of, Stands, slots_used}
-use Rattle.pf_tables.proofs.Common.{slots_of, Covers, Namespace, meaning, pipe_meaning, pages, Owns, ProcessRows}
-use Rattle.pf_tables.proofs.Common.{DescriptionRows, PipeRows, Description, Pipe, state_of, end_in, Kept}
+use Rattle.pf_tables.proofs.Common.{◌>>=◌, ◌>>◌, option_map, option_and_then, Window, Files, Limits, refuse_if, Segment}
+use Rattle.pf_tables.proofs.Common.{bytes_of, at, weight, itself, State, End, ready, end_at, reading_end, Errno, EBADF}
+use Rattle.pf_tables.proofs.Common.{find, Live, IsSound, UserPages, Ring, queue_of, Stands, slots_used, slots_of}
+use Rattle.pf_tables.proofs.Common.{Covers, Namespace, meaning, pipe_meaning, pages, Owns, ProcessRows, DescriptionRows}
+use Rattle.pf_tables.proofs.Common.{PipeRows, Description, Pipe, state_of, end_in, Kept, weight-le-sum_of}
 use Rattle.pf_machine.specs.FileMap.{Path, names_below, listed, is_directory}
 use Rattle.pf_machine.specs.Paths.{target}
 use Rattle.pf_base.specs.Permissions.{allows}
 use Rattle.pf_base.specs.declared.permissions.Want.TheVariants as Access
 use Rattle.pf_machine.specs.Queue.{IsQueue}
 use Rattle.pf_machine.proofs.QueueLaws.{length-joined-le}
-use Rattle.pf_machine.proofs.NumberedLaws.{weight-le-sum_of}
-use Rattle.pf_machine.proofs.HoldsLaws.{Holds, goes, carries, passes}
+use Rattle.pf_machine.proofs.HoldsLaws.{carries, passes}
 use Rattle.pf_machine.specs.Calls as calls
 use Rattle.pf_machine.specs.State as machine
 use Rattle.pf_machine.specs.State.{end_of}
@@ -30,7 +29,8 @@ use Rattle.pf_machine.specs.Replies.{reply_length}
 use Rattle.pf_tables.proofs.OwnsLaws.{ring_at-pipe, stands_at, pages_within}
 use Rattle.pf_machine.proofs.ReplyLaws.{read_bytes, read-few, resume-few, list-few, quiet, few}
 use Rattle.pf_tables.proofs.Ends.{end_of_rows, Agree, ends, not_lost, reaches}
-use Rattle.pf_tables.proofs.TablesShown.{was}
+use Rattle.pf_tables.proofs.Refusals.{both_came, not_refused, is_there, same_ok}
+use Rattle.pf_tables.proofs.TablesShown.{from_map, was}
 use Rattle.pf_tables.proofs.Transfers as transfers
 
 -- the reply to a step hands out no more, over these frames
@@ -83,8 +83,7 @@ module _ {files : Files} {files_made : ℕ} {limits : Limits} {charges : UserPag
       by_end (Ok d) h = absurd (none d h)
       by_end (Err e) h =
           few (shows f) 0 (call limits (shows f) (steps.Read pid fd count)) (read-few (shows f) 0 limits pid fd count
-          (λ x is. let both : ◌≡◌ {A = Result (End Segment ℕ) Errno} (Err e) (Ok x) = sym ((its f).refused h)
-          ∙ is in absurd (cc)))
+          (λ x is. absurd (cc ((its f).refused h))))
 
   module _ (d : Description) (h : end_in (Some sides.Read) ps ds pid fd ≡ Ok d) where
     -- it has a pipe
@@ -102,9 +101,7 @@ module _ {files : Files} {files_made : ℕ} {limits : Limits} {charges : UserPag
         (few (shows f) (min held count) (call limits (shows f) (steps.Read pid fd count))
         (read-few (shows f) (min held count) limits pid fd count
         (λ x is.
-        let ends : ◌≡◌ {A = Result (End Segment ℕ) Errno} (Ok (end_of_rows (pipe_meaning f) d r)) (Ok x) =
-        sym (reaches (its f) h handed) ∙ is in
-        let end : end_of_rows (pipe_meaning f) d r ≡ x = cc in
+        let end : end_of_rows (pipe_meaning f) d r ≡ x = cc (reaches (its f) h handed) in
         let bytes : length (bytes_of (queue_of f r.ring)) ≡ length (bytes_of x.pipe.queue) =
         ap (λ (y : End Segment ℕ). length (bytes_of y.pipe.queue)) end in
         omega (arith, read_bytes (shows f) x count, bytes, number))))
@@ -134,35 +131,25 @@ module _ {files : Files} {files_made : ℕ} (limits : Limits) (ps : ProcessRows)
 abbrev Standing : State Segment ℕ → End Segment ℕ → Type 0
 Standing s e = at s.pipes e.description.pipe ≡ Some e.pipe
 
-end_at-stands : (s : State Segment ℕ) (m : ℕ) → Holds (Standing s) (or_refuse EBADF (end_at itself s m))
-end_at-stands s m = by_description (at s.descriptions m)
-  where
-    by_pipe : (d : machine.Description ℕ) (o : Option (machine.Pipe Segment)) → at s.pipes d.pipe ≡ o
-        → Holds (Standing s) (or_refuse EBADF (option_map
-        (λ (pipe : machine.Pipe Segment). record { description = d; pipe = pipe }) o))
-    by_pipe d None e = tt
-    by_pipe d (Some p) e = e
-
-    by_description : (o : Option (machine.Description ℕ))
-        → Holds (Standing s) (or_refuse EBADF (option_and_then
-        (λ d. option_map (λ (pipe : machine.Pipe Segment). record { description = d; pipe = pipe }) (at s.pipes d.pipe))
-        o))
-    by_description None = tt
-    by_description (Some d) = by_pipe d (at s.pipes d.pipe) refl
-
-reading_end-stands : (s : State Segment ℕ) (p : machine.Process ℕ) (fd : ℕ)
-    → Holds (Standing s) (reading_end itself s p fd)
-reading_end-stands s p fd =
-    goes (Standing s) (Standing s) (end_of itself s p fd) _ (by_number (at p.descriptors fd))
-    (λ e h. passes (Standing s) (refuse_if (not e.description.reads) EBADF) (Ok e) h)
-  where
-    by_number : (o : Option ℕ) → Holds (Standing s) (or_refuse EBADF (option_and_then (end_at itself s) o))
-    by_number None = tt
-    by_number (Some m) = end_at-stands s m
+came : {A B : Type 0} (h : A → Option B) (o : Option A) {y : B} → option_and_then h o ≡ Some y
+    → (x : A) × (o ≡ Some x) × (h x ≡ Some y)
+came h None is = absurd (cc)
+came h (Some x) is = (x, refl, is)
 
 reading_there : (s : State Segment ℕ) (p : machine.Process ℕ) (fd : ℕ) (e : End Segment ℕ)
     → reading_end itself s p fd ≡ Ok e → Standing s e
-reading_there s p fd e is = subst (Holds (Standing s)) is (reading_end-stands s p fd)
+reading_there s p fd e is =
+    let named = both_came (end_of itself s p fd)
+    (λ (x : End Segment ℕ). refuse_if (not x.description.reads) EBADF >> Ok x) is in
+    let same = same_ok (not_refused (not named.0.description.reads) EBADF (Ok named.0) named.2).1 in
+    let number = came (end_at itself s) (at p.descriptors fd)
+    (is_there EBADF (option_and_then (end_at itself s) (at p.descriptors fd)) named.1) in
+    let description = came (λ (d : machine.Description ℕ). option_map
+    (λ (pipe : machine.Pipe Segment). record { description = d; pipe = pipe }) (at s.pipes d.pipe))
+    (at s.descriptions number.0) number.2 in
+    let pipe = from_map (λ (pipe : machine.Pipe Segment). record { description = description.0; pipe = pipe })
+    (at s.pipes description.0.pipe) named.0 description.2 in
+    subst (Standing s) (pipe.2 ∙ same) pipe.1
 
 -- what a call asks for, as far as it hands anything out
 abbrev pub asked : Option (calls.Call ℕ) → ℕ

@@ -16,8 +16,10 @@ pub use Rattle.pf_fds.specs.Descriptions.{names_of, one_more, value_of}
 pub use Rattle.pf_fds.specs.Registry.{find}
 pub use Rattle.pf_frame.specs.Live.{IsSound, Live}
 pub use Rattle.pf_limits.specs.UserPages.{Charges, UserPages, charged_to}
+pub use Rattle.pf_machine.proofs.MapLaws.{vacant-map}
 pub use Rattle.pf_machine.proofs.NumberedLaws.{at-first_free, at-map, at-push_new, at-push_old, at-put_other}
-pub use Rattle.pf_machine.proofs.NumberedLaws.{at-put_same, at_past, at_within, first_free-map}
+pub use Rattle.pf_machine.proofs.NumberedLaws.{at-put_same, at_past, at_within, first_free-map, sum_of-map, sum_of-none}
+pub use Rattle.pf_machine.proofs.NumberedLaws.{sum_of-set, weight-le-sum_of}
 pub use Rattle.pf_machine.specs.Calls.{Opening}
 pub use Rattle.pf_machine.specs.Counts.{ends, readers, total, writers}
 pub use Rattle.pf_machine.specs.FileMap.{Files}
@@ -49,10 +51,13 @@ pub use Rattle.pf_tables.specs.Rows.{Pipe, PipeRows, Process, ProcessRows, Tied,
 pub use Rattle.pf_tables.specs.Rows.{description_of, descriptions_of, end_in, held, key_in, keys_of, keys_to, made_by}
 pub use Rattle.pf_tables.specs.Rows.{names_it, opens_at, opens_of, pipe_of, pipes_of, process_in, process_of}
 pub use Rattle.pf_tables.specs.Rows.{processes_of, read_by, reads_it, ready_in, state_of, writes_it, written_by}
-pub use Rattle.pf_tables.specs.Tables.{LetsGo, Makes, Says, awoken, descriptor, over, woken}
+pub use Rattle.pf_tables.specs.Rows.{AllFind, Finds, IsEnd, IsSpare, awake, end_of_row, is_used, left, named_once_more}
+pub use Rattle.pf_tables.specs.Rows.{with_fewer}
+pub use Rattle.pf_tables.specs.Tables.{LetsGo, Makes, Says, awoken, descriptor, over, woken, Left, emptied}
 pub use Rattle.pf_tables.specs.Told.{attempted}
 pub use Rattle.pf_walk.specs.Told.{Told}
-pub use Rattle.std.proofs.lemmas.Bool.{cases_lt, eq-eqb, le-leb, le-ltb, lt-leb, lt-ltb}
+pub use Rattle.std.proofs.lemmas.Bool.{cases_lt, eq-eqb, le-leb, le-ltb, lt-leb, lt-ltb, cases_eq, ne_eqb}
+pub use Rattle.std.proofs.lemmas.Bool.Decides.{nat_tests}
 pub use Rattle.std.proofs.lemmas.List.{length-map, length_push, map-set, map_push, set-set}
 pub use Rattle.std.specs.List.{sum_by}
 pub use Rattle.std.specs.Map.{lookup}

@@ -2,21 +2,18 @@
 
 use Rattle.std.proofs.Common.{◌≡◌, ℕ, zero, suc, ◌-◌, ◌<◌, ◌≤◌, List, set, Option, Some, None, Result, Ok, Err, refl}
 use Rattle.std.proofs.Common.{ap, sym, ◌∙◌, subst, arith, inl, inr}
-use Rattle.std.proofs.lemmas.Bool.{cases_lt}
-use Rattle.std.proofs.lemmas.List.{map-set}
 use Rattle.pf_tables.proofs.Common.{option_map, Files, Limits, at, clear_at, State, Outcome, of_ready, with_process}
 use Rattle.pf_tables.proofs.Common.{done, MAX_PROCESSES, MAX_DESCRIPTORS, Errno, Num, Window, UserPages, charged_to}
 use Rattle.pf_tables.proofs.Common.{Charges, Namespace, key_in, pipe_of, ProcessRows, DescriptionRows, PipeRows, Key}
 use Rattle.pf_tables.proofs.Common.{Process, keys_of, process_of, processes_of, pipes_of, state_of, Tied, Kept, Whole}
-use Rattle.pf_tables.proofs.Common.{LetsGo, Makes}
-use Rattle.pf_machine.proofs.NumberedLaws.{at-map, at_past, at_within}
+use Rattle.pf_tables.proofs.Common.{AreCharged, LetsGo, Makes, cases_lt, map-set, at-map, at_past, at_within, emptied}
+use Rattle.pf_tables.proofs.Common.{Left}
 use Rattle.pf_machine.specs.State as machine
 use Rattle.pf_machine.specs.Descriptors.{close, without_descriptor}
 use Rattle.pf_machine.specs.Processes.{exit}
-use Rattle.pf_limits.specs.Sums.{AreSumsOf}
 use Rattle.pf_limits.proofs.SumLaws.{covers, gone as refunded}
 use Rattle.pf_tables.specs.Rows as rows
-use Rattle.pf_tables.specs.Tables.{emptied, IsBare, Leaves, Left}
+use Rattle.pf_tables.specs.Tables.{IsBare, Leaves}
 use Rattle.pf_tables.proofs.ProcessTableReady.{place_is}
 use Rattle.pf_tables.proofs.DescriptorsNamed.{Has, named_is, names_nothing}
 use Rattle.pf_tables.proofs.TablesShown.{was, shown}
@@ -44,8 +41,7 @@ module _ {charges : UserPages} {ps : ProcessRows} {ds : DescriptionRows} {pipes 
       record {
         tied = tied;
         charged =
-            subst (λ (xs : List (Option (machine.Pipe Window))). AreSumsOf (λ (q : machine.Pipe Window). q.owner)
-            (λ (q : machine.Pipe Window). q.queue.capacity) charges' xs) (sym left)
+            subst (AreCharged charges') (sym left)
             (refunded (λ (q : machine.Pipe Window). q.owner) (λ (q : machine.Pipe Window). q.queue.capacity) charges
             charges' (pipes_of pipes) k.charged m _ there back);
       }

@@ -3,16 +3,14 @@
 
 use Rattle.std.proofs.Common.{◌≡◌, ℕ, suc, ◌+◌, ◌-◌, ◌*◌, ◌^◌, ◌<◌, ◌≤◌, Bool, true, false, nat_le, nat_eq, List, []}
 use Rattle.std.proofs.Common.{◌∷◌, length, set, Option, Some, None, Result, Ok, Err, refl, sym, ap, subst, ◌∙◌, arith}
-use Rattle.std.proofs.lemmas.Bool.Decides.{nat_tests}
-use Rattle.std.proofs.lemmas.List.{map-set}
 use Rattle.pf_tables.proofs.TablesShown.{shown_same, find_at}
 use Rattle.pf_tables.proofs.Common.{option_map, Files, Limits, at, put_at, change_at, first_free, sum_of, one_if, ◌>>◌}
 use Rattle.pf_tables.proofs.Common.{refuse_if, State, Outcome, of_ready, with_process, with_descriptor, done}
 use Rattle.pf_tables.proofs.Common.{MAX_DESCRIPTORS, Errno, EMFILE, Num, names_of, one_more, find, UserPages, Window}
 use Rattle.pf_tables.proofs.Common.{Namespace, ProcessRows, DescriptionRows, PipeRows, Key, Named, Process, Description}
-use Rattle.pf_tables.proofs.Common.{ready_in, key_in, process_of, description_of, descriptions_of, state_of}
-use Rattle.pf_tables.proofs.Common.{keys_of, names_it, held, NamedRow, TiedWith, Tied, Kept, Makes}
-use Rattle.pf_machine.proofs.NumberedLaws.{at-first_free, first_free-map}
+use Rattle.pf_tables.proofs.Common.{ready_in, key_in, process_of, description_of, descriptions_of, state_of, keys_of}
+use Rattle.pf_tables.proofs.Common.{names_it, held, NamedRow, TiedWith, Tied, Kept, Makes, nat_tests, map-set}
+use Rattle.pf_tables.proofs.Common.{at-first_free, first_free-map}
 use Rattle.pf_machine.specs.Descriptors.{dup}
 use Rattle.pf_tables.specs.Rows.{call_of, with_key, named}
 use Rattle.pf_tables.proofs.TablesSettled.{makes}
@@ -73,7 +71,7 @@ module _ {K : List Key} {E : List Description} {ps : ProcessRows} {ds : Descript
     named_again t =
         let more = record d { names = d.names + 1 } in
         redescribed t k.serial (k.slot, d) stands (Some (k.slot, more)) (k ∷ K) E
-        (place_and_end k d stands t (d.names + 1)) (found ds k d stands, t.in_hand)
+        (place_and_end pipes k.slot more (t.is_end k.serial (k.slot, d) stands)) (found ds k d stands, t.in_hand)
         (λ n ne. omega (arith, names_none n k (λ e. ne (sym e))))
         (let r = names_row k d stands t in let one = names_one k in
         (omega (arith, r.0, one), omega (arith, r.1))) t.ends_in_hand (λ n. refl) (λ n. refl)

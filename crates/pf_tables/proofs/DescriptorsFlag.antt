@@ -9,8 +9,7 @@ use Rattle.pf_tables.proofs.Common.{PipeRows, Key, Named, Description, descripti
 use Rattle.pf_tables.proofs.Common.{TiedWith, Kept, Makes}
 use Rattle.pf_machine.specs.Descriptors.{with_nonblocking, with_flag, set_nonblock}
 use Rattle.pf_fds.specs.Descriptions.{revalued}
-use Rattle.pf_tables.specs.Rows.{IsEnd}
-use Rattle.pf_tables.proofs.TablesTied.{redescribed, names_row}
+use Rattle.pf_tables.proofs.TablesTied.{redescribed, place_and_end, names_row}
 use Rattle.pf_tables.proofs.DescriptorsNamed.{Has, key_row, named_is}
 use Rattle.pf_tables.proofs.TablesSettled.{makes}
 
@@ -46,11 +45,7 @@ module _ {charges : UserPages} {limits : Limits} {ps : ProcessRows} {ds : Descri
   flagged-kept = record {
     tied = subst (λ x. TiedWith [] [] ps x pipes) (sym after_is)
         (redescribed kept.tied k.serial (k.slot, row.0) row.1 (Some row') [] []
-        (λ e h. let it = same_some h in (
-          ap (λ (x : ℕ × Named Description). x.0) (sym it),
-          subst (λ (x : ℕ × Named Description). IsEnd pipes x.1.value) it
-              (kept.tied.is_end k.serial (k.slot, row.0) row.1),
-        ))
+        (place_and_end pipes k.slot row'.1 (kept.tied.is_end k.serial (k.slot, row.0) row.1))
         tt (λ m ne. refl) (names_row k row.0 row.1 kept.tied) tt (λ m. refl) (λ m. refl));
     charged = kept.charged;
   }

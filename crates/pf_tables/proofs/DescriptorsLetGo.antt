@@ -4,21 +4,19 @@
 use Rattle.std.proofs.Common.{◌≡◌, ◌≢◌, ℕ, suc, ◌+◌, ◌-◌, ◌<◌, ◌≤◌, Bool, true, false, List, [], ◌∷◌, map, set, Option}
 use Rattle.std.proofs.Common.{Some, None, IsSome, is_some, IfSome, refl, sym, ap, subst, ◌∙◌, arith, if◌then◌else◌}
 use Rattle.std.proofs.lemmas.Bool.{ltb-true, ltb-false}
-use Rattle.std.proofs.lemmas.List.{map-set}
 use Rattle.pf_tables.proofs.Refusals.{same_some}
 use Rattle.pf_tables.proofs.TablesShown.{shown_same, shown, find_at, set_same}
 use Rattle.pf_tables.proofs.Common.{Limits, Namespace, option_map, option_and_then, itself, Files, at, put_at, clear_at}
 use Rattle.pf_tables.proofs.Common.{change_at, one_if, sweep, MAX_DESCRIPTORS, find, names_of, ProcessRows}
 use Rattle.pf_tables.proofs.Common.{DescriptionRows, PipeRows, Key, Named, Process, Description, Pipe, process_of}
 use Rattle.pf_tables.proofs.Common.{description_of, pipe_of, processes_of, descriptions_of, pipes_of, state_of}
-use Rattle.pf_tables.proofs.Common.{reads_it, writes_it, held, TiedWith, Tied, descriptor, LetsGo}
-use Rattle.pf_machine.proofs.NumberedLaws.{at-map, at_within}
+use Rattle.pf_tables.proofs.Common.{reads_it, writes_it, held, TiedWith, Tied, descriptor, LetsGo, map-set, at-map}
+use Rattle.pf_tables.proofs.Common.{at_within, with_fewer, is_used, left, Left}
 use Rattle.pf_machine.specs.State as machine
 use Rattle.pf_machine.specs.Descriptors.{without_descriptor}
 use Rattle.pf_machine.proofs.SweepLaws.{with_processes}
 use Rattle.pf_fds.specs.Descriptions.{one_less}
-use Rattle.pf_tables.specs.Rows.{call_of, key_at, without_key, with_fewer, is_used, left, gone, holding}
-use Rattle.pf_tables.specs.Tables.{Left}
+use Rattle.pf_tables.specs.Rows.{call_of, key_at, without_key, gone, holding}
 use Rattle.pf_tables.proofs.TablesTied.{finds, miss, names_one, names_none, sides, once, moved, redescribed, repiped}
 use Rattle.pf_tables.proofs.TablesTied.{place_and_end, names_row, pipe_row, in_place}
 use Rattle.pf_tables.proofs.TablesSettled.{Within, within_row, within_same, changed-swept}
@@ -33,7 +31,8 @@ module _ {K : List Key} {E : List Description} {ps : ProcessRows} {ds : Descript
     unnamed t more =
         let fewer = record d { names = d.names - 1 } in
         redescribed t k.serial (k.slot, d) stands (Some (k.slot, fewer)) K E
-        (place_and_end k d stands t (d.names - 1)) t.in_hand.1 (λ n ne. omega (arith, names_none n k (λ e. ne (sym e))))
+        (place_and_end pipes k.slot fewer (t.is_end k.serial (k.slot, d) stands)) t.in_hand.1
+        (λ n ne. omega (arith, names_none n k (λ e. ne (sym e))))
         (let r = names_row k d stands t in let one = names_one k in
         (omega (arith, r.0, one, more), omega (arith, r.0, one, more))) t.ends_in_hand (λ n. refl) (λ n. refl)
 
@@ -212,7 +211,7 @@ module _ (ps : ProcessRows) (ds : DescriptionRows) (pipes : PipeRows) (t : Tied 
       module _ (pipes' : PipeRows) (items : IfSome (find pipes d.pipe.slot d.pipe.serial)
           (λ p. pipes' ≡ set pipes d.pipe.serial (left d p))) where
         items_are : pipes' ≡ set pipes d.pipe.serial (left d pipe.0)
-        items_are = subst (λ o. IfSome o (λ (p : Pipe). pipes' ≡ set pipes d.pipe.serial (left d p))) pipe_found items
+        items_are = rw pipe_found at items
 
         pub ended : Left ps ds pipes ps' ds' pipes' i fd
         ended =
@@ -236,25 +235,19 @@ module _ (ps : ProcessRows) (ds : DescriptionRows) (pipes : PipeRows) (t : Tied 
             → LetsGo show (map (option_map show) pipes) (map (option_map show) pipes') r
         went show same r is_gone =
             subst (LetsGo show (map (option_map show) pipes) (map (option_map show) pipes'))
-            (sym (subst (λ o. IfSome o (λ (p : Pipe). r ≡ gone d p)) pipe_found is_gone))
-            (by_use (is_used (with_fewer d pipe.0)) refl)
+            (sym (rw pipe_found at is_gone)) (by_use (is_used (with_fewer d pipe.0)) items_are)
           where
-            set_to : (b : Bool) → is_used (with_fewer d pipe.0) ≡ b
+            by_use : (b : Bool)
                 → pipes' ≡ set pipes d.pipe.serial (if b then Some (d.pipe.slot, with_fewer d pipe.0) else None)
-            set_to b u =
-                items_are ∙ ap (λ b. set pipes d.pipe.serial
-                (if b then Some (d.pipe.slot, with_fewer d pipe.0) else None)) u
-
-            by_use : (b : Bool) → is_used (with_fewer d pipe.0) ≡ b
                 → LetsGo show (map (option_map show) pipes) (map (option_map show) pipes')
                 (if b then None else Some (with_fewer d pipe.0))
-            by_use true u =
-                ap (map (option_map show)) (set_to true u)
+            by_use true is =
+                ap (map (option_map show)) is
                 ∙ shown_same show pipes d.pipe.serial (d.pipe.slot, pipe.0) (d.pipe.slot, with_fewer d pipe.0) pipe.1
                 (same d.pipe.slot pipe.0)
-            by_use false u = (
+            by_use false is = (
               d.pipe.serial,
               d.pipe.slot,
               shown show pipes d.pipe.serial (d.pipe.slot, pipe.0) pipe.1 ∙ ap Some (sym (same d.pipe.slot pipe.0)),
-              ap (map (option_map show)) (set_to false u) ∙ map-set (option_map show) pipes d.pipe.serial None,
+              ap (map (option_map show)) is ∙ map-set (option_map show) pipes d.pipe.serial None,
             )

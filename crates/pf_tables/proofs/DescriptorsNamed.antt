@@ -4,8 +4,7 @@ use Rattle.std.proofs.Common.{◌≡◌, ℕ, suc, ◌-◌, Option, Some, None, 
 use Rattle.pf_tables.proofs.Refusals.{both_came, is_there, same_ok}
 use Rattle.pf_tables.proofs.Common.{option_map, ◌>>=◌, or_refuse, at, Errno, EBADF, find, ProcessRows, DescriptionRows}
 use Rattle.pf_tables.proofs.Common.{PipeRows, Key, Named, Process, Description, process_of, processes_of, ready_in}
-use Rattle.pf_tables.proofs.Common.{key_in, Tied}
-use Rattle.pf_machine.proofs.NumberedLaws.{at-map}
+use Rattle.pf_tables.proofs.Common.{key_in, Tied, at-map}
 use Rattle.pf_machine.specs.State as machine
 use Rattle.pf_machine.specs.Descriptors.{named}
 use Rattle.pf_tables.proofs.ProcessTableReady.{shown_in, ready_shown, readies, place_is}

@@ -5,25 +5,27 @@ use Rattle.std.proofs.Common.{is_some, Result, Ok, Err, refl, sym, ap, subst, �
 use Rattle.pf_tables.proofs.TablesShown.{each-same, shown, find_at, find_was}
 use Rattle.pf_tables.proofs.Refusals.{same_some}
 use Rattle.pf_tables.proofs.Common.{option_map, option_and_then, Files, ◌>>=◌, ◌>>◌, refuse_if, or_refuse, at, itself}
-use Rattle.pf_tables.proofs.Common.{State, End, ready, end_at, reading_end, writing_end, readers, writers, Errno, EBADF}
-use Rattle.pf_tables.proofs.Common.{Side, value_of, find, Open, Window, ProcessRows, DescriptionRows, PipeRows, Key}
-use Rattle.pf_tables.proofs.Common.{Named, Process, Description, Pipe, process_of, description_of, pipe_of}
-use Rattle.pf_tables.proofs.Common.{processes_of, descriptions_of, pipes_of, state_of, made_by, ready_in, end_in}
-use Rattle.pf_tables.proofs.Common.{read_by, written_by, UsedRow, Tied}
-use Rattle.pf_machine.proofs.NumberedLaws.{at-map}
+use Rattle.pf_tables.proofs.Common.{State, End, ready, end_at, readers, writers, Errno, EBADF, Side, value_of, find}
+use Rattle.pf_tables.proofs.Common.{Open, Window, ProcessRows, DescriptionRows, PipeRows, Key, Named, Process}
+use Rattle.pf_tables.proofs.Common.{Description, Pipe, process_of, description_of, pipe_of, processes_of}
+use Rattle.pf_tables.proofs.Common.{descriptions_of, pipes_of, state_of, made_by, ready_in, end_in, read_by, written_by}
+use Rattle.pf_tables.proofs.Common.{UsedRow, Tied, at-map, end_of_row}
 use Rattle.pf_machine.specs.State as machine
-use Rattle.pf_machine.specs.State.{end_of}
 use Rattle.pf_base.specs.declared.progress.Side.TheVariants as sides
-use Rattle.pf_tables.specs.Rows.{has, description_in, end_of_row}
+use Rattle.pf_tables.specs.Rows.{has, description_in}
 use Rattle.pf_tables.proofs.ProcessTableReady.{shown_in, ready_shown, place_is}
 use Rattle.pf_tables.proofs.TablesTied.{finds}
 use Rattle.pf_tables.proofs.TablesSettled.{readers_shown, writers_shown}
 
--- the machine's end of a side, or any where none is asked for
+-- an end that is of a side, or any where none is asked for
+abbrev pub of_side : {X : Type 0} → Option Side → Option (End X ℕ) → Result (End X ℕ) Errno
+of_side None o = or_refuse EBADF o
+of_side (Some sides.Read) o = or_refuse EBADF o >>= (λ e. refuse_if (not e.description.reads) EBADF >> Ok e)
+of_side (Some sides.Write) o = or_refuse EBADF o >>= (λ e. refuse_if (not e.description.writes) EBADF >> Ok e)
+
+-- the machine's end: end_of, reading_end and writing_end
 abbrev pub side_end : {X : Type 0} → Option Side → State X ℕ → machine.Process ℕ → ℕ → Result (End X ℕ) Errno
-side_end None s p fd = end_of itself s p fd
-side_end (Some sides.Read) s p fd = reading_end itself s p fd
-side_end (Some sides.Write) s p fd = writing_end itself s p fd
+side_end side s p fd = of_side side (option_and_then (end_at itself s) (at p.descriptors fd))
 
 -- what a pipe is seen as: by itself with its ring, or with the queue that its ring shows
 abbrev pub Sight : Type 0 → Type 0
@@ -88,26 +90,20 @@ module _ {X : Type 0} (f : Sight X) (side : Option Side) {ps : ProcessRows} {ds 
   by_side : (p : machine.Process ℕ) (d : Description) (r : Pipe)
       → option_and_then (end_at itself s) (at p.descriptors fd) ≡ Some (end_of_rows f d r)
       → side_end side s p fd ≡ sided (has side d) (end_of_rows f d r)
-  by_side p d r h = of_side side
+  by_side p d r h = ap (of_side side) h ∙ tested side
     where
-      of_side : (x : Option Side) → side_end x s p fd ≡ sided (has x d) (end_of_rows f d r)
-      of_side None = ap (or_refuse EBADF) h
-      of_side (Some sides.Read) =
-          ap (λ o. or_refuse EBADF o >>= (λ e. refuse_if (not e.description.reads) EBADF >> Ok e)) h
-      of_side (Some sides.Write) =
-          ap (λ o. or_refuse EBADF o >>= (λ e. refuse_if (not e.description.writes) EBADF >> Ok e)) h
+      tested : (x : Option Side) → of_side x (Some (end_of_rows f d r)) ≡ sided (has x d) (end_of_rows f d r)
+      tested None = refl
+      tested (Some sides.Read) = refl
+      tested (Some sides.Write) = refl
 
   no_side : (p : machine.Process ℕ) → at p.descriptors fd ≡ None → side_end side s p fd ≡ Err EBADF
-  no_side p h = of_side side
+  no_side p h = ap (λ o. of_side side (option_and_then (end_at itself s) o)) h ∙ refused side
     where
-      of_side : (x : Option Side) → side_end x s p fd ≡ Err EBADF
-      of_side None = ap (λ o. or_refuse EBADF (option_and_then (end_at itself s) o)) h
-      of_side (Some sides.Read) =
-          ap (λ o. or_refuse EBADF (option_and_then (end_at itself s) o)
-          >>= (λ e. refuse_if (not e.description.reads) EBADF >> Ok e)) h
-      of_side (Some sides.Write) =
-          ap (λ o. or_refuse EBADF (option_and_then (end_at itself s) o)
-          >>= (λ e. refuse_if (not e.description.writes) EBADF >> Ok e)) h
+      refused : (x : Option Side) → of_side {X = X} x None ≡ Err EBADF
+      refused None = refl
+      refused (Some sides.Read) = refl
+      refused (Some sides.Write) = refl
 
   shown_key : (p : Process) (o : Option Key) → at p.descriptors fd ≡ o
       → at (process_of p).descriptors fd ≡ option_map (λ k. k.serial) o

@@ -2,12 +2,10 @@
 
 use Rattle.std.proofs.Common.{◌≡◌, ◌≢◌, ℕ, zero, suc, List, [], ◌∷◌, length, map, set, refl, ap, sym, ◌∙◌, subst}
 use Rattle.std.specs.Prelude.{Option, Some, None, nat_lt, slice_index_or, slice_set}
-use Rattle.std.proofs.lemmas.List.{length-map}
 use Rattle.pf_tables.proofs.TablesShown.{was}
 use Rattle.pf_tables.proofs.Common.{option_map, Window, Limits, Segment, bytes_of, at, change_at, sum_of, total, ends}
 use Rattle.pf_tables.proofs.Common.{itself, State, with_queue, sweep, Live, Ring, queue_of, Joined, Namespace, meaning}
-use Rattle.pf_tables.proofs.Common.{pipe_meaning, ring_or, occupied, Owns, awoken}
-use Rattle.pf_machine.proofs.NumberedLaws.{at-map, sum_of-map}
+use Rattle.pf_tables.proofs.Common.{pipe_meaning, ring_or, occupied, Owns, awoken, length-map, at-map, sum_of-map}
 use Rattle.pf_machine.proofs.MapLaws.{keep_from-map, set-agree}
 use Rattle.pf_machine.specs.State.{Pipe, holding}
 use Rattle.pf_machine.specs.Sweep.{live_descriptions}

@@ -3,13 +3,14 @@
 use Rattle.std.proofs.Common.{◌≡◌, ℕ, ◌+◌, ◌<◌, ◌≤◌, List, [], ◌∷◌, ◌++◌, length, map, refl, ap, sym, ◌∙◌, subst, arith}
 use Rattle.std.proofs.Common.{set, ◌-◌, nat_eq, if◌then◌else◌}
 use Rattle.std.specs.Prelude.{Option, Some, None}
-use Rattle.std.proofs.lemmas.List.{set-set, get_or-set_same, length-map, map-set, map_push}
+use Rattle.std.proofs.lemmas.List.{get_or-set_same, map_push}
 use Rattle.std.proofs.lemmas.List.Sums.{sum_by-cons}
 use Rattle.pf_tables.proofs.Common.{sum_by, option_map, Limits, empty, bytes_of, at, clear_at, sum_of, weight, State}
 use Rattle.pf_tables.proofs.Common.{with_queue, Live, IsSound, UserPages, charged_to, Ring, queue_of, reach, limit}
 use Rattle.pf_tables.proofs.Common.{Keeps, Stands, Window, Joined, ring_at, slots_of, slots_used, Namespace, ring_or}
-use Rattle.pf_tables.proofs.Common.{rings_of, pages, Charged, occupied, Owns}
-use Rattle.pf_machine.proofs.NumberedLaws.{at_within, sum_of-set, sum_of-le}
+use Rattle.pf_tables.proofs.Common.{rings_of, pages, Charged, occupied, Owns, set-set, length-map, map-set, at_within}
+use Rattle.pf_tables.proofs.Common.{sum_of-set}
+use Rattle.pf_machine.proofs.NumberedLaws.{sum_of-le}
 use Rattle.pf_machine.specs.State.{Pipe, opening, holding}
 use Rattle.pf_ring.specs.Ring.{no_ring}
 use Rattle.pf_ring.proofs.TableLaws.{joined_after, queue_stays, joined_pushed, joined_cleared, joined_nothing}

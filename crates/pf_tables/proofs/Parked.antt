@@ -2,20 +2,19 @@
 
 use Rattle.std.proofs.Common.{◌≡◌, ℕ, zero, suc, ◌-◌, List, [], ◌∷◌, set, map, Option, Some, None, IsOk, Ok, refl, sym}
 use Rattle.std.proofs.Common.{ap, subst, ◌∙◌, arith}
-use Rattle.std.proofs.lemmas.List.{map-set, set-set}
 use Rattle.pf_tables.proofs.TablesShown.{shown_change}
 use Rattle.pf_tables.proofs.Refusals.{same_ok}
 use Rattle.pf_tables.proofs.Common.{option_map, option_and_then, Files, Limits, at, put_at, change_at, first_free}
 use Rattle.pf_tables.proofs.Common.{State, ready, waiting, Window, UserPages, Open, Cross, Namespace, ProcessRows}
 use Rattle.pf_tables.proofs.Common.{DescriptionRows, PipeRows, Key, Process, made_by, keys_of, process_in, ready_in}
-use Rattle.pf_tables.proofs.Common.{process_of, state_of, TiedWith, Tied, Whole, over, woken, awoken}
-use Rattle.pf_machine.proofs.NumberedLaws.{at-map, at_within, at-put_same, at-first_free, first_free-map}
+use Rattle.pf_tables.proofs.Common.{process_of, state_of, TiedWith, Tied, Whole, over, woken, awoken, map-set, set-set}
+use Rattle.pf_tables.proofs.Common.{at-map, at_within, at-put_same, at-first_free, first_free-map, IsSpare}
 use Rattle.pf_machine.specs.State as machine
 use Rattle.pf_machine.specs.Machine.{call_of as machine_call_of}
 use Rattle.pf_machine.specs.State.{living}
 use Rattle.pf_parked.specs.declared.call.Call.TheVariants.{Read, Write}
 use Rattle.pf_tables.specs.Rows as rows
-use Rattle.pf_tables.specs.Rows.{Call, call_of, IsSpare}
+use Rattle.pf_tables.specs.Rows.{Call, call_of}
 use Rattle.pf_tables.specs.Tables.{HasLowest}
 use Rattle.pf_tables.specs.Told.{waits_in}
 use Rattle.pf_tables.proofs.ProcessTableReady.{shown_in, found_in, living_shown, ready_shown, place_of, place_is}

@@ -5,12 +5,12 @@ use Rattle.std.proofs.Common.{◌≡◌, ◌≢◌, false, is_some, ℕ, zero, s
 use Rattle.std.proofs.Common.{length-set, subst, Option, Some, None, Ok, IsOk, refl, sym, ap, ◌∙◌, arith}
 use Rattle.pf_machine.specs.State.{vacant}
 use Rattle.pf_tables.proofs.Common.{at, put_at, clear_at, first_free, ◌>>=◌, ◌>>◌, refuse_if, or_refuse, MAX_PROCESSES}
-use Rattle.pf_tables.proofs.Common.{ESRCH, EBUSY, Open, Cross, Key, Process, ProcessRows, ready_in}
+use Rattle.pf_tables.proofs.Common.{ESRCH, EBUSY, Open, Cross, Key, Process, ProcessRows, ready_in, at_within, IsSpare}
+use Rattle.pf_tables.proofs.Common.{awake}
 use Rattle.pf_fds.specs.declared.marks.Marks.{Marks}
 use Rattle.pf_fds.specs.Marks.{is_marked}
-use Rattle.pf_machine.proofs.NumberedLaws.{at_within}
 use Rattle.pf_parked.specs.declared.call.Call.TheVariants.{Read, Write}
-use Rattle.pf_tables.specs.Rows.{Call, IsSpare, IsWatched, MayWait, process_at, awake, waits, with_call}
+use Rattle.pf_tables.specs.Rows.{Call, IsWatched, MayWait, process_at, waits, with_call}
 use Rattle.pf_tables.proofs.TablesTied.{by_set}
 use Rattle.pf_tables.proofs.ProcessTableEmpty.{vacant_at, length-vacant}
 

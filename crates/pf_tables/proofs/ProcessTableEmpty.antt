@@ -1,26 +1,19 @@
 -- A process comes with no keys, or goes with none.
 
-use Rattle.std.proofs.Common.{◌≡◌, ℕ, ◌<◌, [], length, replicate, Option, Some, None, refl, sym, ap, ◌∙◌, inl, inr}
-use Rattle.std.proofs.Common.{arith}
-use Rattle.std.proofs.lemmas.Bool.{cases_lt}
-use Rattle.std.proofs.lemmas.List.{length-replicate, get_or-replicate}
-use Rattle.pf_machine.proofs.MapLaws.{vacant-map}
+use Rattle.std.proofs.Common.{◌≡◌, ℕ, zero, suc, ◌<◌, [], length, Option, Some, None, refl, sym, ap, ◌∙◌, arith}
+use Rattle.std.proofs.lemmas.List.{length-replicate}
 use Rattle.pf_tables.proofs.Common.{Files, Limits, at, put_at, clear_at, weight, MAX_PROCESSES, MAX_DESCRIPTORS}
 use Rattle.pf_tables.proofs.Common.{UserPages, AreCharged, ProcessRows, DescriptionRows, PipeRows, Process, process_of}
-use Rattle.pf_tables.proofs.Common.{pipes_of, state_of, keys_of, keys_to, names_it, Tied}
+use Rattle.pf_tables.proofs.Common.{pipes_of, state_of, keys_of, keys_to, names_it, Tied, vacant-map, sum_of-none}
 use Rattle.pf_machine.specs.FileMap.{root_alone}
-use Rattle.pf_machine.proofs.NumberedLaws.{at_past, sum_of-none}
 use Rattle.pf_machine.specs.State.{vacant, opening}
 use Rattle.pf_tables.proofs.TablesTied.{reseated}
 
 pub vacant_at : {X : Type 0} (n k : ℕ) → at {X = X} (vacant n) k ≡ None
 unfolding vacant
-vacant_at {X} n k =
-    elim (cases_lt k n) [
-      | inl l ↦ get_or-replicate n k None None l
-      | inr past ↦ at_past {X = X} (replicate n None) k
-          (omega (arith, length-replicate {A = Option X} n None))
-    ]
+vacant_at zero k = refl
+vacant_at (suc n) zero = refl
+vacant_at (suc n) (suc k) = vacant_at n k
 
 pub length-vacant : (X : Type 0) (n : ℕ) → length (vacant {X = X} n) ≡ n
 unfolding vacant

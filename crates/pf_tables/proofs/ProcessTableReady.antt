@@ -6,11 +6,10 @@ use Rattle.pf_machine.proofs.MapLaws.{or_refuse-as, bind-as}
 use Rattle.pf_machine.specs.Maps.{if_ok}
 use Rattle.pf_tables.proofs.Refusals.{both_came, not_refused, is_there, same_ok, is_none}
 use Rattle.pf_tables.proofs.Common.{option_map, ◌>>=◌, ◌>>◌, refuse_if, or_refuse, at, Errno, ESRCH, EBUSY, ProcessRows}
-use Rattle.pf_tables.proofs.Common.{Key, Process, process_of, processes_of, process_in, ready_in}
-use Rattle.pf_machine.proofs.NumberedLaws.{at-map}
+use Rattle.pf_tables.proofs.Common.{Key, Process, process_of, processes_of, process_in, ready_in, at-map, awake}
 use Rattle.pf_machine.specs.State as machine
 use Rattle.pf_machine.specs.State.{living_in}
-use Rattle.pf_tables.specs.Rows.{Call, call_of, awake}
+use Rattle.pf_tables.specs.Rows.{Call, call_of}
 
 -- a process with what the machine sees of it
 abbrev pub shown_in : Result Process Errno → Result (machine.Process ℕ) Errno

@@ -2,10 +2,10 @@
 
 use Rattle.std.proofs.Common.{◌≡◌, ℕ, List, [], ◌∷◌, length, Option, Some, None, nat_lt}
 use Rattle.std.proofs.Common.{if◌then◌else◌, refl, ap, ◌∙◌, arith}
-use Rattle.pf_tables.proofs.Common.{at, sum_of, itself, State, ends, sweep, Namespace, occupied, Process}
-use Rattle.pf_tables.proofs.Common.{ProcessRows, process_of, processes_of}
+use Rattle.pf_tables.proofs.Common.{at, sum_of, itself, State, ends, sweep, Namespace, occupied, Process, ProcessRows}
+use Rattle.pf_tables.proofs.Common.{process_of, processes_of, sum_of-map, sum_of-none}
 use Rattle.pf_machine.specs.Numbered.{keep}
-use Rattle.pf_machine.proofs.NumberedLaws.{at-keep, sum_of-map, sum_of-none}
+use Rattle.pf_machine.proofs.NumberedLaws.{at-keep}
 use Rattle.pf_machine.specs.State.{Pipe}
 use Rattle.pf_machine.specs.Counts.{names}
 use Rattle.pf_machine.specs.Processes.{alive}

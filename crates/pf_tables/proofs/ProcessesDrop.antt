@@ -2,12 +2,10 @@
 
 use Rattle.std.proofs.Common.{◌≡◌, ℕ, zero, suc, ◌-◌, ◌<◌, ◌≤◌, Option, Some, None, Ok, Err, refl, ap, sym, ◌∙◌, subst}
 use Rattle.std.proofs.Common.{inl, inr, arith}
-use Rattle.std.proofs.lemmas.Bool.{cases_lt}
 use Rattle.pf_tables.proofs.Common.{option_map, Opening, Files, at, itself, ◌>>=◌, sweep, Limits, MAX_DESCRIPTORS}
 use Rattle.pf_tables.proofs.Common.{Errno, Namespace, ProcessRows, DescriptionRows, PipeRows, process_of, state_of}
-use Rattle.pf_tables.proofs.Common.{process_in, over, woken, awoken}
+use Rattle.pf_tables.proofs.Common.{process_in, over, woken, awoken, cases_lt, at_within, at-put_same}
 use Rattle.pf_machine.specs.Calls.{Call, Moving}
-use Rattle.pf_machine.proofs.NumberedLaws.{at_within, at-put_same}
 use Rattle.pf_machine.specs.State.{Process, living, of_living}
 use Rattle.pf_machine.specs.Processes.{exit}
 use Rattle.pf_tables.specs.Rows as rows

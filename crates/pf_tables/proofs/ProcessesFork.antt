@@ -4,20 +4,19 @@
 use Rattle.std.proofs.Common.{◌≡◌, ℕ, zero, suc, ◌+◌, ◌-◌, ◌^◌, ◌<◌, ◌≤◌, Bool, true, false, nat_le, List, [], ◌∷◌}
 use Rattle.std.proofs.Common.{length, map, drop, Option, Some, None, IsSome, is_some, Result, Ok, Err, refl, sym, ap}
 use Rattle.std.proofs.Common.{subst, ◌∙◌, arith, length-set}
-use Rattle.std.proofs.lemmas.Bool.Decides.{nat_tests}
-use Rattle.std.proofs.lemmas.List.{map-set, at_drop_more}
+use Rattle.std.proofs.lemmas.List.{at_drop_more}
 use Rattle.pf_tables.proofs.Refusals.{same_some}
 use Rattle.pf_tables.proofs.Common.{option_map, Files, Limits, at, put_at, change_at, first_free, sum_of, weight, ◌>>=◌}
 use Rattle.pf_tables.proofs.Common.{◌>>◌, refuse_if, State, Outcome, of_ready, with_process, told, MAX_PROCESSES, Errno}
 use Rattle.pf_tables.proofs.Common.{names_of, one_more, find, UserPages, Window, Namespace, ProcessRows}
 use Rattle.pf_tables.proofs.Common.{DescriptionRows, PipeRows, Key, Named, Process, Description, ready_in, made_by}
 use Rattle.pf_tables.proofs.Common.{keys_of, keys_to, names_it, held, process_of, description_of, processes_of}
-use Rattle.pf_tables.proofs.Common.{state_of, TiedWith, Tied, Kept, Makes}
-use Rattle.pf_machine.proofs.NumberedLaws.{at-map, at_within, at-first_free, first_free-map}
+use Rattle.pf_tables.proofs.Common.{state_of, TiedWith, Tied, Kept, Makes, nat_tests, map-set, at-map, at_within}
+use Rattle.pf_tables.proofs.Common.{at-first_free, first_free-map, Finds, AllFind, named_once_more}
 use Rattle.pf_machine.specs.Processes.{fork}
 use Rattle.pf_base.specs.declared.errno.Errno.TheVariants.{EAGAIN}
 use Rattle.pf_base.specs.declared.step.Reply.TheVariants.{Pid}
-use Rattle.pf_tables.specs.Rows.{holding, Finds, AllFind, AreFew, with_name, named_once_more}
+use Rattle.pf_tables.specs.Rows.{holding, AreFew, with_name}
 use Rattle.pf_tables.proofs.ProcessTableReady.{readies, place_is, is_awake}
 use Rattle.pf_tables.proofs.TablesTied.{finds, by_set, held-holding, reseated}
 use Rattle.pf_tables.proofs.DescriptorsDup.{few_names, named_row, names_are, named_again}

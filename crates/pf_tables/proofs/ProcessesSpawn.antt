@@ -2,20 +2,17 @@
 
 use Rattle.std.proofs.Common.{◌≡◌, ℕ, zero, suc, ◌+◌, ◌-◌, ◌<◌, ◌≤◌, Bool, true, false, not, nat_le, Some, None, Result}
 use Rattle.std.proofs.Common.{Ok, Err, IsOk, refl, sym, ap, subst, ◌∙◌, arith}
-use Rattle.std.proofs.lemmas.Bool.Decides.{nat_tests}
-use Rattle.std.proofs.lemmas.List.{map-set}
-use Rattle.pf_machine.proofs.MapLaws.{vacant-map}
 use Rattle.pf_machine.specs.State.{vacant}
 use Rattle.pf_tables.proofs.Common.{option_map, Limits, MAX_PROCESSES, MAX_DESCRIPTORS, Cred, Errno, EINVAL, Files, at}
 use Rattle.pf_tables.proofs.Common.{put_at, first_free, ◌>>◌, refuse_if, State, Outcome, with_process, told, Window}
 use Rattle.pf_tables.proofs.Common.{Namespace, ProcessRows, DescriptionRows, PipeRows, Key, Process, keys_of}
-use Rattle.pf_tables.proofs.Common.{process_of, processes_of, state_of, Tied, Makes}
+use Rattle.pf_tables.proofs.Common.{process_of, processes_of, state_of, Tied, Makes, nat_tests, map-set, vacant-map}
+use Rattle.pf_tables.proofs.Common.{at-first_free, first_free-map}
 use Rattle.pf_base.specs.Credentials.{is_valid}
 use Rattle.pf_base.specs.declared.errno.Errno.TheVariants.{EAGAIN}
 use Rattle.pf_base.specs.declared.step.Reply.TheVariants.{Pid}
 use Rattle.pf_machine.specs.Processes.{spawn, born}
 use Rattle.pf_machine.specs.State as machine
-use Rattle.pf_machine.proofs.NumberedLaws.{at-first_free, first_free-map}
 use Rattle.pf_tables.proofs.ProcessTableEmpty.{vacant_at, length-vacant, made}
 use Rattle.pf_tables.proofs.TablesSettled.{makes}
 

@@ -3,7 +3,6 @@
 use Rattle.std.proofs.Common.{◌≡◌, ℕ, zero, suc, ◌+◌, ◌-◌, ◌<◌, ◌≤◌, Bool, true, false, ◌||◌, length, drop, Option}
 use Rattle.std.proofs.Common.{Some, None, Result, Ok, Err, ◌≢◌, nat_eq, nat_lt, nat_le, length-drop, refl, sym, ap}
 use Rattle.std.proofs.Common.{subst, ◌∙◌, arith}
-use Rattle.std.proofs.lemmas.Bool.Decides.{nat_tests}
 use Rattle.pf_tables.proofs.Refusals.{is_there, is_none, bind-bind}
 use Rattle.pf_tables.proofs.Common.{option_map, option_and_then, Limits, MAX_PROCESSES, PIPE_BUF, MAX_WRITE, Errno}
 use Rattle.pf_tables.proofs.Common.{ESRCH, EBADF, EINVAL, Side, Files, ◌>>=◌, ◌>>◌, refuse_if, or_refuse, Segment}
@@ -11,9 +10,9 @@ use Rattle.pf_tables.proofs.Common.{bytes_of, room_of, at, itself, State, End, p
 use Rattle.pf_tables.proofs.Common.{find, Live, IsSound, UserPages, Open, Cross, queue_of, Stands, Namespace, meaning}
 use Rattle.pf_tables.proofs.Common.{pipe_meaning, other_opens, Owns, GoesOn, ProcessRows, DescriptionRows, PipeRows}
 use Rattle.pf_tables.proofs.Common.{Key, Process, Description, Pipe, process_of, state_of, process_in, end_in, Kept}
+use Rattle.pf_tables.proofs.Common.{nat_tests, at_past, end_of_row}
 use Rattle.pf_base.specs.declared.progress.Crossing.{Crossing}
 use Rattle.pf_base.specs.declared.progress.Side.TheVariants as sides
-use Rattle.pf_machine.proofs.NumberedLaws.{at_past}
 use Rattle.pf_machine.specs.Attempts as attempts
 use Rattle.pf_machine.specs.State as machine
 use Rattle.pf_machine.specs.Transfers.{Ends}
@@ -21,7 +20,7 @@ use Rattle.pf_machine.specs.Queries.{can_go_on, readiness, ready_for, read_goes_
 use Rattle.pf_machine.proofs.QueryLaws.{or_is_over, goes_on, IsCut, can_go_on-is, waits_in_none}
 use Rattle.pf_parked.specs.declared.call.Call.TheVariants.{Read, Write}
 use Rattle.pf_parked.specs.UnfinishedWrite.{UnfinishedWrite}
-use Rattle.pf_tables.specs.Rows.{Call, call_of, waits, end_of_row}
+use Rattle.pf_tables.specs.Rows.{Call, call_of, waits}
 use Rattle.pf_tables.proofs.ProcessTableReady.{lives, lives_not, place_of}
 use Rattle.pf_tables.proofs.Ends.{side_end, end_of_rows, Agree, row_ends, ends, not_lost, counted, reaches, key_end}
 use Rattle.pf_tables.proofs.Ends.{open_finds, open_reaches}
@@ -50,12 +49,18 @@ module _ {files : Files} {files_made : ℕ} {limits : Limits} {charges : UserPag
       sym (waits_in_none limits (shows f) pid (ap (option_and_then (λ (p : machine.Process ℕ). p.parked))
       (was_none ESRCH e (process (shows f) pid) (lives_not ps pid e h)))))
 
-  pub above_all : MAX_PROCESSES < pid → GoesOn n pid false
-  above_all past = lives_not_on ESRCH (by_pid pid past)
+  -- who has a pid is in the place before it
+  place_found : 0 < pid → process_in ps pid ≡ or_refuse ESRCH (at ps (pid - 1))
+  place_found above = by_pid pid above
     where
-      by_pid : (m : ℕ) → MAX_PROCESSES < m → process_in ps m ≡ Err ESRCH
-      by_pid zero h = refl
-      by_pid (suc i) h = ap (or_refuse ESRCH) (at_past ps i (omega (arith, h, k.tied.places)))
+      by_pid : (m : ℕ) → 0 < m → process_in ps m ≡ or_refuse ESRCH (at ps (m - 1))
+      by_pid zero h = absurd (omega arith)
+      by_pid (suc i) h = let same : suc i - 1 ≡ i = omega arith in ap (λ j. or_refuse ESRCH (at ps j)) (sym same)
+
+  pub above_all : MAX_PROCESSES < pid → GoesOn n pid false
+  above_all past =
+      lives_not_on ESRCH (place_found (omega (arith, past)) ∙ ap (or_refuse ESRCH)
+      (at_past ps (pid - 1) (omega (arith, past, k.tied.places))))
 
   module _ {p : Process} (here : process_in ps pid ≡ Ok p) where
     there : (f : Live) → process (shows f) pid ≡ Some (process_of p)
@@ -235,13 +240,6 @@ module _ {files : Files} {files_made : ℕ} {limits : Limits} {charges : UserPag
             (or_refuse EBADF o)) (key_end (pipe_meaning f) None files files_made k.tied pid 0 j is handed)))
 
   -- who waits in no call, and who doesn't live, can't go on
-  place_found : 0 < pid → process_in ps pid ≡ or_refuse ESRCH (at ps (pid - 1))
-  place_found above = by_pid pid above
-    where
-      by_pid : (m : ℕ) → 0 < m → process_in ps m ≡ or_refuse ESRCH (at ps (m - 1))
-      by_pid zero h = absurd (omega arith)
-      by_pid (suc i) h = let same : suc i - 1 ≡ i = omega arith in ap (λ j. or_refuse ESRCH (at ps j)) (sym same)
-
   pub waits_nowhere : 0 < pid → waits (at ps (pid - 1)) ≡ false → GoesOn n pid false
   waits_nowhere above idle = by_row (at ps (pid - 1)) refl idle
     where

@@ -3,16 +3,14 @@
 
 use Rattle.std.proofs.Common.{◌≡◌, ℕ, ◌+◌, ◌<◌, ◌&&◌, List, [], ◌∷◌, length, map, set, length-set, Option, Some, None}
 use Rattle.std.proofs.Common.{Result, Ok, refl, sym, ap, subst, ◌∙◌, arith, nat_eq}
-use Rattle.std.proofs.lemmas.List.{length-map}
 use Rattle.pf_tables.proofs.Common.{Live, Owns, option_map, Window, Files, Limits, Errno, Reply, Open, Cross, at}
 use Rattle.pf_tables.proofs.Common.{weight, one_if, itself, State, Outcome, told, readers, writers, ends, sweep}
 use Rattle.pf_tables.proofs.Common.{ProcessRows, DescriptionRows, PipeRows, Key, Named, Description, Pipe, made_by}
 use Rattle.pf_tables.proofs.Common.{keys_of, read_by, written_by, NamedRow, UsedRow, Tied, description_of, pipe_of}
 use Rattle.pf_tables.proofs.Common.{processes_of, descriptions_of, pipes_of, state_of, Joined, Namespace, ring_or}
-use Rattle.pf_tables.proofs.Common.{Makes}
+use Rattle.pf_tables.proofs.Common.{Makes, length-map, at_within, sum_of-map}
 use Rattle.pf_machine.specs.Calls as calls
 use Rattle.pf_parked.specs.declared.call.Call.TheVariants.{Read, Write}
-use Rattle.pf_machine.proofs.NumberedLaws.{at_within, sum_of-map}
 use Rattle.pf_machine.specs.State as machine
 use Rattle.pf_machine.specs.Counts.{names}
 use Rattle.pf_machine.proofs.SweepLaws.{with_processes, swept, ends-le-sides, readers-le-ends, writers-le-ends}

@@ -1,12 +1,11 @@
 -- What the tables show of their rows.
 
-use Rattle.std.proofs.lemmas.List.{map-set, set-get_or}
-use Rattle.std.proofs.Common.{◌≡◌, ℕ, zero, suc, ◌-◌, List, [], ◌∷◌, map, set, Option, Some, None, refl, sym, ap, ◌∙◌}
-use Rattle.std.proofs.Common.{inl, inr, if◌then◌else◌, arith}
-use Rattle.std.proofs.lemmas.Bool.{cases_eq, eq-eqb, ne_eqb}
-use Rattle.pf_tables.proofs.Common.{put_at, change_at, option_map, at, State, process, find}
+use Rattle.std.proofs.Common.{◌≡◌, ℕ, zero, suc, ◌-◌, Bool, true, false, List, [], ◌∷◌, map, set, Option, Some, None}
+use Rattle.std.proofs.Common.{nat_eq, refl, sym, ap, ◌∙◌, if◌then◌else◌, arith}
+use Rattle.std.proofs.lemmas.Bool.{eqb-true}
+use Rattle.std.proofs.lemmas.List.{set-get_or}
+use Rattle.pf_tables.proofs.Common.{put_at, change_at, option_map, at, State, process, find, map-set, eq-eqb, at-map}
 use Rattle.pf_machine.specs.State.{Process}
-use Rattle.pf_machine.proofs.NumberedLaws.{at-map}
 use Rattle.pf_fds.specs.Registry.{if_placed}
 
 pub from_map : {X Y : Type 0} (f : X → Y) (o : Option X) (y : Y) → option_map f o ≡ Some y
@@ -36,18 +35,11 @@ find_at xs place n x h = ap (if_placed place) h ∙ ap (λ b. if b then Some x e
 
 placed_was : {T : Type 0} (place : ℕ) (o : Option (ℕ × T)) (x : T) → if_placed place o ≡ Some x → o ≡ Some (place, x)
 placed_was place None x h = absurd (cc)
-placed_was {T} place (Some e) x h =
-    elim (cases_eq e.0 place) [
-      | inl same ↦
-          let found : ◌≡◌ {A =
-          Option T} (Some e.1) (Some x) = sym (ap (λ b. if b then Some e.1 else None) (eq-eqb e.0 place same)) ∙ h in
-          let value : e.1 ≡ x = cc in
-          ap (λ n. Some (n, e.1)) same ∙ ap (λ y. Some (place, y)) value
-      | inr differs ↦
-          let none : ◌≡◌ {A =
-          Option T} None (Some x) = sym (ap (λ b. if b then Some e.1 else None) (ne_eqb e.0 place differs)) ∙ h in
-          absurd (cc)
-    ]
+placed_was place (Some e) x h = by_test (nat_eq e.0 place) refl h
+  where
+    by_test : (b : Bool) → nat_eq e.0 place ≡ b → (if b then Some e.1 else None) ≡ Some x → Some e ≡ Some (place, x)
+    by_test true is h = let value : e.1 ≡ x = cc in λ i. Some (eqb-true e.0 place is i, value i)
+    by_test false is h = absurd (cc)
 
 pub find_was : {T : Type 0} (xs : List (Option (ℕ × T))) (place n : ℕ) (x : T) → find xs place n ≡ Some x
     → at xs n ≡ Some (place, x)

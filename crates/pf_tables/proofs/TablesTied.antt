@@ -3,16 +3,17 @@
 
 use Rattle.std.proofs.Common.{◌≡◌, ◌≢◌, ℕ, suc, ◌+◌, ◌<◌, ◌≤◌, Bool, ◌&&◌, List, [], ◌∷◌, ◌++◌, length, set, Option}
 use Rattle.std.proofs.Common.{Some, None, refl, sym, ap, subst, ◌∙◌, inl, inr, arith, nat_eq, length-set}
-use Rattle.std.proofs.lemmas.Bool.{cases_eq, cases_lt, eq-eqb, ne_eqb}
 use Rattle.std.proofs.lemmas.List.{length_push}
 use Rattle.pf_tables.proofs.Refusals.{same_some}
+use Rattle.pf_tables.proofs.TablesShown.{from_map}
 use Rattle.pf_tables.proofs.Common.{option_map, at, put_at, sum_of, weight, one_if, MAX_DESCRIPTORS, ProcessRows}
 use Rattle.pf_tables.proofs.Common.{DescriptionRows, PipeRows, Key, Named, Process, Description, Pipe, names_it}
 use Rattle.pf_tables.proofs.Common.{keys_of, keys_to, reads_it, writes_it, read_by, written_by, held, NamedRow, UsedRow}
-use Rattle.pf_tables.proofs.Common.{TiedWith}
-use Rattle.pf_machine.proofs.NumberedLaws.{at_past, at_within, at-put_same, at-put_other, at-push_old, at-push_new}
-use Rattle.pf_machine.proofs.NumberedLaws.{sum_of-set, sum_of-push, weight-le-sum_of}
-use Rattle.pf_tables.specs.Rows.{named, Each, holding, Finds, IsEnd}
+use Rattle.pf_tables.proofs.Common.{TiedWith, cases_eq, cases_lt, eq-eqb, ne_eqb, at_past, at_within, at-put_same}
+use Rattle.pf_tables.proofs.Common.{sum_of-set, weight-le-sum_of, Finds, IsEnd}
+use Rattle.pf_machine.proofs.NumberedLaws.{at-put_other, at-push_old, at-push_new}
+use Rattle.pf_machine.proofs.NumberedLaws.{sum_of-push}
+use Rattle.pf_tables.specs.Rows.{named, Each, holding}
 
 -- Each number after one has changed, and after one more
 
@@ -44,12 +45,9 @@ by_push P xs y new old k =
 
 pub finds : {T : Type 0} (rows : List (Option (ℕ × T))) (k : Key) → Finds rows k
     → (x : T) × (at rows k.serial ≡ Some (k.slot, x))
-finds {T} rows k f = by_row (at rows k.serial) refl f
-  where
-    by_row : (o : Option (ℕ × T)) → at rows k.serial ≡ o → option_map (λ (e : ℕ × T). e.0) o ≡ Some k.slot
-        → (x : T) × (at rows k.serial ≡ Some (k.slot, x))
-    by_row None h g = absurd (cc)
-    by_row (Some e) h g = let place : e.0 ≡ k.slot = cc in (e.1, h ∙ ap (λ m. Some (m, e.1)) place)
+finds {T} rows k f =
+    let w = from_map (λ (e : ℕ × T). e.0) (at rows k.serial) k.slot f in
+    (w.0.1, w.1 ∙ ap (λ m. Some (m, w.0.1)) w.2)
 
 pub found : {T : Type 0} (rows : List (Option (ℕ × T))) (k : Key) (x : T) → at rows k.serial ≡ Some (k.slot, x)
     → Finds rows k
@@ -352,19 +350,17 @@ module _ {K : List Key} {E : List Description} {ps : ProcessRows} {ds : Descript
             (ap (λ c. read_by ds n + c) o.0) (ap (λ c. written_by ds n + c) o.1));
       }
 
+-- a description in its place is an end there
+pub place_and_end : (pipes : PipeRows) (place : ℕ) (d : Named Description) → IsEnd pipes d.value
+    → (e : ℕ × Named Description) → ◌≡◌ {A = Option (ℕ × Named Description)} (Some (place, d)) (Some e)
+    → (e.0 ≡ place) × IsEnd pipes e.1.value
+place_and_end pipes place d end e h =
+    (in_place h, subst (λ (x : ℕ × Named Description). IsEnd pipes x.1.value) (same_some h) end)
+
 -- What a row of tied tables counts, and instances
 
 module _ {K : List Key} {E : List Description} {ps : ProcessRows} {ds : DescriptionRows} {pipes : PipeRows} where
   module _ (k : Key) (d : Named Description) (stands : at ds k.serial ≡ Some (k.slot, d)) where
-    pub place_and_end : TiedWith K E ps ds pipes → (m : ℕ) (e : ℕ × Named Description)
-        → ◌≡◌ {A = Option (ℕ × Named Description)} (Some (k.slot, record d { names = m })) (Some e)
-        → (e.0 ≡ k.slot) × IsEnd pipes e.1.value
-    place_and_end t m e h =
-        let it = same_some h in (
-          ap (λ (x : ℕ × Named Description). x.0) (sym it),
-          subst (λ (x : ℕ × Named Description). IsEnd pipes x.1.value) it (t.is_end k.serial (k.slot, d) stands),
-        )
-
     pub names_row : TiedWith K E ps ds pipes → (d.names ≡ named ps k.serial + held (names_it k.serial) K)
         × (0 < named ps k.serial + held (names_it k.serial) K)
     names_row t = subst (NamedRow (named ps k.serial + held (names_it k.serial) K)) stands (t.names k.serial)

@@ -1,5 +1,5 @@
 use Rattle.std.proofs.Common.{◌-◌, sym, rules}
-use Rattle.pf_tables.specs.Tables.{emptied}
+use Rattle.pf_tables.proofs.Common.{emptied}
 use Rattle.pf_tables.proofs.DescriptorsDrop.{closed_is, closed_not}
 use Rattle.pf_tables.proofs.DescriptorsNamed.{has}
 use Rattle.pf_tables.proofs.tables.Tables.close.Goals as goal

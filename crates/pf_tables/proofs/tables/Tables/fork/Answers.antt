@@ -1,7 +1,5 @@
 use Rattle.std.proofs.Common.{◌≡◌, List, length, Option, None, sym, ap, ◌∙◌, subst, rules}
-use Rattle.pf_tables.proofs.Common.{at, Key, Process}
-use Rattle.pf_machine.proofs.NumberedLaws.{at-first_free}
-use Rattle.pf_tables.specs.Rows.{AllFind}
+use Rattle.pf_tables.proofs.Common.{at, Key, Process, at-first_free, AllFind}
 use Rattle.pf_tables.proofs.ProcessTableReady.{is_awake}
 use Rattle.pf_tables.proofs.ProcessesFork as lemmas
 use Rattle.pf_tables.proofs.Fifos.{fifos-changed}

@@ -1,8 +1,7 @@
 -- One pid more is the one that is asked for, or can't go on; those in between wait in no call; and no process is above
 -- the last one.
 use Rattle.std.proofs.Common.{◌≡◌, ℕ, ◌+◌, ◌-◌, false, ⊎_elim, sym, subst, ◌∙◌, arith}
-use Rattle.std.proofs.lemmas.Bool.{cases_lt}
-use Rattle.pf_tables.proofs.Common.{GoesOn}
+use Rattle.pf_tables.proofs.Common.{GoesOn, cases_lt}
 use Rattle.pf_tables.proofs.Queries.{above_all, waits_nowhere}
 use Rattle.pf_tables.proofs.tables.Tables.next_to_go_on.Goals as goal
 

@@ -1,7 +1,6 @@
 use Rattle.std.proofs.Common.{◌≡◌, true, None, rules, ap, ◌∙◌}
-use Rattle.pf_tables.proofs.Common.{Cred, at, Process}
+use Rattle.pf_tables.proofs.Common.{Cred, at, Process, at-first_free}
 use Rattle.pf_base.specs.Credentials.{is_valid}
-use Rattle.pf_machine.proofs.NumberedLaws.{at-first_free}
 use Rattle.pf_tables.proofs.ProcessesSpawn.{spawned, spawned-tied, spawns, no_pid, some_pid}
 use Rattle.pf_tables.proofs.tables.Tables.spawn.Given.{Over}
 use Rattle.pf_tables.proofs.tables.Tables.spawn.Goals.{After-put}

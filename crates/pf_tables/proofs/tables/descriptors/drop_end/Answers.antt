@@ -1,7 +1,5 @@
 use Rattle.std.proofs.Common.{◌≡◌, Bool, false, Some, None, IfSome, set, sym, ap, subst, ◌∙◌, if◌then◌else◌}
-use Rattle.std.proofs.lemmas.List.{set-set}
-use Rattle.pf_tables.proofs.Common.{Pipe}
-use Rattle.pf_tables.specs.Rows.{with_fewer, is_used, left}
+use Rattle.pf_tables.proofs.Common.{Pipe, set-set, with_fewer, is_used, left}
 use Rattle.pf_tables.proofs.tables.descriptors.drop_end.Goals as goal
 
 pub returns-clause-items : goal.returns-clause-items

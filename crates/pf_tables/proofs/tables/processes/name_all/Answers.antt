@@ -1,6 +1,6 @@
 use Rattle.std.proofs.Common.{◌+◌, ◌≤◌, None, Some, sym, ◌∙◌, arith}
 use Rattle.std.proofs.lemmas.List.{at_drop_all}
-use Rattle.pf_tables.specs.Rows.{named_once_more}
+use Rattle.pf_tables.proofs.Common.{named_once_more}
 use Rattle.pf_tables.proofs.ProcessesDrop.{on_from}
 use Rattle.pf_tables.proofs.ProcessesFork as lemmas
 use Rattle.pf_tables.proofs.tables.processes.name_all.Goals as goal

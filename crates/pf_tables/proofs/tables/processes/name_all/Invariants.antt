@@ -1,7 +1,6 @@
 -- The keys that are left give the names that are wanted; their descriptions stand, and have few names so far.
 use Rattle.std.proofs.Common.{◌≡◌, ℕ, ◌+◌, ◌-◌, ◌≤◌, Some, drop}
-use Rattle.pf_tables.proofs.Common.{at, Description, Named}
-use Rattle.pf_tables.specs.Rows.{AllFind, named_once_more}
+use Rattle.pf_tables.proofs.Common.{at, Description, Named, AllFind, named_once_more}
 use Rattle.pf_tables.proofs.tables.processes.name_all.Given as goal
 
 abbrev pub invariant-loop-fd : goal.invariant-loop-fd
