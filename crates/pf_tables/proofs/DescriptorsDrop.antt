@@ -57,11 +57,7 @@ module _ {limits : Limits} (ps : ProcessRows) (ds : DescriptionRows) (pipes : Pi
       → Leaves n (record { limits = after; state = state_of ps' ds' pipes' files files_made }) (emptied n.state i fd)
       pipe
   left_off {i} {fd} {ps'} {ds'} {pipes'} l pipe lets {after} same =
-      subst (λ (m : Namespace). Leaves m (record {
-        limits = after;
-        state = state_of ps' ds' pipes' files files_made;
-      }) (emptied m.state i fd) pipe) view
-      (record { limits = sym same; state = l.state files files_made; gone = lets })
+      rw (← view) (record { limits = sym same; state = l.state files files_made; gone = lets })
 
   -- the machine's close, from what the tables find
   module _ (pid fd : ℕ) where
@@ -71,8 +67,7 @@ module _ {limits : Limits} (ps : ProcessRows) (ds : DescriptionRows) (pipes : Pi
     pub closed_is : {k : Key} → Has ps pid fd k → closes n.state ≡ Ok (done (emptied n.state (pid - 1) fd) 0)
     closed_is w =
         let s = state_of ps ds pipes files files_made in
-        subst (λ (m : Namespace). closes m.state ≡ Ok (done (emptied m.state (pid - 1) fd) 0)) view
-        (named_is ps pid fd (λ p _. Ok (done (with_process s pid (without_descriptor fd p)) 0)) w
+        rw (← view) (named_is ps pid fd (λ p _. Ok (done (with_process s pid (without_descriptor fd p)) 0)) w
         ∙ ap (λ o. Ok (done (record s {
           processes = set (processes_of ps) (pid - 1) (option_map (without_descriptor fd) o);
         }) 0))
@@ -81,8 +76,7 @@ module _ {limits : Limits} (ps : ProcessRows) (ds : DescriptionRows) (pipes : Pi
     pub closed_not : {e : Errno} → key_in ps pid fd ≡ Err e → closes n.state ≡ Err e
     closed_not {e} h =
         let s = state_of ps ds pipes files files_made in
-        subst (λ (m : Namespace). closes m.state ≡ Err e) view
-        (names_nothing ps pid fd (λ p _. Ok (done (with_process s pid (without_descriptor fd p)) 0)) h)
+        rw (← view) (names_nothing ps pid fd (λ p _. Ok (done (with_process s pid (without_descriptor fd p)) 0)) h)
 
 -- A process that has no descriptors goes
 

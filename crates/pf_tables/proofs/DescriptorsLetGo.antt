@@ -215,12 +215,9 @@ module _ (ps : ProcessRows) (ds : DescriptionRows) (pipes : PipeRows) (t : Tied 
 
         pub ended : Left ps ds pipes ps' ds' pipes' i fd
         ended =
-            leaves ds' pipes' (subst (λ x. Tied ps' ds' x) (sym items_are)
-            (end_gone d pipe.0 pipe.1 end_held))
-            (subst (λ x. Within (descriptions_of x) (descriptions_of ds)) (sym cleared)
-            (within_row description_of ds key.serial (key.slot, once d) None last (λ z h. absurd (cc))))
-            (subst (λ x. Within (pipes_of x) (pipes_of pipes)) (sym items_are)
-            (within_row pipe_of pipes d.pipe.serial (d.pipe.slot, pipe.0) _ pipe.1
+            leaves ds' pipes' (rw items_are (end_gone d pipe.0 pipe.1 end_held))
+            (rw cleared (within_row description_of ds key.serial (key.slot, once d) None last (λ z h. absurd (cc))))
+            (rw items_are (within_row pipe_of pipes d.pipe.serial (d.pipe.slot, pipe.0) _ pipe.1
             (same (is_used (with_fewer d pipe.0)))))
           where
             same : (b : Bool) (z : ℕ × Pipe) → (if b then Some (d.pipe.slot, with_fewer d pipe.0) else None) ≡ Some z

@@ -120,8 +120,7 @@ module _ {charges : UserPages} {limits : Limits} {es : List (ℕ × Key)} {ps : 
   awoken-whole = record {
     kept = record {
       tied =
-          subst (λ x. Tied x ds pipes) (sym put_is)
-          (woken-tied ps ds pipes whole.kept.tied (pid - 1) w.0 stands (spare w.0 w.1));
+          rw put_is (woken-tied ps ds pipes whole.kept.tied (pid - 1) w.0 stands (spare w.0 w.1));
       charged = whole.kept.charged;
     };
     filed = whole.filed;

@@ -60,5 +60,4 @@ pub begins_not : {limits : Limits} (ps : ProcessRows) (ds : DescriptionRows) (pi
     → (pid : ℕ) (e : Errno) → process_in ps pid ≡ Err e
     → of_living n.state pid (λ p. exit n.state pid) ≡ Err e
 begins_not ps ds pipes {files} {files_made} view pid e is =
-    subst (λ (m : Namespace). of_living m.state pid (λ p. exit m.state pid) ≡ Err e) view
-    (ap (λ r. r >>= (λ p. exit (state_of ps ds pipes files files_made) pid)) (lives_not ps pid e is))
+    rw (← view) (ap (λ r. r >>= (λ p. exit (state_of ps ds pipes files files_made) pid)) (lives_not ps pid e is))

@@ -171,15 +171,9 @@ module _ {charges : UserPages} {limits : Limits} {ps : ProcessRows} {ds : Descri
 
     module _ (i_in : i < MAX_PROCESSES) {child : Process} (same : child ≡ p) {qs : ProcessRows} {es : DescriptionRows}
         (put : qs ≡ put_at ps i child) (named : es ≡ named_once_more child.descriptors ds) where
-      put_is : qs ≡ put_at ps i p
-      put_is = put ∙ ap (put_at ps i) same
-
-      named_is : es ≡ named_once_more p.descriptors ds
-      named_is = named ∙ ap (λ (q : Process). named_once_more q.descriptors ds) same
-
       now_tied : Tied qs es pipes
       now_tied =
-          rw (put_is, named_is)
+          rw (put, named, same)
           (forked-tied ps pipes ds kept.tied (pid - 1) p there (is_awake ps pid p caller) i
           (ap (at ps) lowest ∙ at-first_free ps) i_in)
 
@@ -188,13 +182,12 @@ module _ {charges : UserPages} {limits : Limits} {ps : ProcessRows} {ds : Descri
 
       now_shown : state_of qs es pipes files files_made ≡ with_process s (i + 1) (process_of p)
       now_shown =
-          (λ j. state_of (put_is j) (named_is j) pipes files files_made)
-          ∙ (λ j. record s {
+          let place : i ≡ i + 1 - 1 = omega arith in
+          rw (put, named, same) ((λ j. record s {
             processes = map-set (option_map process_of) ps i (Some p) j;
             descriptions = all_changed description_of (λ e. refl) p.descriptors ds j;
           })
-          ∙ (let place : i ≡ i + 1 - 1 = omega arith in
-          ap (λ m. record s { processes = put_at (processes_of ps) m (process_of p) }) place)
+          ∙ ap (λ m. record s { processes = put_at (processes_of ps) m (process_of p) }) place)
 
       pub forked : Makes n (record { limits = limits; state = state_of qs es pipes files files_made }) (call n.state)
           (Pid (i + 1))

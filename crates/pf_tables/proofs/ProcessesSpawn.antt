@@ -52,30 +52,25 @@ module _ {ps : ProcessRows} {ds : DescriptionRows} {pipes : PipeRows} (t : Tied 
     pub some_pid : i < MAX_PROCESSES → IsOk (spawn n.state cred)
     some_pid within =
         let room : nat_le MAX_PROCESSES i ≡ false = grind (arith, nat_tests) in
-        subst (λ (m : Namespace). IsOk (spawn m.state cred)) view
-        (subst IsOk (sym (call_is ∙ ap (λ b. tested b i) room)) refl)
+        rw (← view) (subst IsOk (sym (call_is ∙ ap (λ b. tested b i) room)) refl)
 
     module _ (i_in : i < MAX_PROCESSES) {p : Process} (same : p ≡ spawned cred) {qs : ProcessRows}
         (put : qs ≡ put_at ps i p) where
-      put_is : qs ≡ put_at ps i (spawned cred)
-      put_is = put ∙ ap (put_at ps i) same
-
       pub spawned-tied : Tied qs ds pipes
       spawned-tied =
-          subst (λ x. Tied x ds pipes) (sym put_is)
+          rw (put, same)
           (made ps ds pipes t i i_in (ap (at ps) lowest ∙ at-first_free ps) (spawned cred) bare
           (length-vacant Key MAX_DESCRIPTORS))
 
       now_shown : state_of qs ds pipes files files_made ≡ with_process s (i + 1) (seen cred)
       now_shown =
           let place : i ≡ i + 1 - 1 = omega arith in
-          (λ j. state_of (put_is j) ds pipes files files_made)
-          ∙ (λ j. record s { processes = map-set (option_map process_of) ps i (Some (spawned cred)) j })
+          rw (put, same) ((λ j. record s { processes = map-set (option_map process_of) ps i (Some (spawned cred)) j })
           ∙ (λ j. record s {
             processes = put_at (processes_of ps) (place j) (record (seen cred) {
               descriptors = vacant-map (λ (k : Key). k.serial) MAX_DESCRIPTORS j;
             });
-          })
+          }))
 
       pub spawns : Makes n (record { limits = limits; state = state_of qs ds pipes files files_made })
           (spawn n.state cred) (Pid (i + 1))

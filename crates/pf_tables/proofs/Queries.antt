@@ -261,8 +261,7 @@ module _ {files : Files} {files_made : ℕ} {limits : Limits} {charges : UserPag
     pub ready_refused : {e : Errno} → end_in None ps ds pid fd ≡ Err e → (f : Live)
         → readiness (meaning f n.state) pid fd ≡ Err e
     ready_refused {e} h f =
-        subst (λ (m : Namespace). readiness (meaning f m.state) pid fd ≡ Err e) view
-        (from_end (shows f) (Err e) ((ends (pipe_meaning f) None files files_made k.tied pid fd).refused h))
+        rw (← view) (from_end (shows f) (Err e) ((ends (pipe_meaning f) None files files_made k.tied pid fd).refused h))
 
     module _ {d : Description} (h : end_in None ps ds pid fd ≡ Ok d) where
       pub ready_has_pipe : None ≡ find pipes d.pipe.slot d.pipe.serial → (f : Live)
@@ -279,13 +278,7 @@ module _ {files : Files} {files_made : ℕ} {limits : Limits} {charges : UserPag
           let c =
           counted (pipe_meaning f) None files files_made k.tied pid fd d.pipe.serial d.pipe.slot r
           (find_was pipes d.pipe.slot d.pipe.serial r (sym handed)) in
-          subst (λ (m : Namespace). Ok (record {
-            bytes = bytes;
-            room = room;
-            has_reader = nat_lt 0 reading;
-            has_writer = nat_lt 0 writing;
-          }) ≡ readiness (meaning f m.state) pid fd) view
-          ((λ i. Ok (record {
+          rw (← view) ((λ i. Ok (record {
             bytes = bytes_is f sound (transfers.stands_in k view owns d (sym handed)) i;
             room = room_is f i;
             has_reader = nat_lt 0 ((reading_is ∙ sym c.0) i);

@@ -113,10 +113,7 @@ pub makes_over : {qs : ProcessRows} {es : DescriptionRows} {pipes : PipeRows} �
     → call (record { limits = limits; state = s }) ≡ Ok (told (state_of qs es pipes files files_made) reply)
     → Makes n (record { limits = after; state = state_of qs es pipes files files_made }) (call n) reply
 makes_over {qs} {es} {pipes} t files files_made {after = after} view same joined call reply is =
-    subst (λ (m : Namespace). Makes m (record {
-      limits = after;
-      state = state_of qs es pipes files files_made;
-    }) (call m) reply) view (record {
+    rw (← view) (record {
       is = is;
       limits = same;
       owned = λ f o. record { joined = joined f o; reserve = ap (λ (l : Limits). l.reserve) same ∙ o.reserve };

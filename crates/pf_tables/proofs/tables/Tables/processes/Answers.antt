@@ -12,9 +12,6 @@ returns-clause-number g c =
 
 pub returns-clause-none : goal.returns-clause-none
 returns-clause-none g c zero =
-    let counted =
-    c.alive.ensures ∙ sym (shown_alive c.self.inside.processes)
-    ∙ ap (λ (n : Namespace). alive n.state) c.self.view_is in
     let swept : c.args.self.now.state ≡ sweep itself c.args.self.now.state =
     rw (← c.self.view_is) (settled _ _ c.self.invariant.kept.tied) in
-    holds_none c.args.self.now swept (sym counted ∙ zero)
+    holds_none c.args.self.now swept (sym (returns-clause-number g c) ∙ zero)

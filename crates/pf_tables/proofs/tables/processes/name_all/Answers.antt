@@ -52,17 +52,16 @@ loop-fd-preserved c =
       within = c.next-fd-in_default.ensures.most;
     }
 
-pub name-requires-clause-stands : goal.name-requires-clause-stands
-name-requires-clause-stands c =
-    lemmas.stands c.loop-fd.descriptions.items c.in-Some.key
-    (c.loop-fd.invariant.stand c.loop-fd.fd c.in-Some.key (sym c.get.ensures ∙ c.in-Some.is))
-    (65792 + c.loop-fd.fd) c.loop-fd.invariant.few
-
-pub name-requires-clause-below : goal.name-requires-clause-below
-name-requires-clause-below c =
-    lemmas.below c.loop-fd.descriptions.items c.in-Some.key
-    (c.loop-fd.invariant.stand c.loop-fd.fd c.in-Some.key (sym c.get.ensures ∙ c.in-Some.is))
-    (65792 + c.loop-fd.fd) c.loop-fd.invariant.few (omega (arith, c.loop-fd-test.true))
+pub name-requires : goal.name-requires
+name-requires c =
+    let ds = c.loop-fd.descriptions.items in
+    let finds = c.loop-fd.invariant.stand c.loop-fd.fd c.in-Some.key (sym c.get.ensures ∙ c.in-Some.is) in
+    record {
+      stands = lemmas.stands ds c.in-Some.key finds (65792 + c.loop-fd.fd) c.loop-fd.invariant.few;
+      below =
+          lemmas.below ds c.in-Some.key finds (65792 + c.loop-fd.fd) c.loop-fd.invariant.few
+          (omega (arith, c.loop-fd-test.true));
+    }
 
 pub returns : goal.returns
 returns c =
