@@ -17,9 +17,8 @@ pub use Rattle.pf_fds.specs.Registry.{find}
 pub use Rattle.pf_frame.specs.Live.{IsSound, Live}
 pub use Rattle.pf_limits.specs.UserPages.{Charges, UserPages, charged_to}
 pub use Rattle.pf_machine.proofs.MapLaws.{vacant-map}
-pub use Rattle.pf_machine.proofs.NumberedLaws.{at-first_free, at-map, at-push_new, at-push_old, at-put_other}
-pub use Rattle.pf_machine.proofs.NumberedLaws.{at-put_same, at_past, at_within, first_free-map, sum_of-map, sum_of-none}
-pub use Rattle.pf_machine.proofs.NumberedLaws.{sum_of-set, weight-le-sum_of}
+pub use Rattle.pf_machine.proofs.NumberedLaws.{at-first_free, at-map, at-push_new, at-put_same, at_past, at_within}
+pub use Rattle.pf_machine.proofs.NumberedLaws.{first_free-map, sum_of-map, sum_of-none, sum_of-set, weight-le-sum_of}
 pub use Rattle.pf_machine.specs.Calls.{Opening}
 pub use Rattle.pf_machine.specs.Counts.{ends, readers, total, writers}
 pub use Rattle.pf_machine.specs.FileMap.{Files}
@@ -43,20 +42,20 @@ pub use Rattle.pf_ring.specs.declared.ring.Window.{Window}
 pub use Rattle.pf_tables.specs.Bounds.{Covers}
 pub use Rattle.pf_tables.specs.Meaning.{AreCharged, Charged, Namespace, meaning, occupied, pages, pipe_meaning, ring_or}
 pub use Rattle.pf_tables.specs.Meaning.{rings_of}
-pub use Rattle.pf_tables.specs.Opened.{Describes, access_seen, before, counted, may_open, other_opens}
+pub use Rattle.pf_tables.specs.Opened.{Describes, access_seen, before, counted, other_opens}
 pub use Rattle.pf_tables.specs.Owns.{Owns}
 pub use Rattle.pf_tables.specs.Queries.{GoesOn}
-pub use Rattle.pf_tables.specs.Rows.{AreFifos, Description, DescriptionRows, Kept, Key, Named, NamedRow, NoMore, Opens}
-pub use Rattle.pf_tables.specs.Rows.{Pipe, PipeRows, Process, ProcessRows, Tied, TiedWith, UsedRow, Whole}
-pub use Rattle.pf_tables.specs.Rows.{description_of, descriptions_of, end_in, held, key_in, keys_of, keys_to, made_by}
-pub use Rattle.pf_tables.specs.Rows.{names_it, opens_at, opens_of, pipe_of, pipes_of, process_in, process_of}
-pub use Rattle.pf_tables.specs.Rows.{processes_of, read_by, reads_it, ready_in, state_of, writes_it, written_by}
-pub use Rattle.pf_tables.specs.Rows.{AllFind, Finds, IsEnd, IsSpare, awake, end_of_row, is_used, left, named_once_more}
-pub use Rattle.pf_tables.specs.Rows.{with_fewer}
-pub use Rattle.pf_tables.specs.Tables.{LetsGo, Makes, Says, awoken, descriptor, over, woken, Left, emptied}
+pub use Rattle.pf_tables.specs.Rows.{AllFind, AreFifos, Description, DescriptionRows, Finds, IsEnd, IsSpare, Kept, Key}
+pub use Rattle.pf_tables.specs.Rows.{Named, NamedRow, NoMore, Opens, Pipe, PipeRows, Process, ProcessRows, Tied}
+pub use Rattle.pf_tables.specs.Rows.{TiedWith, UsedRow, Whole, awake, description_of, descriptions_of, end_in}
+pub use Rattle.pf_tables.specs.Rows.{end_of_row, held, is_used, key_in, keys_of, keys_to, left, made_by}
+pub use Rattle.pf_tables.specs.Rows.{named_once_more, names_it, opens_at, opens_of, pipe_of, pipes_of, process_in}
+pub use Rattle.pf_tables.specs.Rows.{process_of, processes_of, read_by, reads_it, ready_in, state_of, with_fewer}
+pub use Rattle.pf_tables.specs.Rows.{writes_it, written_by}
+pub use Rattle.pf_tables.specs.Tables.{Left, LetsGo, Makes, Says, awoken, descriptor, emptied, over, woken}
 pub use Rattle.pf_tables.specs.Told.{attempted}
 pub use Rattle.pf_walk.specs.Told.{Told}
-pub use Rattle.std.proofs.lemmas.Bool.{cases_lt, eq-eqb, le-leb, le-ltb, lt-leb, lt-ltb, cases_eq, ne_eqb}
+pub use Rattle.std.proofs.lemmas.Bool.{cases_eq, cases_lt, eq-eqb, le-ltb, ne_eqb}
 pub use Rattle.std.proofs.lemmas.Bool.Decides.{nat_tests}
 pub use Rattle.std.proofs.lemmas.List.{length-map, length_push, map-set, map_push, set-set}
 pub use Rattle.std.specs.List.{sum_by}

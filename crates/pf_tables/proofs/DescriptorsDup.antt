@@ -144,10 +144,10 @@ module _ {charges : UserPages} {limits : Limits} {ps : ProcessRows} {ds : Descri
           parked = option_map call_of p.parked;
         })) (map-set (option_map (λ (x : Key). x.serial)) p.descriptors to (Some k))
 
-    module _ {qs : ProcessRows} {es : DescriptionRows} (given : qs ≡ set ps (pid - 1) (with_key to k (at ps (pid - 1))))
+    module _ {qs : ProcessRows} {es : DescriptionRows} (given : qs ≡ change_at (with_key to k) ps (pid - 1))
         (counted : es ≡ change_at one_more ds k.serial) where
       given_is : qs ≡ put_at ps (pid - 1) p'
-      given_is = given ∙ ap (λ o. set ps (pid - 1) (with_key to k o)) (place_is ps pid p caller)
+      given_is = given ∙ ap (λ o. set ps (pid - 1) (option_map (with_key to k) o)) (place_is ps pid p caller)
 
       counted_is : es ≡ ds'
       counted_is = counted ∙ named_row ds k row.0 row.1

@@ -12,6 +12,7 @@ use Rattle.pf_tables.proofs.Common.{descriptions_of, pipes_of, state_of, made_by
 use Rattle.pf_tables.proofs.Common.{UsedRow, Tied, at-map, end_of_row}
 use Rattle.pf_machine.specs.State as machine
 use Rattle.pf_base.specs.declared.progress.Side.TheVariants as sides
+use Rattle.pf_tables.specs.Opened.{other_opens, others_of, others_in, others_at}
 use Rattle.pf_tables.specs.Rows.{has, description_in}
 use Rattle.pf_tables.proofs.ProcessTableReady.{shown_in, ready_shown, place_is}
 use Rattle.pf_tables.proofs.TablesTied.{finds}
@@ -183,42 +184,19 @@ module _ {X : Type 0} (f : Sight X) (side : Option Side) {ps : ProcessRows} {ds 
             (arith, row.1, writers_shown ps ds pipes files files_made n),
       )
 
-  -- The end that a key is of, as it is handed out
-  module _ (j : Key) where
-    pub key_end : {d : Description} {r : Pipe} → Some d ≡ option_map value_of (find ds j.slot j.serial)
-        → Some r ≡ find pipes d.pipe.slot d.pipe.serial → end_at itself s j.serial ≡ Some (end_of_rows f d r)
-    key_end {d} {r} is handed = by_row (find ds j.slot j.serial) refl is
-      where
-        by_row : (o : Option (Named Description)) → find ds j.slot j.serial ≡ o → Some d ≡ option_map value_of o
-            → end_at itself s j.serial ≡ Some (end_of_rows f d r)
-        by_row None h g = absurd (cc)
-        by_row (Some e) h g =
-            let same : e.value ≡ d = cc in
-            end_shown j e r (find_was ds j.slot j.serial e h)
-            (find_was pipes e.value.pipe.slot e.value.pipe.serial r
-            (ap (λ (x : Description). find pipes x.pipe.slot x.pipe.serial) same ∙ sym handed))
-            ∙ ap (λ (x : Description). Some (end_of_rows f x r)) same
-
-    -- an open that waits has one
-    module _ {p : Process} (here : at ps (pid - 1) ≡ Some p) {before : ℕ}
-        (waits : Some (Open j before) ≡ p.parked) where
-      row : (e : Named Description) × (at ds j.serial ≡ Some (j.slot, e))
-      row = finds ds j (t.finds (pid - 1) 0 p j here (ap made_by (sym waits)))
-
-      row_found : option_map value_of (find ds j.slot j.serial) ≡ Some row.0.value
-      row_found = ap (option_map value_of) (find_at ds j.slot j.serial row.0 row.1)
-
-      pub open_finds : None ≡ option_map value_of (find ds j.slot j.serial) → ⊥
-      open_finds none = let there = row_found in absurd (cc)
-
-      pub open_reaches : {d : Description} → Some d ≡ option_map value_of (find ds j.slot j.serial)
-          → None ≡ find pipes d.pipe.slot d.pipe.serial → ⊥
-      open_reaches {d} is none =
-          let same : row.0.value ≡ d = same_some (sym row_found ∙ sym is) in
-          let r = finds pipes row.0.value.pipe (t.is_end j.serial (j.slot, row.0) row.1).0 in
-          let there = find_at pipes row.0.value.pipe.slot row.0.value.pipe.serial r.0 r.1 in
-          let gone = ap (λ (x : Description). find pipes x.pipe.slot x.pipe.serial) same ∙ sym none in
-          absurd (cc)
+  -- the end of an open that waits, and how often the other side of it was opened
+  pub open_end : (j : Key) {p : Process} → at ps (pid - 1) ≡ Some p → {before : ℕ} → p.parked ≡ Some (Open j before)
+      → (d : Description) × (r : Pipe) × (end_at itself s j.serial ≡ Some (end_of_rows f d r))
+      × (others_at ds pipes j ≡ other_opens d.reads r)
+  open_end j {p} here waits =
+      let e = finds ds j (t.finds (pid - 1) 0 p j here (ap made_by waits)) in
+      let r = finds pipes e.0.value.pipe (t.is_end j.serial (j.slot, e.0) e.1).0 in (
+        e.0.value,
+        r.0,
+        end_shown j e.0 r.0 e.1 r.1,
+        ap (others_in pipes) (ap (option_map value_of) (find_at ds j.slot j.serial e.0 e.1))
+            ∙ ap (others_of e.0.value) (find_at pipes e.0.value.pipe.slot e.0.value.pipe.serial r.0 r.1),
+      )
 
 -- Pipes with their rings are seen as they are
 

@@ -1,6 +1,5 @@
 pub mod MeaningLaws
 pub mod OwnsLaws
-mod OpensTests
 pub mod Bounds
 mod Buffers
 mod Common
@@ -17,17 +16,15 @@ mod Files
 mod OpensFind
 mod OpensReopen
 mod DescriptorsFlag
-mod OpensNew
+mod OpensPipe
 mod ProcessesFork
 mod ProcessesSpawn
 mod DescriptorsDrop
 mod TablesTied
-mod OpensFound
 mod DescriptorsNamed
 mod PipesOpen
 mod PipesRing
 mod PipesSetSize
-mod OpensResolve
 mod ProcessTable
 pub mod Refusals
 pub mod Sendable

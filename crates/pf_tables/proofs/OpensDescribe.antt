@@ -1,7 +1,7 @@
 -- An open of a FIFO: its ends are counted, and its description is made.
 
 use Rattle.std.proofs.Common.{◌≡◌, ◌≢◌, ℕ, ◌+◌, ◌-◌, ◌<◌, ◌≤◌, Bool, true, false, List, [], ◌∷◌, ◌++◌, length, set}
-use Rattle.std.proofs.Common.{Option, Some, None, if◌then◌else◌, refl, sym, ap, subst, ◌∙◌, arith}
+use Rattle.std.proofs.Common.{Option, Some, None, Ok, if◌then◌else◌, refl, sym, ap, subst, ◌∙◌, arith}
 use Rattle.pf_tables.proofs.TablesTied.{in_place, by_set, found, finds-new, miss, sides, once, repiped, described}
 use Rattle.pf_tables.proofs.TablesTied.{piped, moved, put, pipe_row}
 use Rattle.pf_tables.specs.Rows.{AreKeys, file_at, holding}
@@ -9,13 +9,14 @@ use Rattle.pf_tables.proofs.Refusals.{same_some}
 use Rattle.pf_tables.proofs.TablesShown.{shown_same, shown}
 use Rattle.pf_tables.proofs.Common.{option_map, Window, at, put_at, first_free, one_if, MAX_DESCRIPTORS, Reply}
 use Rattle.pf_tables.proofs.Common.{UserPages, AreCharged, counted, Describes, ProcessRows, DescriptionRows, PipeRows}
-use Rattle.pf_tables.proofs.Common.{Key, Description, Pipe, made_by, reads_it, writes_it, opens_at, opens_of, pipe_of}
+use Rattle.pf_tables.proofs.Common.{Key, Process, Description, Pipe, ready_in, made_by, reads_it, writes_it, opens_at}
+use Rattle.pf_tables.proofs.Common.{opens_of, pipe_of}
 use Rattle.pf_tables.proofs.Common.{pipes_of, NoMore, AreFifos, TiedWith, Tied, map-set, at_within, at-first_free}
 use Rattle.pf_machine.specs.State as machine
 use Rattle.pf_limits.proofs.SumLaws.{kept}
 use Rattle.pf_tables.specs.declared.tables.opens.Access.{Access as Stored}
 use Rattle.pf_tables.specs.Opened.{end_of, taking}
-use Rattle.pf_tables.proofs.ProcessTableReady.{place_of}
+use Rattle.pf_tables.proofs.ProcessTableReady.{place_is, is_awake}
 
 -- an open is for a side at least
 abbrev pub IsSided : Stored → Type 0
@@ -49,30 +50,29 @@ module _ (a : Stored) (sided : IsSided a) (k : Key) where
         (omega (arith, none, s.0)) (omega (arith, nobody, s.1)) (omega (arith, none, nobody, sided)) t
 
 -- The description is made, with one name: a descriptor, or the open that waits
-module _ {ps ps' : ProcessRows} {ds ds' : DescriptionRows} (pipes : PipeRows) {pid : ℕ} {d : Description}
-    {before : Option ℕ} {reply : Reply} (z : Describes ps ps' ds ds' pid d before reply)
-    (awake : z.p.parked ≡ None) (within : first_free z.p.descriptors < MAX_DESCRIPTORS)
+module _ {ps ps' : ProcessRows} {ds ds' : DescriptionRows} (pipes : PipeRows) {pid fd : ℕ} {d : Description}
+    {before : Option ℕ} {reply : Reply} (z : Describes ps ps' ds ds' pid fd d before reply) {p : Process}
+    (is : ready_in ps pid ≡ Ok p) (lowest : fd ≡ first_free p.descriptors) (within : fd < MAX_DESCRIPTORS)
     (t : TiedWith [] (d ∷ []) ps ds pipes) where
   abbrev after : DescriptionRows
   after = ds ++ Some (z.k.slot, once d) ∷ []
 
-  pub opener : at ps (pid - 1) ≡ Some z.p
-  opener = place_of ps pid z.p z.is
+  pub opener : at ps (pid - 1) ≡ Some p
+  opener = place_is ps pid p is
 
   in_hand : TiedWith (z.k ∷ []) [] ps after pipes
   in_hand = described z.k d z.k_is t
 
-  by_waiting : (b : Option ℕ) → Tied (put_at ps (pid - 1) (taking b z.k z.p)) after pipes
+  by_waiting : (b : Option ℕ) → Tied (put_at ps (pid - 1) (taking fd b z.k p)) after pipes
   by_waiting None =
-      put (pid - 1) (first_free z.p.descriptors) z.p opener within z.k (at-first_free z.p.descriptors) in_hand
+      put (pid - 1) fd p opener within z.k (ap (at p.descriptors) lowest ∙ at-first_free p.descriptors) in_hand
   by_waiting (Some n) =
-      subst (λ o. TiedWith (holding o []) [] (put_at ps (pid - 1) (taking (Some n) z.k z.p)) after pipes)
-      (ap made_by awake)
-      (moved [] (pid - 1) 0 z.p (taking (Some n) z.k z.p) opener (omega arith) (Some z.k) refl
-      in_hand)
+      subst (λ o. TiedWith (holding o []) [] (put_at ps (pid - 1) (taking fd (Some n) z.k p)) after pipes)
+      (ap made_by (is_awake ps pid p is))
+      (moved [] (pid - 1) 0 p (taking fd (Some n) z.k p) opener (omega arith) (Some z.k) refl in_hand)
 
-  pub seated_is : ps' ≡ put_at ps (pid - 1) (taking before z.k z.p)
-  seated_is = z.seated ∙ ap (λ o. set ps (pid - 1) (option_map (taking before z.k) o)) opener
+  pub seated_is : ps' ≡ put_at ps (pid - 1) (taking fd before z.k p)
+  seated_is = z.seated ∙ ap (λ o. set ps (pid - 1) (option_map (taking fd before z.k) o)) opener
 
   pub admitted : Tied ps' ds' pipes
   admitted = rw (seated_is, z.described) (by_waiting before)

@@ -1,13 +1,14 @@
 -- The pipe of a FIFO, as the tables find it by its key and as the machine does.
 
-use Rattle.std.proofs.Common.{◌≡◌, ◌≢◌, ℕ, zero, suc, Bool, true, false, List, [], ◌∷◌, Option, Some, None, IsSome}
-use Rattle.std.proofs.Common.{is_some, nat_eq, if◌then◌else◌, refl, sym, ap, subst, ◌∙◌, arith}
+use Rattle.std.proofs.Common.{◌≡◌, ℕ, zero, suc, Bool, true, false, List, [], ◌∷◌, Option, Some, None, IsSome, is_some}
+use Rattle.std.proofs.Common.{nat_eq, if◌then◌else◌, refl, sym, ap, ◌∙◌, arith}
 use Rattle.pf_tables.proofs.Fifos.{of_file}
 use Rattle.pf_tables.specs.Rows.{file_at, files_of}
 use Rattle.pf_tables.proofs.Refusals.{same_some}
-use Rattle.pf_tables.proofs.Common.{option_map, lookup, itself, Files, Limits, at, fifo_pipe, find, UserPages}
-use Rattle.pf_tables.proofs.Common.{Namespace, ProcessRows, DescriptionRows, PipeRows, Key, Pipe, opens_at, opens_of}
-use Rattle.pf_tables.proofs.Common.{pipe_of, state_of, AreFifos, Whole, eq-eqb}
+use Rattle.pf_tables.proofs.Common.{option_map, lookup, itself, Files, at, fifo_pipe, find, ProcessRows}
+use Rattle.pf_tables.proofs.Common.{DescriptionRows, PipeRows, Key, Pipe, opens_at, opens_of, pipe_of, state_of, Tied}
+use Rattle.pf_tables.proofs.Common.{AreFifos, eq-eqb}
+use Rattle.pf_tables.specs.Opened.{readers_of, readers_at}
 use Rattle.pf_machine.specs.Opens.{first_where, is_of_file, fifo_readers}
 use Rattle.pf_tables.proofs.Ends.{as_kept, counted}
 use Rattle.pf_tables.proofs.TablesShown.{find_at, was}
@@ -85,35 +86,15 @@ module _ (es : List (ℕ × Key)) {drawn : ℕ} (pipes : PipeRows) (a : AreFifos
       ∙ sym (first_where-map opens_at (λ o. is_of_file file o.1.file) pipes)
       ∙ sym (first_where-map file_at test (opens_of pipes)) ∙ by_key found h
 
--- How many read it
-
-module _ {limits : Limits} {charges : UserPages} {es : List (ℕ × Key)} {ps : ProcessRows} {ds : DescriptionRows}
-    {pipes : PipeRows} {files : Files} {files_made : ℕ} (w : Whole charges es ps ds pipes) {n : Namespace}
-    (view : record { limits = limits; state = state_of ps ds pipes files files_made } ≡ n) (file : ℕ) where
-  pub fifo_shown : (found : Option Key) → lookup (nat_eq file) es ≡ found
-      → fifo_pipe n.state file ≡ option_map (λ k. k.serial) found
-  fifo_shown found h =
-      subst (λ (m : Namespace). fifo_pipe m.state file ≡ option_map (λ k. k.serial) found) view
-      (fifo_is es pipes w.filed file ps ds files files_made found h)
-
-  abbrev reading : Namespace → ℕ
-  reading m = fifo_readers itself m.state (fifo_pipe m.state file)
-
-  pub no_readers : lookup (nat_eq file) es ≡ None → reading n ≡ 0
-  no_readers h = ap (fifo_readers itself n.state) (fifo_shown None h)
-
-  pub readers_are : (k : Key) (p : Pipe) → lookup (nat_eq file) es ≡ Some k → find pipes k.slot k.serial ≡ Some p
-      → reading n ≡ p.readers
-  readers_are k p h g =
-      let x = key_finds es pipes w.filed file k h in
-      let it : x.0 ≡ p = same_some (sym (find_at pipes k.slot k.serial x.0 x.1) ∙ g) in
-      ap (fifo_readers itself n.state) (fifo_shown (Some k) h)
-      ∙ subst (λ (m : Namespace). fifo_readers itself m.state (Some k.serial) ≡ x.0.readers) view
-      (counted as_kept None files files_made w.kept.tied 0 0 k.serial k.slot x.0 x.1).0
-      ∙ ap (λ (q : Pipe). q.readers) it
-
-  pub not_lost : (k : Key) → lookup (nat_eq file) es ≡ Some k → find pipes k.slot k.serial ≢ None
-  not_lost k h e =
-      let there = key_stands es pipes w.filed file k h in
-      let none = ap is_some e in
-      absurd (cc)
+  -- and how many read it
+  pub readers_are : (ps : ProcessRows) (ds : DescriptionRows) (files : Files) (files_made : ℕ) → Tied ps ds pipes
+      → (found : Option Key) → lookup (nat_eq file) es ≡ found
+      → let s = state_of ps ds pipes files files_made in
+      fifo_readers itself s (fifo_pipe s file) ≡ readers_at pipes found
+  readers_are ps ds files files_made t None h =
+      ap (fifo_readers itself (state_of ps ds pipes files files_made)) (fifo_is ps ds files files_made None h)
+  readers_are ps ds files files_made t (Some k) h =
+      let x = key_finds k h in
+      ap (fifo_readers itself (state_of ps ds pipes files files_made)) (fifo_is ps ds files files_made (Some k) h)
+      ∙ (counted as_kept None files files_made t 0 0 k.serial k.slot x.0 x.1).0
+      ∙ sym (ap readers_of (find_at pipes k.slot k.serial x.0 x.1))

@@ -3,7 +3,6 @@
 use Rattle.std.proofs.Common.{◌≡◌, ℕ, zero, suc, ◌-◌, List, [], ◌∷◌, set, map, Option, Some, None, IsOk, Ok, refl, sym}
 use Rattle.std.proofs.Common.{ap, subst, ◌∙◌, arith}
 use Rattle.pf_tables.proofs.TablesShown.{shown_change}
-use Rattle.pf_tables.proofs.Refusals.{same_ok}
 use Rattle.pf_tables.proofs.Common.{option_map, option_and_then, Files, Limits, at, put_at, change_at, first_free}
 use Rattle.pf_tables.proofs.Common.{State, ready, waiting, Window, UserPages, Open, Cross, Namespace, ProcessRows}
 use Rattle.pf_tables.proofs.Common.{DescriptionRows, PipeRows, Key, Process, made_by, keys_of, process_in, ready_in}
@@ -15,7 +14,6 @@ use Rattle.pf_machine.specs.State.{living}
 use Rattle.pf_parked.specs.declared.call.Call.TheVariants.{Read, Write}
 use Rattle.pf_tables.specs.Rows as rows
 use Rattle.pf_tables.specs.Rows.{Call, call_of}
-use Rattle.pf_tables.specs.Tables.{HasLowest}
 use Rattle.pf_tables.specs.Told.{waits_in}
 use Rattle.pf_tables.proofs.ProcessTableReady.{shown_in, found_in, living_shown, ready_shown, place_of, place_is}
 use Rattle.pf_tables.proofs.ProcessTableReady.{is_awake}
@@ -31,15 +29,6 @@ module _ {limits : Limits} (ps : ProcessRows) (ds : DescriptionRows) (pipes : Pi
       found_in (process_in ps pid)
       (subst (λ r. IsOk r) (living_shown ps pid)
       (subst (λ (m : Namespace). IsOk (living m.state pid)) (sym view) lives))
-
-  -- its lowest free descriptor
-  pub lowest_shown : {p : Process} → process_in ps pid ≡ Ok p → HasLowest n.state pid (first_free p.descriptors)
-  lowest_shown {p} lives q h =
-      let same : process_of p ≡ q =
-      same_ok (sym (subst (λ (m : Namespace). living m.state pid ≡ Ok (process_of p)) view
-      (living_shown ps pid ∙ ap shown_in lives)) ∙ h) in
-      sym (first_free-map (λ (k : Key). k.serial) p.descriptors)
-      ∙ ap (λ (x : machine.Process ℕ). first_free x.descriptors) same
 
   -- what the machine sees of the call
   pub call-shown : {o : Option (Call Key)} → o ≡ rows.call_in ps pid

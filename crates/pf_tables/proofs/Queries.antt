@@ -8,7 +8,7 @@ use Rattle.pf_tables.proofs.Common.{option_map, option_and_then, Limits, MAX_PRO
 use Rattle.pf_tables.proofs.Common.{ESRCH, EBADF, EINVAL, Side, Files, ◌>>=◌, ◌>>◌, refuse_if, or_refuse, Segment}
 use Rattle.pf_tables.proofs.Common.{bytes_of, room_of, at, itself, State, End, process, readers, writers, value_of}
 use Rattle.pf_tables.proofs.Common.{find, Live, IsSound, UserPages, Open, Cross, queue_of, Stands, Namespace, meaning}
-use Rattle.pf_tables.proofs.Common.{pipe_meaning, other_opens, Owns, GoesOn, ProcessRows, DescriptionRows, PipeRows}
+use Rattle.pf_tables.proofs.Common.{pipe_meaning, Owns, GoesOn, ProcessRows, DescriptionRows, PipeRows}
 use Rattle.pf_tables.proofs.Common.{Key, Process, Description, Pipe, process_of, state_of, process_in, end_in, Kept}
 use Rattle.pf_tables.proofs.Common.{nat_tests, at_past, end_of_row}
 use Rattle.pf_base.specs.declared.progress.Crossing.{Crossing}
@@ -22,8 +22,8 @@ use Rattle.pf_parked.specs.declared.call.Call.TheVariants.{Read, Write}
 use Rattle.pf_parked.specs.UnfinishedWrite.{UnfinishedWrite}
 use Rattle.pf_tables.specs.Rows.{Call, call_of, waits}
 use Rattle.pf_tables.proofs.ProcessTableReady.{lives, lives_not, place_of}
-use Rattle.pf_tables.proofs.Ends.{side_end, end_of_rows, Agree, row_ends, ends, not_lost, counted, reaches, key_end}
-use Rattle.pf_tables.proofs.Ends.{open_finds, open_reaches}
+use Rattle.pf_tables.proofs.Ends.{side_end, end_of_rows, Agree, row_ends, ends, not_lost, counted, reaches, open_end}
+use Rattle.pf_tables.specs.Opened.{others_at}
 use Rattle.pf_tables.proofs.TablesShown.{find_at, find_was}
 use Rattle.pf_tables.proofs.Transfers as transfers
 
@@ -218,26 +218,15 @@ module _ {files : Files} {files_made : ℕ} {limits : Limits} {charges : UserPag
               ∙ both_ends f r r' handed handed')
 
     -- An open
-    module _ {j : Key} {kept : ℕ} (waits : Some (Open j kept) ≡ p.parked) where
-      place : at ps (pid - 1) ≡ Some p
-      place = place_of ps pid p here
-
-      pub open_has_end : None ≡ option_map value_of (find ds j.slot j.serial) → GoesOn n pid true
-      open_has_end none f sound owns =
-          absurd (open_finds (pipe_meaning f) None files files_made k.tied pid 0 j place waits none)
-
-      module _ {d : Description} (is : Some d ≡ option_map value_of (find ds j.slot j.serial)) where
-        pub open_has_pipe : None ≡ find pipes d.pipe.slot d.pipe.serial → GoesOn n pid true
-        open_has_pipe none f sound owns =
-            absurd (open_reaches (pipe_meaning f) None files files_made k.tied pid 0 j place waits is none)
-
-        pub opens_on : {r : Pipe} → Some r ≡ find pipes d.pipe.slot d.pipe.serial → (x : ℕ) → x ≡ other_opens d.reads r
-            → GoesOn n pid (nat_lt kept x)
-        opens_on handed x x_is =
-            answers (Open j kept) waits tt (nat_lt kept x) (λ f sound owns.
-            ap (nat_lt kept) x_is
-            ∙ sym (ap (λ o. or_is_over (λ (e : End Segment ℕ). nat_lt kept (attempts.other_opens e))
-            (or_refuse EBADF o)) (key_end (pipe_meaning f) None files files_made k.tied pid 0 j is handed)))
+    pub opens_on : {j : Key} {kept : ℕ} → Some (Open j kept) ≡ p.parked → (x : ℕ) → x ≡ others_at ds pipes j
+        → GoesOn n pid (nat_lt kept x)
+    opens_on {j} {kept} waits x x_is =
+        answers (Open j kept) waits tt (nat_lt kept x) (λ f sound owns.
+        let w =
+        open_end (pipe_meaning f) None files files_made k.tied pid 0 j (place_of ps pid p here) (sym waits) in
+        ap (nat_lt kept) (x_is ∙ w.3)
+        ∙ sym (ap (λ o. or_is_over (λ (e : End Segment ℕ). nat_lt kept (attempts.other_opens e))
+        (or_refuse EBADF o)) w.2))
 
   -- who waits in no call, and who doesn't live, can't go on
   pub waits_nowhere : 0 < pid → waits (at ps (pid - 1)) ≡ false → GoesOn n pid false

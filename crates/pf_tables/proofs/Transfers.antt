@@ -85,7 +85,7 @@ module _ {files : Files} {files_made : ℕ} {limits : Limits} {charges : UserPag
         → IsSome (find pipes d.pipe.slot d.pipe.serial)
     pipe_stands side h = pipe_there (its side) h
 
-    -- what goes on from an end comes to this, where this is found of the end
+    -- the call is what goes on from the end, at whatever is found of that
     goes : (side : Option Side) (go : End Segment ℕ → Result Tried Errno) {m : Result (End Segment ℕ) Errno}
         → (ready s pid >>= (λ p. side_end side s p fd)) ≡ m
         → (ready s pid >>= (λ p. side_end side s p fd >>= go)) ≡ (m >>= go)

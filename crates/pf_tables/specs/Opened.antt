@@ -1,28 +1,35 @@
 -- What an open of a FIFO does to the tables and tells.
 
-use Rattle.std.specs.Prelude.{◌≡◌, ℕ, ◌+◌, ◌-◌, ◌^◌, ◌<◌, Bool, not, ◌&&◌, List, [], ◌∷◌, ◌++◌, length, Option, Some}
-use Rattle.std.specs.Prelude.{None, nat_eq, nat_le, if◌then◌else◌, Result, Ok}
+use Rattle.std.specs.Prelude.{◌≡◌, ℕ, ◌+◌, ◌-◌, ◌^◌, ◌<◌, ◌≤◌, Bool, not, ◌&&◌, List, [], ◌∷◌, ◌++◌, length, Option}
+use Rattle.std.specs.Prelude.{Some}
+use Rattle.std.specs.Prelude.{None, nat_eq, if◌then◌else◌, Result, Ok, Err}
 use Rattle.std.specs.Map.{lookup}
-use Rattle.pf_machine.specs.Refusals.{◌>>=◌, ◌>>◌, refuse_if}
-use Rattle.pf_base.specs.Limits.{Limits}
+use Rattle.pf_machine.specs.Refusals.{◌>>◌, refuse_if}
 use Rattle.pf_machine.specs.Calls.{Opening}
-use Rattle.pf_base.specs.Capacities.{told_as}
-use Rattle.pf_machine.specs.Numbered.{put_at, change_at, first_free, one_if}
-use Rattle.pf_machine.specs.State as machine
-use Rattle.pf_machine.specs.State.{itself, State, Outcome, ready, living, of_living}
-use Rattle.pf_machine.specs.Pipes.{is_spent, capacity_for}
-use Rattle.pf_machine.specs.Attempts.{Waits, again, given, reopened}
+use Rattle.pf_base.specs.Capacities.{new_capacity, told_as}
+use Rattle.pf_base.specs.Permissions.{is_privileged}
+use Rattle.pf_machine.specs.Numbered.{change_at, first_free, one_if}
+use Rattle.pf_machine.specs.State.{itself, of_living}
+use Rattle.pf_machine.specs.Pipes.{is_spent}
+use Rattle.pf_machine.specs.Attempts.{again, reopened}
 use Rattle.pf_machine.specs.Machine.{call_of}
-use Rattle.pf_machine.specs.Opens.{Access, openable, is_waiting, fifo_pipe, fifo_readers, open_fifo}
+use Rattle.pf_machine.specs.Opens.{Access, is_waiting}
 use Rattle.pf_base.specs.declared.TheConstants.{MAX_DESCRIPTORS}
+use Rattle.pf_base.specs.declared.cred.Cred.{Cred}
 use Rattle.pf_base.specs.declared.errno.Errno.{Errno}
-use Rattle.pf_base.specs.declared.errno.Errno.TheVariants.{EMFILE, ENXIO, ENFILE, ENOMEM}
+use Rattle.pf_base.specs.declared.errno.Errno.TheVariants.{ENFILE, ENOMEM}
+use Rattle.pf_base.specs.declared.fault.Fault.{Fault}
+use Rattle.pf_base.specs.declared.fault.Fault.TheVariants as faults
 use Rattle.pf_base.specs.declared.step.Reply.{Reply}
 use Rattle.pf_base.specs.declared.step.Reply.TheVariants.{Num, Parked}
+use Rattle.pf_limits.specs.UserPages.{UserPages, Charges, charged_to}
+use Rattle.pf_fds.specs.Registry.{find}
 use Rattle.pf_parked.specs.declared.call.Call.TheVariants.{Open}
+use Rattle.pf_pipe.specs.Pipe.{unopened}
 use Rattle.pf_tables.specs.declared.tables.opens.Access.{Access as Stored}
 use Rattle.pf_tables.specs.Meaning.{Namespace}
 use Rattle.pf_tables.specs.Rows.{ProcessRows, DescriptionRows, PipeRows, Key, Process, Description, Pipe, process_in}
+use Rattle.pf_tables.specs.Rows.{with_key, description_in}
 use Rattle.pf_tables.specs.Tables.{Makes}
 
 -- How a FIFO is opened
@@ -37,7 +44,19 @@ waits a readers writers = is_waiting (access_seen a) readers writers
 abbrev pub other_opens : Bool → Pipe → ℕ
 other_opens reads p = if reads then p.opens.write else p.opens.read
 
--- the same, where an open of it waits
+-- the same of the pipe that the description of a key is an end of, 0 where there is none
+abbrev pub others_of : Description → Option Pipe → ℕ
+others_of d None = 0
+others_of d (Some p) = other_opens d.reads p
+
+abbrev pub others_in : PipeRows → Option Description → ℕ
+others_in pipes None = 0
+others_in pipes (Some d) = others_of d (find pipes d.pipe.slot d.pipe.serial)
+
+abbrev pub others_at : DescriptionRows → PipeRows → Key → ℕ
+others_at ds pipes k = others_in pipes (description_in ds k)
+
+-- how often it was opened, where an open of it waits
 abbrev pub before : Stored → Pipe → Option ℕ
 before a p = if waits a p.readers p.writers then Some (other_opens a.reads p) else None
 
@@ -63,85 +82,92 @@ pub record IsFew (p : Pipe) : Type 0 where
 abbrev pub end_of : Stored → Key → Description
 end_of a k = record { pipe = k; reads = a.reads; writes = a.writes; nonblocking = a.nonblock }
 
--- What the machine says of it
+-- how many ends read the pipe that a FIFO has, none where it has none
+abbrev pub readers_of : Option Pipe → ℕ
+readers_of None = 0
+readers_of (Some p) = p.readers
 
--- the number of the FIFO at a path
-abbrev pub fifo_named : {X : Type 0} → State X ℕ → ℕ → List ℕ → Access → Result ℕ Errno
-fifo_named s pid path a = do
-  p ← ready s pid
-  f ← openable s.files p.cred path a
-  Ok f.number
+abbrev pub readers_at : PipeRows → Option Key → ℕ
+readers_at pipes None = 0
+readers_at pipes (Some k) = readers_of (find pipes k.slot k.serial)
 
-module _ {X : Type 0} where
-  -- nobody reads it, and it is opened for writing alone, with O_NONBLOCK
-  abbrev pub lacks_readers : State X ℕ → Access → ℕ → Bool
-  lacks_readers s a file = a.writes && not a.reads && a.nonblock && nat_eq (fifo_readers itself s (fifo_pipe s file)) 0
+-- nobody reads it, and it is opened for writing alone, with O_NONBLOCK
+abbrev pub lacks_readers : Access → ℕ → Bool
+lacks_readers a readers = a.writes && not a.reads && a.nonblock && nat_eq readers 0
 
-  -- why a process may not open it, whoever has it open
-  abbrev pub may_open : State X ℕ → ℕ → Access → ℕ → Result (Unit {0}) Errno
-  may_open s pid a file = do
-    p ← ready s pid
-    refuse_if (nat_le MAX_DESCRIPTORS (first_free p.descriptors)) EMFILE
-    refuse_if (lacks_readers s a file) ENXIO
-    refuse_if (is_spent s.descriptions 1) ENFILE
+-- The pipe of a FIFO
 
-  -- how many slots its pipe gets, where it has none
-  abbrev pub fifo_capacity : Limits → State X ℕ → ℕ → Result ℕ Errno
-  fifo_capacity c s pid = do
-    p ← ready s pid
-    refuse_if (is_spent s.pipes 1) ENFILE
-    told_as ENOMEM (capacity_for c s p.cred)
+-- how many slots it gets that a process makes, or why it gets none
+abbrev pub fifo_capacity : UserPages → PipeRows → Cred → Result ℕ Errno
+fifo_capacity u pipes cred = do
+  refuse_if (is_spent pipes 1) ENFILE
+  told_as ENOMEM (new_capacity u.limits (is_privileged cred) (charged_to u cred.uid) u.total)
 
-  abbrev pub opening : Limits → State X ℕ → ℕ → Access → ℕ → Result (Outcome X ℕ) Errno
-  opening c s pid a file = ready s pid >>= (λ p. open_fifo itself (length s.descriptions) itself c s pid p a file)
+-- as it is made, with no end yet
+abbrev pub unopened_pipe : ℕ → ℕ → ℕ → Pipe
+unopened_pipe slots owner file = record {
+  ring = record { capacity = slots; segments = [] };
+  owner = owner;
+  readers = 0;
+  writers = 0;
+  opens = unopened (Some file);
+}
 
--- The rows
+-- the same FIFOs have keys
+abbrev pub SameKeys : List (ℕ × Key) → List (ℕ × Key) → Type 0
+SameKeys es fs = (n : ℕ) → lookup (nat_eq n) fs ≡ lookup (nat_eq n) es
 
--- a process that has a description at its lowest free descriptor, or waits in the open that has made it
-abbrev pub taking : Option ℕ → Key → Process → Process
-taking None k p = record p { descriptors = put_at p.descriptors (first_free p.descriptors) k }
-taking (Some kept) k p = record p { parked = Some (Open k kept) }
+module _ (u v : UserPages) (pipes pipes' : PipeRows) (es fs : List (ℕ × Key)) (cred : Cred) (file : ℕ) where
+  -- one pipe more, with its FIFO's key, and its opener is charged with it
+  pub record MakesFifo (k : Key) : Type 0 where
+    pub slots : ℕ
+    pub may : fifo_capacity u pipes cred ≡ Ok slots
+    pub room : u.total + slots ≤ u.limits.reserve
+    pub k_is : k.serial ≡ length pipes
+    pub stored : pipes' ≡ pipes ++ Some (k.slot, unopened_pipe slots cred.uid file) ∷ []
+    pub keys : (n : ℕ) → lookup (nat_eq n) fs ≡ (if nat_eq file n then Some k else lookup (nat_eq n) es)
+    pub charged : Charges u v cred.uid slots
+
+  -- nothing has changed, but that the keys may lie otherwise
+  pub record KeepsFifos : Type 0 where
+    pub pages : v ≡ u
+    pub rows : pipes' ≡ pipes
+    pub keys : SameKeys es fs
+
+  -- the pipe that it has, which is at this key, or else one that was made; or why there is none
+  abbrev pub GetsPipe : Result Key Fault → Option Key → Type 0
+  GetsPipe (Ok k) None = MakesFifo k
+  GetsPipe (Ok k) (Some j) = (k ≡ j) × KeepsFifos
+  GetsPipe (Err (faults.Errno e)) None = (fifo_capacity u pipes cred ≡ Err e) × KeepsFifos
+  GetsPipe (Err (faults.Errno e)) (Some j) = ⊥
+  GetsPipe (Err faults.NoMemory) key = KeepsFifos
+
+-- Its description
+
+-- a process that has a description at a descriptor, or waits in the open that has made it
+abbrev pub taking : ℕ → Option ℕ → Key → Process → Process
+taking fd None k p = with_key fd k p
+taking fd (Some kept) k p = record p { parked = Some (Open k kept) }
 
 -- what it is told
-abbrev pub told_at : Option ℕ → Process → Reply
-told_at None p = Num (first_free p.descriptors)
-told_at (Some kept) p = Parked
+abbrev pub told_at : ℕ → Option ℕ → Reply
+told_at fd None = Num fd
+told_at fd (Some kept) = Parked
 
 -- its lowest free descriptor is one
 abbrev pub HasFree : ProcessRows → ℕ → Type 0
 HasFree ps pid = (p : Process) → process_in ps pid ≡ Ok p → first_free p.descriptors < MAX_DESCRIPTORS
 
 -- one description more, which has one name
-pub record Describes (ps ps' : ProcessRows) (ds ds' : DescriptionRows) (pid : ℕ) (end : Description) (kept : Option ℕ)
-    (reply : Reply) : Type 0 where
+pub record Describes (ps ps' : ProcessRows) (ds ds' : DescriptionRows) (pid fd : ℕ) (end : Description)
+    (kept : Option ℕ) (reply : Reply) : Type 0 where
   pub k : Key
   pub k_is : k.serial ≡ length ds
   pub described : ds' ≡ ds ++ Some (k.slot, record { value = end; names = 1 }) ∷ []
-  pub seated : ps' ≡ change_at (taking kept k) ps (pid - 1)
-  pub p : Process
-  pub is : process_in ps pid ≡ Ok p
-  pub told : reply ≡ told_at kept p
+  pub seated : ps' ≡ change_at (taking fd kept k) ps (pid - 1)
+  pub told : reply ≡ told_at fd kept
 
--- the same FIFOs have keys
-abbrev pub SameKeys : List (ℕ × Key) → List (ℕ × Key) → Type 0
-SameKeys es fs = (n : ℕ) → lookup (nat_eq n) fs ≡ lookup (nat_eq n) es
-
--- one pipe more, and its FIFO's key
-pub record MakesFifo (pipes pipes' : PipeRows) (es fs : List (ℕ × Key)) (pipe : Pipe) (file : ℕ)
-    (k : Key) : Type 0 where
-  pub k_is : k.serial ≡ length pipes
-  pub stored : pipes' ≡ pipes ++ Some (k.slot, pipe) ∷ []
-  pub keys : (n : ℕ) → lookup (nat_eq n) fs ≡ (if nat_eq file n then Some k else lookup (nat_eq n) es)
-
--- Whether the open in which a process waits is over: the other side was opened after it parked
-
-pub record IsOver {X : Type 0} (s : State X ℕ) (pid : ℕ) (over : Bool) : Type 0 where
-  pub p : machine.Process ℕ
-  pub n : ℕ
-  pub before : ℕ
-  pub lives : living s pid ≡ Ok p
-  pub waits : p.parked ≡ Some (Opening n before)
-  pub is : reopened itself s pid p n before ≡ Ok (if over then given s pid p n else Waits s (Opening n before))
+-- The open in which a process waits, tried again
 
 -- what is left of the open in which a process waits, and told, is what the machine leaves and tells of it
 pub record Reopens (old new : Namespace) (pid : ℕ) (reply : Reply) : Type 0 where

@@ -115,9 +115,8 @@ abbrev pub without_key : ℕ → Option Process → Option Process
 without_key fd None = None
 without_key fd (Some p) = Some (record p { descriptors = clear_at p.descriptors fd })
 
-abbrev pub with_key : ℕ → Key → Option Process → Option Process
-with_key fd k None = None
-with_key fd k (Some p) = Some (record p { descriptors = put_at p.descriptors fd k })
+abbrev pub with_key : ℕ → Key → Process → Process
+with_key fd k p = record p { descriptors = put_at p.descriptors fd k }
 
 abbrev pub with_keys : ℕ → Key → ℕ → Key → Option Process → Option Process
 with_keys a j b k None = None

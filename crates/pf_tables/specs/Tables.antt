@@ -51,10 +51,6 @@ woken p = over p.parked p
 abbrev pub awoken : {X : Type 0} → State X ℕ → ℕ → State X ℕ
 awoken s pid = change_process woken s pid
 
--- the lowest free descriptor of a process
-abbrev pub HasLowest : {X : Type 0} → State X ℕ → ℕ → ℕ → Type 0
-HasLowest s pid fd = (p : Process ℕ) → living s pid ≡ Ok p → fd ≡ first_free p.descriptors
-
 -- whether the call in which a process waits is an open; or why it waits in none
 abbrev pub is_open : Call ℕ → Bool
 is_open (Opening n kept) = true
@@ -138,7 +134,8 @@ verdict u privileged p to =
     then told_as EPERM (may_grow u.limits privileged (charged_to u p.owner) u.total p.ring.capacity to)
     else refuse_if (nat_lt to (length p.ring.segments)) EBUSY
 
--- a pipe has so many slots, and its owner is charged with them; or it has not, and nobody is charged otherwise
+-- a pipe has so many slots, and its owner is charged with them: where it grew, all pages are within the reservation; or
+-- it has not, and nobody is charged otherwise
 pub record Resizes (u v : UserPages) (p q : rows.Pipe) (privileged : Bool) (to : ℕ) : Type 0 where
   pub may : verdict u privileged p to ≡ Ok tt
   pub pipe : q ≡ record p { ring = record { capacity = to; segments = p.ring.segments } }

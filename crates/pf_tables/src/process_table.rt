@@ -199,7 +199,7 @@ impl ProcessTable {
     pub fn give_key(&mut self, pid: u32, fd: usize, key: Key)
         requires ready { IsOk (ready_in self.old pid) }
         requires fd_in { fd < MAX_DESCRIPTORS }
-        ensures { self.new ≡ slice_set self.old (pid - 1) (with_key fd key (at self.old (pid - 1))) }
+        ensures { self.new ≡ change_at (with_key fd key) self.old (pid - 1) }
     {
         let process = self.places.value_mut(pid as usize - 1);
         process.descriptors.set(fd, key);

@@ -1,32 +1,27 @@
 //! Opens of FIFOs (open(2), fifo(7)): a FIFO has a pipe while somebody has it open, which its first opener is charged
 //! with.
 
-ghost use Rattle.std.specs.Prelude.{◌≡◌, ◌+◌, ◌-◌, ◌^◌, ◌<◌, ◌≤◌, [], false, true, None, Some, Ok, Err, IfSome, IsOk};
-ghost use Rattle.std.specs.Prelude.{IfOk, OnOk, OnErr, length, nat_lt};
-ghost use Rattle.pf_machine.specs.Opens.{has_flag, access_of, fifo_pipe, fifo_readers, open_path};
-ghost use Rattle.pf_machine.specs.Numbered.{one_if};
+ghost use Rattle.std.specs.Prelude.{◌≡◌, ◌+◌, ◌-◌, ◌^◌, ◌<◌, ◌≤◌, true, false, None, Some, Ok, Err, IsOk, IfOk, OnOk};
+ghost use Rattle.std.specs.Prelude.{OnErr, length};
+ghost use Rattle.pf_base.specs.declared.TheConstants.{MAX_DESCRIPTORS};
+ghost use Rattle.pf_machine.specs.Opens.{has_flag, access_of, open_path};
 ghost use Rattle.pf_machine.specs.State.{itself, of_ready, ready};
-ghost use Rattle.pf_machine.specs.Counts.{total};
-ghost use Rattle.pf_limits.specs.UserPages.{charged_to, Charges};
-ghost use Rattle.pf_pipe.specs.Pipe.{unopened};
 ghost use Rattle.pf_tables.specs.Rows.{ready_in};
 ghost use Rattle.pf_tables.specs.Opened.{access_seen, counted, IsFew, waits, before, other_opens, lacks_readers};
-ghost use Rattle.pf_tables.specs.Opened.{end_of};
-ghost use Rattle.pf_tables.specs.Opened.{fifo_named, may_open, fifo_capacity, opening};
-ghost use Rattle.pf_tables.specs.Opened.{HasFree, Describes, SameKeys, MakesFifo, IsOver, Reopens};
-ghost use Rattle.pf_tables.specs.Tables.{Makes, Says, waits_in_open};
-ghost use Rattle.pf_walk.specs.Told.{Told};
+ghost use Rattle.pf_tables.specs.Opened.{others_at, end_of, readers_at, fifo_capacity, GetsPipe, HasFree};
+ghost use Rattle.pf_tables.specs.Opened.{Describes, Reopens};
+ghost use Rattle.pf_tables.specs.Tables.{Says, waits_in_open};
 
 use super::pipes::{insert_named, new_capacity};
 use super::{Description, Tables};
 use crate::process_table::ProcessTable;
 use bitflags::Flags;
-use pf_base::{Errno, Fault, MAX_DESCRIPTORS, MAX_MADE, OpenFlags, Reply, Side};
+use pf_base::{Cred, Errno, Fault, MAX_DESCRIPTORS, MAX_MADE, OpenFlags, Reply, Side};
 use pf_fds::{Descriptions, Key, Registry};
 use pf_limits::UserPages;
 use pf_parked::Call;
 use pf_pipe::Pipe;
-use std::alloc::{AllocError, Allocator, Global};
+use std::alloc::{Allocator, Global};
 use std::collections::HashMap;
 
 // How a FIFO is opened: for which sides, and whether with O_NONBLOCK.
@@ -68,6 +63,13 @@ impl Access {
         }
     }
 
+    // Whether nobody reads the pipe of a key, and it is opened for writing alone, with O_NONBLOCK.
+    fn lacks_readers(self, pipes: &Registry<Pipe>, key: Option<Key>) -> bool
+        ensures { result ≡ lacks_readers (access_seen self) (readers_at pipes.now.items key) }
+    {
+        self.writes && !self.reads && self.nonblock && readers(pipes, key) == 0
+    }
+
     // The description that it makes of a pipe.
     fn end(self, pipe: Key) -> Description
         ensures { result ≡ end_of self pipe }
@@ -90,13 +92,30 @@ impl Access {
 }
 
 // How often the other side of a pipe was opened than that which an end is for.
-pub(super) fn other_opens(pipe: &Pipe, reads: bool) -> u64
+fn other_opens(pipe: &Pipe, reads: bool) -> u64
     ensures { result ≡ other_opens reads pipe.now }
 {
     if reads {
         pipe.opens(Side::Write)
     } else {
         pipe.opens(Side::Read)
+    }
+}
+
+// The same of the pipe that the description of a key is an end of, 0 where there is none.
+pub(super) fn others(
+    descriptions: &Descriptions<Description>,
+    pipes: &Registry<Pipe>,
+    key: Key,
+) -> u64
+    ensures { result ≡ others_at descriptions.now.items pipes.now.items key }
+{
+    let Some(end) = descriptions.get(key) else {
+        return 0;
+    };
+    match pipes.get(end.pipe) {
+        Some(pipe) => other_opens(pipe, end.reads),
+        None => 0,
     }
 }
 
@@ -113,56 +132,58 @@ fn count(pipe: &mut Pipe, access: Access)
     }
 }
 
-// Makes the description that an open draws, with one name: the process's lowest free descriptor, which is told, or the
-// open itself where it waits.
-fn describe(
-    processes: &mut ProcessTable,
-    descriptions: &mut Descriptions<Description>,
-    pid: u32,
-    end: Description,
-    kept: Option<u64>,
-) -> Reply
-    requires ready { IsOk (ready_in processes.old pid) }
-    requires spare { HasFree processes.old pid }
-    requires room { 0 < descriptions.old.room }
-    requires unspent { length descriptions.old.items < 2 ^ 64 - 1 }
-    ensures { Describes processes.old processes.new descriptions.old.items descriptions.new.items
-        pid end kept result }
+// How many ends read the pipe of a key, none where there is none.
+fn readers(pipes: &Registry<Pipe>, key: Option<Key>) -> u64
+    ensures { result ≡ readers_at pipes.now.items key }
 {
-    let description = insert_named(descriptions, end);
-    if let Some(kept) = kept {
-        processes.park(pid, Call::Open { description, kept });
-        return Reply::Parked;
-    }
-    let Ok(process) = processes.ready(pid) else {
-        unreachable!()
+    let Some(key) = key else {
+        return 0;
     };
-    let fd = process.descriptors.lowest();
-    processes.give_key(pid, fd, description);
-    Reply::Num(fd as u64)
+    match pipes.get(key) {
+        Some(pipe) => pipe.readers(),
+        None => 0,
+    }
 }
 
-// A FIFO's first pipe, opened once. Where memory is refused, nothing has changed.
-fn make_fifo(
+// How many slots a FIFO's pipe gets that a process with these credentials makes, or why it gets none.
+fn fifo_capacity(pages: &UserPages, pipes: &Registry<Pipe>, cred: &Cred) -> Result<u32, Errno>
+    ensures found { result ≡ fifo_capacity pages.now pipes.now.items cred.now }
+    ensures room { IfOk result (λ slots. pages.now.total + slots ≤ pages.now.limits.reserve) }
+{
+    if pipes.drawn() > MAX_MADE - 1 {
+        return Err(Errno::ENFILE);
+    }
+    new_capacity(pages, cred, Errno::ENOMEM)
+}
+
+// The pipe of a FIFO: the one at its key, or a new one, which its opener is charged with. There is room for a
+// description besides. Where it fails, nothing has changed.
+fn fifo(
+    alloc: Global,
     pages: &mut UserPages,
+    descriptions: &mut Descriptions<Description>,
     pipes: &mut Registry<Pipe>,
     fifos: &mut HashMap<u64, Key>,
-    pipe: Pipe,
+    cred: &Cred,
     file: u64,
-) -> Result<Key, AllocError>
-    requires room { pages.old.total + pipe.ring.capacity ≤ pages.old.limits.reserve }
-    requires range { pipe.ring.capacity < 2 ^ 32 }
-    requires unspent { length pipes.old.items < 2 ^ 64 - 1 }
-    ensures made { IfOk result
-        (MakesFifo pipes.old.items pipes.new.items fifos.old.entries fifos.new.entries pipe file) }
-    ensures charged { OnOk result (Charges pages.old pages.new pipe.owner pipe.ring.capacity) }
-    ensures pages { OnErr result (pages.new ≡ pages.old) }
-    ensures pipes { OnErr result (pipes.new.items ≡ pipes.old.items) }
-    ensures fifos { OnErr result (SameKeys fifos.old.entries fifos.new.entries) }
+    key: Option<Key>,
+) -> Result<Key, Fault>
+    ensures gets { GetsPipe pages.old pages.new pipes.old.items pipes.new.items fifos.old.entries fifos.new.entries
+        cred.now file result key }
+    ensures drawn { descriptions.new.items ≡ descriptions.old.items }
+    ensures room { OnOk result (0 < descriptions.new.room) }
 {
+    if let Some(key) = key {
+        descriptions.reserve(1)?;
+        return Ok(key);
+    }
+    let slots = fifo_capacity(pages, pipes, cred)?;
+    // What may be refused comes first.
+    let pipe = Pipe::new(alloc, slots as usize, cred.uid, Some(file))?;
+    descriptions.reserve(1)?;
     pipes.reserve(1)?;
     fifos.reserve(1)?;
-    pages.charge(pipe.owner(), pipe.slots() as u32)?;
+    pages.charge(cred.uid, slots)?;
     let key = pipes.insert_reserved(pipe);
     let Ok(_) = fifos.insert(file, key) else {
         unreachable!()
@@ -170,139 +191,37 @@ fn make_fifo(
     Ok(key)
 }
 
+// Makes the description that an open draws, with one name: a free descriptor, which is told, or the open itself where
+// it waits.
+fn describe(
+    processes: &mut ProcessTable,
+    descriptions: &mut Descriptions<Description>,
+    pid: u32,
+    fd: usize,
+    end: Description,
+    kept: Option<u64>,
+) -> Reply
+    requires ready { IsOk (ready_in processes.old pid) }
+    requires spare { HasFree processes.old pid }
+    requires fd_in { fd < MAX_DESCRIPTORS }
+    requires room { 0 < descriptions.old.room }
+    requires unspent { length descriptions.old.items < 2 ^ 64 - 1 }
+    ensures { Describes processes.old processes.new descriptions.old.items descriptions.new.items
+        pid fd end kept result }
+{
+    let description = insert_named(descriptions, end);
+    if let Some(kept) = kept {
+        processes.park(pid, Call::Open { description, kept });
+        return Reply::Parked;
+    }
+    processes.give_key(pid, fd, description);
+    Reply::Num(fd as u64)
+}
+
 impl<A: Allocator> Tables<A> {
-    // The number of the FIFO at a path that a process may open so.
-    fn openable(&self, alloc: Global, pid: u32, path: &[u8], access: Access) -> Result<u64, Fault>
-        ensures told { Told (λ file. file) result (fifo_named self.now.state pid path.now (access_seen access)) }
-        ensures sided { IfOk result (λ _. 0 < one_if access.reads + one_if access.writes) }
-        ensures ready { result ≡ Err Fault.NoMemory → IsOk (ready self.now.state pid) }
-    {
-        let cred = &self.processes.ready(pid)?.cred;
-        match pf_walk::openable(
-            alloc,
-            self.files.tree(),
-            cred,
-            path,
-            access.reads,
-            access.writes,
-        ) {
-            Ok(file) => Ok(file.number),
-            Err(fault) => Err(fault),
-        }
-    }
-
-    // Why a process may not open a FIFO, whoever has it open.
-    fn may_open(&self, pid: u32, file: u64, access: Access) -> Result<(), Errno>
-        ensures { result ≡ may_open self.now.state pid (access_seen access) file }
-    {
-        if self.processes.ready(pid)?.descriptors.lowest() >= MAX_DESCRIPTORS {
-            return Err(Errno::EMFILE);
-        }
-        if self.lacks_readers(file, access) {
-            return Err(Errno::ENXIO);
-        }
-        if self.descriptions.drawn() == MAX_MADE {
-            return Err(Errno::ENFILE);
-        }
-        Ok(())
-    }
-
-    // Whether nobody reads a FIFO that is opened for writing alone, with O_NONBLOCK.
-    fn lacks_readers(&self, file: u64, access: Access) -> bool
-        ensures { result ≡ lacks_readers self.now.state (access_seen access) file }
-    {
-        access.writes && !access.reads && access.nonblock && self.fifo_readers(file) == 0
-    }
-
-    // How many ends read a FIFO's pipe, 0 where it has none.
-    fn fifo_readers(&self, file: u64) -> u64
-        ensures { result ≡ fifo_readers itself self.now.state (fifo_pipe self.now.state file) }
-    {
-        let Some(key) = self.fifos.get(&file) else {
-            return 0;
-        };
-        match self.pipes.get(*key) {
-            Some(pipe) => pipe.readers(),
-            None => 0,
-        }
-    }
-
-    // How many slots a FIFO's pipe gets that a process makes, or why it gets none.
-    fn fifo_capacity(&self, pid: u32) -> Result<u32, Errno>
-        ensures found { result ≡ fifo_capacity self.now.limits self.now.state pid }
-        ensures room { IfOk result (λ slots. total self.now.state + slots ≤ self.now.limits.reserve) }
-    {
-        let cred = &self.processes.ready(pid)?.cred;
-        if self.pipes.drawn() == MAX_MADE {
-            return Err(Errno::ENFILE);
-        }
-        new_capacity(&self.pages, cred, Errno::ENOMEM)
-    }
-
-    // Opens a FIFO that somebody has open; none where nobody has. Where memory is refused, nothing has changed.
-    fn open_found(
-        &mut self,
-        pid: u32,
-        file: u64,
-        access: Access,
-    ) -> Result<Option<Reply>, AllocError>
-        requires may { may_open self.old.state pid (access_seen access) file ≡ Ok tt }
-        requires sided { 0 < one_if access.reads + one_if access.writes }
-        ensures opens { IfOk result (λ opened. IfSome opened (Makes self.old self.new
-            (opening self.old.limits self.old.state pid (access_seen access) file))) }
-        ensures closed { result ≡ Ok None → (fifo_pipe self.old.state file ≡ None) × (self.new ≡ self.old) }
-        ensures refused { OnErr result (self.new ≡ self.old) }
-    {
-        let Some(key) = self.fifos.get(&file).copied() else {
-            return Ok(None);
-        };
-        self.descriptions.reserve(1)?;
-        let pipe = self.pipes.value_mut(key);
-        let kept = access.before(pipe);
-        count(pipe, access);
-        let (processes, descriptions) = (&mut self.processes, &mut self.descriptions);
-        Ok(Some(describe(processes, descriptions, pid, access.end(key), kept)))
-    }
-
-    // Opens a FIFO that nobody has open: its first opener is charged with its pipe. Where memory is refused, nothing
-    // has changed.
-    fn open_new(
-        &mut self,
-        alloc: Global,
-        pid: u32,
-        file: u64,
-        access: Access,
-        slots: u32,
-    ) -> Result<Reply, Fault>
-        requires may { may_open self.old.state pid (access_seen access) file ≡ Ok tt }
-        requires closed { fifo_pipe self.old.state file ≡ None }
-        requires slots { fifo_capacity self.old.limits self.old.state pid ≡ Ok slots }
-        requires room { total self.old.state + slots ≤ self.old.limits.reserve }
-        requires sided { 0 < one_if access.reads + one_if access.writes }
-        ensures says { Says self.old self.new result
-            (opening self.old.limits self.old.state pid (access_seen access) file) }
-        ensures refused { OnErr result (self.new ≡ self.old) }
-    {
-        let Ok(process) = self.processes.ready(pid) else {
-            unreachable!()
-        };
-        let mut pipe = Pipe::new(alloc, slots as usize, process.cred.uid, Some(file))?;
-        self.descriptions.reserve(1)?;
-        let kept = access.before(&pipe);
-        count(&mut pipe, access);
-        let key = make_fifo(
-            &mut self.pages,
-            &mut self.pipes,
-            &mut self.fifos,
-            pipe,
-            file,
-        )?;
-        let (processes, descriptions) = (&mut self.processes, &mut self.descriptions);
-        Ok(describe(processes, descriptions, pid, access.end(key), kept))
-    }
-
     /// Opens the FIFO at a path for a process (open(2), fifo(7)): its lowest free descriptor names the description, or
-    /// the process waits for the other side.
+    /// the process waits for the other side. A FIFO that nobody has open gets its pipe. One look-up finds the process,
+    /// and one the FIFO's pipe.
     pub fn open(
         &mut self,
         alloc: Global,
@@ -318,45 +237,60 @@ impl<A: Allocator> Tables<A> {
         ensures refused { OnErr result (self.new ≡ self.old) }
     {
         let access = Access::new(flags);
-        let file = self.openable(alloc, pid, path, access)?;
-        self.may_open(pid, file, access)?;
-        if let Some(reply) = self.open_found(pid, file, access)? {
-            return Ok(reply);
+        let process = self.processes.ready(pid)?;
+        let file = pf_walk::openable(
+            alloc,
+            self.files.tree(),
+            &process.cred,
+            path,
+            access.reads,
+            access.writes,
+        )?;
+        let fd = process.descriptors.lowest();
+        if fd >= MAX_DESCRIPTORS {
+            return Err(Errno::EMFILE.into());
         }
-        let slots = self.fifo_capacity(pid)?;
-        self.open_new(alloc, pid, file, access, slots)
+        let found = self.fifos.get(&file.number).copied();
+        if access.lacks_readers(&self.pipes, found) {
+            return Err(Errno::ENXIO.into());
+        }
+        if self.descriptions.drawn() == MAX_MADE {
+            return Err(Errno::ENFILE.into());
+        }
+        let key = fifo(
+            alloc,
+            &mut self.pages,
+            &mut self.descriptions,
+            &mut self.pipes,
+            &mut self.fifos,
+            &process.cred,
+            file.number,
+            found,
+        )?;
+        let pipe = self.pipes.value_mut(key);
+        let kept = access.before(pipe);
+        count(pipe, access);
+        let (processes, descriptions) = (&mut self.processes, &mut self.descriptions);
+        Ok(describe(processes, descriptions, pid, fd, access.end(key), kept))
     }
 
     /// Tries the open again in which a process waits: its lowest free descriptor names the description, where the other
-    /// side was opened since. It takes no memory.
+    /// side was opened since, also where it was closed again (fifo(7)). It takes no memory.
     pub fn resume_open(&mut self, pid: u32) -> Reply
         requires { waits_in_open self.old.state pid ≡ Ok true }
         ensures { Reopens self.old self.new pid result }
     {
-        if !self.open_is_over(pid) {
-            self.settled();
+        let Ok(process) = self.processes.living(pid) else {
+            unreachable!()
+        };
+        let Some(Call::Open { description, kept }) = process.parked.as_ref() else {
+            unreachable!()
+        };
+        if others(&self.descriptions, &self.pipes, *description) <= *kept {
             return Reply::Parked;
         }
-        let fd = self.lowest_descriptor(pid);
+        let fd = process.descriptors.lowest();
         self.wake(pid);
         Reply::Num(fd as u64)
-    }
-
-    // Whether the open in which a process waits is over: the other side was opened since, also where it was closed
-    // again (fifo(7)).
-    fn open_is_over(&self, pid: u32) -> bool
-        requires { waits_in_open self.now.state pid ≡ Ok true }
-        ensures { IsOver self.now.state pid result }
-    {
-        let Some(Call::Open { description, kept }) = self.processes.call(pid) else {
-            return false;
-        };
-        let Some(end) = self.descriptions.get(*description) else {
-            return false;
-        };
-        let Some(pipe) = self.pipes.get(end.pipe) else {
-            return false;
-        };
-        other_opens(pipe, end.reads) > *kept
     }
 }

@@ -7,7 +7,7 @@ ghost use Rattle.pf_machine.specs.State.{itself, ready, living};
 ghost use Rattle.pf_machine.specs.Sweep.{sweep};
 ghost use Rattle.pf_tables.specs.Buffers.{read_in};
 ghost use Rattle.pf_tables.specs.Rows.{call_of, made_by};
-ghost use Rattle.pf_tables.specs.Tables.{awoken, waits_in_open, HasLowest};
+ghost use Rattle.pf_tables.specs.Tables.{awoken, waits_in_open};
 ghost use Rattle.pf_tables.specs.Told.{waits_in};
 
 use super::Tables;
@@ -46,17 +46,6 @@ impl<A: Allocator> Tables<A> {
             Some(_) => None,
             None => None,
         }
-    }
-
-    // The lowest free descriptor of a process, also where it waits.
-    pub(super) fn lowest_descriptor(&self, pid: u32) -> u32
-        requires { IsOk (living self.now.state pid) }
-        ensures { HasLowest self.now.state pid result }
-    {
-        let Ok(process) = self.processes.living(pid) else {
-            unreachable!()
-        };
-        process.descriptors.lowest() as u32
     }
 
     /// A process that waits in no call waits in this one, which is no open. It takes no memory.

@@ -3,7 +3,7 @@
 
 ghost use Rattle.pf_tables.specs.Queries.{GoesOn, GoesOnNext, IsReadiness};
 
-use super::opens::other_opens;
+use super::opens::others;
 use super::{Tables, end, end_of};
 use pf_base::{Errno, MAX_PROCESSES, MAX_WRITE, PIPE_BUF, Readiness, Side};
 use pf_parked::Call;
@@ -21,13 +21,7 @@ impl<A: Allocator> Tables<A> {
         match process.parked.as_ref() {
             None => false,
             Some(Call::Open { description, kept }) => {
-                let Some(end) = self.descriptions.get(*description) else {
-                    return true;
-                };
-                let Some(pipe) = self.pipes.get(end.pipe) else {
-                    return true;
-                };
-                other_opens(pipe, end.reads) > *kept
+                others(&self.descriptions, &self.pipes, *description) > *kept
             }
             Some(Call::Read { fd, n }) => {
                 let Ok(end) = end_of(process, &self.descriptions, *fd, Some(Side::Read)) else {

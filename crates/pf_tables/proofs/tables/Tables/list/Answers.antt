@@ -1,4 +1,4 @@
-use Rattle.std.proofs.Common.{ℕ, List, Vec, Global, Ok, Err, refl, rules}
+use Rattle.std.proofs.Common.{ℕ, Vec, Global, Ok, refl, rules}
 use Rattle.pf_tables.proofs.Common.{told, state_of}
 use Rattle.pf_machine.specs.FileCalls as calls
 use Rattle.pf_machine.specs.Files.{list}

@@ -1,48 +1,123 @@
-use Rattle.std.proofs.Common.{Ok, ◌∙◌, ap, sym, rules}
+use Rattle.std.proofs.Common.{◌≡◌, ◌+◌, ◌<◌, ◌^◌, Ok, false, true, length, refl, sym, ap, ◌∙◌, arith, rules}
+use Rattle.std.proofs.lemmas.Bool.{le-leb, lt-leb, lt-ltb, le-ltb}
 use Rattle.pf_tables.proofs.Common.{access_seen}
-use Rattle.pf_tables.proofs.OpensNew.{unpiped}
-use Rattle.pf_tables.proofs.OpensOutcome.{stops}
-use Rattle.pf_tables.proofs.OpensResolve.{not_named, goes_on}
+use Rattle.pf_tables.proofs.OpensOutcome.{sided, is_ready, has_free, not_named, by_tests, not_piped, opened-whole}
+use Rattle.pf_tables.proofs.OpensOutcome.{opened-makes}
+use Rattle.pf_tables.proofs.OpensPipe.{still-whole, keeps, is_there, stands}
 use Rattle.pf_tables.proofs.tables.Tables.open.Goals as goal
 
 pub returns-in_err-file-clause-says : goal.returns-in_err-file-clause-says
 returns-in_err-file-clause-says g c =
-    let old = c.args.self.now in
     let refused =
-    not_named old.limits old.state c.args.pid c.args.path.now c.new-access.ensures old old c.in_err-file.field-0.0
-    c.in_err-file.ensures.told in
+    not_named c.self.invariant c.self.view_is c.args.pid c.in_ok-process.ensures c.args.path.now c.new-access.ensures
+    c.args.self.now c.in_err-file.field-0.0 (rw c.tree.ensures at c.in_err-file.ensures) in
     search rules
 
-pub returns-in_err-may_open-clause-says : goal.returns-in_err-may_open-clause-says
-returns-in_err-may_open-clause-says g c =
-    let old = c.args.self.now in
+pub returns-in_err-file-clause-ready : goal.returns-in_err-file-clause-ready
+returns-in_err-file-clause-ready g c =
+    λ _. is_ready c.self.invariant c.self.view_is c.args.pid c.in_ok-process.ensures
+
+pub returns-then-fd-ge-MAX_DESCRIPTORS-clause-says : goal.returns-then-fd-ge-MAX_DESCRIPTORS-clause-says
+returns-then-fd-ge-MAX_DESCRIPTORS-clause-says g c =
     let refused =
-    goes_on old.limits old.state c.args.pid c.args.path.now c.new-access.ensures c.in_ok-file.file
-    c.in_ok-file.ensures.told
-    ∙ stops old.state c.args.pid (access_seen c.new-access.result) c.in_ok-file.file old.limits
-    c.in_err-may_open.field-0.0 (sym c.may_open.ensures ∙ c.in_err-may_open.was) in
+    by_tests c.self.invariant c.self.view_is c.args.pid c.in_ok-process.ensures c.args.path.now c.new-access.ensures
+    (rw c.tree.ensures at c.in_ok-file.ensures) c.lowest-fd.ensures.lowest refl
+    (le-leb _ _ c.if-fd-ge-MAX_DESCRIPTORS.true) refl refl refl in
     search rules
 
-pub returns-in-Some-clause-says : goal.returns-in-Some-clause-says
-returns-in-Some-clause-says g c =
-    let old = c.args.self.now in
-    rw (goes_on old.limits old.state c.args.pid c.args.path.now c.new-access.ensures c.in_ok-file.file
-    c.in_ok-file.ensures.told) (rw c.in-Some.is at c.in_ok-reply.ensures.opens)
-
-pub returns-in_err-slots-clause-says : goal.returns-in_err-slots-clause-says
-returns-in_err-slots-clause-says g c =
-    let old = c.args.self.now in
-    let closed = c.in_ok-reply.ensures.closed (ap Ok c.in_default.is) in
+pub returns-then-lacks_readers-clause-says : goal.returns-then-lacks_readers-clause-says
+returns-then-lacks_readers-clause-says g c =
     let refused =
-    goes_on old.limits old.state c.args.pid c.args.path.now c.new-access.ensures c.in_ok-file.file
-    c.in_ok-file.ensures.told
-    ∙ unpiped old.limits old.state c.args.pid (access_seen c.new-access.result) c.in_ok-file.file
-    c.in_err-slots.field-0.0 (sym c.may_open.ensures ∙ c.in_ok-may_open.was) closed.0
-    (rw closed.1 at (sym c.fifo_capacity.ensures.found ∙ c.in_err-slots.was)) in
+    by_tests c.self.invariant c.self.view_is c.args.pid c.in_ok-process.ensures c.args.path.now c.new-access.ensures
+    (rw c.tree.ensures at c.in_ok-file.ensures) c.lowest-fd.ensures.lowest
+    (sym c.get.ensures.value ∙ sym c.copied-found.ensures) (lt-leb _ _ c.if-fd-ge-MAX_DESCRIPTORS.false)
+    (sym c.lacks_readers.ensures ∙ c.if-lacks_readers.true) refl refl in
     search rules
+
+pub returns-then-drawn-clause-says : goal.returns-then-drawn-clause-says
+returns-then-drawn-clause-says g c =
+    let refused =
+    by_tests c.self.invariant c.self.view_is c.args.pid c.in_ok-process.ensures c.args.path.now c.new-access.ensures
+    (rw c.tree.ensures at c.in_ok-file.ensures) c.lowest-fd.ensures.lowest
+    (sym c.get.ensures.value ∙ sym c.copied-found.ensures) (lt-leb _ _ c.if-fd-ge-MAX_DESCRIPTORS.false)
+    (sym c.lacks_readers.ensures ∙ c.if-lacks_readers.false)
+    (lt-ltb _ _ (omega (arith, c.drawn.ensures, c.if-drawn.true))) refl in
+    search rules
+
+pub returns-in_err-key-clause-says : goal.returns-in_err-key-clause-says
+returns-in_err-key-clause-says g c =
+    let refused =
+    not_piped c.self.invariant c.self.view_is c.args.pid c.in_ok-process.ensures c.args.path.now c.new-access.ensures
+    (rw c.tree.ensures at c.in_ok-file.ensures) c.lowest-fd.ensures.lowest
+    (sym c.get.ensures.value ∙ sym c.copied-found.ensures) c.args.self.now _ _ _
+    c.in_err-key.field-0.0 c.in_err-key.ensures.gets (lt-leb _ _ c.if-fd-ge-MAX_DESCRIPTORS.false)
+    (sym c.lacks_readers.ensures ∙ c.if-lacks_readers.false)
+    (le-ltb _ _ (omega (arith, c.drawn.ensures, c.if-drawn.false, c.drawn.type_inv))) in
+    search rules
+
+pub returns-in_err-key-clause-ready : goal.returns-in_err-key-clause-ready
+returns-in_err-key-clause-ready g c =
+    λ _. is_ready c.self.invariant c.self.view_is c.args.pid c.in_ok-process.ensures
+
+pub invariant_of-self : goal.invariant_of-self
+invariant_of-self g c =
+    rw c.in_err-key.ensures.drawn (still-whole c.self.invariant c.in_ok-process.process.now c.in_ok-file.file.number
+    (keeps c.self.invariant c.in_ok-process.process.now c.in_ok-file.file.number _ _ _ c.in_err-key.field-0.0
+    c.copied-found.result c.in_err-key.ensures.gets))
+
+pub value_mut-pipe-requires : goal.value_mut-pipe-requires
+value_mut-pipe-requires g c = record {
+  stands =
+      is_there c.self.invariant c.in_ok-process.process.now c.in_ok-file.file.number c.self.inside.files
+      c.self.inside.files_made c.new-access.result
+      (sided c.tree.result.now c.in_ok-process.process.now.cred c.args.path.now (access_seen c.new-access.result)
+      c.in_ok-file.ensures) _ _ _ _
+      (sym c.get.ensures.value ∙ sym c.copied-found.ensures) c.in_ok-key.ensures.gets;
+}
+
+pub count-requires : goal.count-requires
+count-requires g c =
+    let x =
+    stands c.self.invariant c.in_ok-process.process.now c.in_ok-file.file.number c.self.inside.files
+    c.self.inside.files_made c.new-access.result
+    (sided c.tree.result.now c.in_ok-process.process.now.cred c.args.path.now (access_seen c.new-access.result)
+    c.in_ok-file.ensures) _ _ _ _
+    (sym c.get.ensures.value ∙ sym c.copied-found.ensures) c.in_ok-key.ensures.gets c.value_mut-pipe.ensures.value in
+    x.few (omega (arith, c.drawn.ensures, c.if-drawn.false, c.drawn.type_inv))
+
+pub describe-requires-clause-spare : goal.describe-requires-clause-spare
+describe-requires-clause-spare g c =
+    has_free c.self.invariant c.self.view_is c.args.pid c.in_ok-process.ensures c.lowest-fd.ensures.lowest
+    c.if-fd-ge-MAX_DESCRIPTORS.false
+
+pub describe-requires-clause-unspent : goal.describe-requires-clause-unspent
+describe-requires-clause-unspent g c =
+    omega (arith, ap length c.in_ok-key.ensures.drawn, c.drawn.ensures, c.if-drawn.false, c.drawn.type_inv)
+
+pub invariant_of-self-2 : goal.invariant_of-self-2
+invariant_of-self-2 g c =
+    let x =
+    stands c.self.invariant c.in_ok-process.process.now c.in_ok-file.file.number c.self.inside.files
+    c.self.inside.files_made c.new-access.result
+    (sided c.tree.result.now c.in_ok-process.process.now.cred c.args.path.now (access_seen c.new-access.result)
+    c.in_ok-file.ensures) _ _ _ _
+    (sym c.get.ensures.value ∙ sym c.copied-found.ensures) c.in_ok-key.ensures.gets c.value_mut-pipe.ensures.value in
+    let z = rw (c.in_ok-key.ensures.drawn, c.end.ensures, c.before-kept.ensures) at c.describe.ensures in
+    rw c.count.ensures (opened-whole x z c.in_ok-process.ensures c.lowest-fd.ensures.lowest
+    c.if-fd-ge-MAX_DESCRIPTORS.false)
 
 pub returns-clause-says : goal.returns-clause-says
 returns-clause-says g c =
-    let old = c.args.self.now in
-    rw (goes_on old.limits old.state c.args.pid c.args.path.now c.new-access.ensures c.in_ok-file.file
-    c.in_ok-file.ensures.told) (rw (c.in_ok-reply.ensures.closed (ap Ok c.in_default.is)).1 at c.open_new.ensures.says)
+    let found = rw c.tree.ensures at c.in_ok-file.ensures in
+    let key_is = sym c.get.ensures.value ∙ sym c.copied-found.ensures in
+    let x =
+    stands c.self.invariant c.in_ok-process.process.now c.in_ok-file.file.number c.self.inside.files
+    c.self.inside.files_made c.new-access.result
+    (sided c.tree.result.now c.in_ok-process.process.now.cred c.args.path.now (access_seen c.new-access.result)
+    c.in_ok-file.ensures) _ _ _ _ key_is c.in_ok-key.ensures.gets c.value_mut-pipe.ensures.value in
+    let z = rw (c.in_ok-key.ensures.drawn, c.end.ensures, c.before-kept.ensures) at c.describe.ensures in
+    rw c.count.ensures
+    (opened-makes c.self.invariant c.self.view_is c.args.pid c.in_ok-process.ensures c.args.path.now
+    c.new-access.ensures found c.lowest-fd.ensures.lowest key_is x z c.if-fd-ge-MAX_DESCRIPTORS.false
+    (lt-leb _ _ c.if-fd-ge-MAX_DESCRIPTORS.false) (sym c.lacks_readers.ensures ∙ c.if-lacks_readers.false)
+    (le-ltb _ _ (omega (arith, c.drawn.ensures, c.if-drawn.false, c.drawn.type_inv))))

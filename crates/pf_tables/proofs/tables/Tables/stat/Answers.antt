@@ -1,4 +1,4 @@
-use Rattle.std.proofs.Common.{Ok, Err, refl}
+use Rattle.std.proofs.Common.{Ok, refl}
 use Rattle.pf_tables.proofs.Common.{told, state_of}
 use Rattle.pf_machine.specs.FileCalls as calls
 use Rattle.pf_machine.specs.Files.{stat}

@@ -1,4 +1,5 @@
--- The keys that are left give the names that are wanted; their descriptions stand, and have few names so far.
+-- The keys that are left give the names that are wanted; their descriptions stand, and have few names so far: 65,792 is
+-- MAX_PROCESSES * (MAX_DESCRIPTORS + 1), as many as there were before at most.
 use Rattle.std.proofs.Common.{◌≡◌, ℕ, ◌+◌, ◌-◌, ◌≤◌, Some, drop}
 use Rattle.pf_tables.proofs.Common.{at, Description, Named, AllFind, named_once_more}
 use Rattle.pf_tables.proofs.tables.processes.name_all.Given as goal
