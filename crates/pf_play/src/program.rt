@@ -194,8 +194,8 @@ fn do_asked<T: Threads + Wait + Sync, R: Source, W: Sink, G: Gate + Sync>(
 
 /// Judges the words of the command line, of which the first is the program's name, and then does what they say. What is
 /// written is the same with threads and without, but for a script that admits or retires a namespace: that needs one
-/// thread. The gate is told of each step where threads are asked for, and of none
-/// else. A heap for the files is for one thread.
+/// thread. The gate is told of each step where threads are asked for, and of none else. A heap for the files is for one
+/// thread.
 pub fn obey<T: Threads + Wait + Sync, R: Source, W: Sink, G: Gate + Sync>(
     rt: &T,
     alloc: Global,

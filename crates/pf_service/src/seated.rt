@@ -110,6 +110,7 @@ impl<A: Allocator + Clone, C: Ledger, H: Ledger> Seated<A, C, H> {
         ensures unchanged { OnErr result (self.new.tenant ≡ self.old.tenant) }
         ensures given { self.new.given ≡ self.old.given }
         ensures awaited { OnErr result (self.new.is_awaited ≡ self.old.is_awaited) }
+        ensures known { OnOk result (self.new.is_awaited ≡ true) }
     {
         let Tenant::Living(living) = &self.tenant else {
             return Err(RetireFault::NoSuchNamespace);
