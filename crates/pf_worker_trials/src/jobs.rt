@@ -19,7 +19,7 @@ use std::thread::{Threads, join};
 const TOO_MANY: Option<AdmitFault> = Some(AdmitFault::TooManyNamespaces);
 
 // A depot of so many frames, and no tenant yet.
-fn bare<C: Ledger, H: Ledger>(
+pub(crate) fn bare<C: Ledger, H: Ledger>(
     alloc: Global,
     frames: u32,
     credits: Blank,
@@ -34,7 +34,7 @@ fn bare<C: Ledger, H: Ledger>(
 }
 
 // A tenant with this reservation, or why there is none. Where a growth is refused it is asked for once more.
-fn admit<R: Wait, C: Ledger, H: Ledger>(
+pub(crate) fn admit<R: Wait, C: Ledger, H: Ledger>(
     rt: &R,
     alloc: Global,
     book: &Mutex<DepotBook<C, H>>,

@@ -8,7 +8,7 @@ use crate::tenants::{Row, begins, has_one_page, put_in_slices, waits_for_a_page}
 use crate::watch::Watch;
 use pf_base::{Answer, Errno, MAX_NAMESPACES, Reply, Step};
 use pf_depot::DepotBook;
-use pf_worker::{Gate, NoGate, open};
+use pf_worker::{Gate, open};
 use std::alloc::Global;
 use std::marker::Brand;
 use std::sync::ledger::{Blank, Ledger};
@@ -65,13 +65,14 @@ pub(crate) fn is_told_in_slice<R: Wait, G: Gate, C: Ledger, H: Ledger>(
     is(answer, &row.told)
 }
 
-// Whether a read that waits has its first bytes in a slice, once they are there, and another one all that are left.
-fn passes<R: Wait, C: Ledger, H: Ledger>(
+// Whether a read that waits has its first bytes in a slice, once they are there, and another one all that are left. One
+// frame is taken, by the write.
+pub(crate) fn passes<R: Wait, G: Gate, C: Ledger, H: Ledger>(
     rt: &R,
     book: &Mutex<DepotBook<C, H>>,
+    gate: &G,
     worker: &mut Tenant<C, H>,
 ) -> bool {
-    let gate = &NoGate;
     let mut few = *b"....";
     let mut many = *b"..........";
     let parks = worker.read_into(rt, book, gate, 1, 0, &mut many) == Ok(None);
@@ -89,6 +90,7 @@ fn is_passed<C: Ledger, H: Ledger, R: Wait>(
     alloc: Global,
     credits: Blank,
     held: Blank,
+    watch: &Watch,
     rows: &[Row],
 ) -> Option<bool>
     requires blanks { IsBlankOf C.name C.parts credits × IsBlankOf H.name H.parts held }
@@ -99,7 +101,7 @@ fn is_passed<C: Ledger, H: Ledger, R: Wait>(
     let (book, mut workers) = open::<Global, C, H>(alloc, frames, configs, credits, held).ok()?;
     let book = Mutex::new(book);
     let passed = match workers.first_mut() {
-        Some(worker) => { does(rt, &book, &NoGate, worker, rows) && passes(rt, &book, worker) }
+        Some(worker) => { does(rt, &book, watch, worker, rows) && passes(rt, &book, watch, worker) }
         None => false,
     };
     drop(workers);
@@ -107,14 +109,19 @@ fn is_passed<C: Ledger, H: Ledger, R: Wait>(
     Some(passed)
 }
 
-fn is_passed_by_name<R: Wait>(rt: &R, alloc: Global, rows: &[Row]) -> Option<bool> {
-    is_passed::<Brand, Brand, R>(rt, alloc, blank(), blank(), rows)
+fn is_passed_by_name<R: Wait>(rt: &R, alloc: Global, watch: &Watch, rows: &[Row]) -> Option<bool> {
+    is_passed::<Brand, Brand, R>(rt, alloc, blank(), blank(), watch, rows)
 }
 
 #[test]
 fn bytes_of_slices_pass_through_a_worker(rt: HostRuntime) -> Result<(), Fail> {
     let rows = begins();
-    assert_eq!(rt; is_passed_by_name(&rt, rt.alloc(), &rows), Some(true));
+    let watch = Watch::new();
+    assert_eq!(rt;
+        is_passed_by_name(&rt, rt.alloc(), &watch, &rows),
+        Some(true)
+    );
+    assert!(rt; watch.is_told(1, 0));
     Ok(())
 }
 

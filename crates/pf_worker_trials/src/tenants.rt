@@ -116,7 +116,12 @@ pub(crate) fn works() -> [Row; 6] {
     [spawn(), file, pipe, write_one(), read(100, one()), exit()]
 }
 
-/// Another writes a byte 7a, and asks for a hundred.
+/// A process that has a pipe writes a byte 7a, and asks for a hundred.
+pub(crate) fn asks() -> [Row; 2] {
+    [write_one(), read(100, one())]
+}
+
+/// Another makes a pipe before.
 pub(crate) fn asks_for_more() -> [Row; 4] {
     let pipe = pipe(Reply::Fds(0, 1));
     [spawn(), pipe, write_one(), read(100, one())]

@@ -23,6 +23,8 @@ pub(crate) struct Watch {
     held: AtomicU64,
     // Not 0: the first tenant has made its steps.
     done: AtomicU64,
+    // How many steps it was told of. A worker tells of none: whoever has it make one does.
+    steps: AtomicU64,
     // Not 0: one waited for all its turns.
     used_up: AtomicU64,
 }
@@ -42,6 +44,7 @@ impl Watch {
             taken,
             held: AtomicU64::new(0),
             done: AtomicU64::new(0),
+            steps: AtomicU64::new(0),
             used_up: AtomicU64::new(0),
         }
     }
@@ -56,14 +59,16 @@ impl Watch {
         self.done.store(1, Ordering::SeqCst);
     }
 
-    // Whether it was told of so many frames of each, and nobody waited for nothing.
+    // Whether it was told of so many frames of each, and of no step, and nobody waited for nothing.
     pub(crate) fn is_told(&self, red: u64, blue: u64) -> bool {
         self.red.load(Ordering::SeqCst) == red
             && self.blue.load(Ordering::SeqCst) == blue
+            && self.steps.load(Ordering::SeqCst) == 0
             && self.used_up.load(Ordering::SeqCst) == 0
     }
 
-    fn wait_for(&self, told: &AtomicU64) {
+    // Waits until this was told.
+    pub(crate) fn wait_for(&self, told: &AtomicU64) {
         for _ in 0..TURNS {
             if told.load(Ordering::SeqCst) != 0 {
                 return;
@@ -81,6 +86,7 @@ impl Gate for Watch {
 
     fn pass(&self, ns: u32, place: u64) {
         let _ = (ns, place);
+        self.steps.fetch_add(1, Ordering::SeqCst);
     }
 
     fn frame(&self, ns: u32) {
