@@ -1,9 +1,9 @@
 //! A gate that holds two namespaces' steps, so that a replay ends only where both are run at once, and where neither
-//! keeps the depot's lock between its steps; and one that counts the frames of each namespace, and looks at each step
-//! how many it was told of so far.
+//! keeps the depot's lock between its steps; and one that counts the steps and frames of each namespace, also where one
+//! is chosen, and looks at each step how many frames it was told of so far.
 
 use crate::patience::Patience;
-use crate::texts::played;
+use crate::texts::{played, played_of};
 use pf_play::Gate;
 use std::sync::atomic::{AtomicU64, Ordering};
 use std::test::Fail;
@@ -100,9 +100,10 @@ fn two_namespaces_at_once(rt: HostRuntime) -> Result<(), Fail> {
     Ok(())
 }
 
-/// How many frames it was told of, of each of two namespaces and of all.
+/// How many steps it was told of, and how many frames of each of two namespaces and of all.
 #[derive(Drop)]
 struct Frames {
+    steps: AtomicU64,
     red: AtomicU64,
     blue: AtomicU64,
     all: AtomicU64,
@@ -113,6 +114,7 @@ struct Frames {
 impl Frames {
     fn new() -> Frames {
         Frames {
+            steps: AtomicU64::new(0),
             red: AtomicU64::new(0),
             blue: AtomicU64::new(0),
             all: AtomicU64::new(0),
@@ -120,9 +122,10 @@ impl Frames {
         }
     }
 
-    /// Whether it was told of so many frames of each, and of no other.
-    fn are(&self, red: u64, blue: u64) -> bool {
-        self.red.load(Ordering::SeqCst) == red
+    /// Whether it was told of so many steps, and of so many frames of each namespace and no other.
+    fn are(&self, steps: u64, red: u64, blue: u64) -> bool {
+        self.steps.load(Ordering::SeqCst) == steps
+            && self.red.load(Ordering::SeqCst) == red
             && self.blue.load(Ordering::SeqCst) == blue
             && self.all.load(Ordering::SeqCst) == red.wrapping_add(blue)
             && self.wrong.load(Ordering::SeqCst) == 0
@@ -137,6 +140,7 @@ impl Gate for Frames {
     // The third step of each namespace is a write that takes frames, the first one's two at once, and none but its last
     // one takes another.
     fn pass(&self, ns: u32, place: u64) {
+        self.steps.fetch_add(1, Ordering::SeqCst);
         let (frames, number) = if ns == 0 {
             (&self.red, 2)
         } else {
@@ -194,6 +198,38 @@ fn a_gate_is_told_of_each_frame(rt: HostRuntime) -> Result<(), Fail> {
     let (end, writer) = played(&rt, rt.alloc(), WRITES, WRITTEN, &gate);
     assert!(rt; end.is_ok());
     assert!(rt; writer.is_whole());
-    assert!(rt; gate.are(3, 1));
+    assert!(rt; gate.are(9, 3, 1));
+    Ok(())
+}
+
+const RED_WRITTEN: &str = "== red
+1: pid 1
+2: fds 0 1
+3: num 8192
+4: num 65536
+5: num 1
+";
+
+const BLUE_WRITTEN: &str = "== blue
+1: pid 1
+2: fds 0 1
+3: num 1
+4: bytes 1 7a
+";
+
+/// Of a name that is chosen the gate is told of the same steps and frames, and of no other namespace's.
+#[test]
+fn a_gate_is_told_of_the_chosen_namespace_alone(rt: HostRuntime) -> Result<(), Fail> {
+    let rows = [
+        ("red", RED_WRITTEN, [5, 3, 0]),
+        ("blue", BLUE_WRITTEN, [4, 0, 1]),
+    ];
+    for (name, text, [steps, red, blue]) in rows {
+        let gate = Frames::new();
+        let (end, writer) = played_of(&rt, rt.alloc(), WRITES, text, Some(name), &gate);
+        assert!(rt; end.is_ok());
+        assert!(rt; writer.is_whole());
+        assert!(rt; gate.are(steps, red, blue), "{name}");
+    }
     Ok(())
 }

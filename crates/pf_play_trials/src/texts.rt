@@ -57,7 +57,23 @@ impl Sink for Compared {
     }
 }
 
-/// What a replay with a thread for each namespace ends with, and what was written.
+/// What a replay with a thread for each namespace, or for the one whose name is chosen, ends with, and what was written.
+pub(crate) fn played_of<T: Threads + Wait + Sync, G: Gate + Sync>(
+    rt: &T,
+    alloc: Global,
+    script: &'static str,
+    text: &'static str,
+    only: Option<&str>,
+    gate: &G,
+) -> (Result<Replayed, ReplayFault>, Compared) {
+    let mut reader = MemoryBytes::new(script.as_bytes());
+    let mut writer = Compared::new(text.as_bytes());
+    let options = Options { only, ..OPTIONS };
+    let end = replay_threads(rt, alloc, &mut reader, &mut writer, &options, gate);
+    (end, writer)
+}
+
+/// The same where none is chosen.
 pub(crate) fn played<T: Threads + Wait + Sync, G: Gate + Sync>(
     rt: &T,
     alloc: Global,
@@ -65,10 +81,7 @@ pub(crate) fn played<T: Threads + Wait + Sync, G: Gate + Sync>(
     text: &'static str,
     gate: &G,
 ) -> (Result<Replayed, ReplayFault>, Compared) {
-    let mut reader = MemoryBytes::new(script.as_bytes());
-    let mut writer = Compared::new(text.as_bytes());
-    let end = replay_threads(rt, alloc, &mut reader, &mut writer, &OPTIONS, gate);
-    (end, writer)
+    played_of(rt, alloc, script, text, None, gate)
 }
 
 /// Whether the whole text came, and no step wanted memory.
