@@ -1,5 +1,5 @@
 //! The program on words that ask for threads or heaps and on words that don't: the same text, and a gate that is told
-//! of each step or of none; and on words that aren't taken.
+//! of each step and frame or of none; and on words that aren't taken.
 
 use crate::texts::Compared;
 use pf_play::{Gate, MemoryBytes, obey};
@@ -9,10 +9,11 @@ use std::sync::atomic::{AtomicU64, Ordering};
 use std::test::Fail;
 use std::thread::Threads;
 
-/// A gate that counts the steps that it is told of.
+/// A gate that counts the steps and the frames that it is told of.
 #[derive(Drop)]
 struct Counter {
     steps: AtomicU64,
+    frames: AtomicU64,
 }
 
 impl Gate for Counter {
@@ -27,25 +28,29 @@ impl Gate for Counter {
 
     fn frame(&self, ns: u32) {
         let _ = ns;
+        self.frames.fetch_add(1, Ordering::SeqCst);
     }
 }
 
-const SCRIPT: &str = "pool 2
-space red 1
+const SCRIPT: &str = "pool 17
+space red 16
 space blue 1
 red spawn 5 5 022
 red pipe 1
+red write 1 1 8192*61
 blue spawn 5 5 022
 ";
 
 const RED: &str = "== red
 1: pid 1
 2: fds 0 1
+3: num 8192
 ";
 
 const BOTH: &str = "== red
 1: pid 1
 2: fds 0 1
+3: num 8192
 == blue
 1: pid 1
 ";
@@ -59,24 +64,32 @@ const TOO_SMALL: &str =
 For more information, try '--help'.
 ";
 
-/// Words, the text, the status, and how many steps the gate is told of.
-const ROWS: [(&[&str], &str, u8, u64); 8] = [
-    (&["pfplay"], BOTH, 0, 0),
-    (&["pfplay", "--threads"], BOTH, 0, 3),
-    (&["pfplay", "--only", "red"], RED, 0, 0),
-    (&["pfplay", "--only", "red", "--threads"], RED, 0, 2),
-    (&["pfplay", "--tree-heap", "16777216"], BOTH, 0, 0),
-    (&["pfplay", "--tree-heap=1024", "--only", "red"], RED, 0, 0),
+/// Words, the text, the status, and how many steps and frames the gate is told of.
+const ROWS: [(&[&str], &str, u8, u64, u64); 8] = [
+    (&["pfplay"], BOTH, 0, 0, 0),
+    (&["pfplay", "--threads"], BOTH, 0, 4, 2),
+    (&["pfplay", "--only", "red"], RED, 0, 0, 0),
+    (&["pfplay", "--only", "red", "--threads"], RED, 0, 3, 2),
+    (&["pfplay", "--tree-heap", "16777216"], BOTH, 0, 0, 0),
+    (
+        &["pfplay", "--tree-heap=1024", "--only", "red"],
+        RED,
+        0,
+        0,
+        0,
+    ),
     (
         &["pfplay", "--tree-heap", "1023", "--threads"],
         TOO_SMALL,
         2,
+        0,
         0,
     ),
     (
         &["pfplay", "--tree-heap", "4096", "--threads"],
         ONE_THREAD,
         2,
+        0,
         0,
     ),
 ];
@@ -90,15 +103,16 @@ pub(crate) fn words_of(alloc: Global, texts: &[&str]) -> Result<Vec<String>, All
     Ok(words)
 }
 
-/// The status, and how many steps the gate is told of, where the text is this one.
+/// The status, and how many steps and frames the gate is told of, where the text is this one.
 fn told<T: Threads + Wait + Sync>(
     rt: &T,
     alloc: Global,
     words: &[String],
     text: &'static str,
-) -> Option<(u8, u64)> {
+) -> Option<(u8, u64, u64)> {
     let gate = Counter {
         steps: AtomicU64::new(0),
+        frames: AtomicU64::new(0),
     };
     let mut reader = MemoryBytes::new(SCRIPT.as_bytes());
     let mut writer = Compared::new(text.as_bytes());
@@ -106,16 +120,18 @@ fn told<T: Threads + Wait + Sync>(
     if !writer.is_whole() {
         return None;
     }
-    Some((status as u8, gate.steps.load(Ordering::SeqCst)))
+    let steps = gate.steps.load(Ordering::SeqCst);
+    let frames = gate.frames.load(Ordering::SeqCst);
+    Some((status as u8, steps, frames))
 }
 
 #[test]
 fn threads_and_heaps_where_the_words_ask_for_them(rt: HostRuntime) -> Result<(), Fail> {
-    for (texts, text, status, steps) in ROWS {
+    for (texts, text, status, steps, frames) in ROWS {
         let words = words_of(rt.alloc(), texts)?;
         assert_eq!(rt;
             told(&rt, rt.alloc(), words.as_slice(), text),
-            Some((status, steps)),
+            Some((status, steps, frames)),
             "{texts:?}"
         );
     }
