@@ -1,7 +1,8 @@
 /* What ./sweep has a program loaded with. It counts the program's requests for memory, and refuses the one whose number
    stands in REFUSED. A request for SIGN bytes is a sign of the program's, is never refused, and begins the counting or
    stops it; where COUNTED is 'memory', it begins at once. Where COUNTED is 'starts', threads that are to be started are
-   counted in place of requests for memory, and one of them is refused. In the end it tells how many it counted. */
+   counted in place of requests for memory, and one of them is refused. Where REFUSED is 'bytes', the bytes of these
+   requests are counted, and nothing is refused. In the end it tells how many it counted. */
 
 #define SIGN 7777777UL
 
@@ -24,11 +25,12 @@ int *__errno_location(void);
 #define LIBRARIES_BEHIND ((void *)-1L)
 
 static size refused, counted;
-static int counting, counting_starts;
+static int counting, counting_starts, counting_bytes;
 static starting *start;
 
-static int is_refused(void) {
-    return __atomic_add_fetch(&counted, 1, __ATOMIC_SEQ_CST) == refused;
+static int is_refused(size bytes) {
+    size more = counting_bytes ? bytes : 1;
+    return __atomic_add_fetch(&counted, more, __ATOMIC_SEQ_CST) == refused && refused;
 }
 
 static int refuses(size bytes) {
@@ -36,7 +38,7 @@ static int refuses(size bytes) {
         counting = !counting;
         return 0;
     }
-    if (!counting || !is_refused()) {
+    if (!counting || !is_refused(bytes)) {
         return 0;
     }
     *__errno_location() = OUT_OF_MEMORY;
@@ -64,12 +66,13 @@ int posix_memalign(void **to, size align, size bytes) {
 }
 
 int pthread_create(void *thread, const void *how, void *(*run)(void *), void *given) {
-    return counting_starts && is_refused() ? TRY_AGAIN : start(thread, how, run, given);
+    return counting_starts && is_refused(0) ? TRY_AGAIN : start(thread, how, run, given);
 }
 
 __attribute__((constructor)) static void begin(void) {
     const char *number = getenv("REFUSED"), *what = getenv("COUNTED");
     refused = number ? strtoul(number, 0, 10) : 0;
+    counting_bytes = number && *number == 'b';
     counting = what && *what == 'm';
     counting_starts = what && *what == 's';
     start = (starting *)dlsym(LIBRARIES_BEHIND, "pthread_create");
