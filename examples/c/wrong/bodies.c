@@ -2,6 +2,7 @@
  * the right one. examples/c/run builds each_call.c with one of them at a time, and wants it to find the body out. */
 #include "../../../include/sagthrey.h"
 #include <errno.h>
+#include <stdlib.h>
 
 #ifdef free_forgets_the_hub
 void __wrap_sag_free(sag_hub *h) {
@@ -18,6 +19,36 @@ int64_t __wrap_sag_open(uint32_t frames, const sag_limits *limits, size_t count,
     sag_free(out);
     return SAG_NOMEM;
 }
+#endif
+
+#ifdef exit_asks_for_memory_in_vain
+int64_t __real_sag_exit(sag_hub *h, uint32_t ns, uint32_t pid);
+int64_t __wrap_sag_exit(sag_hub *h, uint32_t ns, uint32_t pid) {
+    void *volatile block = malloc(1);
+    free(block);
+    return __real_sag_exit(h, ns, pid);
+}
+#endif
+
+/* A call of a process that may make one asks for memory before its other tests, and where there is none it tells so. */
+#define ASKING(name, parameters, arguments)                                                      \
+    int64_t __real_sag_##name parameters;                                                        \
+    int64_t __wrap_sag_##name parameters {                                                       \
+        if (sag_pipe_size(h, ns, pid, UINT32_MAX) != -EBADF) return __real_sag_##name arguments; \
+        void *volatile block = malloc(1);                                                        \
+        if (block == NULL) return SAG_NOMEM;                                                     \
+        free(block);                                                                             \
+        return __real_sag_##name arguments;                                                      \
+    }
+
+#ifdef fork_asks_for_memory_before_its_tests
+ASKING(fork, (sag_hub *h, uint32_t ns, uint32_t pid), (h, ns, pid))
+#endif
+#ifdef pipe_asks_for_memory_before_its_tests
+ASKING(pipe, (sag_hub *h, uint32_t ns, uint32_t pid, bool nonblock, uint32_t *fds), (h, ns, pid, nonblock, fds))
+#endif
+#ifdef set_pipe_size_asks_for_memory_before_its_tests
+ASKING(set_pipe_size, (sag_hub *h, uint32_t ns, uint32_t pid, uint32_t fd, uint64_t bytes), (h, ns, pid, fd, bytes))
 #endif
 
 #if defined spawn_with_groups_wants_memory || defined spawn_forgets_the_last_group
