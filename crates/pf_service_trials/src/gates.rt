@@ -1,14 +1,14 @@
 //! A gate that remembers: it is told of each event once, with the event's numbers, in the order of the transcript, and
-//! while the lock is held, and of each frame under its namespace's number. That a gate is told before the step is made
-//! is a condition of the step's own (`Living::log`); that this is the service's gate, no clause says. That it is told
-//! of a frame before that is taken is the way of a `GatedDepot`, and no clause either: a service's public calls don't
-//! show which frames are free.
+//! while the lock is held, and of each frame under its namespace's number, by a call and by one that may wait, also of
+//! a namespace that was admitted. That a gate is told before the step is made is a condition of the step's own
+//! (`Living::log`); that this is the service's gate, no clause says. That it is told of a frame before that is taken is
+//! the way of a `GatedDepot`, and no clause either: a service's public calls don't show which frames are free.
 
 ghost use Rattle.pf_depot.specs.Blanks.{IsBlankOf};
 
 use crate::services::{
-    BLUE, Callers, Closed, RED, blank, both, closed, make, namespaces, seat_if, serve, service_of,
-    steps_of_blue, steps_of_red,
+    BLUE, Callers, Closed, RED, Size, blank, both, closed, config_of, namespaces, place_of,
+    seat_if, serve, service_of, steps_of_blue, steps_of_red,
 };
 use pf_base::Step;
 use pf_service::{Gate, Seat, Service};
@@ -35,7 +35,9 @@ struct Told {
     next: AtomicU64,
     // How many events it is just told of.
     inside: AtomicU64,
-    // Not 0: a place wasn't the next, or it was told of two events at once.
+    // How many frames.
+    frames: AtomicU64,
+    // Not 0: a place wasn't the next, or it was told of two events at once, or under another number.
     wrong: AtomicU64,
 }
 
@@ -44,6 +46,7 @@ impl Told {
         Told {
             next: AtomicU64::new(0),
             inside: AtomicU64::new(0),
+            frames: AtomicU64::new(0),
             wrong: AtomicU64::new(0),
         }
     }
@@ -51,6 +54,11 @@ impl Told {
     // Whether it was so many events, one after the other.
     fn is(&self, events: u64) -> bool {
         self.next.load(Ordering::SeqCst) == events && self.wrong.load(Ordering::SeqCst) == 0
+    }
+
+    // Whether it was so many events, and so many frames.
+    fn is_of(&self, events: u64, frames: u64) -> bool {
+        self.is(events) && self.frames.load(Ordering::SeqCst) == frames
     }
 
     fn tell(&self, place: u64) {
@@ -76,13 +84,23 @@ struct Recorder<'a> {
     coming: &'a AtomicU64,
 }
 
+impl Recorder<'_> {
+    // What it is told of a namespace. There are no others than these two.
+    fn told_of(&self, ns: u32) -> &Told {
+        if ns > BLUE {
+            self.red.wrong.store(1, Ordering::SeqCst);
+        }
+        if ns == RED { self.red } else { self.blue }
+    }
+}
+
 impl Gate for Recorder<'_> {
     ghost passed = { λ _ _ _. Unit {0} };
 
     ghost framed = { λ _ _. Unit {0} };
 
     fn pass(&self, ns: u32, place: u64) {
-        let told = if ns == RED { self.red } else { self.blue };
+        let told = self.told_of(ns);
         if self.held.swap(1, Ordering::SeqCst) == 0 && !comes(self.coming) {
             told.wrong.store(1, Ordering::SeqCst);
         }
@@ -90,7 +108,7 @@ impl Gate for Recorder<'_> {
     }
 
     fn frame(&self, ns: u32) {
-        let _ = ns;
+        self.told_of(ns).frames.fetch_add(1, Ordering::SeqCst);
     }
 }
 
@@ -105,29 +123,29 @@ fn comes(signal: &AtomicU64) -> bool {
     false
 }
 
-// The place of a step that isn't refused.
-fn place_of<R: Wait, C: Ledger, H: Ledger>(
-    rt: &R,
-    service: &Service<Global, Recorder<'_>, C, H>,
-    seat: &mut Seat,
-    step: &Step,
-) -> Option<u64> {
-    Some(service.call(rt, seat, step).ok()?.place)
+// Whether the gate was told last of the event at this place, where it is asked what it was told.
+fn is_last(told: Option<&Told>, place: u64) -> bool {
+    match told {
+        Some(told) => told.is(place.wrapping_add(1)),
+        None => true,
+    }
 }
 
-// Makes the steps in turn; whether the gate is told of each of them once.
+// Makes the steps in turn, until one is refused; whether none is, and the gate is told of each of them once.
 fn are_told<R: Wait, C: Ledger, H: Ledger>(
     rt: &R,
+    alloc: Global,
     service: &Service<Global, Recorder<'_>, C, H>,
     seat: &mut Seat,
     steps: &[Step],
-    told: &Told,
+    may_wait: bool,
+    told: Option<&Told>,
 ) -> bool {
     for step in steps {
-        let Some(place) = place_of(rt, service, seat, step) else {
+        let Some(place) = place_of(rt, alloc, service, seat, step, may_wait) else {
             return false;
         };
-        if !told.is(place.wrapping_add(1)) {
+        if !is_last(told, place) {
             return false;
         }
     }
@@ -137,20 +155,24 @@ fn are_told<R: Wait, C: Ledger, H: Ledger>(
 // The same with a seat that comes back where it is.
 fn make_told<R: Wait, C: Ledger, H: Ledger>(
     rt: &R,
+    alloc: Global,
     service: &Service<Global, Recorder<'_>, C, H>,
     mut seat: Seat,
     steps: &[Step],
-    told: &Told,
+    may_wait: bool,
+    told: Option<&Told>,
 ) -> Option<Seat> {
-    let all = are_told(rt, service, &mut seat, steps, told);
+    let all = are_told(rt, alloc, service, &mut seat, steps, may_wait, told);
     seat_if(all, seat)
 }
 
-// Two tenants in turn, of whom the gate is told.
+// Two tenants in turn, the second of which is admitted. The gate is told of their events, by calls or by calls that may
+// wait, and of their frames: 16 of the first, and one of the second.
 #[derive(Drop)]
 struct ToldOnce<'a> {
     red: &'a Told,
     blue: &'a Told,
+    may_wait: bool,
 }
 
 impl<'a> Callers<Recorder<'a>> for ToldOnce<'_> {
@@ -160,20 +182,22 @@ impl<'a> Callers<Recorder<'a>> for ToldOnce<'_> {
         alloc: Global,
         service: &Service<Global, Recorder<'a>, C, H>,
     ) -> Result<Vec<Seat>, Fail> {
+        let config = config_of(16).ok_or("limits")?;
+        assert_eq!(rt; service.admit(rt, config, alloc)?, BLUE);
         let (ours, theirs) = (service.seat(rt, RED)?, service.seat(rt, BLUE)?);
-        let mut seats = Vec::with_capacity(alloc, 2)?;
-        let ours = make_told(rt, service, ours, &steps_of_red(alloc)?, self.red);
-        seats.push(ours.ok_or("told otherwise")?)?;
-        assert!(rt; self.blue.is(0));
-        let theirs = make_told(rt, service, theirs, &steps_of_blue(alloc)?, self.blue);
-        seats.push(theirs.ok_or("told otherwise")?)?;
-        assert!(rt; self.red.is(4) && self.blue.is(4));
-        Ok(seats)
+        let (first, second) = (steps_of_red(alloc)?, steps_of_blue(alloc)?);
+        let told = Some(self.red);
+        let ours = make_told(rt, alloc, service, ours, &first, self.may_wait, told);
+        assert!(rt; self.red.is_of(4, 16) && self.blue.is_of(0, 0));
+        let told = Some(self.blue);
+        let theirs = make_told(rt, alloc, service, theirs, &second, self.may_wait, told);
+        assert!(rt; self.red.is_of(4, 16) && self.blue.is_of(4, 1));
+        both(alloc, ours, theirs)
     }
 }
 
-#[test]
-fn a_gate_is_told_of_each_event_once(rt: HostRuntime) -> Result<(), Fail> {
+// Two tenants are served so, of whom the second comes.
+fn told_once<R: Wait + Abort>(rt: &R, alloc: Global, may_wait: bool) -> Closed {
     let (red, blue) = (Told::new(), Told::new());
     let (inside, coming) = (AtomicU64::new(0), AtomicU64::new(1));
     let gate = Recorder {
@@ -185,89 +209,25 @@ fn a_gate_is_told_of_each_event_once(rt: HostRuntime) -> Result<(), Fail> {
     let callers = ToldOnce {
         red: &red,
         blue: &blue,
+        may_wait,
     };
-    let transcripts = serve(&rt, rt.alloc(), namespaces(2), gate, &callers)??;
+    let size = Size {
+        namespaces: 1,
+        slack: 16,
+    };
+    serve(rt, alloc, size, gate, &callers)
+}
+
+#[test]
+fn a_gate_is_told_of_each_event_and_frame_once(rt: HostRuntime) -> Result<(), Fail> {
+    let transcripts = told_once(&rt, rt.alloc(), false)??;
     assert_eq!(rt; transcripts.as_slice().len(), 2);
     Ok(())
 }
 
-// Counts the frames that it is told of, of each of two namespaces and of all.
-#[derive(Drop)]
-struct Frames<'a> {
-    red: &'a AtomicU64,
-    blue: &'a AtomicU64,
-    all: &'a AtomicU64,
-}
-
-impl Gate for Frames<'_> {
-    ghost passed = { λ _ _ _. Unit {0} };
-
-    ghost framed = { λ _ _. Unit {0} };
-
-    fn pass(&self, ns: u32, place: u64) {
-        let _ = (ns, place);
-    }
-
-    fn frame(&self, ns: u32) {
-        match ns {
-            RED => self.red.fetch_add(1, Ordering::SeqCst),
-            BLUE => self.blue.fetch_add(1, Ordering::SeqCst),
-            _ => 0,
-        };
-        self.all.fetch_add(1, Ordering::SeqCst);
-    }
-}
-
-// Two tenants in turn, of whose frames the gate is told: 16 of the first, and one of the second.
-#[derive(Drop)]
-struct FramesOfEach<'a> {
-    red: &'a AtomicU64,
-    blue: &'a AtomicU64,
-    all: &'a AtomicU64,
-}
-
-impl FramesOfEach<'_> {
-    // Whether it was told of so many frames of each, and of no other.
-    fn are(&self, red: u64, blue: u64) -> bool {
-        self.red.load(Ordering::SeqCst) == red
-            && self.blue.load(Ordering::SeqCst) == blue
-            && self.all.load(Ordering::SeqCst) == red.wrapping_add(blue)
-    }
-}
-
-impl<'a> Callers<Frames<'a>> for FramesOfEach<'_> {
-    fn work<C: Ledger, H: Ledger, R: Wait + Abort>(
-        &self,
-        rt: &R,
-        alloc: Global,
-        service: &Service<Global, Frames<'a>, C, H>,
-    ) -> Result<Vec<Seat>, Fail> {
-        let (ours, theirs) = (service.seat(rt, RED)?, service.seat(rt, BLUE)?);
-        let mut seats = Vec::with_capacity(alloc, 2)?;
-        let ours = make(rt, service, ours, &steps_of_red(alloc)?);
-        seats.push(ours.ok_or("refused")?)?;
-        assert!(rt; self.are(16, 0));
-        let theirs = make(rt, service, theirs, &steps_of_blue(alloc)?);
-        seats.push(theirs.ok_or("refused")?)?;
-        assert!(rt; self.are(16, 1));
-        Ok(seats)
-    }
-}
-
 #[test]
-fn a_gate_is_told_of_each_frame(rt: HostRuntime) -> Result<(), Fail> {
-    let (red, blue, all) = (AtomicU64::new(0), AtomicU64::new(0), AtomicU64::new(0));
-    let gate = Frames {
-        red: &red,
-        blue: &blue,
-        all: &all,
-    };
-    let callers = FramesOfEach {
-        red: &red,
-        blue: &blue,
-        all: &all,
-    };
-    let transcripts = serve(&rt, rt.alloc(), namespaces(2), gate, &callers)??;
+fn a_call_that_may_wait_tells_a_gate_of_them_too(rt: HostRuntime) -> Result<(), Fail> {
+    let transcripts = told_once(&rt, rt.alloc(), true)??;
     assert_eq!(rt; transcripts.as_slice().len(), 2);
     Ok(())
 }
@@ -275,9 +235,11 @@ fn a_gate_is_told_of_each_frame(rt: HostRuntime) -> Result<(), Fail> {
 // The second caller of a namespace: it calls once the gate is told of the first one's event.
 fn make_behind<R: Wait, C: Ledger, H: Ledger>(
     rt: &R,
+    alloc: Global,
     service: &Service<Global, Recorder<'_>, C, H>,
     seat: Seat,
     steps: &[Step],
+    may_wait: bool,
     held: &AtomicU64,
     coming: &AtomicU64,
 ) -> Option<Seat> {
@@ -285,7 +247,7 @@ fn make_behind<R: Wait, C: Ledger, H: Ledger>(
         return None;
     }
     coming.store(1, Ordering::SeqCst);
-    make(rt, service, seat, steps)
+    make_told(rt, alloc, service, seat, steps, may_wait, None)
 }
 
 // Two callers of one namespace, on a thread each, the second while the gate is told of the first one's event.
@@ -296,33 +258,44 @@ fn one_after_the_other<C: Ledger + Send + Sync, H: Ledger + Send + Sync, R: Thre
     first: Seat,
     second: Seat,
     steps: &[Step],
+    may_wait: bool,
     held: &AtomicU64,
     coming: &AtomicU64,
 ) -> Result<Vec<Seat>, Fail> {
     let (first, second) = join(
         rt,
-        move || make(rt, service, first, steps),
-        move || make_behind(rt, service, second, steps, held, coming),
+        move || make_told(rt, alloc, service, first, steps, may_wait, None),
+        move || make_behind(rt, alloc, service, second, steps, may_wait, held, coming),
     );
     both(alloc, first, second)
 }
 
+// The same at a service of nobody yet, to which the namespace comes where it has none.
 fn first_and_second<C: Ledger + Send + Sync, H: Ledger + Send + Sync, R: Threads + Wait + Sync>(
     rt: &R,
     alloc: Global,
     service: &Service<Global, Recorder<'_>, C, H>,
+    size: Size,
+    may_wait: bool,
     held: &AtomicU64,
     coming: &AtomicU64,
 ) -> Result<Vec<Seat>, Fail> {
     let steps = steps_of_blue(alloc)?;
+    if size.namespaces == 0 {
+        service.admit(rt, config_of(16).ok_or("limits")?, alloc)?;
+    }
     let (first, second) = (service.seat(rt, RED)?, service.seat(rt, RED)?);
-    one_after_the_other(rt, alloc, service, first, second, &steps, held, coming)
+    one_after_the_other(
+        rt, alloc, service, first, second, &steps, may_wait, held, coming,
+    )
 }
 
 fn two_callers_named<C: Ledger + Send + Sync, H: Ledger + Send + Sync, R: Threads + Wait + Sync>(
     rt: &R,
     alloc: Global,
     gate: Recorder<'_>,
+    size: Size,
+    may_wait: bool,
     first_in: &AtomicU64,
     second_comes: &AtomicU64,
     credits: Blank,
@@ -330,12 +303,18 @@ fn two_callers_named<C: Ledger + Send + Sync, H: Ledger + Send + Sync, R: Thread
 ) -> Closed
     requires blanks { IsBlankOf C.name C.parts credits × IsBlankOf H.name H.parts held }
 {
-    let service = service_of::<_, C, H>(alloc, namespaces(1), gate, credits, held)?;
-    let seats = first_and_second(rt, alloc, &service, first_in, second_comes);
+    let service = service_of::<_, C, H>(alloc, size, gate, credits, held)?;
+    let seats = first_and_second(rt, alloc, &service, size, may_wait, first_in, second_comes);
     closed(service, seats)
 }
 
-fn two_callers<R: Threads + Wait + Sync>(rt: &R, alloc: Global, told: &Told) -> Closed {
+fn two_callers<R: Threads + Wait + Sync>(
+    rt: &R,
+    alloc: Global,
+    size: Size,
+    may_wait: bool,
+    told: &Told,
+) -> Closed {
     let (inside, coming) = (AtomicU64::new(0), AtomicU64::new(0));
     let gate = Recorder {
         red: told,
@@ -343,15 +322,48 @@ fn two_callers<R: Threads + Wait + Sync>(rt: &R, alloc: Global, told: &Told) -> 
         held: &inside,
         coming: &coming,
     };
-    two_callers_named::<Brand, Brand, R>(rt, alloc, gate, &inside, &coming, blank(), blank())
+    two_callers_named::<Brand, Brand, R>(
+        rt,
+        alloc,
+        gate,
+        size,
+        may_wait,
+        &inside,
+        &coming,
+        blank(),
+        blank(),
+    )
+}
+
+// Whether the gate is told of the events of both one after the other, by calls or by calls that may wait.
+fn is_held<R: Threads + Wait + Sync>(
+    rt: &R,
+    alloc: Global,
+    size: Size,
+    may_wait: bool,
+) -> Result<bool, Fail> {
+    let told = Told::new();
+    let transcripts = two_callers(rt, alloc, size, may_wait, &told)??;
+    let transcript = transcripts.as_slice().first().ok_or("none")?;
+    Ok(transcript.entries().len() == 8 && told.is(8))
 }
 
 #[test]
 fn a_gate_is_told_while_the_lock_is_held(rt: HostRuntime) -> Result<(), Fail> {
-    let told = Told::new();
-    let transcripts = two_callers(&rt, rt.alloc(), &told)??;
-    let transcript = transcripts.as_slice().first().ok_or("none")?;
-    assert_eq!(rt; transcript.entries().len(), 8);
-    assert!(rt; told.is(8));
+    let alloc = rt.alloc();
+    assert!(rt; is_held(&rt, alloc, namespaces(1), false)?);
+    assert!(rt; is_held(&rt, alloc, namespaces(1), true)?);
+    Ok(())
+}
+
+#[test]
+fn a_gate_is_told_so_of_one_that_was_admitted(rt: HostRuntime) -> Result<(), Fail> {
+    let alloc = rt.alloc();
+    let size = Size {
+        namespaces: 0,
+        slack: 16,
+    };
+    assert!(rt; is_held(&rt, alloc, size, false)?);
+    assert!(rt; is_held(&rt, alloc, size, true)?);
     Ok(())
 }

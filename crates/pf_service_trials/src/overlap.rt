@@ -1,11 +1,13 @@
-//! Two namespaces' events overlap: a gate holds one of the first namespace, before its step, before a frame that it takes, or
-//! behind that and before the next, until the second namespace has taken a frame too. With one lock around both, or with the
-//! depot's kept behind a frame, the turns would be used up.
+//! Two namespaces' events overlap: a gate holds one of the first namespace, before its step, before a frame that it
+//! takes, or behind that and before the next, until the second namespace has taken a frame too. With one lock around
+//! both, or with the depot's kept behind a frame, or held by who asks something of the first namespace meanwhile, the
+//! turns would be used up.
 
 ghost use Rattle.pf_depot.specs.Blanks.{IsBlankOf};
 
 use crate::services::{
-    BLUE, Closed, RED, blank, both, closed, make, namespaces, service_of, spawn, with, write,
+    BLUE, Closed, RED, blank, both, closed, make, namespaces, seat_if, service_of, spawn, with,
+    write,
 };
 use pf_base::{ByteString, Reply, Step};
 use pf_service::{Gate, Seat, Service};
@@ -19,13 +21,18 @@ use std::thread;
 use std::thread::{Threads, join};
 
 // The most turns that a thread waits for another.
-const TURNS: u64 = 1_000_000;
+const TURNS: u64 = 10_000_000;
 
-// What the two threads tell each other.
+// The turns that who asks is given, until it waits for a lock.
+const GIVEN: u64 = 100;
+
+// What the threads tell each other.
 #[derive(Drop)]
 struct Signals {
     // Not 0: an event of the first namespace is held.
     held: AtomicU64,
+    // Not 0: somebody is about to ask of the first namespace.
+    asked: AtomicU64,
     // How many frames of the first namespace were told.
     frames: AtomicU64,
     // Not 0: the second namespace was answered.
@@ -38,6 +45,7 @@ impl Signals {
     fn new() -> Signals {
         Signals {
             held: AtomicU64::new(0),
+            asked: AtomicU64::new(0),
             frames: AtomicU64::new(0),
             done: AtomicU64::new(0),
             used_up: AtomicU64::new(0),
@@ -53,6 +61,13 @@ impl Signals {
             thread::yield_now();
         }
         self.used_up.store(1, Ordering::SeqCst);
+    }
+
+    // Gives turns to other threads.
+    fn give(&self) {
+        for _ in 0..GIVEN {
+            thread::yield_now();
+        }
     }
 
     // Holds the first event that comes here.
@@ -111,18 +126,90 @@ fn writing(alloc: Global, count: usize) -> Result<Vec<Step>, AllocError> {
     Ok(steps)
 }
 
-// The second namespace: it begins once the first is held.
-fn make_beside<R: Wait, C: Ledger, H: Ledger>(
+// What is asked of a namespace.
+#[derive(Clone, Copy)]
+enum Asked {
+    Nothing,
+    CanGoOn,
+    NextToGoOn,
+    Readiness,
+    Seat,
+}
+
+// Whether it is answered. For a seat one asks by itself.
+fn is_answered<R: Wait, C: Ledger, H: Ledger>(
+    rt: &R,
+    service: &Service<Global, Holder<'_>, C, H>,
+    ns: u32,
+    asked: Asked,
+) -> bool {
+    match asked {
+        Asked::CanGoOn => service.can_go_on(rt, ns, 1).is_ok(),
+        Asked::NextToGoOn => service.next_to_go_on(rt, ns, 0).is_ok(),
+        Asked::Readiness => service.readiness(rt, ns, 1, 0).is_ok(),
+        Asked::Nothing | Asked::Seat => true,
+    }
+}
+
+// Whether all are.
+fn are_answered<R: Wait, C: Ledger, H: Ledger>(
+    rt: &R,
+    service: &Service<Global, Holder<'_>, C, H>,
+    ns: u32,
+) -> bool {
+    is_answered(rt, service, ns, Asked::CanGoOn)
+        && is_answered(rt, service, ns, Asked::NextToGoOn)
+        && is_answered(rt, service, ns, Asked::Readiness)
+}
+
+// The first namespace. Behind the step at which it may be held, whoever waits for its lock has some turns.
+fn make_held<R: Wait, C: Ledger, H: Ledger>(
     rt: &R,
     service: &Service<Global, Holder<'_>, C, H>,
     seat: Seat,
     steps: &[Step],
     signals: &Signals,
 ) -> Option<Seat> {
-    signals.wait_for(&signals.held);
-    let seat = make(rt, service, seat, steps);
+    let (first, others) = steps.split_at(steps.len().min(1));
+    let seat = make(rt, service, seat, first)?;
+    signals.give();
+    make(rt, service, seat, others)
+}
+
+// The second namespace: it begins once the first is held, and who asks of that has had some turns. It asks of itself
+// too.
+fn make_beside<R: Wait, C: Ledger, H: Ledger>(
+    rt: &R,
+    service: &Service<Global, Holder<'_>, C, H>,
+    steps: &[Step],
+    signals: &Signals,
+) -> Option<Seat> {
+    signals.wait_for(&signals.asked);
+    signals.give();
+    let seat = service.seat(rt, BLUE).ok()?;
+    let seat = make(rt, service, seat, steps)?;
+    let all = are_answered(rt, service, BLUE);
     signals.done.store(1, Ordering::SeqCst);
-    seat
+    seat_if(all, seat)
+}
+
+// Who asks of the first namespace while that is held, and then takes a seat there: it waits for that one's lock, and
+// holds nobody else.
+fn ask<R: Wait, C: Ledger, H: Ledger>(
+    rt: &R,
+    service: &Service<Global, Holder<'_>, C, H>,
+    asked: Asked,
+    signals: &Signals,
+) -> Option<Seat> {
+    signals.wait_for(&signals.held);
+    signals.asked.store(1, Ordering::SeqCst);
+    if let Asked::Nothing = asked {
+        signals.wait_for(&signals.done);
+    }
+    if !is_answered(rt, service, RED, asked) {
+        return None;
+    }
+    service.seat(rt, RED).ok()
 }
 
 // A process reads the first of what it wrote.
@@ -136,25 +223,44 @@ fn reading(alloc: Global) -> Result<Vec<Step>, AllocError> {
     Ok(steps)
 }
 
-// Both namespaces write so many bytes on a thread each, and then another thread reads the first of what the first wrote.
+// Both namespaces write so many bytes on a thread each, while another asks of the first.
+fn three_beside<C: Ledger + Send + Sync, H: Ledger + Send + Sync, R: Threads + Wait + Sync>(
+    rt: &R,
+    service: &Service<Global, Holder<'_>, C, H>,
+    signals: &Signals,
+    ours: Seat,
+    asked: Asked,
+    steps: &[Step],
+) -> (Option<Seat>, Option<Seat>, Option<Seat>) {
+    let (ours, (theirs, asker)) = join(
+        rt,
+        move || make_held(rt, service, ours, steps, signals),
+        move || {
+            join(
+                rt,
+                move || make_beside(rt, service, steps, signals),
+                move || ask(rt, service, asked, signals),
+            )
+        },
+    );
+    (ours, theirs, asker)
+}
+
+// The same, and then another thread reads the first of what the first namespace wrote.
 fn beside<C: Ledger + Send + Sync, H: Ledger + Send + Sync, R: Threads + Wait + Sync>(
     rt: &R,
     alloc: Global,
     service: &Service<Global, Holder<'_>, C, H>,
     signals: &Signals,
     ours: Seat,
-    theirs: Seat,
     reader: Seat,
+    asked: Asked,
     steps: &[Step],
     last: &[Step],
 ) -> Result<Vec<Seat>, Fail> {
-    let (ours, theirs) = join(
-        rt,
-        move || make(rt, service, ours, steps),
-        move || make_beside(rt, service, theirs, steps, signals),
-    );
+    let (ours, theirs, asker) = three_beside(rt, service, signals, ours, asked, steps);
     let (reader, ()) = join(rt, move || make(rt, service, reader, last), || ());
-    with(both(alloc, ours, theirs)?, reader)
+    with(with(both(alloc, ours, theirs)?, asker)?, reader)
 }
 
 // The same at a service of nobody yet.
@@ -163,13 +269,13 @@ fn writers_and_reader<C: Ledger + Send + Sync, H: Ledger + Send + Sync, R: Threa
     alloc: Global,
     service: &Service<Global, Holder<'_>, C, H>,
     signals: &Signals,
+    asked: Asked,
     count: usize,
 ) -> Result<Vec<Seat>, Fail> {
     let (steps, last) = (writing(alloc, count)?, reading(alloc)?);
-    let (ours, theirs) = (service.seat(rt, RED)?, service.seat(rt, BLUE)?);
-    let reader = service.seat(rt, RED)?;
+    let (ours, reader) = (service.seat(rt, RED)?, service.seat(rt, RED)?);
     beside(
-        rt, alloc, service, signals, ours, theirs, reader, &steps, &last,
+        rt, alloc, service, signals, ours, reader, asked, &steps, &last,
     )
 }
 
@@ -178,6 +284,7 @@ fn both_beside_named<C: Ledger + Send + Sync, H: Ledger + Send + Sync, R: Thread
     alloc: Global,
     at: Held,
     signals: &Signals,
+    asked: Asked,
     count: usize,
     credits: Blank,
     held: Blank,
@@ -191,7 +298,7 @@ fn both_beside_named<C: Ledger + Send + Sync, H: Ledger + Send + Sync, R: Thread
         credits,
         held,
     )?;
-    let seats = writers_and_reader(rt, alloc, &service, signals, count);
+    let seats = writers_and_reader(rt, alloc, &service, signals, asked, count);
     closed(service, seats)
 }
 
@@ -200,20 +307,22 @@ fn both_beside<R: Threads + Wait + Sync>(
     alloc: Global,
     at: Held,
     signals: &Signals,
+    asked: Asked,
     count: usize,
 ) -> Closed {
-    both_beside_named::<Brand, Brand, R>(rt, alloc, at, signals, count, blank(), blank())
+    both_beside_named::<Brand, Brand, R>(rt, alloc, at, signals, asked, count, blank(), blank())
 }
 
-// Whether the two went on beside each other, where each writes so many bytes, and what the first wrote was read.
+// Whether all went on beside each other, where each namespace writes so many bytes, and what the first wrote was read.
 fn is_beside<R: Threads + Wait + Sync>(
     rt: &R,
     alloc: Global,
     held: Held,
+    asked: Asked,
     count: usize,
 ) -> Result<bool, Fail> {
     let signals = Signals::new();
-    let transcripts = both_beside(rt, alloc, held, &signals, count)??;
+    let transcripts = both_beside(rt, alloc, held, &signals, asked, count)??;
     let each = transcripts.as_slice();
     let red = each.first().ok_or("none")?.entries();
     let last = red.last().ok_or("none")?;
@@ -224,19 +333,35 @@ fn is_beside<R: Threads + Wait + Sync>(
 
 #[test]
 fn an_event_held_before_its_step_holds_nobody_else(rt: HostRuntime) -> Result<(), Fail> {
-    assert!(rt; is_beside(&rt, rt.alloc(), Held::AtItsStep, 5)?);
+    assert!(rt; is_beside(&rt, rt.alloc(), Held::AtItsStep, Asked::Nothing, 5)?);
     Ok(())
 }
 
 #[test]
 fn an_event_held_before_its_frame_holds_nobody_else(rt: HostRuntime) -> Result<(), Fail> {
-    assert!(rt; is_beside(&rt, rt.alloc(), Held::AtItsFrame(0), 5)?);
+    assert!(rt; is_beside(&rt, rt.alloc(), Held::AtItsFrame(0), Asked::Nothing, 5)?);
     Ok(())
 }
 
 // A write of two pages has taken its first frame.
 #[test]
 fn an_event_held_behind_a_frame_holds_nobody_else(rt: HostRuntime) -> Result<(), Fail> {
-    assert!(rt; is_beside(&rt, rt.alloc(), Held::AtItsFrame(1), 8_192)?);
+    assert!(rt; is_beside(&rt, rt.alloc(), Held::AtItsFrame(1), Asked::Nothing, 8_192)?);
+    Ok(())
+}
+
+// The event that is held takes no frame. So it comes to its end, and the test too, also where who asks has the depot's
+// lock.
+#[test]
+fn who_asks_of_one_that_is_held_holds_nobody_else(rt: HostRuntime) -> Result<(), Fail> {
+    let each = [
+        Asked::CanGoOn,
+        Asked::NextToGoOn,
+        Asked::Readiness,
+        Asked::Seat,
+    ];
+    for asked in &each {
+        assert!(rt; is_beside(&rt, rt.alloc(), Held::AtItsStep, *asked, 5)?);
+    }
     Ok(())
 }

@@ -1,6 +1,8 @@
 //! What a host asks of a service's namespace besides its events: who can go on, and what an end of a pipe is ready for.
 
-use crate::services::{BLUE, Callers, Plain, RED, make, namespaces, serve, spawn, write_by};
+use crate::services::{
+    BLUE, Callers, Plain, RED, Size, config_of, make, makes, serve, spawn, with, write_by,
+};
 use pf_base::{Errno, Readiness, Step};
 use pf_service::{NoGate, Seat, ServiceFault};
 use std::alloc::{AllocError, Global};
@@ -31,7 +33,78 @@ const EMPTY: Readiness = Readiness {
     has_writer: true,
 };
 
-// Nobody can go on, until the other process writes. Another namespace has no process then either.
+// Whether the first process of a namespace waits on.
+fn waits<C: Ledger, H: Ledger, R: Wait>(
+    rt: &R,
+    service: &Plain<C, H>,
+    ns: u32,
+) -> Result<bool, ServiceFault> {
+    Ok(
+        !service.can_go_on(rt, ns, 1)?
+            && service.next_to_go_on(rt, ns, 0)? == None
+            && service.readiness(rt, ns, 2, 0)? == Ok(EMPTY)
+            && service.readiness(rt, ns, 2, 7)? == Err(Errno::EBADF),
+    )
+}
+
+// Whether it can go on, and nobody behind it.
+fn goes_on<C: Ledger, H: Ledger, R: Wait>(
+    rt: &R,
+    service: &Plain<C, H>,
+    ns: u32,
+) -> Result<bool, ServiceFault> {
+    Ok(
+        service.can_go_on(rt, ns, 1)?
+            && service.next_to_go_on(rt, ns, 0)? == Some(1)
+            && service.next_to_go_on(rt, ns, 1)? == None
+            && matches!(
+                service.readiness(rt, ns, 2, 0)?,
+                Ok(Readiness { bytes: 1, .. })
+            ),
+    )
+}
+
+// Whether a namespace has no process.
+fn is_empty<C: Ledger, H: Ledger, R: Wait>(
+    rt: &R,
+    service: &Plain<C, H>,
+    ns: u32,
+) -> Result<bool, ServiceFault> {
+    Ok(
+        !service.can_go_on(rt, ns, 1)?
+            && service.next_to_go_on(rt, ns, 0)? == None
+            && service.readiness(rt, ns, 2, 0)? == Err(Errno::ESRCH),
+    )
+}
+
+// Whether nothing is told of a number, for this reason.
+fn is_refused<C: Ledger, H: Ledger, R: Wait>(
+    rt: &R,
+    service: &Plain<C, H>,
+    ns: u32,
+    fault: ServiceFault,
+) -> bool {
+    service.can_go_on(rt, ns, 1).err() == Some(fault)
+        && service.next_to_go_on(rt, ns, 0).err() == Some(fault)
+        && service.readiness(rt, ns, 1, 0).err() == Some(fault)
+}
+
+// The seat of who makes a namespace's first process wait, and then, at one that has just come, writes the byte.
+fn opened<C: Ledger, H: Ledger, R: Wait>(
+    rt: &R,
+    alloc: Global,
+    service: &Plain<C, H>,
+    ns: u32,
+) -> Result<Option<Seat>, Fail> {
+    let mut steps = opening(alloc)?;
+    if ns > BLUE {
+        steps.push(write_by(alloc, 2, 0x61, 1)?)?;
+    }
+    Ok(make(rt, service, service.seat(rt, ns)?, &steps))
+}
+
+// Nobody can go on, until the other process writes. Another namespace has no process then, and in one that has come
+// somebody can go on before.
 struct OneWaits;
 
 impl Callers<NoGate> for OneWaits {
@@ -41,55 +114,57 @@ impl Callers<NoGate> for OneWaits {
         alloc: Global,
         service: &Plain<C, H>,
     ) -> Result<Vec<Seat>, Fail> {
-        let mut seat = make(rt, service, service.seat(rt, RED)?, &opening(alloc)?).ok_or(
-            "refused",
-        )?;
-        assert_eq!(rt; service.can_go_on(rt, RED, 1)?, false);
-        assert_eq!(rt; service.next_to_go_on(rt, RED, 0)?, None);
-        assert_eq!(rt; service.readiness(rt, RED, 2, 0)?, Ok(EMPTY));
-        assert_eq!(rt; service.readiness(rt, RED, 2, 7)?, Err(Errno::EBADF));
-        service.call(rt, &mut seat, &write_by(alloc, 2, 0x61, 1)?)?;
-        assert_eq!(rt; service.can_go_on(rt, RED, 1)?, true);
-        assert_eq!(rt; service.next_to_go_on(rt, RED, 0)?, Some(1));
-        assert_eq!(rt; service.next_to_go_on(rt, RED, 1)?, None);
-        assert_eq!(rt; service.can_go_on(rt, BLUE, 1)?, false);
-        assert_eq!(rt; service.next_to_go_on(rt, BLUE, 0)?, None);
-        assert_eq!(rt; service.readiness(rt, BLUE, 2, 0)?, Err(Errno::ESRCH));
-        let none = Some(ServiceFault::NoSuchNamespace);
-        assert_eq!(rt; service.can_go_on(rt, 2, 1).err(), none);
-        let mut seats = Vec::new(alloc);
-        seats.push(seat)?;
+        let guest = service.admit(rt, config_of(16).ok_or("limits")?, alloc)?;
+        let red = opened(rt, alloc, service, RED)?;
+        let mut seats = with(Vec::new(alloc), red)?;
+        assert!(rt; waits(rt, service, RED)? && is_empty(rt, service, guest)?);
+        let theirs = opened(rt, alloc, service, guest)?;
+        seats = with(seats, theirs)?;
+        assert!(rt; waits(rt, service, RED)? && goes_on(rt, service, guest)?);
+        let byte = write_by(alloc, 2, 0x61, 1)?;
+        let seat = seats.first_mut().ok_or("no seat")?;
+        assert!(rt; makes(rt, service, seat, &byte));
+        assert!(rt; goes_on(rt, service, RED)? && is_empty(rt, service, BLUE)?);
+        assert!(rt; is_refused(rt, service, 3, ServiceFault::NoSuchNamespace));
         Ok(seats)
     }
 }
 
 #[test]
 fn a_host_is_told_who_can_go_on(rt: HostRuntime) -> Result<(), Fail> {
-    serve(&rt, rt.alloc(), namespaces(2), NoGate, &OneWaits)??;
+    let size = Size {
+        namespaces: 2,
+        slack: 16,
+    };
+    serve(&rt, rt.alloc(), size, NoGate, &OneWaits)??;
     Ok(())
 }
 
-// Of one that is retired nothing is told.
-struct OneWent;
+// Of one that is retired nothing is told, whether it was there from the start or came.
+struct BothWent;
 
-impl Callers<NoGate> for OneWent {
+impl Callers<NoGate> for BothWent {
     fn work<C: Ledger, H: Ledger, R: Wait + Abort>(
         &self,
         rt: &R,
         alloc: Global,
         service: &Plain<C, H>,
     ) -> Result<Vec<Seat>, Fail> {
-        let gone = Some(ServiceFault::Gone);
+        let guest = service.admit(rt, config_of(16).ok_or("limits")?, alloc)?;
         service.retire(rt, RED)?;
-        assert_eq!(rt; service.can_go_on(rt, RED, 1).err(), gone);
-        assert_eq!(rt; service.next_to_go_on(rt, RED, 0).err(), gone);
-        assert_eq!(rt; service.readiness(rt, RED, 1, 0).err(), gone);
+        service.retire(rt, guest)?;
+        assert!(rt; is_refused(rt, service, RED, ServiceFault::Gone));
+        assert!(rt; is_refused(rt, service, guest, ServiceFault::Gone));
         Ok(Vec::new(alloc))
     }
 }
 
 #[test]
 fn nothing_is_told_of_one_that_went(rt: HostRuntime) -> Result<(), Fail> {
-    serve(&rt, rt.alloc(), namespaces(1), NoGate, &OneWent)??;
+    let size = Size {
+        namespaces: 1,
+        slack: 16,
+    };
+    serve(&rt, rt.alloc(), size, NoGate, &BothWent)??;
     Ok(())
 }

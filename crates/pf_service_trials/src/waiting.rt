@@ -18,7 +18,7 @@ use std::thread;
 use std::thread::{Threads, join};
 
 // The most turns that the writer waits until the readers wait.
-const TURNS: u64 = 1_000_000;
+const TURNS: u64 = 10_000_000;
 
 // The turns that it gives them besides.
 const GIVEN: u64 = 1_000;
@@ -66,28 +66,29 @@ impl Gate for Counter<'_> {
     }
 }
 
-// Yields until so many are counted, or all these turns are used up.
-fn wait_for(count: &Count, number: u64, turns: u64) {
+// Yields until so many are counted, or all these turns are used up; whether they are.
+fn wait_for(count: &Count, number: u64, turns: u64) -> bool {
     for _ in 0..turns {
         if count.is_at_least(number) {
-            return;
+            return true;
         }
         thread::yield_now();
     }
+    false
 }
 
-// Yields until so many events were told, and some turns more.
-fn let_them_wait(events: &Count, number: u64) {
-    wait_for(events, number, TURNS);
+// Yields until so many events were told, and some turns more; whether they were told.
+fn let_them_wait(events: &Count, number: u64) -> bool {
+    let came = wait_for(events, number, TURNS);
     for _ in 0..GIVEN {
         thread::yield_now();
     }
+    came
 }
 
 // Ends the test where so many readers aren't done in the end, since one of them waits then whom nobody wakes.
 fn watch<R: Abort>(rt: &R, done: &Count, readers: u64) {
-    wait_for(done, readers, 20 * TURNS);
-    assert!(rt; done.is_at_least(readers));
+    assert!(rt; wait_for(done, readers, 2 * TURNS));
 }
 
 // A process with a pipe, and so many that share it.
@@ -210,7 +211,7 @@ fn makes_all_again<R: Wait, C: Ledger, H: Ledger>(
     true
 }
 
-// The writer's thread: it makes its steps once so many events were told.
+// The writer's thread: it makes its steps once so many events were told. Its seat comes back where they were.
 fn writer<R: Wait, C: Ledger, H: Ledger>(
     rt: &R,
     service: &Service<Global, Counter<'_>, C, H>,
@@ -219,9 +220,9 @@ fn writer<R: Wait, C: Ledger, H: Ledger>(
     number: u64,
     count: &Count,
 ) -> Option<Seat> {
-    let_them_wait(count, number);
+    let came = let_them_wait(count, number);
     let all = makes_all_again(rt, service, &mut seat, steps);
-    seat_if(all, seat)
+    seat_if(came && all, seat)
 }
 
 // A process waits for five bytes, and another writes them on a thread of its own.

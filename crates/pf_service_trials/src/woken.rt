@@ -7,7 +7,7 @@ use crate::services::{
     RED, blank, both, closed, make, namespaces, service_of, spawn, with, write_by,
 };
 use pf_base::{ByteString, Errno, Reply, RetireFault, Step};
-use pf_service::{Gate, Seat, Service};
+use pf_service::{Gate, Seat, Service, Transcripts};
 use std::alloc::{AllocError, Global};
 use std::marker::Brand;
 use std::process::Abort;
@@ -19,12 +19,54 @@ use std::thread;
 use std::thread::{Threads, join};
 
 // The most turns that a caller waits for another.
-const TURNS: u64 = 1_000_000;
+const TURNS: u64 = 10_000_000;
 
-// Counts the events that it is told of.
+// What a gate was told of a namespace.
+#[derive(Drop)]
+struct Count {
+    // How many events, or the largest number where one was told that wasn't the next.
+    events: AtomicU64,
+    frames: AtomicU64,
+}
+
+impl Count {
+    fn new() -> Count {
+        Count {
+            events: AtomicU64::new(0),
+            frames: AtomicU64::new(0),
+        }
+    }
+
+    fn add(&self, ns: u32, place: u64) {
+        let before = self.events.load(Ordering::SeqCst);
+        let after = if ns == RED && before == place {
+            place.wrapping_add(1)
+        } else {
+            u64::MAX
+        };
+        self.events.store(after, Ordering::SeqCst);
+    }
+
+    fn is_at_least(&self, number: u64) -> bool {
+        self.events.load(Ordering::SeqCst) >= number
+    }
+
+    // Whether it was each event of the namespace once, and so many frames.
+    fn is_of(&self, transcripts: &Transcripts, frames: u64) -> bool {
+        let events = self.events.load(Ordering::SeqCst);
+        match transcripts.as_slice() {
+            [one] => {
+                one.entries().len() as u64 == events && self.frames.load(Ordering::SeqCst) == frames
+            }
+            _ => false,
+        }
+    }
+}
+
+// Counts what it is told.
 #[derive(Drop)]
 struct Counter<'a> {
-    events: &'a AtomicU64,
+    count: &'a Count,
 }
 
 impl Gate for Counter<'_> {
@@ -33,30 +75,31 @@ impl Gate for Counter<'_> {
     ghost framed = { λ _ _. Unit {0} };
 
     fn pass(&self, ns: u32, place: u64) {
-        let _ = (ns, place);
-        self.events.fetch_add(1, Ordering::SeqCst);
+        self.count.add(ns, place);
     }
 
     fn frame(&self, ns: u32) {
-        let _ = ns;
+        // one of another number is one too few
+        let frames = if ns == RED { 1 } else { u64::MAX };
+        self.count.frames.fetch_add(frames, Ordering::SeqCst);
     }
 }
 
-// Yields until so many events were told, or all these turns are used up. The last of the events holds its namespace's lock
-// until it waits.
-fn wait_for(events: &AtomicU64, number: u64, turns: u64) {
+// Yields until so many events were told, or all these turns are used up; whether they were told. The last of the events
+// holds its namespace's lock until it waits.
+fn wait_for(count: &Count, number: u64, turns: u64) -> bool {
     for _ in 0..turns {
-        if events.load(Ordering::SeqCst) >= number {
-            return;
+        if count.is_at_least(number) {
+            return true;
         }
         thread::yield_now();
     }
+    false
 }
 
 // Ends the test where so many events don't come, since somebody waits then whom nobody wakes.
-fn watch<R: Abort>(rt: &R, events: &AtomicU64, number: u64) {
-    wait_for(events, number, 20 * TURNS);
-    assert!(rt; events.load(Ordering::SeqCst) >= number);
+fn watch<R: Abort>(rt: &R, count: &Count, number: u64) {
+    assert!(rt; wait_for(count, number, 2 * TURNS));
 }
 
 // A process with a pipe, and one that shares it.
@@ -77,7 +120,7 @@ struct Caller<'a> {
     alloc: Global,
     steps: &'a [Step],
     last: &'a Step,
-    events: &'a AtomicU64,
+    count: &'a Count,
     number: u64,
 }
 
@@ -112,9 +155,8 @@ fn call_last<R: Wait, C: Ledger, H: Ledger>(
     service: &Service<Global, Counter<'_>, C, H>,
     caller: Caller<'_>,
 ) -> Option<(Seat, Reply)> {
-    wait_for(caller.events, caller.number, TURNS);
     // whoever waits by now is woken all the same behind what a host asks and is refused, and behind a seat that is given
-    if !is_told(rt, service) {
+    if !wait_for(caller.count, caller.number, TURNS) || !is_told(rt, service) {
         return None;
     }
     let seat = service.seat(rt, RED).ok()?;
@@ -124,13 +166,14 @@ fn call_last<R: Wait, C: Ledger, H: Ledger>(
 }
 
 // What two threads do. The first makes a step that waits; the second, once that waits, steps that don't, and one that may.
-// So many events are told until both are done, and no fewer.
+// So many events are told until both are done, and no fewer; and so many frames, and no more.
 #[derive(Clone, Copy)]
 struct Steps<'a> {
     first: &'a Step,
     then: &'a [Step],
     last: &'a Step,
     events: u64,
+    frames: u64,
 }
 
 // What both threads came to, where both did.
@@ -150,7 +193,7 @@ fn two_threads<C: Ledger + Send + Sync, H: Ledger + Send + Sync, R: Threads + Wa
     rt: &R,
     alloc: Global,
     service: &Service<Global, Counter<'_>, C, H>,
-    events: &AtomicU64,
+    count: &Count,
     ours: Caller<'_>,
     theirs: Caller<'_>,
     number: u64,
@@ -162,7 +205,7 @@ fn two_threads<C: Ledger + Send + Sync, H: Ledger + Send + Sync, R: Threads + Wa
             join(
                 rt,
                 move || call_last(rt, service, theirs),
-                move || watch(rt, events, number),
+                move || watch(rt, count, number),
             )
         },
     );
@@ -184,7 +227,7 @@ fn played<C: Ledger + Send + Sync, H: Ledger + Send + Sync, R: Threads + Wait + 
     rt: &R,
     alloc: Global,
     service: &Service<Global, Counter<'_>, C, H>,
-    events: &AtomicU64,
+    count: &Count,
     steps: Steps<'_>,
 ) -> Result<(Vec<Seat>, Reply, Reply), Fail> {
     let opened = opened(rt, alloc, service)?;
@@ -192,18 +235,32 @@ fn played<C: Ledger + Send + Sync, H: Ledger + Send + Sync, R: Threads + Wait + 
         alloc,
         steps: &[],
         last: steps.first,
-        events,
+        count,
         number: 3,
     };
     let theirs = Caller {
         alloc,
         steps: steps.then,
         last: steps.last,
-        events,
+        count,
         number: 4,
     };
-    let (seats, first, last) = two_threads(rt, alloc, service, events, ours, theirs, steps.events)?;
+    let (seats, first, last) = two_threads(rt, alloc, service, count, ours, theirs, steps.events)?;
     Ok((with(seats, opened)?, first, last))
+}
+
+// The last replies, where the gate was told of each event once, and of no other frames. The transcripts are let go.
+fn replies_if(
+    holds: bool,
+    transcripts: Transcripts,
+    replies: Option<(Reply, Reply)>,
+) -> Result<(Reply, Reply), Fail> {
+    drop(transcripts);
+    if !holds {
+        drop(replies);
+        return Err(Fail::from("told otherwise"));
+    }
+    Ok(replies.ok_or("refused")?)
 }
 
 fn last_replies_named<
@@ -213,20 +270,24 @@ fn last_replies_named<
 >(
     rt: &R,
     alloc: Global,
-    events: &AtomicU64,
+    count: &Count,
     steps: Steps<'_>,
     credits: Blank,
     held: Blank,
 ) -> Result<(Reply, Reply), Fail>
     requires blanks { IsBlankOf C.name C.parts credits × IsBlankOf H.name H.parts held }
 {
-    let service = service_of::<_, C, H>(alloc, namespaces(1), Counter { events }, credits, held)?;
-    let (seats, replies) = match played(rt, alloc, &service, events, steps) {
+    let service = service_of::<_, C, H>(alloc, namespaces(1), Counter { count }, credits, held)?;
+    let (seats, replies) = match played(rt, alloc, &service, count, steps) {
         Ok((seats, first, last)) => (Ok(seats), Some((first, last))),
         Err(fail) => (Err(fail), None),
     };
-    closed(service, seats)??;
-    Ok(replies.ok_or("refused")?)
+    let transcripts = closed(service, seats)??;
+    replies_if(
+        count.is_of(&transcripts, steps.frames),
+        transcripts,
+        replies,
+    )
 }
 
 // The last reply of each of two threads, at a service that is closed with their seats.
@@ -235,8 +296,8 @@ fn last_replies<R: Threads + Wait + Abort + Sync>(
     alloc: Global,
     steps: Steps<'_>,
 ) -> Result<(Reply, Reply), Fail> {
-    let events = AtomicU64::new(0);
-    last_replies_named::<Brand, Brand, R>(rt, alloc, &events, steps, blank(), blank())
+    let count = Count::new();
+    last_replies_named::<Brand, Brand, R>(rt, alloc, &count, steps, blank(), blank())
 }
 
 // Process 1 reads so many bytes.
@@ -262,6 +323,7 @@ fn each_wakes_the_other(rt: HostRuntime) -> Result<(), Fail> {
         then: &[],
         last: &write_by(alloc, 2, 0x61, 65_541)?,
         events: 7,
+        frames: 17,
     };
     let page = ByteString::new(alloc, Vec::from_elem(alloc, 0x61, 4_096)?)?;
     let (ours, theirs) = last_replies(&rt, alloc, steps)?;
@@ -277,6 +339,7 @@ fn who_waits_is_told_that_its_process_is_gone(rt: HostRuntime) -> Result<(), Fai
         then: &[],
         last: &Step::Exit { pid: 1 },
         events: 6,
+        frames: 0,
     };
     let (ours, theirs) = last_replies(&rt, rt.alloc(), steps)?;
     assert_eq!(rt; ours, Reply::Err(Errno::ESRCH));
@@ -293,6 +356,7 @@ fn one_of_two_resumes_a_process_that_waits_no_more(rt: HostRuntime) -> Result<()
         then: &[write_by(alloc, 2, 0x61, 1)?],
         last: &RESUME,
         events: 7,
+        frames: 1,
     };
     let (ours, theirs) = last_replies(&rt, alloc, steps)?;
     let byte = bytes(alloc, b"a")?;
@@ -311,6 +375,7 @@ fn a_process_may_wait_in_another_call_since(rt: HostRuntime) -> Result<(), Fail>
         then: &[write_by(alloc, 2, 0x61, 1)?, RESUME, reading(1)],
         last: &write_by(alloc, 2, 0x62, 1)?,
         events: 9,
+        frames: 2,
     };
     let (ours, theirs) = last_replies(&rt, alloc, steps)?;
     let is_first = ours == bytes(alloc, b"a")? || ours == WAITS_NO_MORE;
@@ -328,6 +393,7 @@ fn who_waits_is_woken_after_a_resume_that_moved_nothing(rt: HostRuntime) -> Resu
         then: &[RESUME],
         last: &write_by(alloc, 2, 0x61, 1)?,
         events: 7,
+        frames: 1,
     };
     let (ours, theirs) = last_replies(&rt, alloc, steps)?;
     assert_eq!(rt; ours, bytes(alloc, b"a")?);

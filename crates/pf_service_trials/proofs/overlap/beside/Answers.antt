@@ -11,11 +11,6 @@ use Rattle.pf_service_trials.specs.contracts.overlap.Holder as Holder
 use Rattle.pf_service_trials.specs.contracts.overlap.HolderGate.TheImpl.{ghosts as told}
 use Rattle.pf_service_trials.proofs.overlap.beside.Goals as goal
 
-pub join-ours-requires-send-F : goal.join-ours-requires-send-F
-join-ours-requires-send-F g c κs within =
-    let served = λ (κ : NamedLft) (C H : RattleType) (l : Ledger.Ghosts C.Denot) (m : Ledger.Ghosts H.Denot). gated_sync (Holder.the_row κ) C H told l m (its_gate.the_sync κ) in
-    search (served, seat.the_send, step.the_sync, sendable, crosses) depth 60 fits 200000
-
 pub join-reader-requires-send-F : goal.join-reader-requires-send-F
 join-reader-requires-send-F g c κs within =
     let served = λ (κ : NamedLft) (C H : RattleType) (l : Ledger.Ghosts C.Denot) (m : Ledger.Ghosts H.Denot). gated_sync (Holder.the_row κ) C H told l m (its_gate.the_sync κ) in
