@@ -1,6 +1,7 @@
 -- What lay behind a namespace's lock when it was taken, and what is said of an event by it.
 
-use Rattle.std.proofs.Common.{◌≡◌, ℕ, List, ◌∷◌, [], sym, subst}
+use Rattle.std.proofs.Common.{◌≡◌, ℕ, List, ◌∷◌, [], ◌++◌, true, ap, sym, subst}
+use Rattle.std.proofs.lemmas.List.{append_assoc, append-nil}
 use Rattle.std.specs.Prelude.{false, Result, Ok, Err, IfOk, IfErr, IsErrAnd, OnOk}
 use Rattle.pf_base.specs.declared.admission.RetireFault.{RetireFault}
 use Rattle.pf_base.specs.declared.step.Step.{Step}
@@ -15,7 +16,7 @@ use Rattle.pf_service.specs.declared.seated.Tenant.{Tenant}
 use Rattle.pf_service.specs.Asked.{IsGoneThere, IsOfOneThere}
 use Rattle.pf_service.specs.Faults.{IsEventFault}
 use Rattle.pf_service.specs.Log.{Log}
-use Rattle.pf_service.specs.Said.{IsSaid, IsRefusedThere}
+use Rattle.pf_service.specs.Said.{IsSaid, IsRefusedThere, IsWaitedFor}
 use Rattle.pf_service.specs.Seats.{OneSeat}
 use Rattle.pf_service.specs.Tenants.{IsEvent, IsGiveFault, IsGoneFault, IsGivenThere, IsHappening, IsLivingAt}
 use Rattle.pf_service.specs.Tenants.{IsNotGivenThere, IsNotRetiredThere, IsRetiredThere, IsRetireFault, IsRetirement}
@@ -127,3 +128,47 @@ module _ {A C H : Type 0} (Passed : ℕ → ℕ → Type 0) (Framed : ℕ → Ty
   pub waited_alone : (step : Step) (old new : OneSeat) (before after : List Receipt) (es : List Event)
       → IsWaited (IsSaid Passed Framed Lay Woken ns) step old new before after es → IsWaited (λ s p r. Told s p r × Passed ns p) step old new before after es
   waited_alone step old new before after es w = record { gains = w.gains; receipts = w.receipts; tries = tries_alone step es w.tries }
+
+-- What was waited for
+
+-- of one try of a process
+pub resumed : {A C H : Type 0} (old new : Tenant (OneLiving A C H)) (pid pid' place : ℕ) (reply : Reply) → pid ≡ pid'
+    → IsEvent old new (Resume pid) place reply → IsEvent old new (Resume pid') place reply
+resumed old new pid pid' place reply who event = subst (λ (n : ℕ). IsEvent old new (Resume n) place reply) who event
+
+-- what lies behind a lock, with somebody known to wait
+abbrev pub awaited : {A C H : Type 0} → OneSeated A C H → OneSeated A C H
+awaited s = record s { is_awaited = true }
+
+module _ {A C H : Type 0} (WentOn : OneSeated A C H → OneSeated A C H → Type 0) where
+  -- as an event left it
+  left_awaited : (s v : OneSeated A C H) → v.given ≡ s.given → awaited v ≡ became_awaited s v.tenant
+  left_awaited s v same =
+      ap (λ (n : ℕ). let x : OneSeated A C H = record { tenant = v.tenant; given = n; is_awaited = true } in x) same
+
+  -- these events, and whatever further ones are waited for from here
+  abbrev pub GoesOn : (OneSeated A C H → Type 0) → OneSeated A C H → List Event → Type 0
+  GoesOn Lay v es = (more : List Event) → IsWaitedFor WentOn (WentOn (awaited v)) more → IsWaitedFor WentOn Lay (es ++ more)
+
+  -- the first event
+  pub begins : (Lay : OneSeated A C H → Type 0) (s v : OneSeated A C H) (e : Event)
+      → Lay s → IsEvent s.tenant v.tenant e.step e.place e.reply → v.given ≡ s.given → GoesOn Lay v (e ∷ [])
+  begins Lay s v e lay event given more rest =
+      (s, v.tenant, lay, event, subst (λ (x : OneSeated A C H). IsWaitedFor WentOn (WentOn x) more) (left_awaited s v given) rest)
+
+  -- a wait that began with what was lent there, and ended with what is lent then
+  pub went_between : (x u y s : OneSeated A C H) → x ≡ u → s ≡ y → WentOn (awaited x) y → WentOn (awaited u) s
+  went_between x u y s from to went =
+      subst (λ (z : OneSeated A C H). WentOn (awaited z) s) from (subst (λ (z : OneSeated A C H). WentOn (awaited x) z) (sym to) went)
+
+  -- one more, after a wait
+  pub goes_on : (Lay : OneSeated A C H → Type 0) (u s v : OneSeated A C H) (es : List Event) (e : Event)
+      → GoesOn Lay u es → WentOn (awaited u) s → IsEvent s.tenant v.tenant e.step e.place e.reply → v.given ≡ s.given
+      → GoesOn Lay v (es ++ e ∷ [])
+  goes_on Lay u s v es e so_far went event given more rest =
+      let all = so_far (e ∷ more) (begins (WentOn (awaited u)) s v e went event given more rest) in
+      subst (λ (xs : List Event). IsWaitedFor WentOn Lay xs) (sym (append_assoc es (e ∷ []) more)) all
+
+  -- and no more
+  pub stops : (Lay : OneSeated A C H → Type 0) (v : OneSeated A C H) (es : List Event) → GoesOn Lay v es → IsWaitedFor WentOn Lay es
+  stops Lay v es so_far = subst (λ (xs : List Event). IsWaitedFor WentOn Lay xs) (append-nil es) (so_far [] tt)

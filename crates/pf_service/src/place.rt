@@ -287,7 +287,7 @@ impl<A: Allocator + Clone, C: Ledger, H: Ledger, W: Waiters> Place<A, C, H, W> {
     ghost use Rattle.std.specs.Prelude.{List};
     ghost use Rattle.pf_service.specs.declared.TheConstants.{MAX_SEATS};
     ghost use Rattle.pf_service.specs.declared.event.Event.{Event as OneEvent};
-    ghost use Rattle.pf_service.specs.Said.{IsSaid};
+    ghost use Rattle.pf_service.specs.Said.{IsSaid, IsWaitedFor};
     ghost use Rattle.pf_service.specs.Tenants.{IsGivenThere, IsNotGivenThere, IsNotRetiredThere, IsRetiredThere};
     ghost use Rattle.pf_service.specs.Waited.{AreParked, IsAnswered, IsWaited};
 
@@ -362,6 +362,7 @@ impl<A: Allocator + Clone, C: Ledger, H: Ledger, W: Waiters> Place<A, C, H, W> {
             (λ s. W.lay self.now.next A C H s) (λ s. W.woken self.now.next A C H s) seat.old.ns)
             step.now seat.old seat.new
             receipts.old.items receipts.new.items es
+            × IsWaitedFor (λ s t. W.went_on self.now.next A C H s t) (λ s. W.lay self.now.next A C H s) es
             × OnOk result (IsAnswered es)
             × OnErr result (AreParked es) }
         ensures fault { IfErr result (IsRefusedThere (λ s. W.lay self.now.next A C H s)) }

@@ -5,7 +5,7 @@ ghost use Rattle.pf_service.specs.declared.event.Event.{Event as OneEvent};
 ghost use Rattle.pf_service.specs.Faults.{IsApplyFault};
 ghost use Rattle.pf_service.specs.Tenants.{IsEvent, IsSameTenant, IsTenantFault, IsToldOfMore, became, is_idle_at};
 ghost use Rattle.pf_service.specs.Seats.{Gains};
-ghost use Rattle.pf_service.specs.Said.{IsRefusedThere, IsSaid};
+ghost use Rattle.pf_service.specs.Said.{IsRefusedThere, IsSaid, IsWaitedFor};
 ghost use Rattle.pf_service.specs.Told.{Told};
 ghost use Rattle.pf_service.specs.Waited.{waiter, resume_of, IsTried, IsWaited, IsAnswered, AreParked};
 
@@ -100,7 +100,8 @@ fn try_once<A: Allocator + Clone, R: Wait, G: Gate, C: Ledger, H: Ledger, W: Wai
 /// An event of a seat of the namespace that lies behind a lock, and, as long as its process waits, after each further
 /// event of the namespace a Resume of that process. Each happens to what lay there, those who wait there are woken
 /// behind it, but for an event that is of no use to them, and where the namespace then holds more frames, the gate was
-/// told. It is given up only where an event is refused because of what lay there.
+/// told. Between two of them is one wait, which begins with what the first left there, and the second happens to what
+/// lies there when it ends. It is given up only where an event is refused because of what lay there.
 pub(crate) fn wait_at<A: Allocator + Clone, R: Wait, G: Gate, C: Ledger, H: Ledger, W: Waiters>(
     rt: &R,
     gate: &G,
@@ -116,6 +117,7 @@ pub(crate) fn wait_at<A: Allocator + Clone, R: Wait, G: Gate, C: Ledger, H: Ledg
         (λ s. W.lay waiters.now A C H s) (λ s. W.woken waiters.now A C H s) seat.old.ns)
         step.now seat.old seat.new
         receipts.old.items receipts.new.items es
+        × IsWaitedFor (λ s t. W.went_on waiters.now A C H s t) (λ s. W.lay waiters.now A C H s) es
         × OnOk result (IsAnswered es)
         × OnErr result (AreParked es) }
     ensures fault { IfErr result (IsRefusedThere (λ s. W.lay waiters.now A C H s)) }

@@ -23,8 +23,8 @@ returns-clause-waited g c =
       w.0,
       waited_alone (λ n p. g.G.Gate.passed c.self.inside.gate n p) (λ n. g.G.Gate.framed c.self.inside.gate n)
           _ (λ s. Unit {0}) c.args.seat.now.ns _ _ _ _ _ w.0 w.1,
-      w.2,
       w.3,
+      w.4,
     )
 
 pub returns-clause-fault : goal.returns-clause-fault
