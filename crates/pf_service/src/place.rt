@@ -193,8 +193,8 @@ fn wake<A: Allocator, C: Ledger, H: Ledger, W: Waiters>(
 }
 
 /// One event of the namespace that lies behind a lock, where it lives: it is made and kept, and those who wait are
-/// woken behind it, but for an event that is of no use to them. Whether anybody waits is known behind the lock: once
-/// they were woken, of nobody. `Gone` where the namespace is retired, first of all, and nothing changes.
+/// woken behind it, but for an event that is of no use to them. Who waits is known behind the lock: once they were
+/// woken, nobody is known to wait. `Gone` where the namespace is retired, first of all, and nothing changes.
 pub(crate) fn event_of<A: Allocator + Clone, R: Wait, G: Gate, C: Ledger, H: Ledger, W: Waiters>(
     rt: &R,
     gate: &G,

@@ -2,7 +2,7 @@
 
 use Rattle.std.proofs.Common.{◌≡◌, ℕ, suc, List, map, ◌+◌, ◌-◌, Bool, true, false, not, Option, Some, None, IsSome}
 use Rattle.std.proofs.Common.{is_some, Result, Ok, Err, refl, sym, ap, subst, ◌∙◌, arith}
-use Rattle.pf_tables.proofs.TablesShown.{each-same, shown, find_at, find_was}
+use Rattle.pf_tables.proofs.TablesShown.{each-same, shown, find_at}
 use Rattle.pf_tables.proofs.Refusals.{same_some}
 use Rattle.pf_tables.proofs.Common.{option_map, option_and_then, Files, ◌>>=◌, ◌>>◌, refuse_if, or_refuse, at, itself}
 use Rattle.pf_tables.proofs.Common.{State, End, ready, end_at, readers, writers, Errno, EBADF, Side, value_of, find}

@@ -26,7 +26,7 @@ use Rattle.pf_machine.specs.Opens.{is_waiting, openable, open_fifo, open_path}
 use Rattle.pf_tables.specs.declared.tables.opens.Access.{Access as Stored}
 use Rattle.pf_tables.specs.Opened.{end_of, taking, told_at, waits, lacks_readers, readers_at, HasFree}
 use Rattle.pf_tables.specs.Opened.{GetsPipe}
-use Rattle.pf_tables.specs.Rows.{call_of, process_in}
+use Rattle.pf_tables.specs.Rows.{call_of}
 use Rattle.pf_tables.proofs.Refusals.{same_ok}
 use Rattle.pf_tables.proofs.ProcessTableReady.{readies, is_living}
 use Rattle.pf_tables.proofs.OpensDescribe.{admitted, opener, seated_is, entered-charged, entered-fifos}

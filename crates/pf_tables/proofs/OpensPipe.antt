@@ -8,8 +8,7 @@ use Rattle.std.proofs.Math.Seq.{set-append_seam}
 use Rattle.pf_tables.proofs.Refusals.{same_some, then-bind}
 use Rattle.pf_tables.proofs.Common.{option_map, lookup, Window, Files, Limits, at, put_at, empty, ◌>>=◌, ◌>>◌, itself}
 use Rattle.pf_tables.proofs.Common.{refuse_if, told_as, capacity_for, is_spent, is_privileged, State, readers, writers}
-use Rattle.pf_tables.proofs.Common.{fifo_pipe, Errno, ENFILE, Fault, find, Live, UserPages, charged_to, Joined}
-use Rattle.pf_tables.proofs.Common.{Namespace}
+use Rattle.pf_tables.proofs.Common.{fifo_pipe, Errno, ENFILE, Fault, find, Live, UserPages, Joined}
 use Rattle.pf_tables.proofs.Common.{ring_or, rings_of, AreCharged, Owns, ProcessRows, DescriptionRows, PipeRows, Key}
 use Rattle.pf_tables.proofs.Common.{Process}
 use Rattle.pf_tables.proofs.Common.{Pipe, process_of, pipe_of, pipes_of, opens_at, opens_of, state_of, reads_it}

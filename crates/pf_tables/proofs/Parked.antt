@@ -15,7 +15,7 @@ use Rattle.pf_parked.specs.declared.call.Call.TheVariants.{Read, Write}
 use Rattle.pf_tables.specs.Rows as rows
 use Rattle.pf_tables.specs.Rows.{Call, call_of}
 use Rattle.pf_tables.specs.Told.{waits_in}
-use Rattle.pf_tables.proofs.ProcessTableReady.{shown_in, found_in, living_shown, ready_shown, place_of, place_is}
+use Rattle.pf_tables.proofs.ProcessTableReady.{found_in, living_shown, ready_shown, place_of, place_is}
 use Rattle.pf_tables.proofs.ProcessTableReady.{is_awake}
 use Rattle.pf_tables.proofs.TablesTied.{moved, put}
 

@@ -6,7 +6,7 @@ use Rattle.std.proofs.Common.{subst, ◌∙◌, arith}
 use Rattle.pf_tables.proofs.Refusals.{is_there, is_none, bind-bind}
 use Rattle.pf_tables.proofs.Common.{option_map, option_and_then, Limits, MAX_PROCESSES, PIPE_BUF, MAX_WRITE, Errno}
 use Rattle.pf_tables.proofs.Common.{ESRCH, EBADF, EINVAL, Side, Files, ◌>>=◌, ◌>>◌, refuse_if, or_refuse, Segment}
-use Rattle.pf_tables.proofs.Common.{bytes_of, room_of, at, itself, State, End, process, readers, writers, value_of}
+use Rattle.pf_tables.proofs.Common.{bytes_of, room_of, at, itself, State, End, process, readers, writers}
 use Rattle.pf_tables.proofs.Common.{find, Live, IsSound, UserPages, Open, Cross, queue_of, Stands, Namespace, meaning}
 use Rattle.pf_tables.proofs.Common.{pipe_meaning, Owns, GoesOn, ProcessRows, DescriptionRows, PipeRows}
 use Rattle.pf_tables.proofs.Common.{Key, Process, Description, Pipe, process_of, state_of, process_in, end_in, Kept}

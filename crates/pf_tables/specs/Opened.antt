@@ -56,7 +56,7 @@ others_in pipes (Some d) = others_of d (find pipes d.pipe.slot d.pipe.serial)
 abbrev pub others_at : DescriptionRows → PipeRows → Key → ℕ
 others_at ds pipes k = others_in pipes (description_in ds k)
 
--- how often it was opened, where an open of it waits
+-- how often the other side was opened, where an open of it waits
 abbrev pub before : Stored → Pipe → Option ℕ
 before a p = if waits a p.readers p.writers then Some (other_opens a.reads p) else None
 

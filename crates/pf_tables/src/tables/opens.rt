@@ -1,7 +1,7 @@
 //! Opens of FIFOs (open(2), fifo(7)): a FIFO has a pipe while somebody has it open, which its first opener is charged
 //! with.
 
-ghost use Rattle.std.specs.Prelude.{◌≡◌, ◌+◌, ◌-◌, ◌^◌, ◌<◌, ◌≤◌, true, false, None, Some, Ok, Err, IsOk, IfOk, OnOk};
+ghost use Rattle.std.specs.Prelude.{◌≡◌, ◌+◌, ◌-◌, ◌^◌, ◌<◌, ◌≤◌, true, None, Some, Ok, Err, IsOk, IfOk, OnOk};
 ghost use Rattle.std.specs.Prelude.{OnErr, length};
 ghost use Rattle.pf_base.specs.declared.TheConstants.{MAX_DESCRIPTORS};
 ghost use Rattle.pf_machine.specs.Opens.{has_flag, access_of, open_path};
@@ -221,7 +221,7 @@ fn describe(
 impl<A: Allocator> Tables<A> {
     /// Opens the FIFO at a path for a process (open(2), fifo(7)): its lowest free descriptor names the description, or
     /// the process waits for the other side. A FIFO that nobody has open gets its pipe. One look-up finds the process,
-    /// and one the FIFO's pipe.
+    /// and one the FIFO's key.
     pub fn open(
         &mut self,
         alloc: Global,

@@ -1,6 +1,6 @@
 //! Calls that wait: a process parks in one, and is woken.
 
-ghost use Rattle.std.specs.Prelude.{◌≡◌, Ok, Err, None, Some, IsOk, MatchResult};
+ghost use Rattle.std.specs.Prelude.{◌≡◌, Ok, Err, None, Some, IsOk};
 ghost use Rattle.std.specs.Option.{option_map};
 ghost use Rattle.pf_machine.specs.Machine as machine;
 ghost use Rattle.pf_machine.specs.State.{itself, ready, living};
