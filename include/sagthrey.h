@@ -147,7 +147,7 @@ int64_t sag_read(sag_hub *h, uint32_t ns, uint32_t pid, uint32_t fd, void *into,
 
 /* Writes bytes, and tells how many. -EBADF for no descriptor that writes; -EINVAL for more than 1,048,576 bytes; -EPIPE
  * where there are bytes and nobody reads the pipe, and no signal is sent; -EAGAIN with O_NONBLOCK, where none goes in.
- * Memory of the heap is wanted only where it waits, for a copy of the bytes. (write(2), pipe(7)) */
+ * Memory of the heap is wanted only where it waits, for a copy of more than 14 bytes. (write(2), pipe(7)) */
 int64_t sag_write(sag_hub *h, uint32_t ns, uint32_t pid, uint32_t fd, const void *bytes, size_t count);
 
 /* Copies at most n bytes of the pipe `source` to the end of the pipe `sink`, and tells how many; 0 at the end of

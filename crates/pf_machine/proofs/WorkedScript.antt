@@ -13,7 +13,7 @@ use Rattle.pf_machine.specs.Pipes.{writing, new_pipe}
 use Rattle.pf_machine.specs.Calls.{Writing}
 use Rattle.pf_machine.specs.Transfers.{Tried, try_write}
 use Rattle.pf_machine.specs.Attempts.{write_told, first, nonblocking, transfer}
-use Rattle.pf_machine.specs.Machine.{act, step_of, swept, call_of, is_parked, may_want_memory}
+use Rattle.pf_machine.specs.Machine.{act, step_of, swept, call_of, are_many, hands_many, is_parked, is_refusal, may_want_memory}
 use Rattle.pf_base.specs.declared.TheConstants.{PIPE_BUF, MAX_WRITE, MAX_DESCRIPTORS}
 use Rattle.pf_machine.specs.Runs.{run_of, lone}
 use Rattle.pf_base.specs.declared.progress.Progress.TheVariants.{Moved, NoReader}
@@ -136,19 +136,20 @@ unread-write-long x long = ap (λ (r : Result (Outcome Segment ℕ) Errno). (swe
 
 -- Want of memory
 
--- Spawn may always want it, Pipe and Read where the process lives and waits in no call, Write where it parks, the others
--- never
+-- Spawn may always want it, Pipe where it isn't refused, Read where it hands out many bytes, Write where it parks with
+-- many, the others never
 wanted-spawn : (c : Limits) (s : State Segment ℕ) (uid gid umask : ℕ) (groups : List ℕ) → may_want_memory c s (Spawn uid gid umask groups) ≡ true
 wanted-spawn c s uid gid umask groups = refl
 
-wanted-pipe : (c : Limits) (s : State Segment ℕ) (pid : ℕ) (nonblock : Bool) → may_want_memory c s (Pipe pid nonblock) ≡ (is_some (process s pid) && not (is_some (call_of s pid)))
+wanted-pipe : (c : Limits) (s : State Segment ℕ) (pid : ℕ) (nonblock : Bool) → may_want_memory c s (Pipe pid nonblock)
+    ≡ (not (is_refusal (act c s (Pipe pid nonblock)).reply) && (is_some (process s pid) && not (is_some (call_of s pid))))
 wanted-pipe c s pid nonblock = refl
 
-wanted-read : (c : Limits) (s : State Segment ℕ) (pid fd n : ℕ) → may_want_memory c s (Read pid fd n) ≡ (is_some (process s pid) && not (is_some (call_of s pid)))
+wanted-read : (c : Limits) (s : State Segment ℕ) (pid fd n : ℕ) → may_want_memory c s (Read pid fd n) ≡ (hands_many (act c s (Read pid fd n)).reply && (is_some (process s pid) && not (is_some (call_of s pid))))
 wanted-read c s pid fd n = refl
 
 wanted-write : (c : Limits) (s : State Segment ℕ) (pid fd : ℕ) (x : List ℕ)
-    → may_want_memory c s (Write pid fd x) ≡ (is_parked (act c s (Write pid fd x)).reply && (is_some (process s pid) && not (is_some (call_of s pid))))
+    → may_want_memory c s (Write pid fd x) ≡ ((is_parked (act c s (Write pid fd x)).reply && are_many x) && (is_some (process s pid) && not (is_some (call_of s pid))))
 wanted-write c s pid fd x = refl
 
 unwanted-exit : (c : Limits) (s : State Segment ℕ) (pid : ℕ) → may_want_memory c s (Exit pid) ≡ false

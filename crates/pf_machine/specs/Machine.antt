@@ -1,18 +1,20 @@
 -- The lone machine: one namespace with no pool, no frames, and no other namespace. It is a function: every
 -- choice (pid, descriptor, capacity, number of bytes) is fixed.
 
-use Rattle.std.specs.Prelude.{◌≡◌, ℕ, ◌+◌, length, Bool, true, false, not, ◌&&◌, ◌||◌, Option, Some, None, is_some, Result}
+use Rattle.std.specs.Prelude.{◌≡◌, ℕ, ◌+◌, List, length, Bool, true, false, not, ◌&&◌, ◌||◌, nat_lt}
+use Rattle.std.specs.Prelude.{Option, Some, None, is_some, Result}
 use Rattle.std.specs.Option.{option_and_then}
 use Rattle.pf_machine.specs.Refusals.{◌>>=◌}
 use Rattle.pf_base.specs.Limits.{Limits}
 use Rattle.pf_machine.specs.Queue.{Segment}
+use Rattle.pf_base.specs.declared.TheConstants.{BYTES_IN_PLACE}
 use Rattle.pf_base.specs.declared.errno.Errno.{Errno}
 use Rattle.pf_base.specs.declared.meta.Kind.TheVariants as kinds
 use Rattle.pf_base.specs.declared.progress.Crossing.TheVariants as crossings
 use Rattle.pf_base.specs.declared.step.Step.{Step}
 use Rattle.pf_base.specs.declared.step.Step.TheVariants as steps
 use Rattle.pf_base.specs.declared.step.Reply.{Reply}
-use Rattle.pf_base.specs.declared.step.Reply.TheVariants.{Parked}
+use Rattle.pf_base.specs.declared.step.Reply.TheVariants.{Bytes, Parked, Err as Refused}
 use Rattle.pf_base.specs.declared.step.Answer.{Answer}
 use Rattle.pf_base.specs.declared.step.Answer.TheVariants.{Done, NoMemory}
 use Rattle.pf_machine.specs.State.{itself, State, Process, Outcome, settle, process, living, ready}
@@ -143,12 +145,24 @@ abbrev pub is_parked : Reply → Bool
 is_parked Parked = true
 is_parked _ = false
 
--- whether a step that is told this may have made a process or a pipe, given a pipe other slots, handed out bytes, kept a
--- copy of bytes that wait, or walked a path, whose names stand in memory
+-- more bytes than a step and a reply hold without memory of the heap
+abbrev pub are_many : List ℕ → Bool
+are_many x = nat_lt BYTES_IN_PLACE (length x)
+
+abbrev pub hands_many : Reply → Bool
+hands_many (Bytes x) = are_many x
+hands_many _ = false
+
+abbrev pub is_refusal : Reply → Bool
+is_refusal (Refused e) = true
+is_refusal _ = false
+
+-- whether a step that is told this may have made a process or a pipe, given a pipe other slots, handed out many bytes,
+-- kept a copy of many bytes that wait, or walked a path, whose names stand in memory
 abbrev pub takes_memory : State Segment ℕ → Step → Reply → Bool
 takes_memory s (steps.Spawn uid gid umask groups) reply = true
-takes_memory s (steps.Resume pid) reply = hands_out (call_of s pid)
-takes_memory s (steps.Fork pid) reply = true
+takes_memory s (steps.Resume pid) reply = hands_out (call_of s pid) && hands_many reply
+takes_memory s (steps.Fork pid) reply = not (is_refusal reply)
 takes_memory s (steps.Mkdir pid path mode) reply = true
 takes_memory s (steps.Mkfifo pid path mode) reply = true
 takes_memory s (steps.Unlink pid path) reply = true
@@ -157,10 +171,10 @@ takes_memory s (steps.Chmod pid path mode) reply = true
 takes_memory s (steps.Stat pid path) reply = true
 takes_memory s (steps.List pid path) reply = true
 takes_memory s (steps.Open pid path flags) reply = true
-takes_memory s (steps.Pipe pid nonblock) reply = true
-takes_memory s (steps.Read pid fd n) reply = true
-takes_memory s (steps.Write pid fd payload) reply = is_parked reply
-takes_memory s (steps.SetSize pid fd bytes) reply = true
+takes_memory s (steps.Pipe pid nonblock) reply = not (is_refusal reply)
+takes_memory s (steps.Read pid fd n) reply = hands_many reply
+takes_memory s (steps.Write pid fd payload) reply = is_parked reply && are_many payload
+takes_memory s (steps.SetSize pid fd bytes) reply = not (is_refusal reply)
 takes_memory s _ reply = false
 
 -- whether a step, in this state, may want memory

@@ -1,5 +1,6 @@
 ghost use Rattle.std.specs.Prelude.{◌≡◌, ◌≢◌, ◌+◌, ◌-◌, ◌<◌, ◌≤◌, ◌^◌, [], ◌++◌, length, drop, min, nat_eq, nat_lt, if◌then◌else◌, vec_len, vec_capacity, IfOk, IfSome, IfNone, OnErr, Err};
 ghost use Rattle.pf_machine.specs.Progress.{moved, portion, read_now, write_now, cross_now};
+ghost use Rattle.pf_base.specs.declared.TheConstants.{BYTES_IN_PLACE};
 ghost use Rattle.pf_base.specs.declared.progress.Crossing.TheVariants.{Tee, Splice};
 ghost use Rattle.pf_base.specs.declared.progress.Progress.TheVariants.{WouldBlock, EndOfFile};
 ghost use Rattle.pf_machine.specs.Queue.{room_of, bytes_of, taken};
@@ -362,6 +363,8 @@ impl Pipe {
         // Where no byte comes out nothing is touched.
         ensures untouched { IfOk result (λ r. moved r.0 ≡ 0 → (self.new ≡ self.old) × (door.new ≡ door.old)) }
         ensures refused { OnErr result ((self.new ≡ self.old) × (door.new ≡ door.old)) }
+        // Memory is wanted only for more bytes than a reply holds without it.
+        ensures many { OnErr result (BYTES_IN_PLACE < min (bytes_in self.old.ring.segments) most) }
     {
         let number = self.len().min(most);
         if number <= BYTES_IN_PLACE {

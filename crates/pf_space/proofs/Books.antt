@@ -1,7 +1,7 @@
 -- What the tables say of a call at their own state, the lone machine says of what that state means: one lemma for all
 -- kinds of step that move no bytes and let nothing go.
 
-use Rattle.std.proofs.Common.{◌≡◌, ℕ, Option, Some, None, Result, Ok, Err, OnErr, refl, sym, ap, subst, ◌∙◌}
+use Rattle.std.proofs.Common.{◌≡◌, ℕ, Option, Some, None, Result, Ok, Err, IsOk, OnErr, refl, sym, ap, subst, ◌∙◌}
 use Rattle.pf_tables.proofs.TablesShown.{each-same}
 use Rattle.pf_space.proofs.Common.{option_map, Limits, Errno, Fault, Reply, Step, Call, Moving, call, Segment, ◌>>=◌}
 use Rattle.pf_space.proofs.Common.{itself, State, Process, Outcome, ready, Live, Window, Namespace, meaning, Owns, Told}
@@ -50,6 +50,13 @@ module _ (f : Live) (limits : Limits) (s : State Window ℕ) (step : Step) (own 
     ≡ if_ok (outcome_as shows itself) own) where
   machine : call limits (meaning f s) step ≡ if_ok (outcome_as (segment_of f) itself) own
   machine = ap (λ x. call limits x step) (sym (meaning-as f s)) ∙ natural (segment_of f)
+
+  pub ok-as : IsOk own → IsOk (call limits (meaning f s) step)
+  ok-as is = subst IsOk (sym machine) (by_own own is)
+    where
+      by_own : (r : Result (Outcome Window ℕ) Errno) → IsOk r → IsOk (if_ok (outcome_as (segment_of f) itself) r)
+      by_own (Ok o) h = refl
+      by_own (Err e) h = absurd (cc)
 
   pub made-as : {t : State Window ℕ} {reply : Reply} → own ≡ Ok (told t reply)
       → call limits (meaning f s) step ≡ Ok (told (meaning f t) reply)

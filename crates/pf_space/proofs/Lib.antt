@@ -6,3 +6,4 @@ pub mod Sendable
 mod Steps
 mod ParkedTransfers
 mod ParkedInto
+mod Wants

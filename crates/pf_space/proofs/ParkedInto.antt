@@ -2,13 +2,14 @@
 -- there.
 
 use Rattle.std.proofs.lemmas.List.{nil_from_length}
-use Rattle.std.proofs.Common.{◌≡◌, ◌⊎◌, inl, inr, ℕ, ◌≤◌, true, false, List, [], Option, Some, None}
+use Rattle.std.proofs.Common.{◌≡◌, ◌⊎◌, inl, inr, ℕ, ◌≤◌, ◌&&◌, true, false, List, [], Option, Some, None}
 use Rattle.std.proofs.Common.{Result, Ok, Err, refl, sym, ap, subst, ◌∙◌, arith}
 use Rattle.pf_space.proofs.Common.{Reading, Writing, Bringing, Call, Moving, Finished, transfer_told, call, Segment}
-use Rattle.pf_space.proofs.Common.{itself, Outcome, sweep, Tried, Errno, Fault, Progress, Moved, WouldBlock, EndOfFile}
+use Rattle.pf_space.proofs.Common.{itself, Limits, State, Outcome, sweep, Tried, Errno, Fault, Progress, Moved}
+use Rattle.pf_space.proofs.Common.{WouldBlock, EndOfFile}
 use Rattle.pf_space.proofs.Common.{NoReader, Reply, Live, Namespace, meaning, Owns, Told, tried_call, waits_in, ended}
 use Rattle.pf_machine.specs.Calls.{Opening}
-use Rattle.pf_machine.specs.Machine.{Answers, call_of, hands_out, step_of}
+use Rattle.pf_machine.specs.Machine.{Answers, act, call_of, hands_many, hands_out, is_let_in, may_want_memory, step_of}
 use Rattle.pf_machine.specs.Progress.{moved}
 use Rattle.pf_machine.specs.Replies.{reply_length}
 use Rattle.pf_machine.proofs.ReplyLaws.{resume-few, few}
@@ -50,6 +51,15 @@ no_read (Some (Opening description kept)) e = refl
 no_read (Some (Moving (Reading fd n))) e = absurd (cc)
 no_read (Some (Moving (Writing fd bytes written))) e = refl
 no_read (Some (Moving (Bringing crossing source sink n))) e = refl
+
+-- and then it wants no memory
+pub wants_none : (c : Limits) (s : State Segment ℕ) (pid : ℕ) → hands_out (call_of s pid) ≡ false
+    → may_want_memory c s (steps.Resume pid) ≡ true → ⊥
+wants_none c s pid quiet wants =
+    let gap : false ≡ true =
+    sym (ap (λ b. (b && hands_many (act c s (steps.Resume pid)).reply) && is_let_in s (steps.Resume pid)) quiet)
+    ∙ wants in
+    absurd (cc)
 
 -- A read
 

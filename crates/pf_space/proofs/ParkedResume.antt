@@ -2,8 +2,8 @@
 -- where it has to.
 
 use Rattle.std.proofs.lemmas.Option.{option_and_then_some}
-use Rattle.std.proofs.Common.{◌≡◌, ℕ, zero, suc, ◌+◌, ◌-◌, Bool, true, false, List, length, set, Option, Some, None}
-use Rattle.std.proofs.Common.{is_some, Result, Ok, Err, refl, sym, ap, subst, ◌∙◌, arith, nat_eq, nat_lt, if◌then◌else◌}
+use Rattle.std.proofs.Common.{◌≡◌, ℕ, zero, suc, ◌+◌, ◌-◌, Bool, true, false, ◌&&◌, List, length, set, Option, Some}
+use Rattle.std.proofs.Common.{None, is_some, Result, Ok, Err, refl, sym, ap, subst, ◌∙◌, arith, nat_eq, nat_lt, if◌then◌else◌}
 use Rattle.std.proofs.lemmas.List.{set-set}
 use Rattle.pf_space.proofs.Common.{option_map, Reading, Writing, Bringing, Call, Moving, Limits, call, at, change_at}
 use Rattle.pf_space.proofs.Common.{Segment, ◌>>=◌, or_refuse, itself, State, Process, Outcome, ready, sweep, Tried}
@@ -11,10 +11,10 @@ use Rattle.pf_space.proofs.Common.{Finished, Waits, transfer_told, Errno, ESRCH,
 use Rattle.pf_space.proofs.Common.{EndOfFile, NoReader, Reply, Live, Namespace, meaning, Owns, Told, tried_call}
 use Rattle.pf_space.proofs.Common.{waits_in, settled, ended}
 use Rattle.pf_machine.specs.Calls.{Transfer, made_by}
-use Rattle.pf_machine.specs.Machine.{call_of}
+use Rattle.pf_machine.specs.Machine.{are_many, call_of, hands_many, hands_out, may_want_memory}
 use Rattle.pf_machine.proofs.NumberedLaws.{at_within, at-put_same}
 use Rattle.pf_machine.specs.Refusals.{◌>>◌, refuse_if}
-use Rattle.pf_machine.specs.State.{process, reading_end, writing_end, change_process, waiting, told}
+use Rattle.pf_machine.specs.State.{process, reading_end, writing_end, change_process, settle, waiting, told}
 use Rattle.pf_machine.specs.Transfers.{tried, two_ends, try_read, try_write, try_cross}
 use Rattle.pf_machine.specs.Attempts.{Attempt, attempt, first, again, resume}
 use Rattle.pf_base.specs.declared.TheConstants.{MAX_WRITE}
@@ -25,11 +25,12 @@ use Rattle.pf_base.specs.declared.step.Step.TheVariants as steps
 use Rattle.pf_frame.specs.declared.frames.Frames.{Ghosts}
 use Rattle.pf_tables.specs.Door.{Serves}
 use Rattle.pf_tables.specs.Tables.{over, woken, awoken}
-use Rattle.pf_tables.specs.Told.{Says}
+use Rattle.pf_tables.specs.Told.{HandsMany, Says, attempted}
 use Rattle.pf_machine.specs.Maps.{if_ok}
 use Rattle.pf_machine.proofs.MapLaws.{bind-as, bind-same, then-as}
 use Rattle.pf_machine.proofs.ExitLaws.{change-change}
 use Rattle.pf_tables.proofs.MeaningLaws.{settled-meaning, woken-left}
+use Rattle.pf_tables.proofs.Refusals.{same_ok}
 use Rattle.pf_tables.proofs.TablesShown.{set_same, place_in}
 use Rattle.pf_space.proofs.ParkedTransfers.{sweep-waiting}
 
@@ -216,6 +217,38 @@ module _ (f : Live) {tables old mid : Namespace} (view : tables ≡ old) (pid : 
           ap settled (machine_is s pid t w tables.limits) ∙ refused s pid t w e still (sym machine ∙ says.0)
           ∙ ap (λ (z : State Segment ℕ). Ok (record { state = z; reply = replies.Err e })) (sym mid_state ∙ sym says.1)
       by_result (Err faults.NoMemory) says ample = absurd (ample refl)
+
+  -- a read that wants memory does so for the reply to its Resume
+  pub wants : hands_out {N = ℕ} (Some (Moving t)) ≡ true
+      → ((r : Tried) (k : ℕ) → transfer_told t r (Moved k) ≡ Ok (Finished r.state (replies.Bytes r.bytes)))
+      → HandsMany (attempted (meaning f mid.state) pid t)
+      → may_want_memory old.limits (meaning f old.state) (steps.Resume pid) ≡ true
+  wants out tells h =
+      subst (λ (n : Namespace). may_want_memory n.limits (meaning f n.state) (steps.Resume pid) ≡ true) view
+      (by_tried (tried s w.p t) refl (sym (tried-lifted pid s w.p t) ∙ found))
+    where
+      found : tried (awake pid s) (waiting None w.p) t ≡ Ok h.tried
+      found =
+          sym (ap (λ q. q >>= (λ p. tried (awake pid s) p t)) (ready_is s pid t w))
+          ∙ ap (λ z. attempted z pid t) (sym mid_state) ∙ h.is
+
+      by_tried : (q : Result Tried Errno) → tried s w.p t ≡ q → if_ok (lift pid) q ≡ Ok h.tried
+          → may_want_memory tables.limits s (steps.Resume pid) ≡ true
+      by_tried (Ok r) is same =
+          let here : lift pid r ≡ h.tried = same_ok same in
+          let comes : came s pid t w ≡ Ok (Finished r.state (replies.Bytes r.bytes)) =
+          ap (λ q. q >>= (λ x. transfer_told t x x.progress)) is
+          ∙ ap (transfer_told t r) (ap (λ (x : Tried). x.progress) here ∙ h.progress) ∙ tells r h.number in
+          let made : call tables.limits s (steps.Resume pid)
+          ≡ Ok (again s pid (Ok (Finished r.state (replies.Bytes r.bytes)))) =
+          machine_is s pid t w tables.limits
+          ∙ ap (λ (a : Result (Attempt Segment ℕ) Errno). Ok (again s pid a)) comes in
+          let many =
+          ap (λ (q : Result (Outcome Segment ℕ) Errno). hands_many (settle s q).reply) made
+          ∙ ap (λ (x : Tried). are_many x.bytes) here ∙ h.many in
+          let reads : hands_out (call_of s pid) ≡ true = ap hands_out waits ∙ out in
+          λ i. (reads i && many i) && (is_some (w.lives i) && true)
+      by_tried (Err e) is same = absurd (cc)
 
   -- a process that waits again as before has not changed
   pub restored : waits_in (Some (Moving t)) mid pid ≡ old

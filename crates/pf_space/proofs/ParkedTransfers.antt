@@ -17,7 +17,7 @@ use Rattle.pf_machine.specs.Numbered.{sum_of, weight, one_if, keep}
 use Rattle.pf_machine.proofs.NumberedLaws.{at_within, sum_of-set}
 use Rattle.pf_machine.specs.Progress.{moved}
 use Rattle.pf_machine.specs.Refusals.{◌>>◌, refuse_if}
-use Rattle.pf_machine.specs.State.{End, process, reading_end, writing_end, change_process, waiting}
+use Rattle.pf_machine.specs.State.{End, process, reading_end, writing_end, change_process, told, waiting}
 use Rattle.pf_machine.specs.Sweep.{live_descriptions, live_pipes}
 use Rattle.pf_machine.specs.Transfers.{tried, two_ends, try_read, try_write, try_cross}
 use Rattle.pf_machine.specs.Attempts.{Attempt, attempt, first, is_nonblocking, nonblocking, transfer}
@@ -27,7 +27,7 @@ use Rattle.pf_base.specs.declared.fault.Fault.TheVariants as faults
 use Rattle.pf_base.specs.declared.progress.Crossing.{Crossing}
 use Rattle.pf_base.specs.declared.step.Reply.TheVariants as replies
 use Rattle.pf_parked.specs.UnfinishedWrite.{UnfinishedWrite}
-use Rattle.pf_tables.specs.Told.{Came, Refused, Still, Stops, IsShort, Parks, attempted, flag_of, transferred}
+use Rattle.pf_tables.specs.Told.{Came, Refused, Still, Stops, IsShort, attempted, flag_of, transferred}
 use Rattle.pf_tables.proofs.TablesShown.{place_in}
 use Rattle.pf_space.proofs.Books.{flag-meaning}
 
@@ -256,6 +256,11 @@ stays_waiting r fd write rest is progress blocked =
     transfer_told (Writing fd write.bytes write.written) r in
     (elim blocked [ inl none ↦ ap told (progress ∙ none) | inr none ↦ ap told (progress ∙ none) ])
     ∙ ap (λ (w : UnfinishedWrite). Ok (Waits r.state (Moving (Writing fd w.bytes w.written)))) (sym is)
+
+-- it leaves its process waiting
+pub record Parks (machine : Result (Outcome Segment ℕ) Errno) : Type 0 where
+  pub state : State Segment ℕ
+  pub is : machine ≡ Ok (told state replies.Parked)
 
 -- a first write that stops short of its end waits, where nobody asked it not to
 pub stops_short : (f : Live) (s : State Window ℕ) (pid fd : ℕ) (x : List ℕ) → is_nonblocking_at s pid fd ≡ false

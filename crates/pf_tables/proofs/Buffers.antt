@@ -1,8 +1,9 @@
 -- What a read lays into a buffer.
 
-use Rattle.std.proofs.Common.{◌≡◌, ℕ, ◌≤◌, Bool, true, false, List, length, take, drop, ◌++◌, nat_eq, nat_lt}
+use Rattle.std.proofs.Common.{◌≡◌, ℕ, ◌<◌, ◌≤◌, Bool, true, false, List, length, take, drop, ◌++◌, nat_eq, nat_lt}
 use Rattle.std.proofs.Common.{if◌then◌else◌, ap, subst, ◌∙◌, arith, length-append, length-drop, length-take}
 use Rattle.std.specs.Prelude.{min}
+use Rattle.std.proofs.lemmas.Bool.{lt-ltb, ne_eqb}
 use Rattle.std.proofs.lemmas.List.{take_at, drop_at}
 use Rattle.pf_tables.proofs.Common.{Queue, bytes_of, Passed, moved}
 use Rattle.pf_machine.specs.Queue.{taken, after_take}
@@ -28,7 +29,15 @@ read_by-le q n false false false = omega arith
 read_now-le : (q : Queue) (writers n : ℕ) → moved (read_now q writers n).progress ≤ min n (length (bytes_of q))
 read_now-le q writers n = read_by-le q n (nat_eq n 0) (nat_lt 0 (length (bytes_of q))) (nat_eq writers 0)
 
--- and it takes just as many
+-- and where that is any, just as many
+pub reads_some : (q : Queue) (writers n : ℕ) → 0 < min n (length (bytes_of q))
+    → (read_now q writers n).progress ≡ Moved (min n (length (bytes_of q)))
+reads_some q writers n some =
+    let asks : nat_eq n 0 ≡ false = ne_eqb n 0 (λ (none : n ≡ 0). omega (arith, none, some)) in
+    let there : nat_lt 0 (length (bytes_of q)) ≡ true = lt-ltb 0 (length (bytes_of q)) (omega (arith, some)) in
+    λ i. (read_by q n (asks i) (there i) (nat_eq writers 0)).progress
+
+-- it takes just as many
 pub as_many_read : (q : Queue) (writers n : ℕ) → length (taken q (moved (read_now q writers n).progress))
     ≡ moved (read_now q writers n).progress
 as_many_read q writers n =

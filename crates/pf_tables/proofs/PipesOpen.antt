@@ -7,7 +7,7 @@ use Rattle.std.proofs.lemmas.Bool.Decides.{nat_tests}
 use Rattle.std.proofs.Math.Seq.{set-append_seam}
 use Rattle.pf_tables.proofs.Refusals.{not_refused, same_ok, then-bind}
 use Rattle.pf_tables.proofs.Common.{option_map, Window, ◌>>=◌, ◌>>◌, refuse_if, Files, at, put_at, change_at}
-use Rattle.pf_tables.proofs.Common.{first_free, told_as, is_privileged, empty, State, Outcome, ready, of_ready, told}
+use Rattle.pf_tables.proofs.Common.{first_free, told_as, is_privileged, empty, State, Outcome, of_ready, told}
 use Rattle.pf_tables.proofs.Common.{is_spent, capacity_for, MAX_DESCRIPTORS, Errno, EMFILE, ENFILE, one_more, Joined}
 use Rattle.pf_tables.proofs.Common.{unopened, UserPages, charged_to, Charges, Namespace, AreCharged, rings_of}
 use Rattle.pf_tables.proofs.Common.{ProcessRows, DescriptionRows, PipeRows, Key, Process, Description, Pipe, ready_in}
@@ -183,9 +183,6 @@ module _ {files : Files} {files_made : ℕ} {charges : UserPages} {ps : ProcessR
   pub goes : {free : ℕ × ℕ} {slots : ℕ} → Ok free ≡ two_free p.descriptors
       → false ≡ (is_spent ds 2 || is_spent pipes 1) → Ok slots ≡ capacity → IsOk (calls n)
   goes two left room = subst IsOk (sym (by_finds two left room)) refl
-
-  pub is_ready : IsOk (ready n.state pid)
-  is_ready = subst (λ (m : Namespace). IsOk (ready m.state pid)) view (subst IsOk (sym (readies ps pid p is)) refl)
 
   stands : at ps (pid - 1) ≡ Some p
   stands = place_is ps pid p is

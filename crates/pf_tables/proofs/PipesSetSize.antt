@@ -1,7 +1,7 @@
 -- A pipe's slots: how many they are told to be, and a pipe that gets another number of them.
 
 use Rattle.std.proofs.Common.{◌≡◌, ℕ, ◌+◌, ◌-◌, ◌*◌, ◌<◌, ◌≤◌, Bool, false, not, ◌&&◌, List, length, set, Option}
-use Rattle.std.proofs.Common.{Some, None, IsSome, Result, Ok, Err, nat_lt, refl, sym, ap, subst, ◌∙◌, arith}
+use Rattle.std.proofs.Common.{Some, None, IsSome, IsOk, Result, Ok, Err, nat_lt, refl, sym, ap, subst, ◌∙◌, arith}
 use Rattle.std.proofs.Common.{if◌then◌else◌, inl, inr}
 use Rattle.pf_tables.proofs.Common.{option_map, sum_by, Window, Files, Limits, is_privileged, ◌>>=◌, ◌>>◌, refuse_if}
 use Rattle.pf_tables.proofs.Common.{told_as, at, put_at, itself, State, Outcome, ready, of_ready, with_queue, done}
@@ -35,7 +35,7 @@ use Rattle.pf_tables.proofs.Refusals.{bind-bind, goes_in_turn, stops_in_turn}
 pub refuses : (u v : UserPages) (p q : Pipe) (privileged : Bool) (to : ℕ) (fault : Fault)
     → Resizing u v p q privileged to (Err fault) → Refuses u v p q
 refuses u v p q privileged to (faults.Errno e) z = z.1
-refuses u v p q privileged to faults.NoMemory z = z
+refuses u v p q privileged to faults.NoMemory z = z.1
 
 -- what is known before
 module _ {charges : UserPages} {limits : Limits} {es : List (ℕ × Key)} {ps : ProcessRows} {ds : DescriptionRows}
@@ -171,6 +171,12 @@ module _ {charges : UserPages} {limits : Limits} {es : List (ℕ × Key)} {ps : 
           told short under m charges' r' (faults.Errno e) z =
               judged false false (le-ltb MAX_SIZE bytes short) under (verdict_is ∙ z.0)
           told short under m charges' r' faults.NoMemory z = tt
+
+          -- or nothing stands against it
+          pub goes : bytes ≤ MAX_SIZE → over ≡ false → verdict charges (is_privileged p.cred) r to ≡ Ok tt
+              → IsOk (sets bytes n)
+          goes short under may =
+              subst IsOk (sym (judged false false (le-ltb MAX_SIZE bytes short) under (verdict_is ∙ may))) refl
 
       -- It has other slots
       module _ (p : Process) (charges' : UserPages) (r' : Pipe) (to : ℕ)

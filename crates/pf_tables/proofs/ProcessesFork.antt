@@ -2,8 +2,8 @@
 -- the process that has them all is put down.
 
 use Rattle.std.proofs.Common.{◌≡◌, ℕ, zero, suc, ◌+◌, ◌-◌, ◌^◌, ◌<◌, ◌≤◌, Bool, true, false, nat_le, List, [], ◌∷◌}
-use Rattle.std.proofs.Common.{length, map, drop, Option, Some, None, IsSome, is_some, Result, Ok, Err, refl, sym, ap}
-use Rattle.std.proofs.Common.{subst, ◌∙◌, arith, length-set}
+use Rattle.std.proofs.Common.{length, map, drop, Option, Some, None, IsSome, IsOk, is_some, Result, Ok, Err, refl, sym}
+use Rattle.std.proofs.Common.{ap, subst, ◌∙◌, arith, length-set}
 use Rattle.std.proofs.lemmas.List.{at_drop_more}
 use Rattle.pf_tables.proofs.Refusals.{same_some}
 use Rattle.pf_tables.proofs.Common.{option_map, Files, Limits, at, put_at, change_at, first_free, sum_of, weight, ◌>>=◌}
@@ -168,6 +168,11 @@ module _ {charges : UserPages} {limits : Limits} {ps : ProcessRows} {ds : Descri
     has_no_room past =
         let full : nat_le MAX_PROCESSES i ≡ true = grind (arith, nat_tests) in
         subst (λ (m : Namespace). call m.state ≡ Err EAGAIN) view (call_is ∙ ap tested full)
+
+    pub has_room : i < MAX_PROCESSES → IsOk (call n.state)
+    has_room within =
+        let room : nat_le MAX_PROCESSES i ≡ false = grind (arith, nat_tests) in
+        rw (← view) (subst IsOk (sym (call_is ∙ ap tested room)) refl)
 
     module _ (i_in : i < MAX_PROCESSES) {child : Process} (same : child ≡ p) {qs : ProcessRows} {es : DescriptionRows}
         (put : qs ≡ put_at ps i child) (named : es ≡ named_once_more child.descriptors ds) where

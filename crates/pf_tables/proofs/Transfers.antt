@@ -10,7 +10,9 @@ use Rattle.pf_tables.proofs.Common.{moved, itself, State, End, ready, with_queue
 use Rattle.pf_tables.proofs.Common.{PIPE_BUF, MAX_WRITE, Errno, EINVAL, Side, find, Live, IsSound, queue_of, Stands}
 use Rattle.pf_tables.proofs.Common.{UserPages, Namespace, meaning, rings_of, pipe_meaning, Owns, ProcessRows}
 use Rattle.pf_tables.proofs.Common.{DescriptionRows, PipeRows, Description, Pipe, pipe_of, pipes_of, state_of, end_in}
-use Rattle.pf_tables.proofs.Common.{Key, Kept, Whole, attempted}
+use Rattle.pf_tables.proofs.Common.{Key, Kept, Whole, attempted, bytes_of}
+use Rattle.pf_base.specs.declared.TheConstants.{BYTES_IN_PLACE}
+use Rattle.std.specs.Prelude.{min}
 use Rattle.pf_machine.specs.Queue.{taken}
 use Rattle.pf_machine.specs.Calls.{Transfer, Reading, Writing}
 use Rattle.pf_machine.specs.Progress.{read_now, write_now}
@@ -21,12 +23,13 @@ use Rattle.pf_frame.specs.declared.frames.Frames.{Ghosts}
 use Rattle.pf_pipe.specs.Pipe.{Passes, SameButWindows}
 use Rattle.pf_ring.specs.Door.{Holds, Affords}
 use Rattle.pf_ring.specs.Laid.{laid}
-use Rattle.pf_ring.proofs.TableLaws.{no_source}
+use Rattle.pf_ring.specs.Windows.{bytes_in}
+use Rattle.pf_ring.proofs.TableLaws.{bytes_number, no_source}
 use Rattle.pf_tables.proofs.MeaningLaws.{settled-meaning}
 use Rattle.pf_tables.proofs.OwnsLaws.{stands_at, credits_at}
 use Rattle.pf_tables.specs.Buffers.{HasReadInto, HasReadTruncated}
 use Rattle.pf_tables.specs.Door.{Serves}
-use Rattle.pf_tables.specs.Told.{Came, Refused, Wrote}
+use Rattle.pf_tables.specs.Told.{Came, HandsMany, Refused, Wrote}
 use Rattle.pf_tables.proofs.Buffers as buffers
 use Rattle.pf_tables.proofs.Ends.{side_end, end_of_rows, Agree, ends, reaches, pipe_there, counted}
 use Rattle.pf_tables.proofs.PipesRing.{there, same_pipes, refilled-whole, refilled-joined, refilled-means}
@@ -147,6 +150,26 @@ module _ {files : Files} {files_made : ℕ} {limits : Limits} {charges : UserPag
     -- its counts are the machine's
     pub counts : (readers itself s d.pipe.serial ≡ r.readers) × (writers itself s d.pipe.serial ≡ r.writers)
     counts = counted (pipe_meaning (F.live x)) None files files_made rows.kept.tied 0 0 d.pipe.serial d.pipe.slot r was
+
+    -- a read of it that hands out so many bytes that memory is wanted for them
+    pub hands_many : ((a : D) → F.fact a → IsSound (F.live a)) → (pid fd m : ℕ)
+        → end_in (Some sides.Read) ps ds pid fd ≡ Ok d → BYTES_IN_PLACE < min (bytes_in r.ring.segments) m
+        → HandsMany (attempted (meaning (F.live x) n.state) pid (Reading fd m))
+    hands_many sound pid fd m h many =
+        let q : Queue = queue_of (F.live x) r.ring in
+        let stands = stands_in rows.kept view served.owns d handed in
+        let kept = bytes_number (F.live x) r.ring (sound x served.fact) stands in
+        let comes = buffers.reads_some q (writers itself s d.pipe.serial) m (omega (arith, kept, many)) in
+        let number = ap moved comes in
+        let taken = buffers.as_many_read q (writers itself s d.pipe.serial) m in
+        subst (λ (v : Namespace). HandsMany (attempted (meaning (F.live x) v.state) pid (Reading fd m))) view
+        (record {
+          tried = try_read s (end_of_rows (pipe_meaning (F.live x)) d r) m;
+          is = goes pid fd (Some sides.Read) (reads m) (reaches (its pid fd (Some sides.Read)) h handed);
+          number = min m (length (bytes_of q));
+          progress = comes;
+          many = lt-ltb BYTES_IN_PLACE _ (omega (arith, taken, number, kept, many));
+        })
 
     abbrev with_pipe : Pipe → PipeRows
     with_pipe r' = put_at pipes d.pipe.serial (d.pipe.slot, r')

@@ -150,7 +150,7 @@ pub record Refuses (u v : UserPages) (p q : rows.Pipe) : Type 0 where
 abbrev pub Resizing : UserPages → UserPages → rows.Pipe → rows.Pipe → Bool → ℕ → Result (Unit {0}) Fault → Type 0
 Resizing u v p q privileged to (Ok done) = Resizes u v p q privileged to
 Resizing u v p q privileged to (Err (faults.Errno e)) = (verdict u privileged p to ≡ Err e) × Refuses u v p q
-Resizing u v p q privileged to (Err faults.NoMemory) = Refuses u v p q
+Resizing u v p q privileged to (Err faults.NoMemory) = (verdict u privileged p to ≡ Ok tt) × Refuses u v p q
 
 -- the rows that are left are tied, and show the state without a descriptor and without what nobody can reach any more
 pub record Left (ps : ProcessRows) (ds : DescriptionRows) (pipes : PipeRows) (ps' : ProcessRows) (ds' : DescriptionRows)

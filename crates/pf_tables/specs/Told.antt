@@ -1,14 +1,15 @@
 -- What a call of a namespace does over the frames of its door, and what it is told.
 
-use Rattle.std.specs.Prelude.{◌≡◌, ℕ, ◌<◌, ◌⊎◌, Bool, false, List, length, Option, Some, None, take, ⊤, Result, Ok, Err}
+use Rattle.std.specs.Prelude.{◌≡◌, ℕ, ◌<◌, ◌⊎◌, Bool, true, false, List, length, Option, Some, None, take, ⊤, Result}
+use Rattle.std.specs.Prelude.{Ok, Err}
 use Rattle.pf_machine.specs.Refusals.{◌>>=◌}
 use Rattle.pf_machine.specs.Queue.{Segment}
 use Rattle.pf_machine.specs.Progress.{moved}
 use Rattle.pf_machine.specs.Calls.{Transfer, Call, Moving}
-use Rattle.pf_machine.specs.State.{itself, State, Process, Outcome, told, ready, change_process, waiting}
+use Rattle.pf_machine.specs.State.{itself, State, Process, Outcome, ready, change_process, waiting}
 use Rattle.pf_machine.specs.Transfers.{Tried, tried}
 use Rattle.pf_machine.specs.Attempts.{attempt, first, has_nonblock, transfer}
-use Rattle.pf_machine.specs.Machine.{swept}
+use Rattle.pf_machine.specs.Machine.{are_many, swept}
 use Rattle.pf_machine.specs.Sweep.{sweep}
 use Rattle.pf_base.specs.declared.errno.Errno.{Errno}
 use Rattle.pf_base.specs.declared.errno.Errno.TheVariants.{EPIPE}
@@ -18,7 +19,6 @@ use Rattle.pf_base.specs.declared.progress.Progress.{Progress}
 use Rattle.pf_base.specs.declared.progress.Progress.TheVariants.{Moved, WouldBlock, EndOfFile, NoReader}
 use Rattle.pf_base.specs.declared.step.Reply.{Reply}
 use Rattle.pf_base.specs.declared.step.Reply.TheVariants as replies
-use Rattle.pf_base.specs.declared.step.Reply.TheVariants.{Parked}
 use Rattle.pf_frame.specs.Live.{Live}
 use Rattle.pf_tables.specs.declared.tables.transfers.Taken.{Taken}
 use Rattle.pf_tables.specs.Meaning.{Namespace, meaning}
@@ -68,6 +68,14 @@ pub record Stops (machine : Result Tried Errno) (number : ℕ) : Type 0 where
   pub tried : Tried
   pub is : machine ≡ Ok tried
   pub short : IsShort tried.progress number
+
+-- a read hands out more bytes than a reply holds without memory of the heap
+pub record HandsMany (machine : Result Tried Errno) : Type 0 where
+  pub tried : Tried
+  pub is : machine ≡ Ok tried
+  pub number : ℕ
+  pub progress : tried.progress ≡ Moved number
+  pub many : are_many tried.bytes ≡ true
 
 -- Transfers of a process over a door that goes from d to e
 
@@ -146,11 +154,6 @@ pub record Told (f g : Live) (old new : Namespace) (result : Result Reply Fault)
   pub owns : Owns g new
   pub limits : new.limits ≡ old.limits
   pub says : Says f g old new result machine
-
--- the machine's call leaves its process waiting
-pub record Parks (machine : Result (Outcome Segment ℕ) Errno) : Type 0 where
-  pub state : State Segment ℕ
-  pub is : machine ≡ Ok (told state Parked)
 
 -- the answer to a call that was resumed: a refusal ends it too, and is its reply
 abbrev pub ended : Result Reply Fault → Result Reply Fault

@@ -2,7 +2,7 @@
 
 ghost use Rattle.std.specs.Prelude.{◌≡◌, ◌≢◌, ◌≤◌, ℕ, List, Some, Ok, Err, true, false};
 ghost use Rattle.pf_machine.specs.Calls.{Moving, Reading};
-ghost use Rattle.pf_machine.specs.Machine.{Answers, call, call_of, hands_out};
+ghost use Rattle.pf_machine.specs.Machine.{Answers, call, call_of, hands_out, may_want_memory};
 ghost use Rattle.pf_tables.specs.Buffers.{Replied, number_told};
 ghost use Rattle.pf_tables.specs.Meaning.{meaning, occupied, AreEmpty};
 ghost use Rattle.pf_tables.specs.Owns.{Owns};
@@ -127,10 +127,10 @@ impl<A: Allocator + Clone> Space<A> {
         ensures door { HandsOn F.Frames door.old door.new }
         ensures told { Told (F.live door.old) (F.live door.new) self.old self.new result
             (call self.old.limits (meaning (F.live door.old) self.old.state) (Step.Resume pid)) }
-        // Memory is wanted for a read alone, and then nothing has changed.
+        // Memory is wanted where the step may want it, for a read alone, and then nothing has changed.
         ensures unchanged { result ≡ Err Fault.NoMemory → (self.new ≡ self.old) × (door.new ≡ door.old) }
-        ensures reads { result ≡ Err Fault.NoMemory
-            → hands_out (call_of (meaning (F.live door.old) self.old.state) pid) ≡ true }
+        ensures wants { result ≡ Err Fault.NoMemory
+            → may_want_memory self.old.limits (meaning (F.live door.old) self.old.state) (Step.Resume pid) ≡ true }
     {
         if self.tables.waits_in_open(pid)? {
             return Ok(self.tables.resume_open(pid));

@@ -2,14 +2,14 @@
 //! O_NONBLOCK. A call that would wait parks, or is told EAGAIN where the step or a description says nonblocking.
 
 ghost use Rattle.std.specs.Prelude.{◌≡◌, ◌≢◌, ◌≤◌, length, Err, IsOk, IfOk, IfSome, not, ◌&&◌, ◌||◌, false, true};
+ghost use Rattle.pf_base.specs.declared.TheConstants.{BYTES_IN_PLACE};
 ghost use Rattle.pf_machine.specs.Calls.{Reading, Writing, Bringing};
-ghost use Rattle.pf_machine.specs.State.{ready};
 ghost use Rattle.pf_machine.specs.Machine.{Answers, call, may_want_memory};
 ghost use Rattle.pf_machine.specs.Events.{IsDone};
 ghost use Rattle.pf_tables.specs.Buffers.{Lies, answer_in, number_in, told_in};
 ghost use Rattle.pf_tables.specs.Meaning.{meaning, occupied, AreEmpty};
 ghost use Rattle.pf_tables.specs.Owns.{Owns};
-ghost use Rattle.pf_tables.specs.Told.{Told, tried_call, is_nonblocking_at, write_ended, Parks};
+ghost use Rattle.pf_tables.specs.Told.{Told, attempted, tried_call, is_nonblocking_at, write_ended, HandsMany};
 ghost use Rattle.pf_tables.specs.Door.{Serves, HandsOn};
 
 use super::Space;
@@ -37,7 +37,8 @@ const SHARED_FROM: usize = 131_072;
 // So no spare capacity of the host's stays for as long as the write waits.
 fn kept(alloc: Global, bytes: &[u8], payload: Option<&ByteString>) -> Result<ByteString, AllocError>
     requires { IfSome payload (λ p. p.now ≡ bytes.now) }
-    ensures { IfOk result (λ kept. kept ≡ bytes.now) }
+    ensures bytes { IfOk result (λ kept. kept ≡ bytes.now) }
+    ensures in_place { length bytes.now ≤ BYTES_IN_PLACE → IsOk result }
 {
     if let Some(payload) = payload
         && bytes.len() >= SHARED_FROM
@@ -158,11 +159,11 @@ impl<A: Allocator + Clone> Space<A> {
         ensures door { HandsOn F.Frames door.old door.new }
         ensures told { Told (F.live door.old) (F.live door.new) self.old self.new result
             (call self.old.limits (meaning (F.live door.old) self.old.state) (Step.Write pid fd bytes.now)) }
-        // Memory is wanted where the write waits, and then nothing has changed.
+        // Memory is wanted where the step may want it, and then nothing has changed.
         ensures unchanged { result ≡ Err Fault.NoMemory → (self.new ≡ self.old) × (door.new ≡ door.old) }
-        ensures parks { result ≡ Err Fault.NoMemory
-            → Parks (call self.old.limits (meaning (F.live door.old) self.old.state)
-            (Step.Write pid fd bytes.now)) }
+        ensures wants { result ≡ Err Fault.NoMemory
+            → may_want_memory self.old.limits (meaning (F.live door.old) self.old.state)
+            (Step.Write pid fd bytes.now) ≡ true }
     {
         if let Some(progress) = self.tables.write_whole(door, pid, fd, bytes)? {
             return write_ended(progress);
@@ -247,10 +248,10 @@ impl<A: Allocator + Clone> Space<A> {
         ensures door { HandsOn F.Frames door.old door.new }
         ensures told { Told (F.live door.old) (F.live door.new) self.old self.new result
             (call self.old.limits (meaning (F.live door.old) self.old.state) (Step.Read pid fd n)) }
-        // Memory is wanted for a process that lives and waits in no call, and then nothing has changed.
+        // Memory is wanted where the step may want it, and then nothing has changed.
         ensures unchanged { result ≡ Err Fault.NoMemory → (self.new ≡ self.old) × (door.new ≡ door.old) }
-        ensures ready { result ≡ Err Fault.NoMemory
-            → IsOk (ready (meaning (F.live door.old) self.old.state) pid) }
+        ensures wants { result ≡ Err Fault.NoMemory
+            → may_want_memory self.old.limits (meaning (F.live door.old) self.old.state) (Step.Read pid fd n) ≡ true }
     {
         self.read_on(door, pid, fd, n, false)
     }
@@ -271,10 +272,10 @@ impl<A: Allocator + Clone> Space<A> {
         ensures told { let s = meaning (F.live door.old) self.old.state in
             Told (F.live door.old) (F.live door.new) self.old self.new result
             (tried_call s pid (not again && is_nonblocking_at self.old.state pid fd) (Reading fd n)) }
-        // Memory is wanted for a process that lives and waits in no call, and then nothing has changed.
+        // Memory is wanted for more bytes than a reply holds without it, and then nothing has changed.
         ensures unchanged { result ≡ Err Fault.NoMemory → (self.new ≡ self.old) × (door.new ≡ door.old) }
-        ensures ready { result ≡ Err Fault.NoMemory
-            → IsOk (ready (meaning (F.live door.old) self.old.state) pid) }
+        ensures many { result ≡ Err Fault.NoMemory
+            → HandsMany (attempted (meaning (F.live door.old) self.old.state) pid (Reading fd n)) }
     {
         let taken = self.tables.read_now(self.alloc, door, pid, fd, n)?;
         match taken.progress {

@@ -7,7 +7,7 @@ ghost use Rattle.pf_base.specs.Permissions.{is_privileged};
 ghost use Rattle.pf_base.specs.declared.TheConstants.{MAX_DESCRIPTORS};
 ghost use Rattle.pf_machine.specs.Numbered.{at};
 ghost use Rattle.pf_machine.specs.Pipes.{get_size, is_spent, pipe, set_size};
-ghost use Rattle.pf_machine.specs.State.{itself, of_ready, ready};
+ghost use Rattle.pf_machine.specs.State.{itself, of_ready};
 ghost use Rattle.pf_limits.specs.UserPages.{charged_to};
 ghost use Rattle.pf_pipe.specs.Pipe.{unopened};
 ghost use Rattle.pf_tables.specs.Tables.{Resizing, Says, two_free};
@@ -134,8 +134,7 @@ impl<A: Allocator> Tables<A> {
         ensures says { let s = self.old.state in Says self.old self.new result
             (of_ready s pid (λ p. pipe (length s.descriptions) (length s.descriptions + 1) (length s.pipes)
             self.old.limits s pid p nonblocking)) }
-        // Memory is wanted for a process that lives and waits in no call, and where nothing else stands against it.
-        ensures ready { result ≡ Err Fault.NoMemory → IsOk (ready self.old.state pid) }
+        // Memory is wanted where nothing else stands against it.
         ensures wanted { let s = self.old.state in result ≡ Err Fault.NoMemory
             → IsOk (of_ready s pid (λ p. pipe (length s.descriptions) (length s.descriptions + 1) (length s.pipes)
             self.old.limits s pid p nonblocking)) }
@@ -192,8 +191,9 @@ impl<A: Allocator> Tables<A> {
     pub fn set_size(&mut self, alloc: Global, pid: u32, fd: u32, bytes: u64) -> Result<Reply, Fault>
         ensures says { Says self.old self.new result
             (of_ready self.old.state pid (λ p. set_size itself self.old.limits self.old.state p fd bytes)) }
-        // Memory is wanted for a process that lives and waits in no call.
-        ensures ready { result ≡ Err Fault.NoMemory → IsOk (ready self.old.state pid) }
+        // Memory is wanted where nothing else stands against it.
+        ensures wanted { result ≡ Err Fault.NoMemory → IsOk (of_ready self.old.state pid
+            (λ p. set_size itself self.old.limits self.old.state p fd bytes)) }
         ensures refused { OnErr result (self.new ≡ self.old) }
     {
         let end = end(&self.processes, &self.descriptions, pid, fd, None)?;

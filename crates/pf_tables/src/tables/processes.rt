@@ -2,7 +2,7 @@
 
 ghost use Rattle.std.specs.Prelude.{◌≡◌, ◌-◌, ◌<◌, Err, IsOk, OnErr, length};
 ghost use Rattle.pf_machine.specs.Processes.{alive, exit, fork, spawn};
-ghost use Rattle.pf_machine.specs.State.{of_ready, ready};
+ghost use Rattle.pf_machine.specs.State.{of_ready};
 ghost use Rattle.pf_base.specs.declared.TheConstants.{MAX_DESCRIPTORS};
 ghost use Rattle.pf_tables.specs.Held.{HoldsNone};
 ghost use Rattle.pf_tables.specs.Rows.{AllFind, AreFew, named_once_more};
@@ -86,8 +86,9 @@ impl<A: Allocator> Tables<A> {
     /// Makes a process with the credentials and the descriptors of another one, under the lowest free pid (fork(2)).
     pub fn fork(&mut self, alloc: Global, pid: u32) -> Result<Reply, Fault>
         ensures says { Says self.old self.new result (of_ready self.old.state pid (λ p. fork self.old.state p)) }
-        // Memory is wanted for a process that lives and waits in no call.
-        ensures ready { result ≡ Err Fault.NoMemory → IsOk (ready self.old.state pid) }
+        // Memory is wanted where nothing else stands against it.
+        ensures wanted { let s = self.old.state in result ≡ Err Fault.NoMemory
+            → IsOk (of_ready s pid (λ p. fork s p)) }
         ensures refused { OnErr result (self.new ≡ self.old) }
     {
         let parent = self.processes.ready(pid)?;

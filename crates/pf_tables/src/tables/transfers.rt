@@ -1,13 +1,12 @@
 //! Bytes into pipes, out of them and between them: one look-up for each end, and one borrow of the pipe that is found.
 //! Where there are two, one is taken out for as long.
 
-ghost use Rattle.std.specs.Prelude.{◌≡◌, ◌≤◌, Err, None, IsOk, drop, length};
+ghost use Rattle.std.specs.Prelude.{◌≡◌, ◌≤◌, Err, None, drop, length};
 ghost use Rattle.pf_machine.specs.Calls.{Reading, Writing, Bringing};
-ghost use Rattle.pf_machine.specs.State.{ready};
 ghost use Rattle.pf_tables.specs.Buffers.{HasReadInto, HasReadTruncated};
 ghost use Rattle.pf_tables.specs.Door.{Serves, HandsOn};
 ghost use Rattle.pf_tables.specs.Meaning.{meaning};
-ghost use Rattle.pf_tables.specs.Told.{is_nonblocking_at, HasRead, HasCrossed, Wrote, WroteWhole};
+ghost use Rattle.pf_tables.specs.Told.{attempted, is_nonblocking_at, HandsMany, HasRead, HasCrossed, Wrote, WroteWhole};
 
 use super::{Tables, end, reading_end, writing_end};
 use pf_base::{ByteString, Crossing, Errno, Fault, MAX_WRITE, PIPE_BUF, Progress};
@@ -103,11 +102,11 @@ impl<A: Allocator> Tables<A> {
     ) -> Result<Taken, Fault>
         requires door { Serves F.Frames door.old self.old }
         ensures door { HandsOn F.Frames door.old door.new }
-        // It came as far as the machine's read, or is refused as that is, or memory was wanted for a process that
-        // lives. Where no byte came out, nothing has changed.
+        // It came as far as the machine's read, or is refused as that is, or memory was wanted, where the machine's
+        // hands out more bytes than a reply holds without it. Where no byte came out, nothing has changed.
         ensures read { HasRead F.live door.old door.new self.old self.new pid (Reading fd n) result }
-        ensures ready { result ≡ Err Fault.NoMemory
-            → IsOk (ready (meaning (F.live door.old) self.old.state) pid) }
+        ensures many { result ≡ Err Fault.NoMemory
+            → HandsMany (attempted (meaning (F.live door.old) self.old.state) pid (Reading fd n)) }
     {
         let end = reading_end(&self.processes, &self.descriptions, pid, fd)?;
         let pipe = self.pipes.value_mut(end.pipe);

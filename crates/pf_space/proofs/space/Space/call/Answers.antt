@@ -2,8 +2,12 @@
 -- kind is known. What the tables do at their own state is told by one lemma, with the one of that kind, that the
 -- machine does the same where a window shows a segment.
 
-use Rattle.std.proofs.Common.{◌+◌, length, refl, subst, sym, ap, ◌∙◌}
-use Rattle.pf_space.proofs.Common.{call, itself, Step, meaning, Told}
+use Rattle.std.proofs.Common.{◌≡◌, ◌+◌, length, true, refl, subst, sym, ap, ◌∙◌}
+use Rattle.pf_space.proofs.Common.{call, itself, Namespace, Step, meaning, Told}
+use Rattle.pf_machine.specs.Machine.{may_want_memory}
+use Rattle.pf_machine.specs.Pipes.{pipe, set_size}
+use Rattle.pf_machine.specs.Processes.{fork}
+use Rattle.pf_machine.specs.State.{of_ready}
 use Rattle.pf_machine.proofs.Natural.{spawn-as, born-as, dup-as, set_nonblock-as, get_size-as}
 use Rattle.pf_machine.proofs.NaturalCalls.{pipe-call, open-call}
 use Rattle.pf_machine.proofs.NaturalFiles.{make-as, unlink-as, rmdir-as, chmod-as, stat-as, list-as}
@@ -11,8 +15,9 @@ use Rattle.pf_machine.proofs.NaturalSizes.{set_size-as}
 use Rattle.pf_base.specs.declared.meta.Kind.TheVariants as kinds
 use Rattle.pf_base.specs.declared.progress.Crossing.TheVariants as crossings
 use Rattle.pf_base.specs.declared.step.Step.TheVariants as steps
-use Rattle.pf_space.proofs.Books.{as_ready, booked, looked_up}
+use Rattle.pf_space.proofs.Books.{as_ready, booked, looked_up, ok-as}
 use Rattle.pf_space.proofs.ParkedTransfers.{crossed_first}
+use Rattle.pf_space.proofs.Wants.{not_both, fork_wants, pipe_wants, set_size_wants}
 use Rattle.pf_space.proofs.space.Space.call.Goals as goal
 
 pub returns-in-Tee-clause-told : goal.returns-in-Tee-clause-told
@@ -154,3 +159,64 @@ returns-in-Open-clause-told g c =
     c.open.ensures.says c.open.ensures.refused
     (λ shows. open-call shows itself c.self-in-Open.inside.tables.limits s c.in-Open.pid c.as_slice-in-Open.result.now
     (length s.descriptions) itself refl (λ n. refl) c.in-Open.flags)
+
+-- where a step wants memory it may want it
+
+pub returns-in-Read-clause-succeeds : goal.returns-in-Read-clause-succeeds
+returns-in-Read-clause-succeeds g c quiet none =
+    not_both (may_want_memory c.args.self.now.limits (meaning (g.F.Frames.live c.args.door.now) c.args.self.now.state))
+    c.in-Read.is quiet (c.read.ensures.wants none)
+
+pub returns-in-Write-clause-succeeds : goal.returns-in-Write-clause-succeeds
+returns-in-Write-clause-succeeds g c quiet none =
+    not_both (may_want_memory c.args.self.now.limits (meaning (g.F.Frames.live c.args.door.now) c.args.self.now.state))
+    (c.in-Write.is ∙ ap (λ x. steps.Write c.in-Write.pid c.in-Write.fd x) (sym c.as_slice.ensures)) quiet
+    (c.write.ensures.wants none)
+
+pub returns-in-Resume-clause-succeeds : goal.returns-in-Resume-clause-succeeds
+returns-in-Resume-clause-succeeds g c quiet none =
+    not_both (may_want_memory c.args.self.now.limits (meaning (g.F.Frames.live c.args.door.now) c.args.self.now.state))
+    c.in-Resume.is quiet (c.resume.ensures.wants none)
+
+pub returns-in-Fork-clause-succeeds : goal.returns-in-Fork-clause-succeeds
+returns-in-Fork-clause-succeeds g c quiet none =
+    let f = g.F.Frames.live c.args.door.now in
+    let limits = c.self-in-Fork.inside.tables.limits in
+    let s = c.self-in-Fork.inside.tables.state in
+    let pid = c.in-Fork.pid in
+    let made = ok-as f limits s (steps.Fork pid) (of_ready s pid (λ p. fork s p))
+    (λ shows. as_ready shows s pid _ _ (λ p. born-as shows itself s p))
+    (c.fork.ensures.wanted (sym c.handed-in-Fork.ensures ∙ none)) in
+    not_both (may_want_memory c.args.self.now.limits (meaning f c.args.self.now.state)) c.in-Fork.is quiet
+    (subst (λ (n : Namespace). may_want_memory n.limits (meaning f n.state) (steps.Fork pid) ≡ true)
+    c.self-in-Fork.view_is (fork_wants limits (meaning f s) pid made))
+
+pub returns-in-Pipe-clause-succeeds : goal.returns-in-Pipe-clause-succeeds
+returns-in-Pipe-clause-succeeds g c quiet none =
+    let f = g.F.Frames.live c.args.door.now in
+    let limits = c.self-in-Pipe.inside.tables.limits in
+    let s = c.self-in-Pipe.inside.tables.state in
+    let pid = c.in-Pipe.pid in
+    let nonblock = c.in-Pipe.nonblock in
+    let made = ok-as f limits s (steps.Pipe pid nonblock)
+    (of_ready s pid (λ p. pipe (length s.descriptions) (length s.descriptions + 1) (length s.pipes) limits s pid p
+    nonblock))
+    (λ shows. pipe-call shows itself limits s pid (length s.descriptions) (length s.descriptions + 1) (length s.pipes)
+    refl refl refl nonblock) (c.pipe.ensures.wanted (sym c.handed-in-Pipe.ensures ∙ none)) in
+    not_both (may_want_memory c.args.self.now.limits (meaning f c.args.self.now.state)) c.in-Pipe.is quiet
+    (subst (λ (n : Namespace). may_want_memory n.limits (meaning f n.state) (steps.Pipe pid nonblock) ≡ true)
+    c.self-in-Pipe.view_is (pipe_wants limits (meaning f s) pid nonblock made))
+
+pub returns-in-SetSize-clause-succeeds : goal.returns-in-SetSize-clause-succeeds
+returns-in-SetSize-clause-succeeds g c quiet none =
+    let f = g.F.Frames.live c.args.door.now in
+    let limits = c.self-in-SetSize.inside.tables.limits in
+    let s = c.self-in-SetSize.inside.tables.state in
+    let step = steps.SetSize c.in-SetSize.pid c.in-SetSize.fd c.in-SetSize.bytes in
+    let made = ok-as f limits s step
+    (of_ready s c.in-SetSize.pid (λ p. set_size itself limits s p c.in-SetSize.fd c.in-SetSize.bytes))
+    (λ shows. as_ready shows s c.in-SetSize.pid _ _ (λ p. set_size-as shows itself itself itself (λ n. refl) _ s p _ _))
+    (c.set_size.ensures.wanted (sym c.handed-in-SetSize.ensures ∙ none)) in
+    not_both (may_want_memory c.args.self.now.limits (meaning f c.args.self.now.state)) c.in-SetSize.is quiet
+    (subst (λ (n : Namespace). may_want_memory n.limits (meaning f n.state) step ≡ true) c.self-in-SetSize.view_is
+    (set_size_wants limits (meaning f s) c.in-SetSize.pid c.in-SetSize.fd c.in-SetSize.bytes made))

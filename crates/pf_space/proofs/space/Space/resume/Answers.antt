@@ -58,6 +58,13 @@ returns-in-Err-NoMemory-clause-unchanged g c _ =
       same.1,
     )
 
+pub returns-in-Err-NoMemory-clause-wants : goal.returns-in-Err-NoMemory-clause-wants
+returns-in-Err-NoMemory-clause-wants g c _ =
+    lemmas.wants (g.F.Frames.live c.args.door.now) c.self.view_is c.args.pid
+    (Reading c.in-Some-Read.fd c.in-Some-Read.n)
+    (sym c.in-Some-Read.ensures.call ∙ ap (λ x. Some (call_of x)) c.in-Some-Read.field-0-is) c.wake.ensures.namespace
+    refl (λ r k. refl) (c.read_on.ensures.many (c.in-Err-NoMemory.is ∙ ap Err c.in-Err-NoMemory.field-0-is))
+
 pub returns-in-Err-NoMemory-clause-told : goal.returns-in-Err-NoMemory-clause-told
 returns-in-Err-NoMemory-clause-told g c =
     let back = returns-in-Err-NoMemory-clause-unchanged g c refl in

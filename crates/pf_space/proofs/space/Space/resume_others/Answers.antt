@@ -1,6 +1,7 @@
 -- A call that is no read wants no memory, and its reply has no bytes.
 
-use Rattle.std.proofs.Common.{true, false, ◌≡◌, Err, refl, sym, ap, ◌∙◌}
+use Rattle.std.proofs.Common.{Err, refl, ap, ◌∙◌}
+use Rattle.pf_space.proofs.Common.{meaning}
 use Rattle.pf_tables.proofs.MeaningLaws.{settled-meaning}
 use Rattle.pf_space.proofs.ParkedInto as lemmas
 use Rattle.pf_space.proofs.space.Space.resume_others.Goals as goal
@@ -22,6 +23,5 @@ returns-in-Err-Errno-clause-answers g c buffer =
 
 pub unreachable-requires : goal.unreachable-requires
 unreachable-requires g c =
-    let gap : true ≡ false =
-    sym (c.resume.ensures.reads (c.in-Err-NoMemory.is ∙ ap Err c.in-Err-NoMemory.field-0-is)) ∙ c.requires.quiet in
-    absurd (cc)
+    lemmas.wants_none c.args.self.now.limits (meaning (g.F.Frames.live c.args.door.now) c.args.self.now.state)
+    c.args.pid c.requires.quiet (c.resume.ensures.wants (c.in-Err-NoMemory.is ∙ ap Err c.in-Err-NoMemory.field-0-is))

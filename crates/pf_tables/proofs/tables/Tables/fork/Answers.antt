@@ -14,6 +14,16 @@ returns-then-i-ge-MAX_PROCESSES-clause-says g c =
     c.lowest-i.ensures.lowest c.if-i-ge-MAX_PROCESSES.true in
     search rules
 
+pub returns-in_err-cred-clause-wanted : goal.returns-in_err-cred-clause-wanted
+returns-in_err-cred-clause-wanted g c _ =
+    lemmas.has_room c.self.invariant.kept c.self.view_is c.args.pid c.in_ok-parent.ensures _
+    c.lowest-i.ensures.lowest c.if-i-ge-MAX_PROCESSES.false
+
+pub returns-in_err-descriptors-clause-wanted : goal.returns-in_err-descriptors-clause-wanted
+returns-in_err-descriptors-clause-wanted g c _ =
+    lemmas.has_room c.self.invariant.kept c.self.view_is c.args.pid c.in_ok-parent.ensures _
+    c.lowest-i.ensures.lowest c.if-i-ge-MAX_PROCESSES.false
+
 pub name_all-requires-clause-stand : goal.name_all-requires-clause-stand
 name_all-requires-clause-stand g c =
     subst (λ (keys : List (Option Key)). AllFind keys c.self.inside.descriptions.items)

@@ -1,6 +1,6 @@
 use Rattle.std.proofs.Common.{◌∙◌, length, Some, refl, ap, sym, rules}
 use Rattle.pf_tables.proofs.Fifos as lemmas
-use Rattle.pf_tables.proofs.PipesOpen.{Puts, pushed, by_finds, goes, is_ready, opened-kept, makes_pipe}
+use Rattle.pf_tables.proofs.PipesOpen.{Puts, pushed, by_finds, goes, opened-kept, makes_pipe}
 use Rattle.pf_tables.proofs.tables.Tables.pipe.Given.{Over}
 use Rattle.pf_tables.proofs.tables.Tables.pipe.Goals.{After-give_keys}
 use Rattle.pf_tables.proofs.tables.Tables.pipe.Goals as goal
@@ -47,18 +47,6 @@ returns-in_err-slots-clause-says g c =
     by_finds c.self.invariant.kept c.self.view_is c.args.pid c.args.nonblocking c.in_ok-process.ensures
     c.in_ok-free.ensures.found (sym c.if-is_spent.false ∙ c.is_spent.ensures) c.in_err-slots.ensures.found in
     search rules
-
-pub returns-in_err-reserve-clause-ready : goal.returns-in_err-reserve-clause-ready
-returns-in_err-reserve-clause-ready g c =
-    λ _. is_ready c.self.invariant.kept c.self.view_is c.args.pid c.args.nonblocking c.in_ok-process.ensures
-
-pub returns-in_err-reserve-2-clause-ready : goal.returns-in_err-reserve-2-clause-ready
-returns-in_err-reserve-2-clause-ready g c =
-    λ _. is_ready c.self.invariant.kept c.self.view_is c.args.pid c.args.nonblocking c.in_ok-process.ensures
-
-pub returns-in_err-charge-clause-ready : goal.returns-in_err-charge-clause-ready
-returns-in_err-charge-clause-ready g c =
-    λ _. is_ready c.self.invariant.kept c.self.view_is c.args.pid c.args.nonblocking c.in_ok-process.ensures
 
 pub returns-in_err-pipe-clause-wanted : goal.returns-in_err-pipe-clause-wanted
 returns-in_err-pipe-clause-wanted g c =

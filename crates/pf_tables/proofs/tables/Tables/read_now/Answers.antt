@@ -36,6 +36,11 @@ returns-in_err-progress-clause-read g c =
     c.in_err-progress.ensures.refused.0 in
     search rules
 
+pub returns-in_err-progress-clause-many : goal.returns-in_err-progress-clause-many
+returns-in_err-progress-clause-many g c _ =
+    lemmas.hands_many c.self.invariant c.self.view_is c.requires.door c.in_ok-end.end c.value_mut-pipe.ensures.value
+    g.met.F.Frames.sound c.args.pid c.args.fd c.args.n (sym c.in_ok-end.ensures) c.in_err-progress.ensures.many
+
 pub invariant_of-self-2 : goal.invariant_of-self-2
 invariant_of-self-2 g c =
     lemmas.passed-whole c.self.invariant c.self.view_is c.requires.door c.in_ok-end.end c.value_mut-pipe.ensures.value

@@ -2,6 +2,8 @@ use Rattle.std.proofs.Common.{Err, ◌≡◌, ◌*◌, true, false, sym, ◌∙�
 use Rattle.std.proofs.lemmas.Bool.{lt-ltb, le-ltb}
 use Rattle.pf_base.specs.Capacities.{pages_for}
 use Rattle.pf_base.specs.declared.TheConstants.{PAGE_SIZE}
+use Rattle.pf_base.specs.declared.fault.Fault.TheVariants.{NoMemory}
+use Rattle.pf_tables.proofs.Common.{Fault, is_privileged}
 use Rattle.pf_tables.specs.Tables.{Resizing}
 use Rattle.pf_tables.proofs.PipesSetSize as lemmas
 use Rattle.pf_tables.proofs.tables.Tables.set_size.Goals as goal
@@ -87,3 +89,20 @@ returns-in_err-resize-clause-says g c =
     rw gives (lemmas.told c.self.invariant c.self.view_is c.args.pid c.args.fd (sym c.in_ok-end.ensures)
     c.value_mut-pipe.ensures.value _ c.in_ok-ready.ensures c.args.bytes _ c.pages_for-slots.ensures.number refl
     c.if-bytes-gt-MAX_SIZE.false (sym over ∙ c.if-is_too_large.false) c.args.self.now _ _ _ z)
+
+pub returns-in_err-resize-clause-wanted : goal.returns-in_err-resize-clause-wanted
+returns-in_err-resize-clause-wanted g c none =
+    let size : c.pages_for-slots.result * 4096 ≡ PAGE_SIZE * pages_for c.args.bytes =
+    omega (arith, c.pages_for-slots.ensures.number) in
+    let over = rw (c.is_privileged-privileged.ensures, c.config.ensures, size) at c.is_too_large.ensures in
+    let gives : c.from_residual-in_err-resize.result ≡ Err c.in_err-resize.field-0.0 = search rules in
+    let fault : c.in_err-resize.field-0.0 ≡ NoMemory = cc (sym gives ∙ none) in
+    let z =
+    subst (λ b. Resizing c.self.inside.pages c.resize.new.pages c.value_mut-pipe.result.now c.resize.new.pipe b
+    c.pages_for-slots.result (Err c.in_err-resize.field-0.0)) c.is_privileged-privileged.ensures
+    c.in_err-resize.ensures in
+    lemmas.goes c.self.invariant c.self.view_is c.args.pid c.args.fd (sym c.in_ok-end.ensures)
+    c.value_mut-pipe.ensures.value _ c.in_ok-ready.ensures c.args.bytes _ c.pages_for-slots.ensures.number refl
+    c.if-bytes-gt-MAX_SIZE.false (sym over ∙ c.if-is_too_large.false)
+    (subst (λ (x : Fault). Resizing c.self.inside.pages c.resize.new.pages c.value_mut-pipe.result.now
+    c.resize.new.pipe (is_privileged c.in_ok-ready.field-0.now.cred) c.pages_for-slots.result (Err x)) fault z).0
