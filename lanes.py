@@ -1,9 +1,10 @@
 """What the gate does in lanes: the wrong bodies of crates, side by side, in copies of the tree.
 
 A lane is a copy, in which one command runs at a time, since the commands of the kit wait for each other in one tree. A
-crate's untouched text is checked first, when all that it stands on is: where its library is wanted, as that is built,
-and else those of its functions that have wrong bodies. What that leaves in the crate's folder out/ is copied to
-the other lanes, as not every kit keeps it elsewhere. Then its wrong bodies can be tried, in any lane.
+crate's untouched text is checked first, when all that it stands on is: where another crate whose wrong bodies are tried
+stands on it, or its library is wanted besides, as that is built, and else those of its functions that have wrong
+bodies. What that leaves in the crate's folder out/ is copied to the other lanes, as not every kit keeps it elsewhere.
+Then its wrong bodies can be tried, in any lane.
 
 What was seen refused is kept in the user's cache folder, where the untouched text checked again behind it: by checksums
 of the edit, of all files of the repository that the check reads, and of wrong_bodies.py, which judges; and by the kit's
@@ -258,7 +259,7 @@ class WrongBodies:
 
     def proofs(self, crates, built):
         """The check of each crate that others wait for. Those come first that the most others stand on. The library is
-        wanted of those that others stand on, and of those that are to be built."""
+        wanted of those that others of these stand on, and of those that are to be built."""
         needed = set().union(*(below(self.crates, it) for it in crates))
         above = Counter(it for crate in needed for it in below(self.crates, crate))
         work = lambda crate: lambda tree: self.proof(tree, crate, above[crate] > 1 or crate in built)
