@@ -2,7 +2,8 @@
    stands in REFUSED. A request for SIGN bytes is a sign of the program's, is never refused, and begins the counting or
    stops it; where COUNTED is 'memory', it begins at once. Where COUNTED is 'starts', threads that are to be started are
    counted in place of requests for memory, and one of them is refused. Where REFUSED is 'bytes', the bytes of these
-   requests are counted, and nothing is refused. In the end it tells how many it counted. */
+   requests are counted, and nothing is refused. In the end it tells how many it counted, and how many blocks the program
+   hasn't given back. */
 
 #define SIGN 7777777UL
 
@@ -13,6 +14,7 @@ void *__libc_malloc(size bytes);
 void *__libc_calloc(size count, size bytes);
 void *__libc_realloc(void *old, size bytes);
 void *__libc_memalign(size align, size bytes);
+void __libc_free(void *block);
 void *dlsym(void *library, const char *name);
 char *getenv(const char *name);
 size strtoul(const char *text, char **end, int base);
@@ -24,7 +26,7 @@ int *__errno_location(void);
 #define OUT_OF_MEMORY 12
 #define LIBRARIES_BEHIND ((void *)-1L)
 
-static size refused, counted;
+static size refused, counted, kept;
 static int counting, counting_starts, counting_bytes;
 static starting *start;
 
@@ -45,20 +47,31 @@ static int refuses(size bytes) {
     return 1;
 }
 
+static void *given(void *block) {
+    __atomic_add_fetch(&kept, block != 0, __ATOMIC_SEQ_CST);
+    return block;
+}
+
 void *malloc(size bytes) {
-    return refuses(bytes) ? 0 : __libc_malloc(bytes);
+    return refuses(bytes) ? 0 : given(__libc_malloc(bytes));
 }
 
 void *calloc(size count, size bytes) {
-    return refuses(count * bytes) ? 0 : __libc_calloc(count, bytes);
+    return refuses(count * bytes) ? 0 : given(__libc_calloc(count, bytes));
 }
 
 void *realloc(void *old, size bytes) {
-    return refuses(bytes) ? 0 : __libc_realloc(old, bytes);
+    void *block = refuses(bytes) ? 0 : __libc_realloc(old, bytes);
+    return old ? block : given(block);
 }
 
 void *aligned_alloc(size align, size bytes) {
-    return refuses(bytes) ? 0 : __libc_memalign(align, bytes);
+    return refuses(bytes) ? 0 : given(__libc_memalign(align, bytes));
+}
+
+void free(void *block) {
+    __atomic_sub_fetch(&kept, block != 0, __ATOMIC_SEQ_CST);
+    __libc_free(block);
 }
 
 int posix_memalign(void **to, size align, size bytes) {
@@ -79,7 +92,7 @@ __attribute__((constructor)) static void begin(void) {
 }
 
 static void tell(void) {
-    dprintf(2, "requests: %lu\n", counted);
+    dprintf(2, "requests: %lu\nkept: %lu\n", counted, kept);
 }
 
 __attribute__((destructor)) static void end(void) {
