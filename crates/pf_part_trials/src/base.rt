@@ -152,6 +152,53 @@ fn bytes_are_shared_that_have_one_owner(rt: HostRuntime) -> Result<(), Fail> {
     Ok(())
 }
 
+// Whether the bytes of a write have their memory alone.
+fn written_alone(step: &Step) -> Option<bool> {
+    match step {
+        Step::Write { payload, .. } => Some(payload.share().is_some()),
+        _ => None,
+    }
+}
+
+// Whether the bytes of an answer have their memory alone.
+fn told_alone(reply: &Reply) -> Option<bool> {
+    match reply {
+        Reply::Bytes(bytes) => Some(bytes.share().is_some()),
+        _ => None,
+    }
+}
+
+// Whether a copy of a write has its bytes in the same memory, for as long as it lives.
+fn step_shares(alloc: Global, step: &Step) -> Result<bool, AllocError> {
+    let copy = step.copy(alloc)?;
+    let both = (written_alone(step), written_alone(&copy));
+    drop(copy);
+    Ok(both == (Some(false), Some(false)) && written_alone(step) == Some(true))
+}
+
+// Whether a copy of bytes that were read does.
+fn reply_shares(alloc: Global, reply: &Reply) -> Result<bool, AllocError> {
+    let copy = reply.copy(alloc)?;
+    let both = (told_alone(reply), told_alone(&copy));
+    drop(copy);
+    Ok(both == (Some(false), Some(false)) && told_alone(reply) == Some(true))
+}
+
+#[test]
+fn copies_share_their_memory(rt: HostRuntime) -> Result<(), Fail> {
+    for count in [15, 4_096, 200_000] {
+        let step = Step::Write {
+            pid: 2,
+            fd: 1,
+            payload: roomy(rt.alloc(), count, 0)?,
+        };
+        assert!(rt; step_shares(rt.alloc(), &step)?, "{count}");
+        let reply = Reply::Bytes(roomy(rt.alloc(), count, 0)?);
+        assert!(rt; reply_shares(rt.alloc(), &reply)?, "{count}");
+    }
+    Ok(())
+}
+
 // How many groups, a umask, and whether they are valid.
 const CREDENTIALS: [(usize, u32, bool); 3] = [
     (32, 0o777, true),
