@@ -167,7 +167,7 @@ fn make_told<R: Wait, C: Ledger, H: Ledger>(
 }
 
 // Two tenants in turn, the second of which is admitted. The gate is told of their events, by calls or by calls that may
-// wait, and of their frames: 16 of the first, and one of the second.
+// wait, and of their frames, of which each takes 16 at once.
 #[derive(Drop)]
 struct ToldOnce<'a> {
     red: &'a Told,
@@ -185,13 +185,13 @@ impl<'a> Callers<Recorder<'a>> for ToldOnce<'_> {
         let config = config_of(16).ok_or("limits")?;
         assert_eq!(rt; service.admit(rt, config, alloc)?, BLUE);
         let (ours, theirs) = (service.seat(rt, RED)?, service.seat(rt, BLUE)?);
-        let (first, second) = (steps_of_red(alloc)?, steps_of_blue(alloc)?);
+        let steps = steps_of_red(alloc)?;
         let told = Some(self.red);
-        let ours = make_told(rt, alloc, service, ours, &first, self.may_wait, told);
+        let ours = make_told(rt, alloc, service, ours, &steps, self.may_wait, told);
         assert!(rt; self.red.is_of(4, 16) && self.blue.is_of(0, 0));
         let told = Some(self.blue);
-        let theirs = make_told(rt, alloc, service, theirs, &second, self.may_wait, told);
-        assert!(rt; self.red.is_of(4, 16) && self.blue.is_of(4, 1));
+        let theirs = make_told(rt, alloc, service, theirs, &steps, self.may_wait, told);
+        assert!(rt; self.red.is_of(4, 16) && self.blue.is_of(4, 16));
         both(alloc, ours, theirs)
     }
 }

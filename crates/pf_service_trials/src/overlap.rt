@@ -1,5 +1,6 @@
 //! Two namespaces' events overlap: a gate holds one of the first namespace, before its step, before a frame that it
-//! takes, or behind that and before the next, until the second namespace has taken a frame too. With one lock around
+//! takes, or behind that and before the next, until the second namespace has taken a frame too. Which of the two is the
+//! first one is the row's. With one lock around
 //! both, or with the depot's kept behind a frame, or held by who asks something of the first namespace meanwhile, the
 //! turns would be used up.
 
@@ -29,6 +30,9 @@ const GIVEN: u64 = 100;
 // What the threads tell each other.
 #[derive(Drop)]
 struct Signals {
+    // The first namespace, which is held, and the second.
+    first: u32,
+    second: u32,
     // Not 0: an event of the first namespace is held.
     held: AtomicU64,
     // Not 0: somebody is about to ask of the first namespace.
@@ -42,8 +46,10 @@ struct Signals {
 }
 
 impl Signals {
-    fn new() -> Signals {
+    fn new(first: u32) -> Signals {
         Signals {
+            first,
+            second: if first == RED { BLUE } else { RED },
             held: AtomicU64::new(0),
             asked: AtomicU64::new(0),
             frames: AtomicU64::new(0),
@@ -99,13 +105,13 @@ impl Gate for Holder<'_> {
 
     fn pass(&self, ns: u32, place: u64) {
         let _ = place;
-        if ns == RED && self.held == Held::AtItsStep {
+        if ns == self.signals.first && self.held == Held::AtItsStep {
             self.signals.hold();
         }
     }
 
     fn frame(&self, ns: u32) {
-        if ns == RED {
+        if ns == self.signals.first {
             let before = self.signals.frames.fetch_add(1, Ordering::SeqCst);
             if self.held == Held::AtItsFrame(before) {
                 self.signals.hold();
@@ -186,9 +192,9 @@ fn make_beside<R: Wait, C: Ledger, H: Ledger>(
 ) -> Option<Seat> {
     signals.wait_for(&signals.asked);
     signals.give();
-    let seat = service.seat(rt, BLUE).ok()?;
+    let seat = service.seat(rt, signals.second).ok()?;
     let seat = make(rt, service, seat, steps)?;
-    let all = are_answered(rt, service, BLUE);
+    let all = are_answered(rt, service, signals.second);
     signals.done.store(1, Ordering::SeqCst);
     seat_if(all, seat)
 }
@@ -206,10 +212,10 @@ fn ask<R: Wait, C: Ledger, H: Ledger>(
     if let Asked::Nothing = asked {
         signals.wait_for(&signals.done);
     }
-    if !is_answered(rt, service, RED, asked) {
+    if !is_answered(rt, service, signals.first, asked) {
         return None;
     }
-    service.seat(rt, RED).ok()
+    service.seat(rt, signals.first).ok()
 }
 
 // A process reads the first of what it wrote.
@@ -273,7 +279,8 @@ fn writers_and_reader<C: Ledger + Send + Sync, H: Ledger + Send + Sync, R: Threa
     count: usize,
 ) -> Result<Vec<Seat>, Fail> {
     let (steps, last) = (writing(alloc, count)?, reading(alloc)?);
-    let (ours, reader) = (service.seat(rt, RED)?, service.seat(rt, RED)?);
+    let first = signals.first;
+    let (ours, reader) = (service.seat(rt, first)?, service.seat(rt, first)?);
     beside(
         rt, alloc, service, signals, ours, reader, asked, &steps, &last,
     )
@@ -317,36 +324,46 @@ fn both_beside<R: Threads + Wait + Sync>(
 fn is_beside<R: Threads + Wait + Sync>(
     rt: &R,
     alloc: Global,
+    first: u32,
     held: Held,
     asked: Asked,
     count: usize,
 ) -> Result<bool, Fail> {
-    let signals = Signals::new();
+    let signals = Signals::new(first);
     let transcripts = both_beside(rt, alloc, held, &signals, asked, count)??;
     let each = transcripts.as_slice();
-    let red = each.first().ok_or("none")?.entries();
-    let last = red.last().ok_or("none")?;
+    let own = each.get(first as usize).ok_or("none")?.entries();
+    let last = own.last().ok_or("none")?;
     let told = Reply::Bytes(ByteString::new(alloc, Vec::from_elem(alloc, 0x61, count.min(9))?)?);
     let waited = signals.used_up.load(Ordering::SeqCst) != 0;
-    Ok(!waited && each.len() == 2 && red.len() == 4 && last.1 == told)
+    Ok(!waited && each.len() == 2 && own.len() == 4 && last.1 == told)
 }
 
 #[test]
 fn an_event_held_before_its_step_holds_nobody_else(rt: HostRuntime) -> Result<(), Fail> {
-    assert!(rt; is_beside(&rt, rt.alloc(), Held::AtItsStep, Asked::Nothing, 5)?);
+    assert!(rt; is_beside(&rt, rt.alloc(), RED, Held::AtItsStep, Asked::Nothing, 5)?);
     Ok(())
 }
 
 #[test]
 fn an_event_held_before_its_frame_holds_nobody_else(rt: HostRuntime) -> Result<(), Fail> {
-    assert!(rt; is_beside(&rt, rt.alloc(), Held::AtItsFrame(0), Asked::Nothing, 5)?);
+    assert!(rt; is_beside(&rt, rt.alloc(), RED, Held::AtItsFrame(0), Asked::Nothing, 5)?);
     Ok(())
 }
 
 // A write of two pages has taken its first frame.
 #[test]
 fn an_event_held_behind_a_frame_holds_nobody_else(rt: HostRuntime) -> Result<(), Fail> {
-    assert!(rt; is_beside(&rt, rt.alloc(), Held::AtItsFrame(1), Asked::Nothing, 8_192)?);
+    assert!(rt;
+        is_beside(
+            &rt,
+            rt.alloc(),
+            RED,
+            Held::AtItsFrame(1),
+            Asked::Nothing,
+            8_192
+        )?
+    );
     Ok(())
 }
 
@@ -361,7 +378,8 @@ fn who_asks_of_one_that_is_held_holds_nobody_else(rt: HostRuntime) -> Result<(),
         Asked::Seat,
     ];
     for asked in &each {
-        assert!(rt; is_beside(&rt, rt.alloc(), Held::AtItsStep, *asked, 5)?);
+        assert!(rt; is_beside(&rt, rt.alloc(), RED, Held::AtItsStep, *asked, 5)?);
+        assert!(rt; is_beside(&rt, rt.alloc(), BLUE, Held::AtItsStep, *asked, 5)?);
     }
     Ok(())
 }
