@@ -1,5 +1,6 @@
-//! A namespace that makes a thousand FIFOs in a heap of 1,024 bytes: it is told of want of memory, and then the FIFO
-//! isn't there; each other one is.
+//! A namespace that makes a thousand FIFOs in a heap of some bytes, also where its name is chosen: it is told of want
+//! of memory, and then the FIFO isn't there; each other one is. In four times the bytes there is room for more than
+//! twice as many.
 
 use crate::words::words_of;
 use pf_play::{Collected, MemoryBytes, NoGate, Status, obey};
@@ -11,8 +12,14 @@ use std::thread::Threads;
 /// How many FIFOs are made.
 const FILES: usize = 1000;
 
-/// The program's words.
-const WORDS: [&str; 3] = ["pfplay", "--tree-heap", "1024"];
+/// The program's words in front of a heap's bytes.
+const WORDS: [&[&str]; 2] = [
+    &["pfplay", "--tree-heap"],
+    &["pfplay", "--only", "red", "--tree-heap"],
+];
+
+/// The bytes.
+const BYTES: [&str; 3] = ["1024", "4096", "16384"];
 
 /// A process that makes them, and looks for each.
 fn script(alloc: Global) -> Result<String, AllocError> {
@@ -61,15 +68,35 @@ fn counted(text: &str) -> Option<(usize, usize)> {
     Some((made, refused))
 }
 
+/// How many FIFOs are there in the end, where there isn't room for all.
+fn made<T: Threads + Wait + Sync>(
+    rt: &T,
+    alloc: Global,
+    script: &str,
+    words: &[String],
+) -> Result<usize, Fail> {
+    let mut writer = Collected::new(alloc);
+    let status = played(rt, alloc, &mut writer, script, words);
+    let text = String::from_utf8(Vec::from_slice(alloc, writer.as_slice())?)?;
+    let (made, refused) = counted(text.as_str()).ok_or("told otherwise")?;
+    if status as u8 != 3 || refused == 0 || made.saturating_add(refused) != FILES {
+        return Ok(0);
+    }
+    Ok(made)
+}
+
 #[test]
 fn a_heap_is_filled(rt: HostRuntime) -> Result<(), Fail> {
-    let (script, words) = (script(rt.alloc())?, words_of(rt.alloc(), &WORDS)?);
-    let mut writer = Collected::new(rt.alloc());
-    let status = played(&rt, rt.alloc(), &mut writer, script.as_str(), &words);
-    assert_eq!(rt; status as u8, 3);
-    let text = String::from_utf8(Vec::from_slice(rt.alloc(), writer.as_slice())?)?;
-    let (made, refused) = counted(text.as_str()).ok_or("told otherwise")?;
-    assert!(rt; made > 0 && refused > 0);
-    assert_eq!(rt; made.saturating_add(refused), FILES);
+    let script = script(rt.alloc())?;
+    for front in WORDS {
+        let mut fewer: usize = 0;
+        for bytes in BYTES {
+            let mut words = words_of(rt.alloc(), front)?;
+            words.push(String::from_str(rt.alloc(), bytes)?)?;
+            let made = made(&rt, rt.alloc(), script.as_str(), &words)?;
+            assert!(rt; made > fewer.saturating_mul(2), "{front:?} {bytes}");
+            fewer = made;
+        }
+    }
     Ok(())
 }

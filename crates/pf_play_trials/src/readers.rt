@@ -1,14 +1,17 @@
 //! Readers that give a byte at a time and stop once, at each byte of a script, and then go on as if nothing had been.
 //! One that fails is a read fault, whatever the failure is called, and nothing is written; where one gives none, the
-//! input is over. Neither is asked again. A reader that claims more bytes than there was room for keeps no contract of
-//! a reader.
+//! input is over. Neither is asked again, whatever the words of a command line ask for. A reader that claims more bytes
+//! than there was room for keeps no contract of a reader.
 
 use crate::hello::{SCRIPT, TEXT};
 use crate::texts::OPTIONS;
-use pf_play::{Collected, Failed, Reading, ReplayFault, Source, replay};
+use crate::words::words_of;
+use pf_play::{Collected, Failed, NoGate, Reading, ReplayFault, Source, obey, replay};
 use std::alloc::{AllocError, Global};
 use std::io::{self, ErrorKind, Read};
+use std::sync::Wait;
 use std::test::Fail;
+use std::thread::Threads;
 
 /// How a reader stops.
 #[derive(Debug, Clone, Copy, PartialEq, Eq)]
@@ -163,6 +166,44 @@ fn a_reader_that_is_interrupted_at_each_byte(rt: HostRuntime) -> Result<(), Fail
         assert!(rt; matches!(end, Err(ReplayFault::ReadFault)), "{stops_at}");
         assert_eq!(rt; interrupted.asked, stops_at.saturating_add(1));
         assert!(rt; writer.as_slice().is_empty());
+    }
+    Ok(())
+}
+
+/// Words of a command line, by which a script is read in each way.
+const WAYS: [&[&str]; 5] = [
+    &["pfplay"],
+    &["pfplay", "--threads"],
+    &["pfplay", "--only", "red"],
+    &["pfplay", "--only", "red", "--threads"],
+    &["pfplay", "--tree-heap", "1024"],
+];
+
+/// How often the program asks a reader that stops before this byte, and what it ends with.
+fn asked<T: Threads + Wait + Sync>(
+    rt: &T,
+    alloc: Global,
+    words: &[String],
+    stop: Stop,
+    stops_at: usize,
+) -> (usize, u8) {
+    let mut reader = Stopping::new(stop, stops_at);
+    let mut writer = Collected::new(alloc);
+    let status = obey(rt, alloc, words, &mut reader, &mut writer, &NoGate);
+    (reader.asked, status as u8)
+}
+
+#[test]
+fn no_words_have_a_reader_asked_again(rt: HostRuntime) -> Result<(), Fail> {
+    for texts in WAYS {
+        let words = words_of(rt.alloc(), texts)?;
+        for stops_at in 0..=SCRIPT.len() {
+            let times = stops_at.saturating_add(1);
+            let (ended, _) = asked(&rt, rt.alloc(), &words, Stop::GivesNone, stops_at);
+            assert_eq!(rt; ended, times, "{texts:?}");
+            let failed = asked(&rt, rt.alloc(), &words, Stop::Fails, stops_at);
+            assert_eq!(rt; failed, (times, 4), "{texts:?}");
+        }
     }
     Ok(())
 }

@@ -15,6 +15,8 @@ mod hubs;
 #[cfg(test)]
 mod paths;
 #[cfg(test)]
+mod refused;
+#[cfg(test)]
 mod replay;
 #[cfg(test)]
 mod resumes;

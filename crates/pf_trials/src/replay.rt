@@ -268,6 +268,30 @@ fn a_reader_without_end(rt: HostRuntime) {
     assert!(rt; matches!(result, Err(ReplayFault::ReadFault)));
 }
 
+/// As many bytes as a write may have, all in digits.
+#[test]
+fn the_longest_data(rt: HostRuntime) -> Result<(), Fail> {
+    let alloc = rt.alloc();
+    let mut digits = String::new(alloc);
+    for _ in 0..1_048_576 {
+        digits.push_str("61")?;
+    }
+    let mut script = String::from_str(alloc, "pool 256\nspace a 256\na spawn 0 0 022\n")?;
+    script.push_str("a pipe 1\na setsize 1 0 1048576\na write 1 1 ")?;
+    script.push_str(digits.as_str())?;
+    script.push_str("\na read 1 0 1048576\n")?;
+    let mut text = String::from_str(alloc, "== a\n1: pid 1\n2: fds 0 1\n3: num 1048576\n")?;
+    text.push_str("4: num 1048576\n5: bytes 1048576 ")?;
+    text.push_str(digits.as_str())?;
+    text.push('\n')?;
+    let mut reader = MemoryBytes::new(script.as_bytes());
+    let mut writer = Collected::new(alloc);
+    let result = replay(alloc, &mut reader, &mut writer, &OPTIONS);
+    assert!(rt; matches!(result, Ok(replayed) if replayed.nomem == 0));
+    assert!(rt; writer.as_slice() == text.as_bytes());
+    Ok(())
+}
+
 /// How many bytes are taken, and whether the next write fails or takes none.
 const ROOMS: [(u32, bool); 4] = [(0, true), (0, false), (3, true), (3, false)];
 
@@ -285,14 +309,14 @@ fn writers_that_fail(rt: HostRuntime) -> Result<(), Fail> {
 }
 
 /// Which read fails, and how many are asked for.
-const STOPS: [(u32, u32); 4] = [(1, 1), (2, 2), (100, 100), (1000, 182)];
+const STOPS: [(u32, u32); 4] = [(1, 1), (2, 2), (100, 100), (2000, 1_802)];
 
 #[test]
 fn readers_of_std(rt: HostRuntime) -> Result<(), Fail> {
     let alloc = rt.alloc();
     let mut script = String::from_str(alloc, "pool 4\nspace a 1\n")?;
     let mut whole = String::from_str(alloc, "== a\n")?;
-    for number in 1..=20_000 {
+    for number in 1..=200_000 {
         script.push_str("a exit 1\n")?;
         whole.push_str(format!(in alloc; "{number}: err ESRCH\n")?.as_str())?;
     }
