@@ -2,8 +2,8 @@
    stands in REFUSED. A request for SIGN bytes is a sign of the program's, is never refused, and begins the counting or
    stops it; where COUNTED is 'memory', it begins at once. Where COUNTED is 'starts', threads that are to be started are
    counted in place of requests for memory, and one of them is refused. Where REFUSED is 'bytes', the bytes of these
-   requests are counted, and nothing is refused. In the end it tells how many it counted, and how many blocks the program
-   hasn't given back. */
+   requests are counted, and nothing is refused. In the end it tells how many it counted, and how many blocks the
+   program hasn't given back. */
 
 #define SIGN 7777777UL
 
