@@ -9,8 +9,9 @@
  * (-EBADF is -9); or one of three codes, which are no error's:
  *   SAG_PARKED       the call waits. No call blocks the thread: the process waits in it, and sag_resume tries it again
  *   SAG_NOMEM        memory of the heap was wanted. Nothing has changed, and the call can be made again. It is told by
- *                    sag_open, sag_admit, sag_spawn, each call with a path, a sag_fork, sag_pipe and sag_set_pipe_size
- *                    that no error stands against, and a sag_write of more than 14 bytes that waits, and by no other
+ *                    sag_open, sag_admit, each call with a path, a sag_spawn that has groups, a sag_spawn, sag_fork,
+ *                    sag_pipe and sag_set_pipe_size that no error stands against, and a sag_write of more than 14
+ *                    bytes that waits, and by no other
  *   SAG_NONAMESPACE  there is no such namespace. Nothing has changed. A shut handle has none
  * A call with a `pid` is refused with -ESRCH where no process of this pid lives, and then with -EBUSY where it waits in
  * a call; sag_exit and sag_resume with -ESRCH alone, and sag_can_go_on is never refused. The errors beside each

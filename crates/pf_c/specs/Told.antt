@@ -69,6 +69,11 @@ pub record Told (old new : Option Held) (n : ℕ) (step : Step) (fits : Bool) (c
 abbrev pub fits_in_place : List ℕ → Bool
 fits_in_place bytes = nat_le (length bytes) BYTES_IN_PLACE
 
+-- a process has its groups in memory of the heap, where it has any
+abbrev pub has_none : List ℕ → Bool
+has_none [] = true
+has_none _ = false
+
 -- What stands in the host's memory then
 
 -- the bytes of an answer

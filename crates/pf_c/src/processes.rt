@@ -1,16 +1,27 @@
 //! Steps on processes.
-ghost use Rattle.std.specs.Prelude.{true};
+ghost use Rattle.std.specs.Prelude.{◌≡◌, true, false, MatchOption};
 ghost use Rattle.std.specs.Option.{option_map};
 ghost use Rattle.pf_base.specs.declared.step.Step.TheVariants as steps;
 ghost use Rattle.pf_c.specs.Handle.{hub_of};
 ghost use Rattle.pf_c.specs.Read.{Handed, Laid};
-ghost use Rattle.pf_c.specs.Told.{Answered, IsAnswered, Told};
+ghost use Rattle.pf_c.specs.Told.{Answered, IsAnswered, Told, has_none};
 
 use crate::handle::SagHub;
 use crate::told::{code_of_read, told, told_wanted};
 use pf_base::{Answer, Errno, Groups, Step};
 use pf_hub::Hub;
 use std::alloc::Global;
+
+// A copy of the host's groups: memory of the heap is wanted where there are any.
+fn groups_of(alloc: Global, ids: &[u32]) -> Option<Groups>
+    ensures { MatchOption result (has_none ids.now ≡ false) (λ groups. groups ≡ ids.now) }
+{
+    if ids.is_empty() {
+        return Some(Groups::none());
+    }
+    let ids = Vec::from_slice(alloc, ids).ok()?;
+    Groups::new(alloc, ids).ok()
+}
 
 /// A new process.
 #[unsafe(no_mangle)]
@@ -23,12 +34,10 @@ pub extern "C" fn sag_spawn(
     groups: &[u32],
     umask: u32,
 ) -> i64
-    ensures { Told (hub_of h.old) (hub_of h.new) ns (steps.Spawn uid gid umask groups.now) true result }
+    ensures { Told (hub_of h.old) (hub_of h.new) ns (steps.Spawn uid gid umask groups.now)
+        (has_none groups.now) result }
 {
-    let Ok(ids) = Vec::from_slice(alloc, groups) else {
-        return told_wanted(h, ns);
-    };
-    let Ok(groups) = Groups::new(alloc, ids) else {
+    let Some(groups) = groups_of(alloc, groups) else {
         return told_wanted(h, ns);
     };
     told(

@@ -8,7 +8,7 @@ use Rattle.pf_base.specs.Limits.{Limits}
 use Rattle.pf_machine.specs.Machine.{step_of, may_want_memory}
 use Rattle.pf_machine.specs.Runs.{run_of}
 use Rattle.pf_machine.specs.Events.{kept, replies}
-use Rattle.pf_machine.specs.State.{State, Outcome, opening}
+use Rattle.pf_machine.specs.State.{State, Outcome, opening, vacant}
 use Rattle.pf_machine.specs.Queue.{Segment}
 use Rattle.pf_base.specs.declared.step.Step.{Step}
 use Rattle.pf_base.specs.declared.step.Step.TheVariants.{Spawn}
@@ -35,6 +35,11 @@ events = (0, spawn) ∷ []
 -- the step of an event may want memory at the opening
 abbrev May : ℕ × Step → Type 0
 May e = may_want_memory (limits_at (hub opening) e.0) (state_at (hub opening) e.0) e.1 ≡ true
+
+-- since a pid is free there
+spawned : May (0, spawn)
+unfolding vacant
+spawned = refl
 
 -- both are runs, of the one step and of none
 made : Ran (hub opening) events (Done told.reply ∷ []) (hub told.state)
@@ -66,7 +71,7 @@ refused = record { number = refl; tenants = refl; lives = λ n. refl; frames = r
 
     needed : (n : ℕ) →
         NoWantWithoutNeed (limits_at (hub opening) n) (state_at (hub opening) n) events (NoMemory ∷ []) n
-    needed n zero step at at' = subst May (same_Some _ _ at) refl
+    needed n zero step at at' = subst May (same_Some _ _ at) spawned
     needed n (suc place) step at at' = absurd (cc)
 
 -- a reply in the one, and none in the other

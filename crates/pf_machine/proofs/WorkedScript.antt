@@ -136,9 +136,10 @@ unread-write-long x long = ap (λ (r : Result (Outcome Segment ℕ) Errno). (swe
 
 -- Want of memory
 
--- Spawn may always want it, Pipe where it isn't refused, Read where it hands out many bytes, Write where it parks with
--- many, the others never
-wanted-spawn : (c : Limits) (s : State Segment ℕ) (uid gid umask : ℕ) (groups : List ℕ) → may_want_memory c s (Spawn uid gid umask groups) ≡ true
+-- Spawn may want it where it isn't refused; of a process that lives and waits in no call so may Pipe, Read where it hands
+-- out many bytes, and Write where it parks with many; the others never
+wanted-spawn : (c : Limits) (s : State Segment ℕ) (uid gid umask : ℕ) (groups : List ℕ) → may_want_memory c s (Spawn uid gid umask groups)
+    ≡ (not (is_refusal (act c s (Spawn uid gid umask groups)).reply) && true)
 wanted-spawn c s uid gid umask groups = refl
 
 wanted-pipe : (c : Limits) (s : State Segment ℕ) (pid : ℕ) (nonblock : Bool) → may_want_memory c s (Pipe pid nonblock)

@@ -160,7 +160,7 @@ is_refusal _ = false
 -- whether a step that is told this may have made a process or a pipe, given a pipe other slots, handed out many bytes,
 -- kept a copy of many bytes that wait, or walked a path, whose names stand in memory
 abbrev pub takes_memory : State Segment ℕ → Step → Reply → Bool
-takes_memory s (steps.Spawn uid gid umask groups) reply = true
+takes_memory s (steps.Spawn uid gid umask groups) reply = not (is_refusal reply)
 takes_memory s (steps.Resume pid) reply = hands_out (call_of s pid) && hands_many reply
 takes_memory s (steps.Fork pid) reply = not (is_refusal reply)
 takes_memory s (steps.Mkdir pid path mode) reply = true

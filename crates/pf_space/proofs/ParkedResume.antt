@@ -3,7 +3,8 @@
 
 use Rattle.std.proofs.lemmas.Option.{option_and_then_some}
 use Rattle.std.proofs.Common.{◌≡◌, ℕ, zero, suc, ◌+◌, ◌-◌, Bool, true, false, ◌&&◌, List, length, set, Option, Some}
-use Rattle.std.proofs.Common.{None, is_some, Result, Ok, Err, refl, sym, ap, subst, ◌∙◌, arith, nat_eq, nat_lt, if◌then◌else◌}
+use Rattle.std.proofs.Common.{None, is_some, Result, Ok, Err, refl, sym, ap, subst, ◌∙◌, arith, nat_eq, nat_lt}
+use Rattle.std.proofs.Common.{if◌then◌else◌}
 use Rattle.std.proofs.lemmas.List.{set-set}
 use Rattle.pf_space.proofs.Common.{option_map, Reading, Writing, Bringing, Call, Moving, Limits, call, at, change_at}
 use Rattle.pf_space.proofs.Common.{Segment, ◌>>=◌, or_refuse, itself, State, Process, Outcome, ready, sweep, Tried}

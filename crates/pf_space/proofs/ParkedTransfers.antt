@@ -257,7 +257,7 @@ stays_waiting r fd write rest is progress blocked =
     (elim blocked [ inl none ↦ ap told (progress ∙ none) | inr none ↦ ap told (progress ∙ none) ])
     ∙ ap (λ (w : UnfinishedWrite). Ok (Waits r.state (Moving (Writing fd w.bytes w.written)))) (sym is)
 
--- it leaves its process waiting
+-- the machine's call leaves its process waiting
 pub record Parks (machine : Result (Outcome Segment ℕ) Errno) : Type 0 where
   pub state : State Segment ℕ
   pub is : machine ≡ Ok (told state replies.Parked)

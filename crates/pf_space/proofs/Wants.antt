@@ -1,7 +1,7 @@
 -- What may want memory: a step of a process that lives and waits in no call, and whose bytes are many.
 
 use Rattle.std.proofs.Common.{◌≡◌, ℕ, ◌+◌, ◌<◌, Bool, true, false, not, ◌&&◌, List}
-use Rattle.std.proofs.Common.{length, Some, is_some, Result, Ok, Err, IsOk, refl, sym, ap, ◌∙◌}
+use Rattle.std.proofs.Common.{length, is_some, Result, Ok, Err, IsOk, refl, sym, ap, ◌∙◌}
 use Rattle.std.specs.Prelude.{⊤}
 use Rattle.std.proofs.lemmas.Bool.{lt-ltb}
 use Rattle.std.specs.Option.{option_and_then}
@@ -26,7 +26,7 @@ use Rattle.pf_space.proofs.Common.{Reading, Writing, Limits, call, Segment, ◌>
 use Rattle.pf_space.proofs.Common.{ready, itself, transfer_told, Reply, Step, Errno, ESRCH}
 use Rattle.pf_space.proofs.ParkedTransfers.{Parks}
 
--- nothing both may want it and may not
+-- who wants it may: a step that may not never does
 pub not_both : (may : Step → Bool) {step given : Step} → step ≡ given → may step ≡ false → may given ≡ true → ⊥
 not_both may is quiet wants =
     let gap : true ≡ false = sym wants ∙ ap may (sym is) ∙ quiet in
@@ -98,6 +98,13 @@ by_call s (Err e) well ok = absurd (cc)
 first_ok : {A B : Type 0} (m : Result A Errno) (k : A → Result B Errno) → IsOk (m >>= k) → (x : A) × (m ≡ Ok x)
 first_ok (Ok x) k ok = (x, refl)
 first_ok (Err e) k ok = absurd (cc)
+
+-- a Spawn is nobody's, so nobody's waiting stands against it
+pub spawn_wants : (c : Limits) (s : State Segment ℕ) (uid gid umask : ℕ) (groups : List ℕ)
+    → IsOk (call c s (steps.Spawn uid gid umask groups)) → may_want_memory c s (steps.Spawn uid gid umask groups) ≡ true
+spawn_wants c s uid gid umask groups ok =
+    let step = steps.Spawn uid gid umask groups in
+    λ i. by_call s (call c s step) (step-keeps s EndsWell (still s) c step tt) ok i && true
 
 module _ (c : Limits) (s : State Segment ℕ) (pid : ℕ) where
   -- k: what a process that is ready does

@@ -1,7 +1,7 @@
 -- The pipe of a FIFO that is opened: one that stands, or one that was made and has no end yet. Either way an open can
 -- be counted in, and the machine's pipe is this one.
 
-use Rattle.std.proofs.Common.{◌≡◌, ℕ, ◌+◌, ◌-◌, ◌^◌, ◌<◌, ◌≤◌, List, [], ◌∷◌, ◌++◌, length, map, Option, Some, None}
+use Rattle.std.proofs.Common.{◌≡◌, ℕ, ◌+◌, ◌-◌, ◌^◌, ◌<◌, List, [], ◌∷◌, ◌++◌, length, map, Option, Some, None}
 use Rattle.std.proofs.Common.{IsSome}
 use Rattle.std.proofs.Common.{is_some, Result, Ok, Err, nat_eq, nat_lt, if◌then◌else◌, refl, sym, ap, subst, ◌∙◌, arith}
 use Rattle.std.proofs.Math.Seq.{set-append_seam}

@@ -1,6 +1,6 @@
 //! Calls that wait, tried again (this profile's own).
 
-ghost use Rattle.std.specs.Prelude.{◌≡◌, ◌≢◌, ◌≤◌, ℕ, List, Some, Ok, Err, true, false};
+ghost use Rattle.std.specs.Prelude.{◌≡◌, ◌≤◌, ℕ, List, Some, Ok, Err, true, false};
 ghost use Rattle.pf_machine.specs.Calls.{Moving, Reading};
 ghost use Rattle.pf_machine.specs.Machine.{Answers, call, call_of, hands_out, may_want_memory};
 ghost use Rattle.pf_tables.specs.Buffers.{Replied, number_told};

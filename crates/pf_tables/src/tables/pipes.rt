@@ -1,11 +1,10 @@
 //! Pipes: what makes one with its two ends.
 
-ghost use Rattle.std.specs.Prelude.{◌≡◌, ◌≢◌, ◌+◌, ◌-◌, ◌^◌, ◌<◌, ◌≤◌, Err, Some, None, IsOk, IfOk, OnErr, slice_set};
+ghost use Rattle.std.specs.Prelude.{◌≡◌, ◌≢◌, ◌+◌, ◌-◌, ◌^◌, ◌<◌, ◌≤◌, Err, Some, None, IsOk, IfOk, OnErr};
 ghost use Rattle.std.specs.Prelude.{length, [], ◌∷◌, ◌++◌, not, ◌&&◌, ◌||◌, nat_lt};
 ghost use Rattle.pf_base.specs.Capacities.{new_capacity, told_as};
 ghost use Rattle.pf_base.specs.Permissions.{is_privileged};
 ghost use Rattle.pf_base.specs.declared.TheConstants.{MAX_DESCRIPTORS};
-ghost use Rattle.pf_machine.specs.Numbered.{at};
 ghost use Rattle.pf_machine.specs.Pipes.{get_size, is_spent, pipe, set_size};
 ghost use Rattle.pf_machine.specs.State.{itself, of_ready};
 ghost use Rattle.pf_limits.specs.UserPages.{charged_to};

@@ -6,18 +6,19 @@ use Rattle.std.proofs.Common.{◌≡◌, ◌+◌, length, true, refl, subst, sym
 use Rattle.pf_space.proofs.Common.{call, itself, Namespace, Step, meaning, Told}
 use Rattle.pf_machine.specs.Machine.{may_want_memory}
 use Rattle.pf_machine.specs.Pipes.{pipe, set_size}
-use Rattle.pf_machine.specs.Processes.{fork}
+use Rattle.pf_machine.specs.Processes.{spawn, fork}
 use Rattle.pf_machine.specs.State.{of_ready}
 use Rattle.pf_machine.proofs.Natural.{spawn-as, born-as, dup-as, set_nonblock-as, get_size-as}
 use Rattle.pf_machine.proofs.NaturalCalls.{pipe-call, open-call}
 use Rattle.pf_machine.proofs.NaturalFiles.{make-as, unlink-as, rmdir-as, chmod-as, stat-as, list-as}
 use Rattle.pf_machine.proofs.NaturalSizes.{set_size-as}
+use Rattle.pf_base.specs.declared.cred.Cred.{Cred}
 use Rattle.pf_base.specs.declared.meta.Kind.TheVariants as kinds
 use Rattle.pf_base.specs.declared.progress.Crossing.TheVariants as crossings
 use Rattle.pf_base.specs.declared.step.Step.TheVariants as steps
 use Rattle.pf_space.proofs.Books.{as_ready, booked, looked_up, ok-as}
 use Rattle.pf_space.proofs.ParkedTransfers.{crossed_first}
-use Rattle.pf_space.proofs.Wants.{not_both, fork_wants, pipe_wants, set_size_wants}
+use Rattle.pf_space.proofs.Wants.{not_both, spawn_wants, fork_wants, pipe_wants, set_size_wants}
 use Rattle.pf_space.proofs.space.Space.call.Goals as goal
 
 pub returns-in-Tee-clause-told : goal.returns-in-Tee-clause-told
@@ -177,6 +178,24 @@ pub returns-in-Resume-clause-succeeds : goal.returns-in-Resume-clause-succeeds
 returns-in-Resume-clause-succeeds g c quiet none =
     not_both (may_want_memory c.args.self.now.limits (meaning (g.F.Frames.live c.args.door.now) c.args.self.now.state))
     c.in-Resume.is quiet (c.resume.ensures.wants none)
+
+pub returns-in-Spawn-clause-succeeds : goal.returns-in-Spawn-clause-succeeds
+returns-in-Spawn-clause-succeeds g c quiet none =
+    let f = g.F.Frames.live c.args.door.now in
+    let limits = c.self.inside.tables.limits in
+    let s = c.self.inside.tables.state in
+    let cred : Cred = record {
+      uid = c.in-Spawn.uid;
+      gid = c.in-Spawn.gid;
+      groups = c.in-Spawn.groups;
+      umask = c.in-Spawn.umask;
+    } in
+    let step = steps.Spawn c.in-Spawn.uid c.in-Spawn.gid c.in-Spawn.umask c.in-Spawn.groups in
+    let made = ok-as f limits s step (spawn s cred) (λ shows. spawn-as shows itself s cred)
+    (c.spawn.ensures.wanted (sym c.handed.ensures ∙ none)) in
+    not_both (may_want_memory c.args.self.now.limits (meaning f c.args.self.now.state)) c.in-Spawn.is quiet
+    (subst (λ (n : Namespace). may_want_memory n.limits (meaning f n.state) step ≡ true) c.self.view_is
+    (spawn_wants limits (meaning f s) c.in-Spawn.uid c.in-Spawn.gid c.in-Spawn.umask c.in-Spawn.groups made))
 
 pub returns-in-Fork-clause-succeeds : goal.returns-in-Fork-clause-succeeds
 returns-in-Fork-clause-succeeds g c quiet none =
