@@ -41,15 +41,35 @@ fn config_keeps_its_numbers(rt: HostRuntime) {
     }
 }
 
-const ERRORS: [(Errno, u32, &str, &str); 4] = [
+const ERRORS: [(Errno, u32, &str, &str); 19] = [
     (Errno::EPERM, 1, "EPERM", "operation not permitted"),
+    (Errno::ENOENT, 2, "ENOENT", "no such file or directory"),
+    (Errno::ESRCH, 3, "ESRCH", "no such process"),
+    (Errno::ENXIO, 6, "ENXIO", "no such device or address"),
+    (Errno::EBADF, 9, "EBADF", "bad file descriptor"),
     (
         Errno::EAGAIN,
         11,
         "EAGAIN",
         "resource temporarily unavailable",
     ),
+    (Errno::ENOMEM, 12, "ENOMEM", "cannot allocate memory"),
+    (Errno::EACCES, 13, "EACCES", "permission denied"),
+    (Errno::EBUSY, 16, "EBUSY", "device or resource busy"),
+    (Errno::EEXIST, 17, "EEXIST", "file exists"),
+    (Errno::ENOTDIR, 20, "ENOTDIR", "not a directory"),
+    (Errno::EISDIR, 21, "EISDIR", "is a directory"),
+    (Errno::EINVAL, 22, "EINVAL", "invalid argument"),
+    (Errno::ENFILE, 23, "ENFILE", "too many open files in system"),
+    (Errno::EMFILE, 24, "EMFILE", "too many open files"),
+    (Errno::ENOSPC, 28, "ENOSPC", "no space left on device"),
     (Errno::EPIPE, 32, "EPIPE", "broken pipe"),
+    (
+        Errno::ENAMETOOLONG,
+        36,
+        "ENAMETOOLONG",
+        "file name too long",
+    ),
     (Errno::ENOTEMPTY, 39, "ENOTEMPTY", "directory not empty"),
 ];
 
@@ -58,11 +78,16 @@ fn reads<T: Display>(alloc: Global, value: &T, text: &str) -> Result<bool, Alloc
     Ok(format!(in alloc; "{value}")?.as_str() == text)
 }
 
+// Whether an error has this number, this name and this text.
+fn is_row(alloc: Global, row: &(Errno, u32, &str, &str)) -> Result<bool, AllocError> {
+    let (error, code, name, text) = row;
+    Ok(error.code() == *code && error.name() == *name && reads(alloc, error, text)?)
+}
+
 #[test]
 fn errors_have_their_numbers_and_texts(rt: HostRuntime) -> Result<(), Fail> {
-    for (error, code, name, text) in ERRORS {
-        assert!(rt; error.code() == code && error.name() == name);
-        assert!(rt; reads(rt.alloc(), &error, text)?, "{name}");
+    for row in &ERRORS {
+        assert!(rt; is_row(rt.alloc(), row)?, "{}", row.2);
     }
     let text = "the reservation is above 65536 frames";
     assert!(rt; reads(rt.alloc(), &ConfigFault::ReserveTooLarge, text)?);

@@ -15,6 +15,8 @@ mod hello;
 #[cfg(test)]
 mod patience;
 #[cfg(test)]
+mod pieces;
+#[cfg(test)]
 mod readers;
 #[cfg(test)]
 mod texts;

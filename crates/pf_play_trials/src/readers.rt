@@ -5,7 +5,7 @@
 
 use crate::hello::{SCRIPT, TEXT};
 use crate::texts::OPTIONS;
-use crate::words::words_of;
+use crate::words::{WAYS, words_of};
 use pf_play::{Collected, Failed, NoGate, Reading, ReplayFault, Source, obey, replay};
 use std::alloc::{AllocError, Global};
 use std::io::{self, ErrorKind, Read};
@@ -169,15 +169,6 @@ fn a_reader_that_is_interrupted_at_each_byte(rt: HostRuntime) -> Result<(), Fail
     }
     Ok(())
 }
-
-/// Words of a command line, by which a script is read in each way.
-const WAYS: [&[&str]; 5] = [
-    &["pfplay"],
-    &["pfplay", "--threads"],
-    &["pfplay", "--only", "red"],
-    &["pfplay", "--only", "red", "--threads"],
-    &["pfplay", "--tree-heap", "1024"],
-];
 
 /// How often the program asks a reader that stops before this byte, and what it ends with.
 fn asked<T: Threads + Wait + Sync>(

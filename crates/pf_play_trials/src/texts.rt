@@ -57,7 +57,8 @@ impl Sink for Compared {
     }
 }
 
-/// What a replay with a thread for each namespace, or for the one whose name is chosen, ends with, and what was written.
+/// What a replay with a thread for each namespace, or for the one whose name is chosen, ends with, and what was
+/// written.
 pub(crate) fn played_of<T: Threads + Wait + Sync, G: Gate + Sync>(
     rt: &T,
     alloc: Global,

@@ -95,6 +95,15 @@ const ROWS: [(&[&str], &str, u8, u64, u64); 8] = [
     ),
 ];
 
+/// Words of a command line, by which a script is read in each way.
+pub(crate) const WAYS: [&[&str]; 5] = [
+    &["pfplay"],
+    &["pfplay", "--threads"],
+    &["pfplay", "--only", "red"],
+    &["pfplay", "--only", "red", "--threads"],
+    &["pfplay", "--tree-heap", "1024"],
+];
+
 /// These words of a command line.
 pub(crate) fn words_of(alloc: Global, texts: &[&str]) -> Result<Vec<String>, AllocError> {
     let mut words = Vec::with_capacity(alloc, texts.len())?;

@@ -5,6 +5,7 @@ use pf_play::{
     Collected, Failed, INPUT_LIMIT, MemoryBytes, Options, Reading, ReplayFault, Replayed, Sink,
     Source, Writing, frames_of, replay,
 };
+use pf_script::ScriptFault;
 use std::alloc::{AllocError, Global};
 use std::io::{self, ErrorKind, Read};
 use std::test::Fail;
@@ -266,6 +267,35 @@ fn a_byte_more_than_the_longest_input(rt: HostRuntime) {
 fn a_reader_without_end(rt: HostRuntime) {
     let (result, _) = replay_comments(rt.alloc(), b'#', b'#', usize::MAX);
     assert!(rt; matches!(result, Err(ReplayFault::ReadFault)));
+}
+
+/// Why a run ended before its end, and how that reads.
+const FAULTS: [(ReplayFault, &str); 5] = [
+    (ReplayFault::NoMemory, "no memory"),
+    (ReplayFault::ReadFault, "read fault"),
+    (ReplayFault::WriteFault, "write fault"),
+    (ReplayFault::NoSuchName, "no such name"),
+    (
+        ReplayFault::NeedsOneThread,
+        "admit and retire need one thread",
+    ),
+];
+
+/// The same of a script that isn't read.
+const UNREAD: [(ScriptFault, &str); 2] = [
+    (ScriptFault::NoMemory, "no memory"),
+    (ScriptFault::ReadFault, "read fault"),
+];
+
+#[test]
+fn faults_have_their_texts(rt: HostRuntime) -> Result<(), Fail> {
+    for (fault, text) in FAULTS {
+        assert_eq!(rt; fault.to_string(rt.alloc())?.as_str(), text);
+    }
+    for (fault, text) in UNREAD {
+        assert_eq!(rt; fault.to_string(rt.alloc())?.as_str(), text);
+    }
+    Ok(())
 }
 
 /// As many bytes as a write may have, all in digits.
