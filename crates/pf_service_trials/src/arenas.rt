@@ -3,10 +3,10 @@
 
 ghost use Rattle.pf_depot.specs.Blanks.{IsBlankOf};
 
-use crate::services::{BLUE, RED, blank, config_of, old_frames, spawn};
 use bumpalo::Bump;
 use pf_base::{ByteString, Config, Reply, Step};
 use pf_service::{Gate, NoGate, Service, ServiceFault};
+use pf_service_fixture::{BLUE, RED, blank, config_of, old_frames, spawn};
 use std::alloc::{AllocError, Allocator, Global};
 use std::marker::Brand;
 use std::sync::Wait;

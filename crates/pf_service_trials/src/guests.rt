@@ -2,12 +2,13 @@
 
 ghost use Rattle.pf_depot.specs.Blanks.{IsBlankOf};
 
-use crate::services::{
-    Callers, Closed, Plain, RED, Size, all_of_parts, blank, both, closed, config_of, make, makes,
-    no_seat, replies_are, serve, service_of, spawn, steps_of_blue, steps_of_red,
-};
+use crate::services::{Callers, all_of_parts, no_seat, replies_are, serve};
 use pf_base::{AdmitFault, ByteString, Config, Reply, RetireFault, Step};
 use pf_service::{NoGate, Seat, ServiceFault};
+use pf_service_fixture::{
+    Closed, Plain, RED, Size, blank, both, closed, config_of, make, makes, service_of, spawn,
+    steps_of_blue, steps_of_red,
+};
 use std::alloc::Global;
 use std::marker::Brand;
 use std::process::Abort;

@@ -1,5 +1,5 @@
-//! Tests of a service, through public calls: two tenants, callers on threads of their own, calls that wait, and all that
-//! is refused.
+//! Tests of a service, through public calls: two tenants, callers on threads of their own, gates, namespaces that come
+//! and go, and all that is refused.
 //! Nothing stands here but tests, so that `pf_service` is proved once and not a second time with them.
 #![tactic(auto)]
 
@@ -16,8 +16,6 @@ mod limits;
 #[cfg(test)]
 mod logged;
 #[cfg(test)]
-mod overlap;
-#[cfg(test)]
 mod queries;
 #[cfg(test)]
 mod services;
@@ -25,7 +23,3 @@ mod services;
 mod tenants;
 #[cfg(test)]
 mod threads;
-#[cfg(test)]
-mod waiting;
-#[cfg(test)]
-mod woken;

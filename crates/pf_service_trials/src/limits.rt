@@ -1,16 +1,18 @@
-//! A namespace that comes to a service has the limits that it was given: they are seen through what they refuse, and in its
-//! transcript.
+//! A namespace that comes to a service has the limits that it was given: they are seen through what they refuse, and in
+//! its transcript.
 
-use crate::services::{Callers, Plain, Size, make, replies_are, serve, spawn};
+use crate::services::{Callers, replies_are, serve};
 use pf_base::{Config, Errno, Reply, Step};
 use pf_service::{NoGate, Seat};
+use pf_service_fixture::{Plain, Size, make, spawn};
 use std::alloc::{AllocError, Global};
 use std::process::Abort;
 use std::sync::Wait;
 use std::sync::ledger::Ledger;
 use std::test::Fail;
 
-// 64 frames. A user's pipes have 40 pages, then those of a slot each; none above 33; and no pipe has more than 16 pages.
+// 64 frames. A user's pipes have 40 pages, then those of a slot each; none above 33; and no pipe has more than 16
+// pages.
 fn narrow() -> Option<Config> {
     Config::new(64, 40, 33, 65_536).ok()
 }
@@ -22,8 +24,8 @@ fn pipe() -> Step {
     }
 }
 
-// A pipe doesn't grow above the most bytes of one. With the third pipe the soft limit would be passed, so it has one slot;
-// with a fourth of one slot the hard limit would.
+// A pipe doesn't grow above the most bytes of one. With the third pipe the soft limit would be passed, so it has one
+// slot; with a fourth of one slot the hard limit would.
 fn steps(alloc: Global) -> Result<Vec<Step>, AllocError> {
     let larger = Step::SetSize {
         pid: 1,

@@ -5,10 +5,10 @@ ghost use Rattle.std.specs.Prelude.{◌≡◌, ◌+◌, ◌≤◌, IfSome};
 ghost use Rattle.pf_depot.specs.Depot.{free_of};
 ghost use Rattle.pf_service.specs.Log.{new_log};
 
-use crate::services::{config_of, old_frames, spawn};
 use pf_base::{BYTES_IN_PLACE, ByteString, Config, Reply, Step};
 use pf_depot::{Depot, Lender};
 use pf_service::{Logged, ServiceFault};
+use pf_service_fixture::{config_of, old_frames, spawn};
 use std::alloc::Global;
 use std::test::Fail;
 

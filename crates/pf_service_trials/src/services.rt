@@ -1,44 +1,18 @@
-//! A service of some namespaces, the steps of two tenants, and what those tenants are told.
+//! Services that callers are lent, and what is told of seats, of receipts and of an end.
 
-ghost use Rattle.std.specs.Prelude.{◌≡◌};
-ghost use Rattle.pf_base.specs.declared.TheConstants.{MAX_NAMESPACES};
 ghost use Rattle.pf_depot.specs.Blanks.{IsBlankOf};
 
-use pf_base::{ByteString, Config, Groups, MAX_NAMESPACES, Reply, Step};
-use pf_frame::Frame;
+use pf_base::{ByteString, Reply, Step};
 use pf_service::{
     CloseFault, Gate, NoGate, Receipt, Seat, Service, ServiceFault, Transcript, Transcripts,
 };
+use pf_service_fixture::{Closed, Plain, Size, blank, closed, makes_all, seat_if, service_of};
 use std::alloc::{AllocError, Global};
 use std::marker::Brand;
 use std::process::Abort;
 use std::sync::Wait;
 use std::sync::ledger::{Blank, Ledger};
 use std::test::Fail;
-
-// What the frames hold before anyone writes to them.
-const OLD: u8 = 0xA5;
-
-pub(crate) const RED: u32 = 0;
-
-pub(crate) const BLUE: u32 = 1;
-
-pub(crate) type Plain<C, H> = Service<Global, NoGate, C, H>;
-
-// A ledger with a part for each namespace that there may be.
-pub(crate) fn blank() -> Blank
-    ensures { result.parts ≡ MAX_NAMESPACES }
-{
-    Blank::new(MAX_NAMESPACES as u64)
-}
-
-pub(crate) fn old_frames(alloc: Global, count: usize) -> Result<Vec<Frame>, AllocError> {
-    let mut frames = Vec::with_capacity(alloc, count)?;
-    for _ in 0..count {
-        frames.push(Frame::filled(alloc, OLD)?)?;
-    }
-    Ok(frames)
-}
 
 // What callers on one thread do at a service, which they are lent.
 pub(crate) trait Callers<G: Gate> {
@@ -49,24 +23,6 @@ pub(crate) trait Callers<G: Gate> {
         alloc: Global,
         service: &Service<Global, G, C, H>,
     ) -> Result<Vec<Seat>, Fail>;
-}
-
-// How a service was closed, or why its callers gave up before.
-pub(crate) type Closed = Result<Result<Transcripts, CloseFault>, Fail>;
-
-// How large a service is: how many namespaces it begins with, of 16 frames each, and how many frames nobody has reserved.
-#[derive(Clone, Copy)]
-pub(crate) struct Size {
-    pub(crate) namespaces: u8,
-    pub(crate) slack: u8,
-}
-
-// So many namespaces, and no frame besides.
-pub(crate) fn namespaces(namespaces: u8) -> Size {
-    Size {
-        namespaces,
-        slack: 0,
-    }
 }
 
 // Opens a service, which the callers are lent, and closes it with the seats that they leave.
@@ -94,20 +50,6 @@ fn serve_named<C: Ledger, H: Ledger, G: Gate + Drop, V: Callers<G>, R: Wait + Ab
     let service = service_of::<G, C, H>(alloc, size, gate, credits, held)?;
     let seats = callers.work(rt, alloc, &service);
     closed(service, seats)
-}
-
-// Closes a service with the seats that its callers leave, and drops it where they gave up.
-//
-// Whoever has a service and may end with it open must show how all of it is dropped, at each such end. That takes longer to
-// check than what any test says, so this function alone does, and those who have a service hand it on.
-pub(crate) fn closed<G: Gate + Drop, C: Ledger, H: Ledger>(
-    service: Service<Global, G, C, H>,
-    seats: Result<Vec<Seat>, Fail>,
-) -> Closed {
-    match seats {
-        Ok(seats) => Ok(service.close(seats)),
-        Err(fail) => Err(fail),
-    }
 }
 
 // What callers do at two services, which they are lent.
@@ -167,104 +109,8 @@ fn serve_two_named<C: Ledger, H: Ledger, D: Ledger, L: Ledger, V: CallersOfTwo, 
     closed(service, seats)
 }
 
-// A service of this size.
-pub(crate) fn service_of<G: Gate + Drop, C: Ledger, H: Ledger>(
-    alloc: Global,
-    size: Size,
-    gate: G,
-    credits: Blank,
-    held: Blank,
-) -> Result<Service<Global, G, C, H>, Fail>
-    requires blanks { IsBlankOf C.name C.parts credits × IsBlankOf H.name H.parts held }
-{
-    let namespaces = usize::from(size.namespaces);
-    let frames = old_frames(alloc, 16 * namespaces + usize::from(size.slack))?;
-    let configs = configs_of(alloc, namespaces).ok_or("limits")?;
-    match Service::new(alloc, frames, configs, gate, credits, held) {
-        Ok(service) => Ok(service),
-        Err(fault) => Err(Fail::from(fault)),
-    }
-}
-
-// Limits with this reservation.
-pub(crate) fn config_of(reserve: u32) -> Option<Config> {
-    Config::new(
-        reserve,
-        Config::DEFAULT_SOFT,
-        Config::DEFAULT_HARD,
-        Config::DEFAULT_MAX,
-    )
-    .ok()
-}
-
-// So many limits with 16 frames each.
-fn configs_of(alloc: Global, namespaces: usize) -> Option<Vec<(Config, Global)>> {
-    let config = config_of(16)?;
-    let mut configs = Vec::with_capacity(alloc, namespaces).ok()?;
-    for _ in 0..namespaces {
-        configs.push((config, alloc)).ok()?;
-    }
-    Some(configs)
-}
-
-pub(crate) fn spawn() -> Step {
-    Step::Spawn {
-        uid: 5,
-        gid: 5,
-        umask: 18,
-        groups: Groups::none(),
-    }
-}
-
-pub(crate) fn write(alloc: Global, byte: u8, count: usize) -> Result<Step, AllocError> {
-    write_by(alloc, 1, byte, count)
-}
-
-pub(crate) fn write_by(
-    alloc: Global,
-    pid: u32,
-    byte: u8,
-    count: usize,
-) -> Result<Step, AllocError> {
-    Ok(Step::Write {
-        pid,
-        fd: 1,
-        payload: ByteString::new(alloc, Vec::from_elem(alloc, byte, count)?)?,
-    })
-}
-
-// A process fills its pipe with bytes 61, and exits.
-pub(crate) fn steps_of_red(alloc: Global) -> Result<Vec<Step>, AllocError> {
-    let mut steps = Vec::with_capacity(alloc, 4)?;
-    steps.push(spawn())?;
-    steps.push(Step::Pipe {
-        pid: 1,
-        nonblock: true,
-    })?;
-    steps.push(write(alloc, 0x61, 65_536)?)?;
-    steps.push(Step::Exit { pid: 1 })?;
-    Ok(steps)
-}
-
-// Another writes a byte 7a, and reads as many as there are.
-pub(crate) fn steps_of_blue(alloc: Global) -> Result<Vec<Step>, AllocError> {
-    let mut steps = Vec::with_capacity(alloc, 4)?;
-    steps.push(spawn())?;
-    steps.push(Step::Pipe {
-        pid: 1,
-        nonblock: true,
-    })?;
-    steps.push(write(alloc, 0x7A, 1)?)?;
-    steps.push(Step::Read {
-        pid: 1,
-        fd: 0,
-        n: 100,
-    })?;
-    Ok(steps)
-}
-
-// A receipt or a seat is dear to prove where it is let go at several ways out, or in a loop. So loops have a seat lent, and
-// what is let go is handed to a function with one way out.
+// A receipt or a seat is dear to prove where it is let go at several ways out, or in a loop. So loops have a seat lent,
+// and what is let go is handed to a function with one way out.
 
 // Why an end was refused, if it was.
 pub(crate) fn refused(closed: Result<Transcripts, CloseFault>) -> Option<CloseFault> {
@@ -288,47 +134,6 @@ pub(crate) fn is_new(seat: Result<Seat, ServiceFault>, ns: u32, number: u32) -> 
         Ok(seat) => seat.ns() == ns && seat.number() == number && seat.events().is_empty(),
         Err(_) => false,
     }
-}
-
-// Whether a step isn't refused.
-pub(crate) fn makes<R: Wait, G: Gate, C: Ledger, H: Ledger>(
-    rt: &R,
-    service: &Service<Global, G, C, H>,
-    seat: &mut Seat,
-    step: &Step,
-) -> bool {
-    service.call(rt, seat, step).is_ok()
-}
-
-// Makes the steps in turn, until one is refused; whether none is.
-fn makes_all<R: Wait, G: Gate, C: Ledger, H: Ledger>(
-    rt: &R,
-    service: &Service<Global, G, C, H>,
-    seat: &mut Seat,
-    steps: &[Step],
-) -> bool {
-    for step in steps {
-        if !makes(rt, service, seat, step) {
-            return false;
-        }
-    }
-    true
-}
-
-// The seat, where something holds.
-pub(crate) fn seat_if(holds: bool, seat: Seat) -> Option<Seat> {
-    if holds { Some(seat) } else { None }
-}
-
-// Makes the steps in turn. No seat comes back where one was refused.
-pub(crate) fn make<R: Wait, G: Gate, C: Ledger, H: Ledger>(
-    rt: &R,
-    service: &Service<Global, G, C, H>,
-    mut seat: Seat,
-    steps: &[Step],
-) -> Option<Seat> {
-    let all = makes_all(rt, service, &mut seat, steps);
-    seat_if(all, seat)
 }
 
 // The place of the one receipt, where the call isn't refused.
@@ -403,24 +208,6 @@ pub(crate) fn all_of(alloc: Global, back: Vec<Option<Seat>>) -> Result<Vec<Seat>
     for seat in back {
         seats.push(seat.ok_or("no seat")?)?;
     }
-    Ok(seats)
-}
-
-// The same of two.
-pub(crate) fn both(
-    alloc: Global,
-    first: Option<Seat>,
-    second: Option<Seat>,
-) -> Result<Vec<Seat>, Fail> {
-    let mut seats = Vec::with_capacity(alloc, 4)?;
-    seats.push(first.ok_or("no seat")?)?;
-    seats.push(second.ok_or("no seat")?)?;
-    Ok(seats)
-}
-
-// These seats and another, where it came back.
-pub(crate) fn with(mut seats: Vec<Seat>, another: Option<Seat>) -> Result<Vec<Seat>, Fail> {
-    seats.push(another.ok_or("no seat")?)?;
     Ok(seats)
 }
 

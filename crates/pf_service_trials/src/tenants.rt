@@ -1,11 +1,11 @@
 //! Two tenants are told what each is told alone, also where memory is refused.
 
-use crate::services::{
-    BLUE, Callers, Plain, RED, both, make, namespaces, seat_if, serve, steps_of_blue, steps_of_red,
-    told_alone,
-};
+use crate::services::{Callers, serve, told_alone};
 use pf_base::Step;
 use pf_service::{CloseFault, NoGate, Seat, ServiceFault};
+use pf_service_fixture::{
+    BLUE, Plain, RED, both, make, namespaces, seat_if, steps_of_blue, steps_of_red,
+};
 use std::alloc::Global;
 use std::process::Abort;
 use std::sync::Wait;

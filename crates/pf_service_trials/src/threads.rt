@@ -2,12 +2,13 @@
 
 ghost use Rattle.pf_depot.specs.Blanks.{IsBlankOf};
 
-use crate::services::{
-    BLUE, Closed, Plain, RED, all_of, all_of_parts, blank, both, closed, make, namespaces, repeat,
-    repeats, service_of, steps_of_blue, steps_of_red, told_alone,
-};
+use crate::services::{all_of, all_of_parts, repeat, repeats, told_alone};
 use pf_base::Step;
 use pf_service::{NoGate, Seat};
+use pf_service_fixture::{
+    BLUE, Closed, Plain, RED, blank, both, closed, make, namespaces, service_of, steps_of_blue,
+    steps_of_red,
+};
 use std::alloc::{AllocError, Global};
 use std::marker::Brand;
 use std::sync::Wait;

@@ -1,0 +1,17 @@
+use denote.Param.Send.{sendable}
+use denote.RattleType.{RattleType}
+use denote.Ref.{NamedLft}
+use Rattle.std.proofs.Crossing.{crosses, send}
+use Rattle.std.specs.declared.sync.ledger.Ledger as Ledger
+use Rattle.pf_service.proofs.Sendable.{gated_sync}
+use Rattle.pf_service.proofs.seat.Seat.TheSendSync as seat
+use Rattle.pf_service_waits_trials.proofs.waiting.Count.TheSendSync as count
+use Rattle.pf_service_waits_trials.proofs.waiting.Counter.TheSendSync as its_gate
+use Rattle.pf_service_waits_trials.specs.contracts.waiting.Counter as Counter
+use Rattle.pf_service_waits_trials.specs.contracts.waiting.CounterGate.TheImpl.{ghosts as told}
+use Rattle.pf_service_waits_trials.proofs.waiting.fn.two_readers.join+arg3.Goals as goal
+
+pub join-requires-send-F : goal.join-requires-send-F
+join-requires-send-F g c κs within =
+    let served = λ (κ : NamedLft) (C H : RattleType) (l : Ledger.Ghosts C.Denot) (m : Ledger.Ghosts H.Denot). gated_sync (Counter.the_row κ) C H told l m (its_gate.the_sync κ) in
+    search (served, seat.the_send, count.the_sync, sendable, send, crosses) depth 60 fits 200000
