@@ -43,6 +43,17 @@ impl Groups {
         })
     }
 
+    /// A copy of these group ids. Memory is wanted only where there are any.
+    pub fn from_slice(alloc: Global, ids: &[u32]) -> Result<Self, AllocError>
+        ensures ids { IfOk result (λ groups. groups ≡ ids.now) }
+        ensures none { ids.now ≡ [] → IsOk result }
+    {
+        match ids {
+            [] => Ok(Groups::none()),
+            _ => Groups::new(alloc, Vec::from_slice(alloc, ids)?),
+        }
+    }
+
     /// The group ids.
     pub fn as_slice(&self) -> &[u32]
         ensures { result.now ≡ self.now }
@@ -58,11 +69,7 @@ impl Groups {
         ensures ids { IfOk result (λ groups. groups ≡ self.now) }
         ensures none { self.now ≡ [] → IsOk result }
     {
-        let ids = self.as_slice();
-        if ids.is_empty() {
-            return Ok(Groups::none());
-        }
-        Groups::new(alloc, Vec::from_slice(alloc, ids)?)
+        Groups::from_slice(alloc, self.as_slice())
     }
 }
 

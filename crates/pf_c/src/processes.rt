@@ -1,5 +1,5 @@
 //! Steps on processes.
-ghost use Rattle.std.specs.Prelude.{◌≡◌, true, false, MatchOption};
+ghost use Rattle.std.specs.Prelude.{true};
 ghost use Rattle.std.specs.Option.{option_map};
 ghost use Rattle.pf_base.specs.declared.step.Step.TheVariants as steps;
 ghost use Rattle.pf_c.specs.Handle.{hub_of};
@@ -11,17 +11,6 @@ use crate::told::{code_of_read, told, told_wanted};
 use pf_base::{Answer, Errno, Groups, Step};
 use pf_hub::Hub;
 use std::alloc::Global;
-
-// A copy of the host's groups: memory of the heap is wanted where there are any.
-fn groups_of(alloc: Global, ids: &[u32]) -> Option<Groups>
-    ensures { MatchOption result (has_none ids.now ≡ false) (λ groups. groups ≡ ids.now) }
-{
-    if ids.is_empty() {
-        return Some(Groups::none());
-    }
-    let ids = Vec::from_slice(alloc, ids).ok()?;
-    Groups::new(alloc, ids).ok()
-}
 
 /// A new process.
 #[unsafe(no_mangle)]
@@ -37,7 +26,7 @@ pub extern "C" fn sag_spawn(
     ensures { Told (hub_of h.old) (hub_of h.new) ns (steps.Spawn uid gid umask groups.now)
         (has_none groups.now) result }
 {
-    let Some(groups) = groups_of(alloc, groups) else {
+    let Ok(groups) = Groups::from_slice(alloc, groups) else {
         return told_wanted(h, ns);
     };
     told(
