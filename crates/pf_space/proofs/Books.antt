@@ -43,11 +43,14 @@ flag-meaning f s p fd =
     (λ i. has_nonblock itself (sym (meaning-as f s) i) (sym (process-same p) i) fd)
     ∙ has_nonblock-as (segment_of f) itself itself itself (λ n. refl) s p fd
 
--- What the machine's call is at the meaning of a state. step: the kind that it is of; natural: what it is where a
--- window shows a segment
+-- what the machine's call of a kind of step is, where a window shows a segment: own, each window in it shown so
+abbrev pub Natural : Limits → State Window ℕ → Step → Result (Outcome Window ℕ) Errno → Type 0
+Natural limits s step own =
+    (shows : Window → Segment) → call limits (state_as shows itself s) step ≡ if_ok (outcome_as shows itself) own
+
+-- What the machine's call is at the meaning of a state. step: the kind that it is of
 module _ (f : Live) (limits : Limits) (s : State Window ℕ) (step : Step) (own : Result (Outcome Window ℕ) Errno)
-    (natural : (shows : Window → Segment) → call limits (state_as shows itself s) step
-    ≡ if_ok (outcome_as shows itself) own) where
+    (natural : Natural limits s step own) where
   machine : call limits (meaning f s) step ≡ if_ok (outcome_as (segment_of f) itself) own
   machine = ap (λ x. call limits x step) (sym (meaning-as f s)) ∙ natural (segment_of f)
 
@@ -73,13 +76,11 @@ pub as_ready : (shows : Window → Segment) (s : State Window ℕ) (pid : ℕ)
     → (ready (state_as shows itself s) pid >>= m) ≡ if_ok (outcome_as shows itself) (of_ready s pid k)
 as_ready shows = call-as shows itself (outcome_as shows itself)
 
--- A call that was made, or refused. given: what is handed on of what the tables told; step: the kind that it is of;
--- natural: what the machine's call of that kind is where a window shows a segment
+-- A call that was made, or refused. given: what is handed on of what the tables told; step: the kind that it is of
 pub booked : {f : Live} {tables old new : Namespace} → tables ≡ old → Owns f old → {given result : Result Reply Fault}
     → given ≡ result → {step asked : Step} → asked ≡ step → (own : Result (Outcome Window ℕ) Errno)
     → Says tables new result own → OnErr result (new ≡ tables)
-    → ((shows : Window → Segment) → call tables.limits (state_as shows itself tables.state) step
-    ≡ if_ok (outcome_as shows itself) own)
+    → Natural tables.limits tables.state step own
     → Told f f old new given (call old.limits (meaning f old.state) asked)
 booked {f} {tables} {old} {new} view owns {given} {result} moved {step} {asked} is own says refused natural =
     subst (λ (n : Namespace). Told f f n new given (call n.limits (meaning f n.state) asked)) view
@@ -116,8 +117,7 @@ booked {f} {tables} {old} {new} view owns {given} {result} moved {step} {asked} 
 -- a call that is refused
 pub booked_not : {f : Live} {tables old new : Namespace} → tables ≡ old → Owns f old → (step : Step)
     (own : Result (Outcome Window ℕ) Errno) {e : Errno} → own ≡ Err e → new ≡ tables
-    → ((shows : Window → Segment) → call tables.limits (state_as shows itself tables.state) step
-    ≡ if_ok (outcome_as shows itself) own)
+    → Natural tables.limits tables.state step own
     → Told f f old new (Err (faults.Errno e)) (call old.limits (meaning f old.state) step)
 booked_not view owns step own is same natural = booked view owns refl {step = step} refl own is same natural
 
@@ -125,8 +125,7 @@ booked_not view owns step own is same natural = booked view owns refl {step = st
 pub looked_up : {f : Live} {tables old : Namespace} → tables ≡ old → Owns f old → {given result : Result Reply Fault}
     → given ≡ result → {step asked : Step} → asked ≡ step → (own : Result (Outcome Window ℕ) Errno)
     → Says tables tables result own
-    → ((shows : Window → Segment) → call tables.limits (state_as shows itself tables.state) step
-    ≡ if_ok (outcome_as shows itself) own)
+    → Natural tables.limits tables.state step own
     → Told f f old old given (call old.limits (meaning f old.state) asked)
 looked_up {f} {tables} {old} view owns {given} {result} moved {step} {asked} is own says natural =
     subst (λ (n : Namespace). Told f f old n given (call old.limits (meaning f old.state) asked)) view

@@ -1,7 +1,8 @@
--- What may want memory: a step of a process that lives and waits in no call, and whose bytes are many.
+-- What wants memory may want it: a Spawn, and, of a process that lives and waits in no call, a Fork, a Pipe and a
+-- SetSize, all where they aren't refused, and a Read and a Write of many bytes.
 
 use Rattle.std.proofs.Common.{◌≡◌, ℕ, ◌+◌, ◌<◌, Bool, true, false, not, ◌&&◌, List}
-use Rattle.std.proofs.Common.{length, is_some, Result, Ok, Err, IsOk, refl, sym, ap, ◌∙◌}
+use Rattle.std.proofs.Common.{length, is_some, Result, Ok, Err, IsOk, refl, sym, ap, subst, ◌∙◌}
 use Rattle.std.specs.Prelude.{⊤}
 use Rattle.std.proofs.lemmas.Bool.{lt-ltb}
 use Rattle.std.specs.Option.{option_and_then}
@@ -24,6 +25,8 @@ use Rattle.pf_tables.specs.Told.{HandsMany, attempted, transferred}
 use Rattle.pf_tables.proofs.Refusals.{both_came, not_refused, is_there}
 use Rattle.pf_space.proofs.Common.{Reading, Writing, Limits, call, Segment, ◌>>=◌, or_refuse, State, Process, Outcome}
 use Rattle.pf_space.proofs.Common.{ready, itself, transfer_told, Reply, Step, Errno, ESRCH}
+use Rattle.pf_space.proofs.Common.{Live, Window, Namespace, meaning}
+use Rattle.pf_space.proofs.Books.{Natural, ok-as}
 use Rattle.pf_space.proofs.ParkedTransfers.{Parks}
 
 -- who wants it may: a step that may not never does
@@ -31,6 +34,18 @@ pub not_both : (may : Step → Bool) {step given : Step} → step ≡ given → 
 not_both may is quiet wants =
     let gap : true ≡ false = sym wants ∙ ap may (sym is) ∙ quiet in
     absurd (cc)
+
+-- No step wants memory that may not: where its call goes through (own is Ok), it may. step: the kind that it is of;
+-- own: what the tables make of it at their own state; wants: that it may, where the machine's call goes through
+pub wanted_not : (f : Live) {tables old : Namespace} → tables ≡ old → {step asked : Step} → asked ≡ step
+    → (own : Result (Outcome Window ℕ) Errno) → Natural tables.limits tables.state step own
+    → (IsOk (call tables.limits (meaning f tables.state) step)
+    → may_want_memory tables.limits (meaning f tables.state) step ≡ true)
+    → IsOk own → may_want_memory old.limits (meaning f old.state) asked ≡ false → ⊥
+wanted_not f {tables} {old} view {step} is own natural wants ok quiet =
+    not_both (may_want_memory old.limits (meaning f old.state)) is quiet
+    (subst (λ (n : Namespace). may_want_memory n.limits (meaning f n.state) step ≡ true) view
+    (wants (ok-as f tables.limits tables.state step own natural ok)))
 
 let_in : (s : State Segment ℕ) (pid : ℕ) (p : Process ℕ) → ready s pid ≡ Ok p
     → (is_some (process s pid) && not (is_some (call_of s pid))) ≡ true

@@ -2,7 +2,7 @@
 -- kind is known. What the tables do at their own state is told by one lemma, with the one of that kind, that the
 -- machine does the same where a window shows a segment.
 
-use Rattle.std.proofs.Common.{◌≡◌, ◌+◌, length, true, refl, subst, sym, ap, ◌∙◌}
+use Rattle.std.proofs.Common.{ℕ, ◌+◌, Bool, List, length, refl, subst, sym, ap, ◌∙◌}
 use Rattle.pf_space.proofs.Common.{call, itself, Namespace, Step, meaning, Told}
 use Rattle.pf_machine.specs.Machine.{may_want_memory}
 use Rattle.pf_machine.specs.Pipes.{pipe, set_size}
@@ -12,14 +12,38 @@ use Rattle.pf_machine.proofs.Natural.{spawn-as, born-as, dup-as, set_nonblock-as
 use Rattle.pf_machine.proofs.NaturalCalls.{pipe-call, open-call}
 use Rattle.pf_machine.proofs.NaturalFiles.{make-as, unlink-as, rmdir-as, chmod-as, stat-as, list-as}
 use Rattle.pf_machine.proofs.NaturalSizes.{set_size-as}
-use Rattle.pf_base.specs.declared.cred.Cred.{Cred}
 use Rattle.pf_base.specs.declared.meta.Kind.TheVariants as kinds
 use Rattle.pf_base.specs.declared.progress.Crossing.TheVariants as crossings
 use Rattle.pf_base.specs.declared.step.Step.TheVariants as steps
-use Rattle.pf_space.proofs.Books.{as_ready, booked, looked_up, ok-as}
+use Rattle.pf_space.proofs.Books.{Natural, as_ready, booked, looked_up}
 use Rattle.pf_space.proofs.ParkedTransfers.{crossed_first}
-use Rattle.pf_space.proofs.Wants.{not_both, spawn_wants, fork_wants, pipe_wants, set_size_wants}
+use Rattle.pf_space.proofs.Wants.{not_both, wanted_not, spawn_wants, fork_wants, pipe_wants, set_size_wants}
 use Rattle.pf_space.proofs.space.Space.call.Goals as goal
+
+-- what the machine's call is, of the four kinds that are asked for twice: what is told, and what wants memory
+
+spawned : (n : Namespace) (uid gid umask : ℕ) (groups : List ℕ)
+    → Natural n.limits n.state (steps.Spawn uid gid umask groups)
+    (spawn n.state (record { uid = uid; gid = gid; groups = groups; umask = umask }))
+spawned n uid gid umask groups shows =
+    spawn-as shows itself n.state (record { uid = uid; gid = gid; groups = groups; umask = umask })
+
+forked : (n : Namespace) (pid : ℕ)
+    → Natural n.limits n.state (steps.Fork pid) (of_ready n.state pid (λ p. fork n.state p))
+forked n pid shows = as_ready shows n.state pid _ _ (λ p. born-as shows itself n.state p)
+
+piped : (n : Namespace) (pid : ℕ) (nonblock : Bool)
+    → Natural n.limits n.state (steps.Pipe pid nonblock) (of_ready n.state pid (λ p. pipe (length n.state.descriptions)
+    (length n.state.descriptions + 1) (length n.state.pipes) n.limits n.state pid p nonblock))
+piped n pid nonblock shows =
+    pipe-call shows itself n.limits n.state pid (length n.state.descriptions) (length n.state.descriptions + 1)
+    (length n.state.pipes) refl refl refl nonblock
+
+sized : (n : Namespace) (pid fd bytes : ℕ)
+    → Natural n.limits n.state (steps.SetSize pid fd bytes)
+    (of_ready n.state pid (λ p. set_size itself n.limits n.state p fd bytes))
+sized n pid fd bytes shows =
+    as_ready shows n.state pid _ _ (λ p. set_size-as shows itself itself itself (λ m. refl) _ n.state p _ _)
 
 pub returns-in-Tee-clause-told : goal.returns-in-Tee-clause-told
 returns-in-Tee-clause-told g c =
@@ -44,27 +68,18 @@ pub returns-in-Spawn-clause-told : goal.returns-in-Spawn-clause-told
 returns-in-Spawn-clause-told g c =
     booked c.self.view_is c.requires.door.owns c.handed.ensures
     c.in-Spawn.is _ c.spawn.ensures.says c.spawn.ensures.refused
-    (λ shows. spawn-as shows itself c.self.inside.tables.state (record {
-      uid = c.in-Spawn.uid;
-      gid = c.in-Spawn.gid;
-      groups = c.in-Spawn.groups;
-      umask = c.in-Spawn.umask;
-    }))
+    (spawned c.self.inside.tables c.in-Spawn.uid c.in-Spawn.gid c.in-Spawn.umask c.in-Spawn.groups)
 
 pub returns-in-Pipe-clause-told : goal.returns-in-Pipe-clause-told
 returns-in-Pipe-clause-told g c =
-    let s = c.self-in-Pipe.inside.tables.state in
     booked c.self-in-Pipe.view_is c.requires.door.owns c.handed-in-Pipe.ensures
     c.in-Pipe.is _ c.pipe.ensures.says c.pipe.ensures.refused
-    (λ shows. pipe-call shows itself c.self-in-Pipe.inside.tables.limits s c.in-Pipe.pid (length s.descriptions)
-    (length s.descriptions + 1) (length s.pipes) refl refl refl c.in-Pipe.nonblock)
+    (piped c.self-in-Pipe.inside.tables c.in-Pipe.pid c.in-Pipe.nonblock)
 
 pub returns-in-Fork-clause-told : goal.returns-in-Fork-clause-told
 returns-in-Fork-clause-told g c =
-    let s = c.self-in-Fork.inside.tables.state in
     booked c.self-in-Fork.view_is c.requires.door.owns c.handed-in-Fork.ensures
-    c.in-Fork.is _ c.fork.ensures.says c.fork.ensures.refused
-    (λ shows. as_ready shows s c.in-Fork.pid _ _ (λ p. born-as shows itself s p))
+    c.in-Fork.is _ c.fork.ensures.says c.fork.ensures.refused (forked c.self-in-Fork.inside.tables c.in-Fork.pid)
 
 pub returns-in-Dup-clause-told : goal.returns-in-Dup-clause-told
 returns-in-Dup-clause-told g c =
@@ -83,10 +98,9 @@ returns-in-SetNonblock-clause-told g c =
 
 pub returns-in-SetSize-clause-told : goal.returns-in-SetSize-clause-told
 returns-in-SetSize-clause-told g c =
-    let s = c.self-in-SetSize.inside.tables.state in
     booked c.self-in-SetSize.view_is c.requires.door.owns c.handed-in-SetSize.ensures
     c.in-SetSize.is _ c.set_size.ensures.says c.set_size.ensures.refused
-    (λ shows. as_ready shows s c.in-SetSize.pid _ _ (λ p. set_size-as shows itself itself itself (λ n. refl) _ s p _ _))
+    (sized c.self-in-SetSize.inside.tables c.in-SetSize.pid c.in-SetSize.fd c.in-SetSize.bytes)
 
 pub returns-in-GetSize-clause-told : goal.returns-in-GetSize-clause-told
 returns-in-GetSize-clause-told g c =
@@ -182,60 +196,33 @@ returns-in-Resume-clause-succeeds g c quiet none =
 pub returns-in-Spawn-clause-succeeds : goal.returns-in-Spawn-clause-succeeds
 returns-in-Spawn-clause-succeeds g c quiet none =
     let f = g.F.Frames.live c.args.door.now in
-    let limits = c.self.inside.tables.limits in
-    let s = c.self.inside.tables.state in
-    let cred : Cred = record {
-      uid = c.in-Spawn.uid;
-      gid = c.in-Spawn.gid;
-      groups = c.in-Spawn.groups;
-      umask = c.in-Spawn.umask;
-    } in
-    let step = steps.Spawn c.in-Spawn.uid c.in-Spawn.gid c.in-Spawn.umask c.in-Spawn.groups in
-    let made = ok-as f limits s step (spawn s cred) (λ shows. spawn-as shows itself s cred)
-    (c.spawn.ensures.wanted (sym c.handed.ensures ∙ none)) in
-    not_both (may_want_memory c.args.self.now.limits (meaning f c.args.self.now.state)) c.in-Spawn.is quiet
-    (subst (λ (n : Namespace). may_want_memory n.limits (meaning f n.state) step ≡ true) c.self.view_is
-    (spawn_wants limits (meaning f s) c.in-Spawn.uid c.in-Spawn.gid c.in-Spawn.umask c.in-Spawn.groups made))
+    let n = c.self.inside.tables in
+    wanted_not f c.self.view_is c.in-Spawn.is _
+    (spawned n c.in-Spawn.uid c.in-Spawn.gid c.in-Spawn.umask c.in-Spawn.groups)
+    (spawn_wants n.limits (meaning f n.state) c.in-Spawn.uid c.in-Spawn.gid c.in-Spawn.umask c.in-Spawn.groups)
+    (c.spawn.ensures.wanted (sym c.handed.ensures ∙ none)) quiet
 
 pub returns-in-Fork-clause-succeeds : goal.returns-in-Fork-clause-succeeds
 returns-in-Fork-clause-succeeds g c quiet none =
     let f = g.F.Frames.live c.args.door.now in
-    let limits = c.self-in-Fork.inside.tables.limits in
-    let s = c.self-in-Fork.inside.tables.state in
-    let pid = c.in-Fork.pid in
-    let made = ok-as f limits s (steps.Fork pid) (of_ready s pid (λ p. fork s p))
-    (λ shows. as_ready shows s pid _ _ (λ p. born-as shows itself s p))
-    (c.fork.ensures.wanted (sym c.handed-in-Fork.ensures ∙ none)) in
-    not_both (may_want_memory c.args.self.now.limits (meaning f c.args.self.now.state)) c.in-Fork.is quiet
-    (subst (λ (n : Namespace). may_want_memory n.limits (meaning f n.state) (steps.Fork pid) ≡ true)
-    c.self-in-Fork.view_is (fork_wants limits (meaning f s) pid made))
+    let n = c.self-in-Fork.inside.tables in
+    wanted_not f c.self-in-Fork.view_is c.in-Fork.is _ (forked n c.in-Fork.pid)
+    (fork_wants n.limits (meaning f n.state) c.in-Fork.pid)
+    (c.fork.ensures.wanted (sym c.handed-in-Fork.ensures ∙ none)) quiet
 
 pub returns-in-Pipe-clause-succeeds : goal.returns-in-Pipe-clause-succeeds
 returns-in-Pipe-clause-succeeds g c quiet none =
     let f = g.F.Frames.live c.args.door.now in
-    let limits = c.self-in-Pipe.inside.tables.limits in
-    let s = c.self-in-Pipe.inside.tables.state in
-    let pid = c.in-Pipe.pid in
-    let nonblock = c.in-Pipe.nonblock in
-    let made = ok-as f limits s (steps.Pipe pid nonblock)
-    (of_ready s pid (λ p. pipe (length s.descriptions) (length s.descriptions + 1) (length s.pipes) limits s pid p
-    nonblock))
-    (λ shows. pipe-call shows itself limits s pid (length s.descriptions) (length s.descriptions + 1) (length s.pipes)
-    refl refl refl nonblock) (c.pipe.ensures.wanted (sym c.handed-in-Pipe.ensures ∙ none)) in
-    not_both (may_want_memory c.args.self.now.limits (meaning f c.args.self.now.state)) c.in-Pipe.is quiet
-    (subst (λ (n : Namespace). may_want_memory n.limits (meaning f n.state) (steps.Pipe pid nonblock) ≡ true)
-    c.self-in-Pipe.view_is (pipe_wants limits (meaning f s) pid nonblock made))
+    let n = c.self-in-Pipe.inside.tables in
+    wanted_not f c.self-in-Pipe.view_is c.in-Pipe.is _ (piped n c.in-Pipe.pid c.in-Pipe.nonblock)
+    (pipe_wants n.limits (meaning f n.state) c.in-Pipe.pid c.in-Pipe.nonblock)
+    (c.pipe.ensures.wanted (sym c.handed-in-Pipe.ensures ∙ none)) quiet
 
 pub returns-in-SetSize-clause-succeeds : goal.returns-in-SetSize-clause-succeeds
 returns-in-SetSize-clause-succeeds g c quiet none =
     let f = g.F.Frames.live c.args.door.now in
-    let limits = c.self-in-SetSize.inside.tables.limits in
-    let s = c.self-in-SetSize.inside.tables.state in
-    let step = steps.SetSize c.in-SetSize.pid c.in-SetSize.fd c.in-SetSize.bytes in
-    let made = ok-as f limits s step
-    (of_ready s c.in-SetSize.pid (λ p. set_size itself limits s p c.in-SetSize.fd c.in-SetSize.bytes))
-    (λ shows. as_ready shows s c.in-SetSize.pid _ _ (λ p. set_size-as shows itself itself itself (λ n. refl) _ s p _ _))
-    (c.set_size.ensures.wanted (sym c.handed-in-SetSize.ensures ∙ none)) in
-    not_both (may_want_memory c.args.self.now.limits (meaning f c.args.self.now.state)) c.in-SetSize.is quiet
-    (subst (λ (n : Namespace). may_want_memory n.limits (meaning f n.state) step ≡ true) c.self-in-SetSize.view_is
-    (set_size_wants limits (meaning f s) c.in-SetSize.pid c.in-SetSize.fd c.in-SetSize.bytes made))
+    let n = c.self-in-SetSize.inside.tables in
+    wanted_not f c.self-in-SetSize.view_is c.in-SetSize.is _
+    (sized n c.in-SetSize.pid c.in-SetSize.fd c.in-SetSize.bytes)
+    (set_size_wants n.limits (meaning f n.state) c.in-SetSize.pid c.in-SetSize.fd c.in-SetSize.bytes)
+    (c.set_size.ensures.wanted (sym c.handed-in-SetSize.ensures ∙ none)) quiet
