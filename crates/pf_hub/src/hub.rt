@@ -34,7 +34,6 @@ pub use transfers::write_over;
 /// A contract sees, for each number given, the namespace's limits, the state of the lone machine that it is in, and
 /// how many frames it holds, or that it is retired; how many frames nobody holds; and the allocator whose memory each
 /// living namespace's files stand in.
-#[derive(Drop)]
 pub struct Hub<A: Allocator> {
     alloc: Global,
     depot: Depot,
@@ -42,6 +41,20 @@ pub struct Hub<A: Allocator> {
     tenants: Vec<Option<Tenant<A>>>,
     // How many there are.
     living: u32,
+}
+
+// Written, and not derived: so a crate above calls it, and needn't prove once more how each part of a hub goes.
+impl<A: Allocator> Drop for Hub<A> {
+    fn drop(self) {
+        let Hub {
+            alloc: _,
+            depot,
+            tenants,
+            living: _,
+        } = self;
+        drop(depot);
+        drop(tenants);
+    }
 }
 
 impl<A: Allocator> Model for Hub<A> {

@@ -9,11 +9,22 @@ use std::marker::Model;
 ///
 /// A service gives it, and wants it back at its end. A contract sees its namespace, its number among the namespace's
 /// seats, its events, and how many further ones it has room for.
-#[derive(Drop)]
 pub struct Seat {
     ns: u32,
     number: u32,
     events: Vec<Event>,
+}
+
+// Written, and not derived: so whoever lets a seat go calls it, and needn't prove once more how each part of it goes.
+impl Drop for Seat {
+    fn drop(self) {
+        let Seat {
+            ns: _,
+            number: _,
+            events,
+        } = self;
+        drop(events);
+    }
 }
 
 impl Model for Seat {

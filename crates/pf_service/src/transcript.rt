@@ -8,10 +8,17 @@ use std::marker::Model;
 /// What a namespace was asked and told, in the order of its events, under its limits.
 ///
 /// A contract sees the limits, and the list of the steps with their replies.
-#[derive(Drop)]
 pub struct Transcript {
     config: Config,
     pub(crate) entries: Vec<(Step, Reply)>,
+}
+
+// Written, and not derived: so whoever lets it go calls this, and needn't prove once more how each part of it goes.
+impl Drop for Transcript {
+    fn drop(self) {
+        let Transcript { config: _, entries } = self;
+        drop(entries);
+    }
 }
 
 impl Model for Transcript {

@@ -16,10 +16,17 @@ mod transfers;
 ///
 /// A contract sees its limits and the lone machine's state, with a ring in each pipe in place of its queue. The
 /// bytes stand in the frames of the door that each step is handed.
-#[derive(Drop)]
 pub struct Space<A: Allocator> {
     alloc: Global,
     tables: Tables<A>,
+}
+
+// Written, and not derived: so a crate above calls it, and needn't prove once more how each part of the tables goes.
+impl<A: Allocator> Drop for Space<A> {
+    fn drop(self) {
+        let Space { alloc: _, tables } = self;
+        drop(tables);
+    }
 }
 
 impl<A: Allocator> Model for Space<A> {

@@ -34,7 +34,6 @@ mod slices;
 ///
 /// A contract sees its number, and its namespace as a hub's: the limits, the state of the lone machine that it is in, and
 /// how many frames it holds; and the allocator whose memory its files stand in.
-#[derive(Drop)]
 pub struct Worker<A: Allocator, C: Ledger, H: Ledger> {
     number: u32,
     placed: Placed<A>,
@@ -42,6 +41,25 @@ pub struct Worker<A: Allocator, C: Ledger, H: Ledger> {
     credits: Share<C>,
     held: Share<H>,
     stock: Stock,
+}
+
+// Written, and not derived: so a crate above calls it, and needn't prove once more how each part of a worker goes.
+impl<A: Allocator, C: Ledger, H: Ledger> Drop for Worker<A, C, H> {
+    fn drop(self) {
+        let Worker {
+            number: _,
+            placed,
+            loans,
+            credits,
+            held,
+            stock,
+        } = self;
+        drop(placed);
+        drop(loans);
+        drop(credits);
+        drop(held);
+        drop(stock);
+    }
 }
 
 impl<A: Allocator, C: Ledger, H: Ledger> Model for Worker<A, C, H> {
