@@ -1,5 +1,5 @@
-//! What the tests of a service stand on: a service of some namespaces, the steps of two tenants, and seats that come
-//! back. It has no test, and nothing of the product: it is the fixture of `pf_service_trials` and of
+//! What the tests of a service stand on: a service of some namespaces, steps to make at it, and seats that come back.
+//! It has no test, and nothing of the product: it is the fixture of `pf_service_trials` and of
 //! `pf_service_waits_trials`, which are two, so that they are proved beside each other.
 #![tactic(auto)]
 
@@ -9,7 +9,7 @@ ghost use Rattle.pf_depot.specs.Blanks.{IsBlankOf};
 
 use pf_base::{ByteString, Config, Groups, MAX_NAMESPACES, Step};
 use pf_frame::Frame;
-use pf_service::{CloseFault, Gate, NoGate, Seat, Service, Transcripts};
+use pf_service::{CloseFault, Gate, Seat, Service, Transcripts};
 use std::alloc::{AllocError, Global};
 use std::sync::Wait;
 use std::sync::ledger::{Blank, Ledger};
@@ -23,9 +23,6 @@ pub const RED: u32 = 0;
 
 /// The second one's.
 pub const BLUE: u32 = 1;
-
-/// A service that tells nobody of anything.
-pub type Plain<C, H> = Service<Global, NoGate, C, H>;
 
 /// A ledger with a part for each namespace that there may be.
 pub fn blank() -> Blank
@@ -139,36 +136,6 @@ pub fn write_by(alloc: Global, pid: u32, byte: u8, count: usize) -> Result<Step,
         fd: 1,
         payload: ByteString::new(alloc, Vec::from_elem(alloc, byte, count)?)?,
     })
-}
-
-/// A process fills its pipe with bytes 61, and exits.
-pub fn steps_of_red(alloc: Global) -> Result<Vec<Step>, AllocError> {
-    let mut steps = Vec::with_capacity(alloc, 4)?;
-    steps.push(spawn())?;
-    steps.push(Step::Pipe {
-        pid: 1,
-        nonblock: true,
-    })?;
-    steps.push(write(alloc, 0x61, 65_536)?)?;
-    steps.push(Step::Exit { pid: 1 })?;
-    Ok(steps)
-}
-
-/// Another writes a byte 7a, and reads as many as there are.
-pub fn steps_of_blue(alloc: Global) -> Result<Vec<Step>, AllocError> {
-    let mut steps = Vec::with_capacity(alloc, 4)?;
-    steps.push(spawn())?;
-    steps.push(Step::Pipe {
-        pid: 1,
-        nonblock: true,
-    })?;
-    steps.push(write(alloc, 0x7A, 1)?)?;
-    steps.push(Step::Read {
-        pid: 1,
-        fd: 0,
-        n: 100,
-    })?;
-    Ok(steps)
 }
 
 /// Whether a step isn't refused.

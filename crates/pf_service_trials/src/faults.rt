@@ -1,9 +1,11 @@
 //! What a service refuses: namespaces, seats and events past their numbers, and seats that it didn't give.
 
-use crate::services::{Callers, CallersOfTwo, is_new, no_seat, refused, repeat, serve, serve_two};
+use crate::services::{
+    Callers, CallersOfTwo, Plain, is_new, no_seat, refused, repeat, serve, serve_two,
+};
 use pf_base::{Errno, Reply, Step};
 use pf_service::{CloseFault, MAX_SEATS, NoGate, Seat, ServiceFault};
-use pf_service_fixture::{BLUE, Plain, RED, namespaces, spawn};
+use pf_service_fixture::{BLUE, RED, namespaces, spawn};
 use std::alloc::Global;
 use std::process::Abort;
 use std::sync::Wait;

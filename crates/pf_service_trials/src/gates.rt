@@ -6,12 +6,11 @@
 
 ghost use Rattle.pf_depot.specs.Blanks.{IsBlankOf};
 
-use crate::services::{Callers, place_of, serve};
+use crate::services::{Callers, place_of, serve, steps_of_blue, steps_of_red};
 use pf_base::Step;
 use pf_service::{Gate, Seat, Service};
 use pf_service_fixture::{
     BLUE, Closed, RED, Size, blank, both, closed, config_of, namespaces, seat_if, service_of,
-    steps_of_blue, steps_of_red,
 };
 use std::alloc::Global;
 use std::marker::Brand;

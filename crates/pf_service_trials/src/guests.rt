@@ -2,12 +2,13 @@
 
 ghost use Rattle.pf_depot.specs.Blanks.{IsBlankOf};
 
-use crate::services::{Callers, all_of_parts, no_seat, replies_are, serve};
+use crate::services::{
+    Callers, Plain, all_of_parts, no_seat, replies_are, serve, steps_of_blue, steps_of_red,
+};
 use pf_base::{AdmitFault, ByteString, Config, Reply, RetireFault, Step};
 use pf_service::{NoGate, Seat, ServiceFault};
 use pf_service_fixture::{
-    Closed, Plain, RED, Size, blank, both, closed, config_of, make, makes, service_of, spawn,
-    steps_of_blue, steps_of_red,
+    Closed, RED, Size, blank, both, closed, config_of, make, makes, service_of, spawn,
 };
 use std::alloc::Global;
 use std::marker::Brand;

@@ -1,10 +1,10 @@
 //! A namespace that comes to a service has the limits that it was given: they are seen through what they refuse, and in
 //! its transcript.
 
-use crate::services::{Callers, replies_are, serve};
+use crate::services::{Callers, Plain, replies_are, serve};
 use pf_base::{Config, Errno, Reply, Step};
 use pf_service::{NoGate, Seat};
-use pf_service_fixture::{Plain, Size, make, spawn};
+use pf_service_fixture::{Size, make, spawn};
 use std::alloc::{AllocError, Global};
 use std::process::Abort;
 use std::sync::Wait;

@@ -1,9 +1,9 @@
 //! What a host asks of a service's namespace besides its events: who can go on, and what an end of a pipe is ready for.
 
-use crate::services::{Callers, serve};
+use crate::services::{Callers, Plain, serve};
 use pf_base::{Errno, Readiness, Step};
 use pf_service::{NoGate, Seat, ServiceFault};
-use pf_service_fixture::{BLUE, Plain, RED, Size, config_of, make, makes, spawn, with, write_by};
+use pf_service_fixture::{BLUE, RED, Size, config_of, make, makes, spawn, with, write_by};
 use std::alloc::{AllocError, Global};
 use std::process::Abort;
 use std::sync::Wait;

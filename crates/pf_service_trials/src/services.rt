@@ -6,13 +6,48 @@ use pf_base::{ByteString, Reply, Step};
 use pf_service::{
     CloseFault, Gate, NoGate, Receipt, Seat, Service, ServiceFault, Transcript, Transcripts,
 };
-use pf_service_fixture::{Closed, Plain, Size, blank, closed, makes_all, seat_if, service_of};
+use pf_service_fixture::{
+    Closed, Size, blank, closed, makes_all, seat_if, service_of, spawn, write,
+};
 use std::alloc::{AllocError, Global};
 use std::marker::Brand;
 use std::process::Abort;
 use std::sync::Wait;
 use std::sync::ledger::{Blank, Ledger};
 use std::test::Fail;
+
+// A service that tells nobody of anything.
+pub(crate) type Plain<C, H> = Service<Global, NoGate, C, H>;
+
+// A process fills its pipe with bytes 61, and exits.
+pub(crate) fn steps_of_red(alloc: Global) -> Result<Vec<Step>, AllocError> {
+    let mut steps = Vec::with_capacity(alloc, 4)?;
+    steps.push(spawn())?;
+    steps.push(Step::Pipe {
+        pid: 1,
+        nonblock: true,
+    })?;
+    steps.push(write(alloc, 0x61, 65_536)?)?;
+    steps.push(Step::Exit { pid: 1 })?;
+    Ok(steps)
+}
+
+// Another writes a byte 7a, and reads as many as there are.
+pub(crate) fn steps_of_blue(alloc: Global) -> Result<Vec<Step>, AllocError> {
+    let mut steps = Vec::with_capacity(alloc, 4)?;
+    steps.push(spawn())?;
+    steps.push(Step::Pipe {
+        pid: 1,
+        nonblock: true,
+    })?;
+    steps.push(write(alloc, 0x7A, 1)?)?;
+    steps.push(Step::Read {
+        pid: 1,
+        fd: 0,
+        n: 100,
+    })?;
+    Ok(steps)
+}
 
 // What callers on one thread do at a service, which they are lent.
 pub(crate) trait Callers<G: Gate> {

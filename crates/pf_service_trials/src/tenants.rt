@@ -1,11 +1,9 @@
 //! Two tenants are told what each is told alone, also where memory is refused.
 
-use crate::services::{Callers, serve, told_alone};
+use crate::services::{Callers, Plain, serve, steps_of_blue, steps_of_red, told_alone};
 use pf_base::Step;
 use pf_service::{CloseFault, NoGate, Seat, ServiceFault};
-use pf_service_fixture::{
-    BLUE, Plain, RED, both, make, namespaces, seat_if, steps_of_blue, steps_of_red,
-};
+use pf_service_fixture::{BLUE, RED, both, make, namespaces, seat_if};
 use std::alloc::Global;
 use std::process::Abort;
 use std::sync::Wait;

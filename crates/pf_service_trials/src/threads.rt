@@ -2,13 +2,12 @@
 
 ghost use Rattle.pf_depot.specs.Blanks.{IsBlankOf};
 
-use crate::services::{all_of, all_of_parts, repeat, repeats, told_alone};
+use crate::services::{
+    Plain, all_of, all_of_parts, repeat, repeats, steps_of_blue, steps_of_red, told_alone,
+};
 use pf_base::Step;
 use pf_service::{NoGate, Seat};
-use pf_service_fixture::{
-    BLUE, Closed, Plain, RED, blank, both, closed, make, namespaces, service_of, steps_of_blue,
-    steps_of_red,
-};
+use pf_service_fixture::{BLUE, Closed, RED, blank, both, closed, make, namespaces, service_of};
 use std::alloc::{AllocError, Global};
 use std::marker::Brand;
 use std::sync::Wait;
