@@ -136,21 +136,28 @@ unread-write-long x long = ap (λ (r : Result (Outcome Segment ℕ) Errno). (swe
 
 -- Want of memory
 
--- Spawn may want it where it isn't refused; of a process that lives and waits in no call so may Pipe, Read where it hands
--- out many bytes, and Write where it parks with many; the others never
-wanted-spawn : (c : Limits) (s : State Segment ℕ) (uid gid umask : ℕ) (groups : List ℕ) → may_want_memory c s (Spawn uid gid umask groups)
+-- Spawn may want it where it isn't refused; of a process that lives and waits in no call so may Pipe, Read where it
+-- hands out many bytes, and Write where it parks with many; Exit, Close, Tee and Splice never
+wanted-spawn : (c : Limits) (s : State Segment ℕ) (uid gid umask : ℕ) (groups : List ℕ)
+    → may_want_memory c s (Spawn uid gid umask groups)
     ≡ (not (is_refusal (act c s (Spawn uid gid umask groups)).reply) && true)
 wanted-spawn c s uid gid umask groups = refl
 
-wanted-pipe : (c : Limits) (s : State Segment ℕ) (pid : ℕ) (nonblock : Bool) → may_want_memory c s (Pipe pid nonblock)
-    ≡ (not (is_refusal (act c s (Pipe pid nonblock)).reply) && (is_some (process s pid) && not (is_some (call_of s pid))))
+wanted-pipe : (c : Limits) (s : State Segment ℕ) (pid : ℕ) (nonblock : Bool)
+    → may_want_memory c s (Pipe pid nonblock)
+    ≡ (not (is_refusal (act c s (Pipe pid nonblock)).reply)
+    && (is_some (process s pid) && not (is_some (call_of s pid))))
 wanted-pipe c s pid nonblock = refl
 
-wanted-read : (c : Limits) (s : State Segment ℕ) (pid fd n : ℕ) → may_want_memory c s (Read pid fd n) ≡ (hands_many (act c s (Read pid fd n)).reply && (is_some (process s pid) && not (is_some (call_of s pid))))
+wanted-read : (c : Limits) (s : State Segment ℕ) (pid fd n : ℕ)
+    → may_want_memory c s (Read pid fd n)
+    ≡ (hands_many (act c s (Read pid fd n)).reply && (is_some (process s pid) && not (is_some (call_of s pid))))
 wanted-read c s pid fd n = refl
 
 wanted-write : (c : Limits) (s : State Segment ℕ) (pid fd : ℕ) (x : List ℕ)
-    → may_want_memory c s (Write pid fd x) ≡ ((is_parked (act c s (Write pid fd x)).reply && are_many x) && (is_some (process s pid) && not (is_some (call_of s pid))))
+    → may_want_memory c s (Write pid fd x)
+    ≡ ((is_parked (act c s (Write pid fd x)).reply && are_many x)
+    && (is_some (process s pid) && not (is_some (call_of s pid))))
 wanted-write c s pid fd x = refl
 
 unwanted-exit : (c : Limits) (s : State Segment ℕ) (pid : ℕ) → may_want_memory c s (Exit pid) ≡ false
@@ -159,8 +166,10 @@ unwanted-exit c s pid = refl
 unwanted-close : (c : Limits) (s : State Segment ℕ) (pid fd : ℕ) → may_want_memory c s (Close pid fd) ≡ false
 unwanted-close c s pid fd = refl
 
-unwanted-tee : (c : Limits) (s : State Segment ℕ) (pid source sink n : ℕ) (nonblock : Bool) → may_want_memory c s (Tee pid source sink n nonblock) ≡ false
+unwanted-tee : (c : Limits) (s : State Segment ℕ) (pid source sink n : ℕ) (nonblock : Bool)
+    → may_want_memory c s (Tee pid source sink n nonblock) ≡ false
 unwanted-tee c s pid source sink n nonblock = refl
 
-unwanted-splice : (c : Limits) (s : State Segment ℕ) (pid source sink n : ℕ) (nonblock : Bool) → may_want_memory c s (Splice pid source sink n nonblock) ≡ false
+unwanted-splice : (c : Limits) (s : State Segment ℕ) (pid source sink n : ℕ) (nonblock : Bool)
+    → may_want_memory c s (Splice pid source sink n nonblock) ≡ false
 unwanted-splice c s pid source sink n nonblock = refl

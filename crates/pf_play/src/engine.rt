@@ -31,10 +31,10 @@ use pf_hub::Hub;
 use pf_script::{Line, Script, Told};
 use std::alloc::{AllocError, Allocator, Global};
 
-/// The fewest bytes that a heap for a namespace's files may have.
+/// The fewest bytes that the command line takes for a heap of a namespace's files.
 pub const LEAST_TREE_HEAP: u32 = 1_024;
 
-/// The most bytes that it may have.
+/// The most bytes that it takes for one.
 pub const MOST_TREE_HEAP: u32 = 16_777_216;
 
 /// How a script is run.
@@ -42,9 +42,10 @@ pub const MOST_TREE_HEAP: u32 = 16_777_216;
 pub struct Options<'a> {
     /// The name of the one namespace whose steps are run and whose section is written; all of them where it is `None`.
     pub only: Option<&'a str>,
-    /// How many bytes each namespace has for its files, directories and names, in a heap of its own: from 1,024 to
-    /// 16,777,216. They stand in the global allocator's memory where it is `None`. Where a heap is full, a step that makes a
-    /// file is told of want of memory, and no other namespace is touched by that.
+    /// How many bytes each namespace has for its files, directories and names, in a heap of its own: any number, though
+    /// the command line takes those from `LEAST_TREE_HEAP` to `MOST_TREE_HEAP` alone. Where it is `None`, the files
+    /// stand in the global allocator's memory. Where a heap is full, a step that makes a file is told of want of
+    /// memory, and no other namespace is touched by that.
     pub tree_heap: Option<u32>,
     /// The byte that every frame holds at the start. No text depends on it.
     pub fill: u8,
