@@ -7,7 +7,7 @@ use Rattle.pf_depot.specs.declared.loans.Loans.{Loans}
 use Rattle.pf_depot.specs.AllLoans.{reserved_of, live_at, AreIdle}
 use Rattle.pf_depot.specs.Loans.{loans_live}
 
-two_long : (ls : List Loans) (reserve : ℕ) → AreIdle ls (reserve ∷ reserve ∷ []) → length ls ≡ 2
+pub two_long : (ls : List Loans) (reserve : ℕ) → AreIdle ls (reserve ∷ reserve ∷ []) → length ls ≡ 2
 two_long ls reserve h = omega (arith, length-map ls reserved_of, ap (λ (rs : List ℕ). length rs) h.reserved)
 
 two_only : (ls below rest : List Loans) (a b : Loans) (reserve : ℕ) → ls ≡ below ++ b ∷ [] → below ≡ rest ++ a ∷ [] → AreIdle ls (reserve ∷ reserve ∷ []) → ls ≡ a ∷ b ∷ []
