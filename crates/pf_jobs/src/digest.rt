@@ -2,8 +2,8 @@
 
 use pf_base::{Kind, Readiness, Reply};
 
-/// What the digest is multiplied with for each number.
-const FACTOR: u64 = 0x9E37_79B9_7F4A_7C15;
+/// What each digest of these jobs is multiplied with for each number.
+pub(crate) const FACTOR: u64 = 0x9E37_79B9_7F4A_7C15;
 
 /// A digest of numbers, in their order.
 #[derive(Debug, Clone, Copy, Drop)]

@@ -3,9 +3,9 @@ use denote.Param.Send.{sendable}
 use Rattle.std.proofs.Crossing.{crosses}
 use Rattle.pf_service.proofs.Sendable.{plain_sync}
 use Rattle.pf_service.proofs.seat.Seat.TheSendSync as seat
-use Rattle.pf_jobs_served.proofs.served.Round.TheSendSync as round
-use Rattle.pf_jobs_served.proofs.source.Source.TheSendSync as source
-use Rattle.pf_jobs_served.proofs.served.post_beside.Goals as goal
+use Rattle.pf_jobs.proofs.served.service.Round.TheSendSync as round
+use Rattle.pf_jobs.proofs.served.source.Source.TheSendSync as source
+use Rattle.pf_jobs.proofs.served.service.post_beside.Goals as goal
 
 pub spawn-reader-requires-send-F : goal.spawn-reader-requires-send-F
 spawn-reader-requires-send-F g c κs within =

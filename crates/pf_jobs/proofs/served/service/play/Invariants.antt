@@ -1,4 +1,4 @@
-use Rattle.pf_jobs_served.proofs.served.play.Given as goal
+use Rattle.pf_jobs.proofs.served.service.play.Given as goal
 
 abbrev pub ghosts-play_by_name-C-Ledger : goal.ghosts-play_by_name-C-Ledger
 ghosts-play_by_name-C-Ledger g a = record { name = a.credits.name; parts = a.credits.parts }

@@ -11,10 +11,11 @@
 ghost use Rattle.std.specs.Prelude.{◌≡◌, ◌≤◌};
 ghost use Rattle.pf_base.specs.declared.TheConstants.{MAX_NAMESPACES};
 
-use crate::digest::Digest;
-use crate::play::{Caller, Play, spawned};
-use crate::source::{Source, below, line};
-use crate::{blank, configs, entries, frames};
+use crate::random::below;
+use crate::served::digest::Digest;
+use crate::served::play::{Caller, Play, spawned};
+use crate::served::source::{Source, line};
+use crate::served::{blank, configs, entries, frames};
 use pf_base::{PAGE_SIZE, Step};
 use pf_service::{NoGate, Receipt, Seat, Service, Transcripts};
 use rand_pcg::Pcg32;

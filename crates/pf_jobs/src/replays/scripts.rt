@@ -1,8 +1,9 @@
-//! Scripts by a generator of random numbers, of the shapes that are played: short lines of one name or of many by turns,
-//! long lines, a build's processes, and files.
+//! Scripts by a generator of random numbers, of the shapes that are played: short lines of one name or of many by
+//! turns, long lines, a build's processes, and files.
 
 ghost use Rattle.std.specs.Prelude.{◌<◌};
 
+use crate::random::below;
 use rand_core::utils::NextWord;
 use rand_pcg::Pcg32;
 use std::alloc::{AllocError, Global};
@@ -24,14 +25,6 @@ pub(crate) enum Shape {
     Processes,
     /// FIFOs that are made, asked for, listed and unlinked.
     Files,
-}
-
-/// A number below this one.
-pub(crate) fn below(random: &mut Pcg32, bound: u32) -> u32
-    requires { 0 < bound }
-    ensures { result < bound }
-{
-    random.next_word() % bound
 }
 
 /// A script in the making.

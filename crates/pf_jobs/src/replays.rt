@@ -1,19 +1,16 @@
-//! Long scripts that a seed makes, replayed from memory: short lines of one name and of 64 by turns, also of one of the 64
-//! alone, long lines, a build's processes, and files with a heap of each tenant's own; and some of them with a thread for
-//! each name. Each prints how many bytes the texts had and a digest of them.
-#![tactic(auto)]
+//! Long scripts that a seed makes, replayed from memory: short lines of one name and of 64 by turns, also of one of the
+//! 64 alone, long lines, a build's processes, and files with a heap of each tenant's own; and some of them with a
+//! thread for each name. Each comes to how many bytes the texts had and a digest of them.
 
 mod digested;
 mod scripts;
 
-use crate::digested::Digested;
-use crate::scripts::{Shape, Text};
+use crate::replays::digested::Digested;
+use crate::replays::scripts::{Shape, Text};
 use pf_play::{MemoryBytes, NoGate, Options, replay, replay_threads};
 use std::alloc::{AllocError, Global};
-use std::process::ExitCode;
 use std::sync::Wait;
 use std::thread::Threads;
-use std::{env, io};
 
 /// What is played, and how.
 #[derive(Clone, Copy)]
@@ -71,9 +68,9 @@ fn for_many_threads() -> [Part; 4] {
 
 /// What the texts come to.
 #[derive(Clone, Copy, Debug)]
-struct Sums {
-    bytes: u64,
-    value: u64,
+pub(crate) struct Sums {
+    pub(crate) bytes: u64,
+    pub(crate) value: u64,
 }
 
 impl Part {
@@ -112,7 +109,7 @@ impl Sums {
 }
 
 /// Replays scripts one after the other, each as one of so many parts of the whole.
-fn replayed(alloc: Global, seed: u64, part: usize) -> Result<Sums, AllocError> {
+pub(crate) fn replayed(alloc: Global, seed: u64, part: usize) -> Result<Sums, AllocError> {
     let mut sums = Sums { bytes: 0, value: 0 };
     for (place, played) in (0..).zip(for_one_thread()) {
         let script = played.script(alloc, seed, place, part)?;
@@ -125,7 +122,7 @@ fn replayed(alloc: Global, seed: u64, part: usize) -> Result<Sums, AllocError> {
 }
 
 /// The same with a thread for each name.
-fn threaded<T: Threads + Wait + Sync>(
+pub(crate) fn threaded<T: Threads + Wait + Sync>(
     rt: &T,
     alloc: Global,
     seed: u64,
@@ -145,45 +142,4 @@ fn threaded<T: Threads + Wait + Sync>(
         sums.add(writer, ended.is_ok());
     }
     Ok(sums)
-}
-
-/// Plays a job and prints what it came to. False where there is no such job.
-fn tell<T: Threads + Wait + Sync>(
-    rt: &HostRuntime,
-    threads: &T,
-    job: &str,
-    seed: u64,
-    part: usize,
-) -> io::Result<bool> {
-    let sums = if job == "replay" {
-        replayed(rt.alloc(), seed, part)?
-    } else if job == "threads" {
-        threaded(threads, rt.alloc(), seed, part)?
-    } else {
-        return Ok(false);
-    };
-    let Sums { bytes, value } = sums;
-    println!(rt; "{job}: {bytes} bytes, {value:016x}")?;
-    Ok(true)
-}
-
-/// With no words both jobs are played, each a small one; with a job's name and a seed this job is.
-fn run<T: Threads + Wait + Sync>(rt: &HostRuntime, threads: &T) -> io::Result<bool> {
-    let mut words = env::args(rt)?;
-    let _program = words.next();
-    let (Some(job), Some(seed)) = (words.next(), words.next()) else {
-        return Ok(tell(rt, threads, "replay", 1, 400)? && tell(rt, threads, "threads", 1, 400)?);
-    };
-    match seed.parse::<u32>() {
-        Ok(seed) => tell(rt, threads, job.as_str(), u64::from(seed), 1),
-        Err(_) => Ok(false),
-    }
-}
-
-fn main(rt: HostRuntime) -> io::Result<ExitCode> {
-    if run(&rt, &rt)? {
-        return Ok(ExitCode::SUCCESS);
-    }
-    println!(&rt; "usage: pf_jobs_replay [replay SEED | threads SEED]")?;
-    Ok(ExitCode::FAILURE)
 }

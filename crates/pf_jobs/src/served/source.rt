@@ -1,7 +1,6 @@
 //! Random numbers and bytes, of which payloads are cut.
 
-ghost use Rattle.std.specs.Prelude.{◌<◌};
-
+use crate::random::below;
 use pf_base::{ByteString, PAGE_SIZE};
 use rand_core::utils::NextWord;
 use rand_pcg::Pcg32;
@@ -9,14 +8,6 @@ use std::alloc::{AllocError, Global};
 
 /// How many words of random bytes there are.
 const WORDS: u32 = 131_072;
-
-/// A number below this one.
-pub(crate) fn below(random: &mut Pcg32, bound: u32) -> u32
-    requires { 0 < bound }
-    ensures { result < bound }
-{
-    random.next_word() % bound
-}
 
 /// How many bytes a line has: from 20 to 200.
 pub(crate) fn line(random: &mut Pcg32) -> u32 {

@@ -1,24 +1,22 @@
 //! A digest of what is told. Bytes go into it by words of eight and by four words at once, so that it costs little
 //! beside the calls.
 
+use crate::digest::FACTOR;
 use pf_base::{Kind, Reply, Step};
 use pf_service::Receipt;
-
-/// What the digest is multiplied with for each number.
-const PRIME: u64 = 0x9E37_79B9_7F4A_7C15;
 
 /// A digest of numbers, in their order.
 #[derive(Clone, Copy, Drop)]
 pub(crate) struct Digest(u64);
 
 fn mixed(digest: u64, number: u64) -> u64 {
-    (digest ^ number).wrapping_mul(PRIME).rotate_left(29)
+    (digest ^ number).wrapping_mul(FACTOR).rotate_left(29)
 }
 
 impl Digest {
     /// The digest of no number.
     pub(crate) fn new() -> Digest {
-        Digest(PRIME)
+        Digest(FACTOR)
     }
 
     /// The digest as a number.

@@ -1,7 +1,8 @@
 //! A tenant's turns, as builds and shells make them, through whatever makes its steps.
 
-use crate::digest::Digest;
-use crate::source::{Source, below, line};
+use crate::random::below;
+use crate::served::digest::Digest;
+use crate::served::source::{Source, line};
 use pf_base::{Groups, PAGE_SIZE, Step};
 use pf_service::Receipt;
 use rand_pcg::Pcg32;

@@ -1,6 +1,6 @@
 //! What the transcripts of a service say, as far as it doesn't depend on the threads' order.
 
-use crate::digest::Digest;
+use crate::served::digest::Digest;
 use pf_base::{Reply, Step};
 use pf_service::Transcript;
 

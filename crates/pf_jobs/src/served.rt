@@ -2,48 +2,44 @@
 //! namespace, where each waits for the other; and at its end all seats are compared with all transcripts.
 //!
 //! What each call is told in the end goes into one number, and what the transcripts say, which doesn't depend on the
-//! threads' order: only how often a call waits does, and how the entries of two threads lie in one transcript. With no
-//! word it is a short fixed load; with a number, a long one by that seed.
-#![tactic(auto)]
+//! threads' order: only how often a call waits does, and how the entries of two threads lie in one transcript.
 
 mod digest;
 mod entries;
 mod play;
-mod served;
+mod service;
 mod source;
 
 ghost use Rattle.std.specs.Prelude.{◌≡◌};
 ghost use Rattle.pf_base.specs.declared.TheConstants.{MAX_NAMESPACES};
 
-use crate::digest::Digest;
-use crate::served::Round;
-use crate::source::Source;
+use crate::served::digest::Digest;
+use crate::served::service::Round;
+use crate::served::source::Source;
 use pf_base::{Config, MAX_NAMESPACES};
 use pf_frame::Frame;
 use std::alloc::{AllocError, Global};
-use std::process::ExitCode;
 use std::sync::Wait;
 use std::sync::ledger::Blank;
 use std::thread::Threads;
-use std::{env, io};
-
-const FIXED_SEED: u32 = 52;
 
 /// How much is played: how many services come one after the other, and what is done with each.
 #[derive(Clone, Copy)]
-struct Load {
-    services: u32,
+pub(crate) struct Load {
+    pub(crate) services: u32,
     spells: u32,
     letters: u32,
 }
 
-const FIXED: Load = Load {
+/// What is played where no words say what.
+pub(crate) const SHORT: Load = Load {
     services: 2,
     spells: 2,
     letters: 100,
 };
 
-const LONG: Load = Load {
+/// What is played with a seed.
+pub(crate) const LONG: Load = Load {
     services: 12,
     spells: 100,
     letters: 4_000,
@@ -81,7 +77,7 @@ fn configs(alloc: Global, number: u32, reserve: u32) -> Option<Vec<(Config, Glob
 }
 
 /// What all were told, if all was answered.
-fn listen<R: Threads + Wait + Sync>(
+pub(crate) fn listen<R: Threads + Wait + Sync>(
     threads: &R,
     alloc: Global,
     seed: u32,
@@ -96,32 +92,7 @@ fn listen<R: Threads + Wait + Sync>(
             spells: load.spells,
             letters: load.letters,
         };
-        all.add(served::play(threads, &source, round)?.number());
+        all.add(service::play(threads, &source, round)?.number());
     }
     Some(all)
-}
-
-fn run<R: Threads + Wait + Sync>(rt: &HostRuntime, threads: &R) -> io::Result<ExitCode> {
-    let mut words = env::args(rt)?;
-    let _program = words.next();
-    let (seed, load) = match words.next() {
-        None => (FIXED_SEED, FIXED),
-        Some(word) => match word.parse::<u32>() {
-            Ok(seed) => (seed, LONG),
-            Err(_) => {
-                println!(rt; "usage: pf_jobs_served [SEED]")?;
-                return Ok(ExitCode::FAILURE);
-            }
-        },
-    };
-    let Some(told) = listen(threads, rt.alloc(), seed, load) else {
-        println!(rt; "a call was refused")?;
-        return Ok(ExitCode::FAILURE);
-    };
-    println!(rt; "{} services told {:016x}", load.services, told.number())?;
-    Ok(ExitCode::SUCCESS)
-}
-
-fn main(rt: HostRuntime) -> io::Result<ExitCode> {
-    run(&rt, &rt)
 }

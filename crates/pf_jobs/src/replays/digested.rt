@@ -1,13 +1,11 @@
 //! A sink that digests what it is given, however it is cut into pieces.
 
+use crate::digest::FACTOR;
 use pf_play::{Failed, Sink};
 use std::alloc::{AllocError, Global};
 
 /// So many bytes are digested at once.
 const AT_ONCE: usize = 65_536;
-
-/// What the digest is multiplied with for each number.
-const FACTOR: u64 = 0x9E37_79B9_7F4A_7C15;
 
 /// A digest of all bytes that were written, and their number.
 #[derive(Drop)]
