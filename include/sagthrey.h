@@ -187,7 +187,8 @@ int64_t sag_dup(sag_hub *h, uint32_t ns, uint32_t pid, uint32_t fd);
 int64_t sag_set_nonblock(sag_hub *h, uint32_t ns, uint32_t pid, uint32_t fd, bool on);
 
 /* Files. A path is `length` bytes and no string: a byte 0 is no end. All start at the root; a mode counts its bits as
- * chmod(2) does, at most 01777. Up to 14 bytes of a path are copied without memory of the heap.
+ * chmod(2) does, at most 01777. Up to 14 bytes of a path are copied without memory of the heap; then, where no name in
+ * it is `.` or `..`, SAG_NOMEM is told of no call that is refused, and of no sag_stat.
  *
  * Errors of every path, before those beside a function: -EINVAL where it has a byte 0; -ENOENT where it is empty;
  * -ENAMETOOLONG above 1,023 bytes, or for a name above 255, wherever that stands; then at each name -ENOTDIR where the

@@ -23,7 +23,7 @@ use Rattle.pf_machine.proofs.AttemptLaws.{Says, IsTold, told-is}
 use Rattle.pf_machine.proofs.HoldsLaws.{Holds, carries, found}
 use Rattle.pf_frame.specs.Bytes.{filled}
 use Rattle.pf_ring.specs.Laid.{laid}
-use Rattle.pf_tables.specs.Buffers.{number_told, bytes_told}
+use Rattle.pf_tables.specs.Buffers.{number_told}
 use Rattle.pf_hub.specs.Tenants.{limits_at, state_at}
 use Rattle.pf_c.specs.Codes.{code_of_answer}
 use Rattle.pf_c.specs.Read.{code_of_read, bytes_handed}

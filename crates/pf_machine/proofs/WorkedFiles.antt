@@ -3,7 +3,7 @@
 use Rattle.std.specs.Prelude.{◌≡◌, ℕ, List, [], ◌∷◌, true, false, Ok, Err, refl}
 use Rattle.pf_machine.specs.FileMap.{Files, Path, insert, remove, names_below}
 use Rattle.pf_machine.specs.FileCalls.{make, unlink, rmdir, chmod, stat, list}
-use Rattle.pf_machine.specs.Paths.{words_of, reach}
+use Rattle.pf_machine.specs.Paths.{has_dots, words_of, reach}
 use Rattle.pf_base.specs.Permissions.{allows, masked, may_remove, mode_of}
 use Rattle.pf_base.specs.declared.cred.Cred.{Cred}
 use Rattle.pf_base.specs.declared.errno.Errno.TheVariants.{EPERM, ENOENT, EACCES, EBUSY, EEXIST, ENOTDIR, EINVAL}
@@ -90,6 +90,20 @@ cut_twice = refl
 -- "/" has none
 cut_root : words_of (47 ∷ []) ≡ Ok (record { names = []; slash = false })
 cut_root = refl
+
+-- "a/./b" and "/.." have a name that may turn back, "/.a/..b/..." has none
+dot_between : has_dots (97 ∷ 47 ∷ 46 ∷ 47 ∷ 98 ∷ []) ≡ true
+dot_between = refl
+
+dots_last : has_dots (47 ∷ 46 ∷ 46 ∷ []) ≡ true
+dots_last = refl
+
+dots_in_names : has_dots (47 ∷ 46 ∷ 97 ∷ 47 ∷ 46 ∷ 46 ∷ 98 ∷ 47 ∷ 46 ∷ 46 ∷ 46 ∷ []) ≡ false
+dots_in_names = refl
+
+-- a path that is refused before its walk has none
+dots_behind_a_byte_0 : has_dots (47 ∷ 46 ∷ 47 ∷ 0 ∷ []) ≡ false
+dots_behind_a_byte_0 = refl
 
 cut_empty : words_of [] ≡ Err ENOENT
 cut_empty = refl

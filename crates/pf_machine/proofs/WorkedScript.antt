@@ -1,6 +1,6 @@
 -- Examples by computation: what the lone machine replies.
 
-use Rattle.std.specs.Prelude.{ℕ, ◌≡◌, Bool, false, true, not, ◌&&◌, List, [], ◌∷◌, Some, None, refl, replicate, take, nat_lt, nat_le, nat_eq, is_some, slice_set, if◌then◌else◌, Result, Ok, Err as Refused}
+use Rattle.std.specs.Prelude.{ℕ, ◌≡◌, Bool, false, true, not, ◌&&◌, ◌||◌, List, [], ◌∷◌, Some, None, refl, replicate, take, nat_lt, nat_le, nat_eq, is_some, slice_set, if◌then◌else◌, Result, Ok, Err as Refused}
 use Rattle.std.proofs.Common.{◌<◌, ◌≤◌, length, ap, ◌∙◌, arith}
 use Rattle.std.proofs.lemmas.Bool.{lt-ltb, le-ltb, ne_eqb, eq-eqb}
 use Rattle.pf_base.specs.Limits.{Limits}
@@ -13,11 +13,13 @@ use Rattle.pf_machine.specs.Pipes.{writing, new_pipe}
 use Rattle.pf_machine.specs.Calls.{Writing}
 use Rattle.pf_machine.specs.Transfers.{Tried, try_write}
 use Rattle.pf_machine.specs.Attempts.{write_told, first, nonblocking, transfer}
+use Rattle.pf_machine.specs.Paths.{has_dots}
 use Rattle.pf_machine.specs.Machine.{act, step_of, swept, call_of, are_many, hands_many, is_parked, is_refusal, may_want_memory}
 use Rattle.pf_base.specs.declared.TheConstants.{PIPE_BUF, MAX_WRITE, MAX_DESCRIPTORS}
 use Rattle.pf_machine.specs.Runs.{run_of, lone}
 use Rattle.pf_base.specs.declared.progress.Progress.TheVariants.{Moved, NoReader}
-use Rattle.pf_base.specs.declared.step.Step.TheVariants.{Spawn, Exit, Pipe, Close, Read, Write, Tee, Splice}
+use Rattle.pf_base.specs.declared.open_flags.OpenFlags.{OpenFlags}
+use Rattle.pf_base.specs.declared.step.Step.TheVariants.{Spawn, Exit, Unlink, Stat, Open, Pipe, Close, Read, Write, Tee, Splice}
 use Rattle.pf_base.specs.declared.step.Reply.TheVariants.{Num, Pid, Fds, Bytes, Err}
 use Rattle.pf_base.specs.declared.errno.Errno.{Errno}
 use Rattle.pf_base.specs.declared.errno.Errno.TheVariants.{ESRCH, EBADF, EAGAIN, EINVAL, ENFILE, EPIPE}
@@ -136,8 +138,9 @@ unread-write-long x long = ap (λ (r : Result (Outcome Segment ℕ) Errno). (swe
 
 -- Want of memory
 
--- Spawn may want it where it isn't refused; of a process that lives and waits in no call so may Pipe, Read where it
--- hands out many bytes, and Write where it parks with many; Exit, Close, Tee and Splice never
+-- Spawn may want it where it isn't refused; of a process that lives and waits in no call so may Pipe, Open and Unlink,
+-- these two also where a path is walked by `.` or `..`, Stat there alone, Read where it hands out many bytes, and
+-- Write where it parks with many; Exit, Close, Tee and Splice never
 wanted-spawn : (c : Limits) (s : State Segment ℕ) (uid gid umask : ℕ) (groups : List ℕ)
     → may_want_memory c s (Spawn uid gid umask groups)
     ≡ (not (is_refusal (act c s (Spawn uid gid umask groups)).reply) && true)
@@ -148,6 +151,23 @@ wanted-pipe : (c : Limits) (s : State Segment ℕ) (pid : ℕ) (nonblock : Bool)
     ≡ (not (is_refusal (act c s (Pipe pid nonblock)).reply)
     && (is_some (process s pid) && not (is_some (call_of s pid))))
 wanted-pipe c s pid nonblock = refl
+
+wanted-open : (c : Limits) (s : State Segment ℕ) (pid : ℕ) (path : List ℕ) (flags : OpenFlags)
+    → may_want_memory c s (Open pid path flags)
+    ≡ ((has_dots path || not (is_refusal (act c s (Open pid path flags)).reply))
+    && (is_some (process s pid) && not (is_some (call_of s pid))))
+wanted-open c s pid path flags = refl
+
+wanted-unlink : (c : Limits) (s : State Segment ℕ) (pid : ℕ) (path : List ℕ)
+    → may_want_memory c s (Unlink pid path)
+    ≡ ((has_dots path || not (is_refusal (act c s (Unlink pid path)).reply))
+    && (is_some (process s pid) && not (is_some (call_of s pid))))
+wanted-unlink c s pid path = refl
+
+wanted-stat : (c : Limits) (s : State Segment ℕ) (pid : ℕ) (path : List ℕ)
+    → may_want_memory c s (Stat pid path)
+    ≡ (has_dots path && (is_some (process s pid) && not (is_some (call_of s pid))))
+wanted-stat c s pid path = refl
 
 wanted-read : (c : Limits) (s : State Segment ℕ) (pid fd n : ℕ)
     → may_want_memory c s (Read pid fd n)

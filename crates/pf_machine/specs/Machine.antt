@@ -24,6 +24,7 @@ use Rattle.pf_machine.specs.Pipes.{pipe, set_size, get_size}
 use Rattle.pf_machine.specs.Calls.{Call, Moving, Reading, Writing, Bringing}
 use Rattle.pf_machine.specs.Attempts.{transfer, resume}
 use Rattle.pf_machine.specs.Opens.{open_path, access_of}
+use Rattle.pf_machine.specs.Paths.{has_dots}
 use Rattle.pf_machine.specs.Files.{make, unlink, rmdir, chmod, stat, list}
 use Rattle.pf_machine.specs.Sweep.{sweep}
 
@@ -157,20 +158,20 @@ abbrev pub is_refusal : Reply → Bool
 is_refusal (Refused e) = true
 is_refusal _ = false
 
--- whether a step that is told this may have made a process or a pipe, given a pipe other slots, handed out many bytes,
--- kept a copy of many bytes that wait, or walked a path, whose names stand in memory
+-- whether a step that is told this may have made a process, changed or listed the files, opened a FIFO, made a pipe,
+-- given one other slots, handed out many bytes, kept a copy of many bytes that wait, or walked a path by `.` or `..`
 abbrev pub takes_memory : State Segment ℕ → Step → Reply → Bool
 takes_memory s (steps.Spawn uid gid umask groups) reply = not (is_refusal reply)
 takes_memory s (steps.Resume pid) reply = hands_out (call_of s pid) && hands_many reply
 takes_memory s (steps.Fork pid) reply = not (is_refusal reply)
-takes_memory s (steps.Mkdir pid path mode) reply = true
-takes_memory s (steps.Mkfifo pid path mode) reply = true
-takes_memory s (steps.Unlink pid path) reply = true
-takes_memory s (steps.Rmdir pid path) reply = true
-takes_memory s (steps.Chmod pid path mode) reply = true
-takes_memory s (steps.Stat pid path) reply = true
-takes_memory s (steps.List pid path) reply = true
-takes_memory s (steps.Open pid path flags) reply = true
+takes_memory s (steps.Mkdir pid path mode) reply = has_dots path || not (is_refusal reply)
+takes_memory s (steps.Mkfifo pid path mode) reply = has_dots path || not (is_refusal reply)
+takes_memory s (steps.Unlink pid path) reply = has_dots path || not (is_refusal reply)
+takes_memory s (steps.Rmdir pid path) reply = has_dots path || not (is_refusal reply)
+takes_memory s (steps.Chmod pid path mode) reply = has_dots path || not (is_refusal reply)
+takes_memory s (steps.Stat pid path) reply = has_dots path
+takes_memory s (steps.List pid path) reply = has_dots path || not (is_refusal reply)
+takes_memory s (steps.Open pid path flags) reply = has_dots path || not (is_refusal reply)
 takes_memory s (steps.Pipe pid nonblock) reply = not (is_refusal reply)
 takes_memory s (steps.Read pid fd n) reply = hands_many reply
 takes_memory s (steps.Write pid fd payload) reply = is_parked reply && are_many payload

@@ -1,7 +1,7 @@
 -- Paths as bytes, and where a path leads (POSIX.1-2017, 4.13 "Pathname Resolution"). Relative and absolute paths both begin
 -- at the root: a process has no other working directory (this profile's choice).
 
-use Rattle.std.specs.Prelude.{ℕ, List, [], ◌∷◌, ◌++◌, length, filter, Bool, true, false, not, if◌then◌else◌, nat_eq, nat_lt, ◌&&◌, ◌||◌, Result, Ok}
+use Rattle.std.specs.Prelude.{ℕ, List, [], ◌∷◌, ◌++◌, length, filter, Bool, true, false, not, if◌then◌else◌, nat_eq, nat_lt, ◌&&◌, ◌||◌, Result, Ok, Err}
 use Rattle.std.specs.List.{list_any, slice_split}
 use Rattle.pf_machine.specs.Refusals.{◌>>=◌, ◌>>◌, refuse_if, or_refuse}
 use Rattle.pf_base.specs.Permissions.{allows}
@@ -52,6 +52,18 @@ is_dot n = same_name n (46 ∷ [])
 
 abbrev pub is_dot_dot : Name → Bool
 is_dot_dot n = same_name n (46 ∷ 46 ∷ [])
+
+-- a name that is no entry's
+abbrev pub is_dotted : Name → Bool
+is_dotted n = is_dot n || is_dot_dot n
+
+abbrev pub may_turn : Result Words Errno → Bool
+may_turn (Ok words) = list_any is_dotted words.names
+may_turn (Err e) = false
+
+-- whether a path is walked and one of its names is `.` or `..`, so that the walk may turn back
+abbrev pub has_dots : List ℕ → Bool
+has_dots bs = may_turn (words_of bs)
 
 -- a walk may go on from a file: a directory, on which there is search permission
 abbrev pub permitted : Cred → File → Result (Unit {0}) Errno

@@ -1,7 +1,8 @@
--- What wants memory may want it: a Spawn, and, of a process that lives and waits in no call, a Fork, a Pipe and a
--- SetSize, all where they aren't refused, and a Read and a Write of many bytes.
+-- What wants memory may want it: a Spawn, and, of a process that lives and waits in no call, a Fork, a Pipe, a SetSize
+-- and a call on a path but Stat, all where they aren't refused, a call on a path that is walked by `.` or `..` also where
+-- it is, and a Read and a Write of many bytes.
 
-use Rattle.std.proofs.Common.{◌≡◌, ℕ, ◌+◌, ◌<◌, Bool, true, false, not, ◌&&◌, List}
+use Rattle.std.proofs.Common.{◌≡◌, ℕ, ◌+◌, ◌<◌, Bool, true, false, not, ◌&&◌, ◌||◌, List}
 use Rattle.std.proofs.Common.{length, is_some, Result, Ok, Err, IsOk, refl, sym, ap, subst, ◌∙◌}
 use Rattle.std.specs.Prelude.{⊤}
 use Rattle.std.proofs.lemmas.Bool.{lt-ltb}
@@ -13,6 +14,8 @@ use Rattle.pf_base.specs.declared.step.Step.TheVariants as steps
 use Rattle.pf_machine.specs.Attempts.{Attempt, first, nonblocking, transfer}
 use Rattle.pf_machine.specs.Calls.{Transfer}
 use Rattle.pf_machine.specs.Machine.{act, call_of, hands_many, is_parked, is_refusal, may_want_memory}
+use Rattle.pf_machine.specs.FileCalls as calls
+use Rattle.pf_machine.specs.Paths.{has_dots}
 use Rattle.pf_machine.specs.Pipes.{pipe, set_size}
 use Rattle.pf_machine.specs.Processes.{fork}
 use Rattle.pf_machine.specs.Refusals.{◌>>◌, refuse_if}
@@ -35,6 +38,14 @@ not_both may is quiet wants =
     let gap : true ≡ false = sym wants ∙ ap may (sym is) ∙ quiet in
     absurd (cc)
 
+-- so no step does that may not: where it wants memory it may. step: the kind that it is of
+pub not_wanted : (f : Live) {tables old : Namespace} → tables ≡ old → {step asked : Step} → asked ≡ step
+    → may_want_memory tables.limits (meaning f tables.state) step ≡ true
+    → may_want_memory old.limits (meaning f old.state) asked ≡ false → ⊥
+not_wanted f {tables} {old} view {step} is wants quiet =
+    not_both (may_want_memory old.limits (meaning f old.state)) is quiet
+    (subst (λ (n : Namespace). may_want_memory n.limits (meaning f n.state) step ≡ true) view wants)
+
 -- No step wants memory that may not: where its call goes through (own is Ok), it may. step: the kind that it is of;
 -- own: what the tables make of it at their own state; wants: that it may, where the machine's call goes through
 pub wanted_not : (f : Live) {tables old : Namespace} → tables ≡ old → {step asked : Step} → asked ≡ step
@@ -43,9 +54,7 @@ pub wanted_not : (f : Live) {tables old : Namespace} → tables ≡ old → {ste
     → may_want_memory tables.limits (meaning f tables.state) step ≡ true)
     → IsOk own → may_want_memory old.limits (meaning f old.state) asked ≡ false → ⊥
 wanted_not f {tables} {old} view {step} is own natural wants ok quiet =
-    not_both (may_want_memory old.limits (meaning f old.state)) is quiet
-    (subst (λ (n : Namespace). may_want_memory n.limits (meaning f n.state) step ≡ true) view
-    (wants (ok-as f tables.limits tables.state step own natural ok)))
+    not_wanted f view is (wants (ok-as f tables.limits tables.state step own natural ok)) quiet
 
 let_in : (s : State Segment ℕ) (pid : ℕ) (p : Process ℕ) → ready s pid ≡ Ok p
     → (is_some (process s pid) && not (is_some (call_of s pid))) ≡ true
@@ -121,6 +130,10 @@ spawn_wants c s uid gid umask groups ok =
     let step = steps.Spawn uid gid umask groups in
     λ i. by_call s (call c s step) (step-keeps s EndsWell (still s) c step tt) ok i && true
 
+ok_is : {A : Type 0} (m : Result A Errno) → IsOk m → (x : A) × (m ≡ Ok x)
+ok_is (Ok x) ok = (x, refl)
+ok_is (Err e) ok = absurd (cc)
+
 module _ (c : Limits) (s : State Segment ℕ) (pid : ℕ) where
   -- k: what a process that is ready does
   wants : (step : Step) (k : Process ℕ → Result (Outcome Segment ℕ) Errno) → Moves s EndsWell step
@@ -143,3 +156,47 @@ module _ (c : Limits) (s : State Segment ℕ) (pid : ℕ) where
   pub set_size_wants : (fd bytes : ℕ) → IsOk (call c s (steps.SetSize pid fd bytes))
       → may_want_memory c s (steps.SetSize pid fd bytes) ≡ true
   set_size_wants fd bytes ok = wants (steps.SetSize pid fd bytes) (λ p. set_size itself c s p fd bytes) tt ok ok
+
+  -- a Stat wants it for a walk by `.` and `..`
+  pub stat_wants : (path : List ℕ) → IsOk (ready s pid) → has_dots path ≡ true
+      → may_want_memory c s (steps.Stat pid path) ≡ true
+  stat_wants path there walks =
+      let w = ok_is (ready s pid) there in
+      λ i. walks i && let_in s pid w.0 w.1 i
+
+  -- and each other call on a path also where it isn't refused
+  abbrev pub PathWants : Step → List ℕ → Type 0
+  PathWants step path = ((has_dots path || not (is_refusal (act c s step).reply))
+      && (is_some (process s pid) && not (is_some (call_of s pid)))) ≡ true
+
+  pub path_wants : (step : Step) (path : List ℕ) → Moves s EndsWell step → IsOk (ready s pid)
+      → (has_dots path ≡ false → IsOk (call c s step)) → PathWants step path
+  path_wants step path moves there goes =
+      let w = ok_is (ready s pid) there in
+      let told : (has_dots path || not (is_refusal (act c s step).reply)) ≡ true =
+      elim (has_dots path) as (λ b. (b ≡ false → IsOk (call c s step))
+      → (b || not (is_refusal (act c s step).reply)) ≡ true) [
+        | true ↦ λ _. refl
+        | false ↦ λ ok. by_call s (call c s step) (step-keeps s EndsWell (still s) c step moves) (ok refl)
+      ] goes in
+      λ i. told i && let_in s pid w.0 w.1 i
+
+  -- what List hands out is no refusal
+  pub lists_well : (path : List ℕ) → Moves s EndsWell (steps.List pid path)
+  lists_well path p free = by_names (calls.list s.files p.cred path)
+    where
+      by_names : (r : Result (List ℕ) Errno) → Holds EndsWell (r >>= (λ x. Ok (told s (replies.Names x))))
+      by_names (Ok x) = refl
+      by_names (Err e) = tt
+
+-- The same of a call on a path, where it goes through and no name is `.` or `..`. may: what PathWants is of this kind
+pub path_not : (f : Live) {tables old : Namespace} → tables ≡ old → {step asked : Step} → asked ≡ step
+    → (own : Result (Outcome Window ℕ) Errno) → Natural tables.limits tables.state step own → (pid : ℕ) (path : List ℕ)
+    → Moves (meaning f tables.state) EndsWell step
+    → (PathWants tables.limits (meaning f tables.state) pid step path
+    → may_want_memory tables.limits (meaning f tables.state) step ≡ true)
+    → IsOk (ready (meaning f tables.state) pid) → (has_dots path ≡ false → IsOk own)
+    → may_want_memory old.limits (meaning f old.state) asked ≡ false → ⊥
+path_not f {tables} view {step} is own natural pid path moves may there goes quiet =
+    not_wanted f view is (may (path_wants tables.limits (meaning f tables.state) pid step path moves there
+    (λ plain. ok-as f tables.limits tables.state step own natural (goes plain)))) quiet

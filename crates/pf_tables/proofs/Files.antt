@@ -1,7 +1,7 @@
 -- Calls on files, as the tables make them and as the machine does: only the files change, and nobody sees them but the
 -- calls.
 
-use Rattle.std.proofs.Common.{◌≡◌, ℕ, Result, Ok, Err, refl, ap, subst, ◌∙◌}
+use Rattle.std.proofs.Common.{◌≡◌, ℕ, Result, Ok, Err, IsOk, refl, sym, ap, subst, ◌∙◌}
 use Rattle.pf_tables.proofs.Common.{Files, Limits, ◌>>=◌, State, Outcome, of_ready, done, told, Errno, Fault, Reply}
 use Rattle.pf_tables.proofs.Common.{Num, Window, Namespace, ProcessRows, DescriptionRows, PipeRows, Process, process_of}
 use Rattle.pf_tables.proofs.Common.{state_of, ready_in, with_files, Tied, Makes, Says, Told}
@@ -17,6 +17,11 @@ pub told_of : (fault : Fault) (old new : Files) (answer : Result Files Errno) �
     → Told (λ (fs : Files). fs) (Err fault) answer
 told_of (faults.Errno e) old new answer c = c.0
 told_of faults.NoMemory old new answer c = tt
+
+-- a change that is replied to wanted memory where its reply says so
+pub unmade : (made : Result (Unit {0}) Fault) → made_reply made ≡ Err faults.NoMemory → made ≡ Err faults.NoMemory
+unmade (Ok done) none = absurd (cc)
+unmade (Err fault) none = cc none
 
 module _ {limits : Limits} {ps : ProcessRows} {ds : DescriptionRows} {pipes : PipeRows} {files : Files} {files_made : ℕ}
     (tied : Tied ps ds pipes) {n : Namespace}
@@ -48,6 +53,15 @@ module _ {limits : Limits} {ps : ProcessRows} {ds : DescriptionRows} {pipes : Pi
     tells_not shows m (faults.Errno e) found = caller_told step (goes ∙ ap (λ r. r >>= go) found)
     tells_not shows m faults.NoMemory found = tt
 
+    -- where the files don't stand against it, nothing does
+    pub goes_well : ((x : A) → IsOk (go x)) → IsOk answer → IsOk (call n.state)
+    goes_well each ok =
+        subst (λ (m : Namespace). IsOk (call m.state)) view (subst IsOk (sym (called refl)) (by_answer answer ok))
+      where
+        by_answer : (r : Result A Errno) → IsOk r → IsOk (r >>= go)
+        by_answer (Ok x) there = each x
+        by_answer (Err e) there = absurd (cc)
+
     -- or tells what it found
     pub tells : (x : A) (reply : Reply) → answer ≡ Ok x → go x ≡ Ok (told s reply) → Makes n n (call n.state) reply
     tells x reply found is =
@@ -59,6 +73,13 @@ module _ {limits : Limits} {ps : ProcessRows} {ds : DescriptionRows} {pipes : Pi
         → go x ≡ Ok (done (record s { files = files'; files_made = made' }) 0)
         → Makes n (record { limits = limits; state = state_of ps ds pipes files' made' }) (call n.state) (Num 0)
     changes x files' made' found is = makes tied files' made' view refl call (Num 0) (called found ∙ is)
+
+  -- where the files don't stand against a change, nothing does
+  pub changes_well : (step : State Window ℕ → machine.Process ℕ → Result (Outcome Window ℕ) Errno)
+      (answer : Result Files Errno) → step s (process_of p) ≡ (answer >>= (λ fs. Ok (done (with_files s fs) 0)))
+      → IsOk answer → IsOk (of_ready n.state pid (step n.state))
+  changes_well step answer goes ok =
+      goes_well step answer (λ fs. Ok (done (with_files s fs) 0)) goes (λ fs. refl) ok
 
   -- a change of the files, or none
   pub changed : (step : State Window ℕ → machine.Process ℕ → Result (Outcome Window ℕ) Errno)

@@ -9,6 +9,7 @@ use Rattle.pf_tables.proofs.TablesShown.{shown_change, shown}
 use Rattle.pf_tables.proofs.Common.{option_map, lookup, ◌>>=◌, ◌>>◌, refuse_if, Files, Limits, Live, Joined, Window}
 use Rattle.pf_tables.proofs.Common.{Opening, at, put_at, change_at, first_free, itself, State, Outcome, ready, of_ready}
 use Rattle.pf_tables.proofs.Common.{with_descriptor, waiting, told, is_spent, Access, fifo_pipe, MAX_DESCRIPTORS, Errno}
+use Rattle.pf_tables.proofs.Common.{readers, writers}
 use Rattle.pf_tables.proofs.Common.{EMFILE, ENFILE, Fault, Reply, Num, UserPages, Namespace, ring_or, access_seen}
 use Rattle.pf_tables.proofs.Common.{before, counted, other_opens, Describes, Owns, ProcessRows, DescriptionRows}
 use Rattle.pf_tables.proofs.Common.{PipeRows, Key, Process, Pipe, ready_in, process_of, description_of, pipe_of}
@@ -25,13 +26,13 @@ use Rattle.pf_machine.specs.Opens as opens
 use Rattle.pf_machine.specs.Opens.{is_waiting, openable, open_fifo, open_path}
 use Rattle.pf_tables.specs.declared.tables.opens.Access.{Access as Stored}
 use Rattle.pf_tables.specs.Opened.{end_of, taking, told_at, waits, lacks_readers, readers_at, HasFree}
-use Rattle.pf_tables.specs.Opened.{GetsPipe}
+use Rattle.pf_tables.specs.Opened.{GetsPipe, fifo_capacity}
 use Rattle.pf_tables.specs.Rows.{call_of}
 use Rattle.pf_tables.proofs.Refusals.{same_ok}
 use Rattle.pf_tables.proofs.ProcessTableReady.{readies, is_living}
 use Rattle.pf_tables.proofs.OpensDescribe.{admitted, opener, seated_is, entered-charged, entered-fifos}
 use Rattle.pf_tables.proofs.OpensFind.{readers_are}
-use Rattle.pf_tables.proofs.OpensPipe.{Stands, unpiped}
+use Rattle.pf_tables.proofs.OpensPipe.{Stands, piped_well, unpiped}
 use Rattle.pf_tables.proofs.TablesSettled.{makes_over}
 use Rattle.pf_walk.specs.Told.{Told as Answered}
 
@@ -57,6 +58,20 @@ sided files c path a {f} h = by_sides a.reads a.writes _ h
 abbrev go_on : State Window ℕ → ℕ → machine.Process ℕ → Access → opens.Found Window ℕ → Result (Outcome Window ℕ) Errno
 go_on s pid q a found =
     first pid false (opens.open_pipe itself (length s.descriptions) found.pipe found.state pid q a found.pipe)
+
+goes_well : (s : State Window ℕ) (pid : ℕ) (q : machine.Process ℕ) (a : Access) (found : opens.Found Window ℕ)
+    → IsOk (go_on s pid q a found)
+goes_well s pid q a found =
+    let made = change_pipe (opens.counted a) (record found.state {
+      descriptions = found.state.descriptions ++ Some (record
+          { pipe = found.pipe; reads = a.reads; writes = a.writes; nonblocking = a.nonblock }) ∷ [];
+    }) found.pipe in
+    elim (is_waiting a (readers itself found.state found.pipe) (writers itself found.state found.pipe)) as (λ b. IsOk (first pid false
+    (if b then Waits made (Opening (length s.descriptions) (opens.kept_by a (at found.state.pipes found.pipe)))
+    else given made pid q (length s.descriptions)))) [
+      | true ↦ refl
+      | false ↦ refl
+    ]
 
 -- Once its pipe stands
 
@@ -225,6 +240,13 @@ module _ {files : Files} {files_made : ℕ} {charges : UserPages} {es : List (�
       not_piped m charges' es' pipes' (faults.Errno e) gets free read unspent =
           by_tests free read unspent (unpiped w p f.number files files_made charges' es' pipes' key_is e gets)
       not_piped m charges' es' pipes' faults.NoMemory gets free read unspent = tt
+
+      -- where nothing stands against its pipe, nothing stands against the open
+      pub opens_well : (key ≡ None → IsOk (fifo_capacity charges pipes p.cred)) → nat_le MAX_DESCRIPTORS fd ≡ false
+          → lacks_readers (access_seen a) (readers_at pipes key) ≡ false → is_spent ds 1 ≡ false → IsOk (calls b n)
+      opens_well may free read unspent =
+          let x = piped_well w p f.number files files_made key_is may in
+          subst IsOk (sym (by_tests free read unspent x.1)) (goes_well now pid (process_of p) (access_seen a) x.0)
 
       pub opened-makes : {pipes' : PipeRows} {charges' : UserPages} {es' : List (ℕ × Key)} {k : Key} {q : Pipe}
           → Stands charges.limits files files_made ps ds pipes pipes' charges' es' p f.number a k q

@@ -3,7 +3,7 @@
 
 use Rattle.std.proofs.Common.{◌≡◌, ℕ, ◌+◌, ◌-◌, ◌^◌, ◌<◌, List, [], ◌∷◌, ◌++◌, length, map, Option, Some, None}
 use Rattle.std.proofs.Common.{IsSome}
-use Rattle.std.proofs.Common.{is_some, Result, Ok, Err, nat_eq, nat_lt, if◌then◌else◌, refl, sym, ap, subst, ◌∙◌, arith}
+use Rattle.std.proofs.Common.{is_some, Result, Ok, Err, IsOk, nat_eq, nat_lt, if◌then◌else◌, refl, sym, ap, subst, ◌∙◌, arith}
 use Rattle.std.proofs.Math.Seq.{set-append_seam}
 use Rattle.pf_tables.proofs.Refusals.{same_some, then-bind}
 use Rattle.pf_tables.proofs.Common.{option_map, lookup, Window, Files, Limits, at, put_at, empty, ◌>>=◌, ◌>>◌, itself}
@@ -110,6 +110,18 @@ module _ {charges : UserPages} {es : List (ℕ × Key)} {ps : ProcessRows} {ds :
     named : {key : Option Key} → lookup (nat_eq file) es ≡ key
         → pipe_for (fifo_pipe s file) ≡ pipe_for (option_map (λ (k : Key). k.serial) key)
     named {key} key_is = ap pipe_for (fifo_is es pipes w.filed file ps ds files files_made key key_is)
+
+    -- where nothing stands against a new one, it has one or gets it
+    pub piped_well : {key : Option Key} → lookup (nat_eq file) es ≡ key
+        → (key ≡ None → IsOk (fifo_capacity charges pipes p.cred))
+        → (x : opens.Found Window ℕ) × (pipe_for (fifo_pipe s file) ≡ Ok x)
+    piped_well {key = None} key_is may = by_slots (fifo_capacity charges pipes p.cred) refl (may refl)
+      where
+        by_slots : (r : Result ℕ Errno) → fifo_capacity charges pipes p.cred ≡ r → IsOk r
+            → (x : opens.Found Window ℕ) × (pipe_for (fifo_pipe s file) ≡ Ok x)
+        by_slots (Ok slots) e ok = (_, named key_is ∙ made_for ∙ ap (λ r. r >>= with_slots) e)
+        by_slots (Err e) is ok = absurd (cc)
+    piped_well {key = Some j} key_is may = (_, named key_is)
 
     -- it is refused as the machine's is
     pub unpiped : (charges' : UserPages) (es' : List (ℕ × Key)) (pipes' : PipeRows) {key : Option Key}

@@ -1,6 +1,6 @@
 -- A pipe's slots: how many they are told to be, and a pipe that gets another number of them.
 
-use Rattle.std.proofs.Common.{◌≡◌, ℕ, ◌+◌, ◌-◌, ◌*◌, ◌<◌, ◌≤◌, Bool, false, not, ◌&&◌, List, length, set, Option}
+use Rattle.std.proofs.Common.{◌≡◌, ℕ, ◌+◌, ◌*◌, ◌<◌, ◌≤◌, Bool, false, not, ◌&&◌, List, length, set, Option}
 use Rattle.std.proofs.Common.{Some, None, IsSome, IsOk, Result, Ok, Err, nat_lt, refl, sym, ap, subst, ◌∙◌, arith}
 use Rattle.std.proofs.Common.{if◌then◌else◌, inl, inr}
 use Rattle.pf_tables.proofs.Common.{option_map, sum_by, Window, Files, Limits, is_privileged, ◌>>=◌, ◌>>◌, refuse_if}

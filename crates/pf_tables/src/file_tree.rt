@@ -1,8 +1,9 @@
 //! The files of a namespace, within this profile's limits.
 
-ghost use Rattle.std.specs.Prelude.{◌≡◌, ℕ, ◌+◌, ◌*◌, ◌<◌, ◌≤◌, ◌^◌, List, length, IfOk};
+ghost use Rattle.std.specs.Prelude.{◌≡◌, ℕ, ◌+◌, ◌*◌, ◌<◌, ◌≤◌, ◌^◌, Err, false, List, length, IfOk, IsOk};
 ghost use Rattle.pf_machine.specs.FileMap.{Path, root_alone, names_below, listed};
 ghost use Rattle.pf_machine.specs.FileCalls.{make, unlink, rmdir, chmod};
+ghost use Rattle.pf_machine.specs.Paths.{has_dots};
 ghost use Rattle.pf_base.specs.declared.TheConstants.{MAX_FILES, MAX_NAME};
 ghost use Rattle.pf_walk.specs.Told.{Changed};
 
@@ -61,14 +62,18 @@ impl<A: Allocator> FileTree<A> {
 
     /// `pf_walk::unlink` on them.
     pub fn unlink(&mut self, alloc: Global, cred: &Cred, path: &[u8]) -> Result<(), Fault>
-        ensures { Changed result self.old self.new (unlink self.old cred.now path.now) }
+        ensures changed { Changed result self.old self.new (unlink self.old cred.now path.now) }
+        ensures wanted { result ≡ Err Fault.NoMemory → has_dots path.now ≡ false
+            → IsOk (unlink self.old cred.now path.now) }
     {
         pf_walk::unlink(alloc, &mut self.tree, cred, path)
     }
 
     /// `pf_walk::rmdir` on them.
     pub fn rmdir(&mut self, alloc: Global, cred: &Cred, path: &[u8]) -> Result<(), Fault>
-        ensures { Changed result self.old self.new (rmdir self.old cred.now path.now) }
+        ensures changed { Changed result self.old self.new (rmdir self.old cred.now path.now) }
+        ensures wanted { result ≡ Err Fault.NoMemory → has_dots path.now ≡ false
+            → IsOk (rmdir self.old cred.now path.now) }
     {
         pf_walk::rmdir(alloc, &mut self.tree, cred, path)
     }
@@ -81,7 +86,9 @@ impl<A: Allocator> FileTree<A> {
         path: &[u8],
         mode: Mode,
     ) -> Result<(), Fault>
-        ensures { Changed result self.old self.new (chmod self.old cred.now path.now mode) }
+        ensures changed { Changed result self.old self.new (chmod self.old cred.now path.now mode) }
+        ensures wanted { result ≡ Err Fault.NoMemory → has_dots path.now ≡ false
+            → IsOk (chmod self.old cred.now path.now mode) }
     {
         pf_walk::chmod(alloc, &mut self.tree, cred, path, mode)
     }
@@ -99,6 +106,8 @@ impl<A: Allocator + Clone> FileTree<A> {
         made: u64,
     ) -> Result<(), Fault>
         ensures changed { Changed result self.old self.new (make kind self.old made cred.now path.now mode) }
+        ensures wanted { result ≡ Err Fault.NoMemory → has_dots path.now ≡ false
+            → IsOk (make kind self.old made cred.now path.now mode) }
         ensures numbered { IfOk result (λ _. made + 1 < 2 ^ 64) }
     {
         pf_walk::make(alloc, &mut self.tree, cred, path, kind, mode, made)

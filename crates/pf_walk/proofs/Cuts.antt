@@ -1,12 +1,9 @@
 -- The names behind references, their last one and those before it.
-use Rattle.std.proofs.Common.{◌≡◌, ℕ, zero, suc, ◌-◌, List, [], ◌∷◌, ◌++◌, length, take, drop, slice_index_or, ◌<◌, ◌≤◌, refl, ap, ◌∙◌, arith, map}
+use Rattle.std.proofs.Common.{◌≡◌, ℕ, zero, suc, ◌-◌, List, [], ◌∷◌, ◌++◌, length, take, drop, ◌≤◌, refl, ap, ◌∙◌, arith, map}
 use Rattle.std.specs.Borrow.{Bor}
-use Rattle.std.specs.Prelude.{if◌then◌else◌, true, false, Result, Ok, Err, IfOk, nat_eq, not, ◌==◌}
-use Rattle.std.proofs.lemmas.Bool.Decides.{nat_tests}
-use Rattle.std.specs.Vec.{vec_items}
-use Rattle.std.specs.declared.vec.Vec.{Vec}
+use Rattle.std.specs.Prelude.{if◌then◌else◌, true, false, nat_eq}
 use Rattle.pf_machine.specs.FileMap.{Name, Path, front}
-use Rattle.pf_machine.specs.Paths.{Last, Named, Dot, DotDot, last_of, is_dot, is_dot_dot, ends_in_slash, is_nonempty}
+use Rattle.pf_machine.specs.Paths.{Last, Named, Dot, DotDot, last_of, is_dot, is_dot_dot, ends_in_slash}
 use Rattle.pf_tree.specs.Subtrees.{path_of}
 
 pub path_of-map : (rs : List (Bor Name)) → path_of rs ≡ map (λ r. r.now) rs
@@ -52,10 +49,6 @@ front-take (r ∷ []) (suc k) e = absurd (omega arith)
 front-take (r ∷ s ∷ rs) zero e = absurd (omega arith)
 front-take (r ∷ s ∷ rs) (suc k) e = ap (λ l. r.now ∷ l) (front-take (s ∷ rs) k (omega arith))
 
-pub path_from_map : {Z E : Type 0} (r : Result (Vec (Bor Name) Z) E) (all : Path) → IfOk r (λ w. map (λ x. x.now) (vec_items w) ≡ all) → IfOk r (λ w. path_of w.items ≡ all)
-path_from_map (Ok w) all h = path_of-map w.items ∙ h
-path_from_map (Err e) all h = h
-
 pub ends-append : (xs : List ℕ) (x : ℕ) → ends_in_slash (xs ++ x ∷ []) ≡ nat_eq x 47
 ends-append [] x = refl
 ends-append (y ∷ []) x = refl
@@ -66,29 +59,3 @@ path_past [] zero le = refl
 path_past [] (suc i) le = refl
 path_past (r ∷ rs) zero le = absurd (omega arith)
 path_past (r ∷ rs) (suc i) le = path_past rs i (omega arith)
-
-pub path_from : (rs : List (Bor Name)) (i : ℕ) (d : Bor Name) → i < length rs → path_of (drop i rs) ≡ (slice_index_or rs i d).now ∷ path_of (drop (suc i) rs)
-path_from [] i d lt = absurd (omega arith)
-path_from (r ∷ rs) zero d lt = refl
-path_from (r ∷ rs) (suc i) d lt = path_from rs i d (omega arith)
-
-pub nonempty_path : (rs : List (Bor Name)) → is_nonempty (path_of rs) ≡ not (length rs == 0)
-nonempty_path [] = refl
-nonempty_path (r ∷ rs) = grind (arith, nat_tests)
-
--- the path up to the next place has the name there behind the path up to this one
-pub path_to : (rs : List (Bor Name)) (i : ℕ) (d : Bor Name) → i < length rs → path_of (take (suc i) rs) ≡ path_of (take i rs) ++ (slice_index_or rs i d).now ∷ []
-path_to [] i d lt = absurd (omega arith)
-path_to (r ∷ rs) zero d lt = refl
-path_to (r ∷ rs) (suc i) d lt = ap (λ l. r.now ∷ l) (path_to rs i d (omega arith))
-
-pub path_whole : (rs : List (Bor Name)) (i : ℕ) → length rs ≤ i → path_of (take i rs) ≡ path_of rs
-path_whole [] zero le = refl
-path_whole [] (suc i) le = refl
-path_whole (r ∷ rs) zero le = absurd (omega arith)
-path_whole (r ∷ rs) (suc i) le = ap (λ l. r.now ∷ l) (path_whole rs i (omega arith))
-
-pub next_name : (rs : List (Bor Name)) (i : ℕ) → i < length rs → (r : Bor Name) × (path_of (drop i rs) ≡ r.now ∷ path_of (drop (suc i) rs))
-next_name [] i lt = absurd (omega arith)
-next_name (r ∷ rs) zero lt = (r, refl)
-next_name (r ∷ rs) (suc i) lt = next_name rs i (omega arith)

@@ -3,5 +3,8 @@ pub mod WalkLaws
 pub mod Steps
 pub mod Splits
 pub mod Reached
-pub mod Descents
 pub mod SlashLaws
+mod Plain
+mod LongNames
+mod Targets
+mod Places

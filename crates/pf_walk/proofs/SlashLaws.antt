@@ -1,5 +1,5 @@
 -- How many slashes the parts of a text have, and what stands before the first.
-use Rattle.std.proofs.Common.{◌≡◌, ℕ, zero, suc, ◌+◌, ◌-◌, ◌*◌, ◌<◌, ◌≤◌, true, false, not, List, [], ◌∷◌, ◌++◌, length, take, drop, map, replicate, nat_eq, refl, sym, ap, ◌∙◌, subst, arith, cond, append_assoc, Bor}
+use Rattle.std.proofs.Common.{◌≡◌, ℕ, zero, suc, ◌+◌, ◌-◌, ◌*◌, ◌<◌, ◌≤◌, Bool, true, false, not, nat_lt, List, [], ◌∷◌, ◌++◌, length, take, drop, map, replicate, nat_eq, refl, sym, ap, ◌∙◌, subst, arith, cond, append_assoc, Bor}
 use Rattle.std.specs.List.{count_by, list_all, prefix_len, position_or_len, slice_split, onto_first}
 use Rattle.std.specs.Prelude.{filter, ◌&&◌}
 use Rattle.std.specs.Simd.Lanes.{mask_l}
@@ -10,7 +10,7 @@ use Rattle.std.proofs.lemmas.List.Elements.{filter-append}
 use Rattle.std.proofs.lemmas.List.Splits.{slice_split_first, length-slice_split}
 use Rattle.std.proofs.lemmas.List.Sums.{sum_by-append, sum_by-cons, prefix_len-le-length, count_by-le-length, length-filter}
 use Rattle.pf_machine.specs.FileMap.{Name, Path}
-use Rattle.pf_machine.specs.Paths.{is_component, components}
+use Rattle.pf_machine.specs.Paths.{is_component, is_nonempty, components}
 use Rattle.pf_tree.specs.Subtrees.{path_of}
 use Rattle.pf_walk.specs.Room.{is_slash}
 use Rattle.pf_walk.proofs.Cuts.{path_of-map}
@@ -49,7 +49,7 @@ in_front (suc n) (x ∷ xs) lt =
     ] lt
 
 -- a text without a slash is one piece
-lone : (xs : List ℕ) → position_or_len (λ b. nat_eq b 47) xs ≡ length xs → slice_split (λ b. nat_eq b 47) xs ≡ xs ∷ []
+pub lone : (xs : List ℕ) → position_or_len (λ b. nat_eq b 47) xs ≡ length xs → slice_split (λ b. nat_eq b 47) xs ≡ xs ∷ []
 lone [] e = refl
 lone (x ∷ xs) e =
     elim (nat_eq x 47) as (λ b. cond (not b) (1 + position_or_len (λ b. nat_eq b 47) xs) 0 ≡ suc (length xs) → cond b ([] ∷ slice_split (λ b. nat_eq b 47) xs) (onto_first x (slice_split (λ b. nat_eq b 47) xs)) ≡ (x ∷ xs) ∷ []) [
@@ -99,6 +99,12 @@ pub at_most : (path : Name) → length (components path) ≤ count path + 1
 at_most path =
     let pieces = slice_split (λ b. nat_eq b 47) path in
     omega (arith, length-filter is_component pieces, count_by-le-length is_component pieces, length-slice_split (λ b. nat_eq b 47) path)
+
+named_first : (b : ℕ) (ns : List Name) → is_nonempty (filter is_component (onto_first b ns)) ≡ true
+named_first b [] = refl
+named_first b (n ∷ ns) =
+    let some : is_component (b ∷ n) ≡ true = grind (arith, nat_tests) in
+    ap (λ s. is_nonempty (cond s ((b ∷ n) ∷ filter is_component ns) (filter is_component ns))) some
 
 -- as many slashes as bytes are slashes alone
 pub all_slashes : (path : Name) → count path ≡ length path → list_all is_slash path ≡ true
@@ -152,3 +158,26 @@ has_room ns rest name k all at is_name so =
     let counts = subst (λ n. length (filter is_component (n ∷ [])) ≤ length (components rest)) (sym named) (first_counts rest) in
     let names : length (path_of ns) ≡ length ns = ap length (path_of-map ns) ∙ length-map ns (λ r. r.now) in
     omega (arith, counts, names, length-append (path_of ns) (components rest), ap length so)
+
+-- with a byte that is no slash there is a name
+pub some_name : (path : Name) → count path < length path → is_nonempty (components path) ≡ true
+some_name [] fewer = absurd (omega arith)
+some_name (b ∷ path) fewer =
+    elim (nat_eq b 47) as (λ s. cond s 1 0 + count path < suc (length path) → is_nonempty (filter is_component (cond s ([] ∷ slice_split (λ x. nat_eq x 47) path) (onto_first b (slice_split (λ x. nat_eq x 47) path)))) ≡ true) [
+      | true ↦ λ low. some_name path (omega (arith, low))
+      | false ↦ λ low. named_first b (slice_split (λ x. nat_eq x 47) path)
+    ] (omega (arith, sum_by-cons (λ x. cond (nat_eq x 47) 1 0) b path, fewer))
+
+no_name : (ns : Path) → length ns ≤ 0 → is_nonempty ns ≡ false
+no_name [] none = refl
+no_name (n ∷ ns) none = absurd (omega (arith, none))
+
+pub slashes_no_name : (path : Name) → count path ≡ length path → is_nonempty (components path) ≡ false
+slashes_no_name path all = no_name (components path) (slashes_alone path all)
+
+pub name_test : (n : ℕ) (path : Name) → n ≡ count path → (b : Bool) → nat_lt n (length path) ≡ b
+    → b ≡ is_nonempty (components path)
+name_test n path e true h = sym (some_name path (grind (arith, nat_tests)))
+name_test n path e false h =
+    let most : count path ≤ length path = count_by-le-length (λ b. nat_eq b 47) path in
+    sym (slashes_no_name path (grind (arith, nat_tests)))

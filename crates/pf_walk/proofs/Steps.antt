@@ -3,12 +3,11 @@ use Rattle.std.proofs.Common.{◌≡◌, [], ◌∷◌, ◌++◌, refl, sym, ap,
 use Rattle.std.specs.Prelude.{Ok, Err, Bool, true, false, ◌||◌, IsSome, if◌then◌else◌}
 use Rattle.pf_machine.specs.Refusals.{◌>>=◌, ◌>>◌, or_refuse}
 use Rattle.pf_machine.specs.FileMap.{Name, Path, Files, find, front}
-use Rattle.pf_machine.specs.Paths.{is_dot, is_dot_dot, permitted, searched, step_to, stepped, reach}
+use Rattle.pf_machine.specs.Paths.{is_dot, is_dot_dot, is_dotted, permitted, searched, step_to, stepped, reach}
 use Rattle.pf_base.specs.declared.cred.Cred.{Cred}
 use Rattle.pf_base.specs.declared.errno.Errno.{Errno}
 use Rattle.pf_base.specs.declared.errno.Errno.TheVariants.{ENOENT}
 use Rattle.pf_base.specs.declared.meta.File.{File}
-use Rattle.pf_walk.specs.Walks.{is_dotted}
 
 pub first_false : (a b : Bool) → (a || b) ≡ false → a ≡ false
 first_false true b e = e

@@ -1,17 +1,18 @@
 //! Where a path leads (POSIX.1-2017, 4.13 "Pathname Resolution"). Relative and absolute paths both begin at the root.
 
-ghost use Rattle.std.specs.Prelude.{◌≡◌, [], Some, IfOk, IfErr, Ok, Err, IsTrue, false};
+ghost use Rattle.std.specs.Prelude.{◌≡◌, [], Some, None, IfSome, IfOk, IfErr, IsOk, Ok, Err, IsTrue, true, false};
 ghost use Rattle.std.specs.List.{list_any};
 ghost use Rattle.pf_machine.specs.FileMap.{front, find, is_directory};
-ghost use Rattle.pf_machine.specs.Paths.{reach, last_of, target_of, entry_of, entry};
+ghost use Rattle.pf_machine.specs.Paths.{components, has_dots, is_component, is_dotted, reach, last_of, target, target_of, entry_of, entry, words_of};
 ghost use Rattle.pf_tree.specs.Subtrees.{path_of, subtree};
 ghost use Rattle.pf_walk.specs.Told.{Told};
-ghost use Rattle.pf_walk.specs.Resolutions.{words, resolved, entry_resolved, resolution, arrived, last};
+ghost use Rattle.pf_walk.specs.Resolutions.{words, way, resolved, found, target_arrived, node_resolved, resolution, arrived, last};
 ghost use Rattle.pf_walk.specs.declared.resolution.Purpose.TheVariants.{Entry};
-ghost use Rattle.pf_walk.specs.Walks.{file_at, is_dotted};
+ghost use Rattle.pf_walk.specs.Walks.{file_at, Stops, Leads, Follows, Parts, IsParent};
 
+use crate::slashes::before_slash;
 use crate::walk::{Walk, is_directory, search};
-use crate::words::{Words, has_dots, split};
+use crate::words::{Way, Words, has_slash, is_dotted, judge, split};
 use pf_base::{Cred, Errno, Fault, File};
 use pf_tree::{Node, Tree};
 use std::alloc::{Allocator, Global};
@@ -87,26 +88,107 @@ pub(crate) struct Arrival<'t, 'a, A: Allocator> {
     node: &'t Node<A>,
 }
 
-// Where names lead from the root, of which none is `.` or `..`: so they are the path arrived at.
-fn descend<'t, A: Allocator>(
+/// A target: its node and its file, the way to it, and whether a slash stands behind its name.
+#[derive(Drop)]
+pub(crate) struct Found<'t, 'a, A: Allocator> {
+    pub node: &'t Node<A>,
+    pub file: File,
+    pub way: Way<'a>,
+    pub slash: bool,
+}
+
+// The node that a name leads to, one that is not `.` or `..`; an empty one leads nowhere else.
+fn below<'t, A: Allocator>(
+    node: &'t Node<A>,
+    cred: &Cred,
+    name: &[u8],
+) -> Result<&'t Node<A>, Errno>
+    requires plain { is_dotted name.now ≡ false }
+    ensures refused { IfErr result (Stops node.now cred.now name.now) }
+    ensures goes { IfOk result (λ d. Leads node.now cred.now name.now d.now) }
+{
+    if name.is_empty() {
+        return Ok(node);
+    }
+    search(cred, &node.file())?;
+    match node.child(name) {
+        Some(next) => Ok(next),
+        None => Err(Errno::ENOENT),
+    }
+}
+
+// The node that a path leads to from the root, whose names are cut as it goes, or none where one is `.` or `..`.
+fn find_plain<'t, A: Allocator>(
     root: &'t Node<A>,
     cred: &Cred,
-    names: &[&[u8]],
-) -> Result<&'t Node<A>, Errno>
-    requires plain { list_any is_dotted (path_of names.now) ≡ false }
-    ensures refused { IfErr result (λ e. reach root.now cred.now [] (path_of names.now) ≡ Err e) }
-    ensures reached { IfOk result (λ _. reach root.now cred.now [] (path_of names.now) ≡ Ok (path_of names.now)) }
-    ensures node { IfOk result (λ n. n.now ≡ subtree (path_of names.now) root.now) }
+    path: &[u8],
+) -> Result<Option<&'t Node<A>>, Errno>
+    ensures refused { IfErr result (λ e. reach root.now cred.now [] (components path.now) ≡ Err e) }
+    ensures dots { IfOk result (λ found. found ≡ None → list_any is_dotted (components path.now) ≡ true) }
+    ensures reached { IfOk result (λ found. IfSome found (λ n.
+        (reach root.now cred.now [] (components path.now) ≡ Ok (components path.now))
+        × (n.now ≡ subtree (components path.now) root.now))) }
 {
     let mut node = root;
-    for name in names {
-        search(cred, &node.file())?;
-        let Some(next) = node.child(name) else {
-            return Err(Errno::ENOENT);
+    let mut rest = path;
+    loop {
+        let (name, behind) = rest.split_at(before_slash(rest));
+        if is_dotted(name) {
+            return Ok(None);
+        }
+        node = below(node, cred, name)?;
+        let Some((_, after)) = behind.split_first() else {
+            return Ok(Some(node));
         };
-        node = next;
+        rest = after;
     }
-    Ok(node)
+}
+
+// One piece further, with the last name kept back: the node that the kept one leads to, and the piece in its place; an
+// empty piece leads nowhere.
+fn onward<'t, 'a, A: Allocator>(
+    node: &'t Node<A>,
+    cred: &Cred,
+    last: &'a [u8],
+    name: &'a [u8],
+) -> Result<(&'t Node<A>, &'a [u8]), Errno>
+    requires plain { is_dotted last.now ≡ false }
+    requires next { is_dotted name.now ≡ false }
+    ensures refused { IfErr result (λ e. (is_component name.now ≡ true) × Stops node.now cred.now last.now e) }
+    ensures goes { IfOk result (λ r. Follows node.now cred.now last.now name.now r.0.now r.1.now) }
+{
+    if name.is_empty() {
+        return Ok((node, last));
+    }
+    let next = below(node, cred, last)?;
+    Ok((next, name))
+}
+
+// The node of the directory that a path's last name is in, and that name, which is empty where there is none; or
+// nothing where a name is `.` or `..`.
+fn find_parent<'t, 'a, A: Allocator>(
+    root: &'t Node<A>,
+    cred: &Cred,
+    path: &'a [u8],
+) -> Result<Option<(&'t Node<A>, &'a [u8])>, Errno>
+    ensures refused { IfErr result (λ e. reach root.now cred.now [] (front (components path.now)) ≡ Err e) }
+    ensures dots { IfOk result (λ found. found ≡ None → list_any is_dotted (components path.now) ≡ true) }
+    ensures reached { IfOk result (λ found. IfSome found (λ r. Parts root.now cred.now path.now r.0.now r.1.now)) }
+{
+    let mut node = root;
+    let mut last: &[u8] = &[];
+    let mut rest = path;
+    loop {
+        let (name, behind) = rest.split_at(before_slash(rest));
+        if is_dotted(name) {
+            return Ok(None);
+        }
+        (node, last) = onward(node, cred, last, name)?;
+        let Some((_, after)) = behind.split_first() else {
+            return Ok(Some((node, last)));
+        };
+        rest = after;
+    }
 }
 
 // Where names lead from the root.
@@ -133,54 +215,23 @@ fn wander<'t, 'a, A: Allocator>(
     })
 }
 
-// Where names lead from the root. Without `.` and `..` among them no way back is kept, and the names themselves become
-// the path.
-fn follow<'t, 'a, A: Allocator>(
+// The target of a path that is cut, and whether a slash stands behind it.
+fn target<'t, 'a, A: Allocator>(
     alloc: Global,
-    root: &'t Node<A>,
-    cred: &Cred,
-    names: Vec<&'a [u8]>,
-) -> Result<Arrival<'t, 'a, A>, Fault>
-    ensures told { Told arrived result (file_at root.now (reach root.now cred.now [] (path_of names.entry.items))) }
-    ensures found { IfOk result (λ r. find (path_of r.path.items) root.now ≡ Some r.file) }
-    ensures node { IfOk result (λ r. r.node.now ≡ subtree (path_of r.path.items) root.now) }
-{
-    if has_dots(names.as_slice()) {
-        return wander(alloc, root, cred, names.as_slice());
-    }
-    let node = descend(root, cred, names.as_slice())?;
-    Ok(Arrival {
-        path: names,
-        file: node.file(),
-        node,
-    })
-}
-
-// The target of a path that is cut.
-fn target<'a, A: Allocator>(
-    alloc: Global,
-    tree: &Tree<A>,
+    tree: &'t Tree<A>,
     cred: &Cred,
     cut: Words<'a>,
-) -> Result<Resolved<'a>, Fault>
-    ensures told { Told resolved result (target_of tree.now cred.now (words cut.entry)) }
-    ensures found { IfOk result (λ r. find (path_of r.path.items) tree.now ≡ Some r.file) }
+) -> Result<(Arrival<'t, 'a, A>, bool), Fault>
+    ensures told { Told target_arrived result (target_of tree.now cred.now (words cut.entry)) }
+    ensures found { IfOk result (λ r. find (path_of r.0.path.items) tree.now ≡ Some r.0.file) }
+    ensures node { IfOk result (λ r. r.0.node.now ≡ subtree (path_of r.0.path.items) tree.now) }
 {
     let Words { names, slash } = cut;
-    let Arrival {
-        path,
-        file,
-        node: _,
-    } = follow(alloc, tree.root(), cred, names)?;
-    if slash && !is_directory(&file) {
+    let arrival = wander(alloc, tree.root(), cred, names.as_slice())?;
+    if slash && !is_directory(&arrival.file) {
         return Err(Fault::Errno(Errno::ENOTDIR));
     }
-    Ok(Resolved {
-        path,
-        file,
-        last: Last::Nothing,
-        slash,
-    })
+    Ok((arrival, slash))
 }
 
 // The directory of an entry, whose path is cut, and the entry's name; and the directory's node.
@@ -190,14 +241,15 @@ fn entry<'t, 'a, A: Allocator>(
     cred: &Cred,
     cut: Words<'a>,
 ) -> Result<(Resolved<'a>, &'t Node<A>), Fault>
-    ensures told { Told entry_resolved result (entry_of tree.now cred.now (words cut.entry)) }
+    ensures told { Told node_resolved result (entry_of tree.now cred.now (words cut.entry)) }
     ensures found { IfOk result (λ r. find (path_of r.0.path.items) tree.now ≡ Some r.0.file) }
     ensures directory { IfOk result (λ r. IsTrue (is_directory r.0.file)) }
     ensures node { IfOk result (λ r. r.1.now ≡ subtree (path_of r.0.path.items) tree.now) }
 {
     let Words { names, slash } = cut;
     let last = last_of(names.as_slice());
-    let Arrival { path, file, node } = follow(alloc, tree.root(), cred, but_last(names))?;
+    let parents = but_last(names);
+    let Arrival { path, file, node } = wander(alloc, tree.root(), cred, parents.as_slice())?;
     search(cred, &file)?;
     let resolved = Resolved {
         path,
@@ -208,6 +260,92 @@ fn entry<'t, 'a, A: Allocator>(
     Ok((resolved, node))
 }
 
+// The target of a path, by the way on which the names are kept.
+fn kept_target<'t, 'a, A: Allocator>(
+    alloc: Global,
+    tree: &'t Tree<A>,
+    cred: &Cred,
+    path: &'a [u8],
+) -> Result<Found<'t, 'a, A>, Fault>
+    ensures told { Told found result (target tree.now cred.now path.now) }
+    ensures found { IfOk result (λ f. find (way f.way) tree.now ≡ Some f.file) }
+    ensures node { IfOk result (λ f. f.node.now ≡ subtree (way f.way) tree.now) }
+{
+    let (Arrival { path, file, node }, slash) = target(alloc, tree, cred, split(alloc, path)?)?;
+    Ok(Found {
+        node,
+        file,
+        way: Way::Kept(path),
+        slash,
+    })
+}
+
+// The target of a path, by the way that wants no memory; or nothing where a name is `.` or `..`.
+fn plain_target<'t, 'a, A: Allocator>(
+    tree: &'t Tree<A>,
+    cred: &Cred,
+    path: &'a [u8],
+) -> Result<Option<Found<'t, 'a, A>>, Errno>
+    ensures refused { IfErr result (λ e. target tree.now cred.now path.now ≡ Err e) }
+    ensures dots { IfOk result (λ o. o ≡ None → has_dots path.now ≡ true) }
+    ensures reached { IfOk result (λ o. IfSome o (λ f. target tree.now cred.now path.now ≡ Ok (found f))) }
+    ensures found { IfOk result (λ o. IfSome o (λ f. find (way f.way) tree.now ≡ Some f.file)) }
+    ensures node { IfOk result (λ o. IfSome o (λ f. f.node.now ≡ subtree (way f.way) tree.now)) }
+{
+    judge(path)?;
+    let Some(node) = find_plain(tree.root(), cred, path)? else {
+        return Ok(None);
+    };
+    let file = node.file();
+    let slash = has_slash(path);
+    if slash && !is_directory(&file) {
+        return Err(Errno::ENOTDIR);
+    }
+    Ok(Some(Found {
+        node,
+        file,
+        way: Way::Plain(path),
+        slash,
+    }))
+}
+
+/// What `resolve` says of a target, with its node. Memory is wanted only where a name is `.` or `..`.
+pub(crate) fn find_target<'t, 'a, A: Allocator>(
+    alloc: Global,
+    tree: &'t Tree<A>,
+    cred: &Cred,
+    path: &'a [u8],
+) -> Result<Found<'t, 'a, A>, Fault>
+    ensures told { Told found result (target tree.now cred.now path.now) }
+    ensures wanted { result ≡ Err Fault.NoMemory → has_dots path.now ≡ true }
+    ensures found { IfOk result (λ f. find (way f.way) tree.now ≡ Some f.file) }
+    ensures node { IfOk result (λ f. f.node.now ≡ subtree (way f.way) tree.now) }
+{
+    match plain_target(tree, cred, path)? {
+        Some(found) => Ok(found),
+        None => kept_target(alloc, tree, cred, path),
+    }
+}
+
+/// The node of the directory that an entry is in, and the entry's name, which is empty where the path has none, by the
+/// way that wants no memory; or nothing where a name is `.` or `..`.
+pub(crate) fn plain_entry<'t, 'a, A: Allocator>(
+    tree: &'t Tree<A>,
+    cred: &Cred,
+    path: &'a [u8],
+) -> Result<Option<(&'t Node<A>, &'a [u8])>, Errno>
+    ensures refused { IfErr result (λ e. entry tree.now cred.now path.now ≡ Err e) }
+    ensures dots { IfOk result (λ o. o ≡ None → has_dots path.now ≡ true) }
+    ensures reached { IfOk result (λ o. IfSome o (λ r. IsParent tree.now cred.now path.now r.0.now r.1.now)) }
+{
+    judge(path)?;
+    let Some((node, name)) = find_parent(tree.root(), cred, path)? else {
+        return Ok(None);
+    };
+    search(cred, &node.file())?;
+    Ok(Some((node, name)))
+}
+
 /// What `resolve` says of an entry, and the node of the directory that it is in, which has what stands below it.
 pub(crate) fn resolve_entry<'t, 'a, A: Allocator>(
     alloc: Global,
@@ -215,9 +353,10 @@ pub(crate) fn resolve_entry<'t, 'a, A: Allocator>(
     cred: &Cred,
     path: &'a [u8],
 ) -> Result<(Resolved<'a>, &'t Node<A>), Fault>
-    ensures told { Told entry_resolved result (entry tree.now cred.now path.now) }
+    ensures told { Told node_resolved result (entry tree.now cred.now path.now) }
     ensures found { IfOk result (λ r. find (path_of r.0.path.items) tree.now ≡ Some r.0.file) }
     ensures directory { IfOk result (λ r. IsTrue (is_directory r.0.file)) }
+    ensures wanted { result ≡ Err Fault.NoMemory → IsOk (words_of path.now) }
     ensures node { IfOk result (λ r. r.1.now ≡ subtree (path_of r.0.path.items) tree.now) }
 {
     let cut = split(alloc, path)?;
@@ -230,8 +369,8 @@ pub(crate) fn resolve_entry<'t, 'a, A: Allocator>(
 /// What `split` refuses comes first. Then the refusals come in the order of the components: ENOTDIR below a file that is
 /// no directory, EACCES where the directory may not be searched, ENOENT where it has no entry of the name. A target is
 /// refused with ENOTDIR where a slash stands behind it and it is no directory; no search is asked on it. The directory
-/// of an entry is to be a directory, else ENOTDIR, that may be searched, else EACCES. `NoMemory` comes where the names
-/// and the way through the tree find none.
+/// of an entry is to be a directory, else ENOTDIR, that may be searched, else EACCES. `NoMemory` comes behind
+/// what `split` refuses, where the names and the way through the tree find none.
 pub fn resolve<'a, A: Allocator>(
     alloc: Global,
     tree: &Tree<A>,
@@ -241,12 +380,26 @@ pub fn resolve<'a, A: Allocator>(
 ) -> Result<Resolved<'a>, Fault>
     ensures told { Told resolved result (resolution purpose tree.now cred.now path.now) }
     ensures found { IfOk result (λ r. find (path_of r.path.items) tree.now ≡ Some r.file) }
+    ensures wanted { result ≡ Err Fault.NoMemory → IsOk (words_of path.now) }
     ensures directory { purpose ≡ Entry → IfOk result (λ r. IsTrue (is_directory r.file)) }
 {
     match purpose {
         Purpose::Target => {
             let words = split(alloc, path)?;
-            target(alloc, tree, cred, words)
+            let (
+                Arrival {
+                    path,
+                    file,
+                    node: _,
+                },
+                slash,
+            ) = target(alloc, tree, cred, words)?;
+            Ok(Resolved {
+                path,
+                file,
+                last: Last::Nothing,
+                slash,
+            })
         }
         Purpose::Entry => {
             let (resolved, _) = resolve_entry(alloc, tree, cred, path)?;

@@ -1,22 +1,19 @@
 //! Paths as bytes: the names between their slashes.
 
-ghost use Rattle.std.specs.Prelude.{◌≡◌, ◌+◌, ◌≤◌, ◌++◌, [], ◌∷◌, IfOk, filter, length, nat_lt, vec_capacity};
+ghost use Rattle.std.specs.Prelude.{◌≡◌, ◌+◌, ◌≤◌, ◌++◌, [], ◌∷◌, Ok, Err, IfOk, IfErr, IsOk, ◌&&◌, filter, length, nat_lt, vec_capacity};
 ghost use Rattle.std.specs.List.{list_any};
 ghost use Rattle.pf_base.specs.declared.TheConstants.{MAX_NAME};
-ghost use Rattle.pf_machine.specs.Paths.{components, is_component, words_of, ends_in_slash};
+ghost use Rattle.pf_machine.specs.Paths.{components, is_component, is_dotted, is_nonempty, words_of, ends_in_slash};
 ghost use Rattle.pf_tree.specs.Subtrees.{path_of};
 ghost use Rattle.pf_walk.specs.Told.{Told};
-ghost use Rattle.pf_walk.specs.Resolutions.{words};
+ghost use Rattle.pf_walk.specs.Resolutions.{words, way};
 ghost use Rattle.pf_walk.specs.Room.{room_for_names};
-ghost use Rattle.pf_walk.specs.Walks.{is_dotted};
 
 use crate::slashes::{before_slash, slashes};
 use pf_base::{Errno, Fault, MAX_NAME, MAX_PATH};
 use std::alloc::{AllocError, Global};
 
 /// A path, cut at its slashes. Slashes that meet are as one.
-// The names stand in a vector, so each step on files may want memory, Unlink and Stat too: they are looked through before
-// the walk, then walked, and then handed to the tree as the way to the file. Without it each would cut the path again.
 #[derive(Debug, Drop)]
 pub struct Words<'a> {
     /// The components in their order, as parts of the path's bytes: each has 1 to 255 bytes, none of them a slash.
@@ -66,35 +63,28 @@ fn components(alloc: Global, path: &[u8]) -> Result<Vec<&[u8]>, AllocError>
     }
 }
 
-// Whether a name has more bytes than a name may have.
-fn has_long_name(names: &[&[u8]]) -> bool
-    ensures { result ≡ list_any (λ n. nat_lt MAX_NAME (length n)) (path_of names.now) }
+// Whether a name in the path has more bytes than a name may have.
+fn has_long_name(path: &[u8]) -> bool
+    ensures { result ≡ list_any (λ n. nat_lt MAX_NAME (length n)) (components path.now) }
 {
-    for name in names {
+    let mut rest = path;
+    loop {
+        let (name, behind) = rest.split_at(before_slash(rest));
         if name.len() > MAX_NAME {
             return true;
         }
+        let Some((_, after)) = behind.split_first() else {
+            return false;
+        };
+        rest = after;
     }
-    false
 }
 
-// Whether a name is `.` or `..`.
-fn is_dotted(name: &[u8]) -> bool
+/// Whether a name is `.` or `..`.
+pub(crate) fn is_dotted(name: &[u8]) -> bool
     ensures { result ≡ is_dotted name.now }
 {
     name == b".".as_slice() || name == b"..".as_slice()
-}
-
-/// Whether one of the names is `.` or `..`.
-pub(crate) fn has_dots(names: &[&[u8]]) -> bool
-    ensures { result ≡ list_any is_dotted (path_of names.now) }
-{
-    for name in names {
-        if is_dotted(name) {
-            return true;
-        }
-    }
-    false
 }
 
 // Whether the last byte is a slash.
@@ -107,25 +97,70 @@ fn ends_in_slash(path: &[u8]) -> bool
     }
 }
 
-/// Cuts a path at its slashes, after what is refused before a walk, in this order: EINVAL for a byte 0 (this profile's
-/// own), ENOENT for an empty path, and ENAMETOOLONG for more than 1,023 bytes or a component of more than 255
-/// (POSIX.1-2017, 4.13 "Pathname Resolution"). `NoMemory` comes where the vector of names finds none.
-pub fn split(alloc: Global, path: &[u8]) -> Result<Words<'_>, Fault>
-    ensures { Told words result (words_of path.now) }
+// Whether a path has a name: a byte that is no slash.
+fn has_name(path: &[u8]) -> bool
+    ensures { result ≡ is_nonempty (components path.now) }
+{
+    slashes(path) < path.len()
+}
+
+/// Whether a slash stands behind a path's last name.
+pub(crate) fn has_slash(path: &[u8]) -> bool
+    ensures { result ≡ (ends_in_slash path.now && is_nonempty (components path.now)) }
+{
+    ends_in_slash(path) && has_name(path)
+}
+
+/// What is refused of a path before a walk, in the order that `split` has.
+pub(crate) fn judge(path: &[u8]) -> Result<(), Errno>
+    ensures refused { IfErr result (λ e. words_of path.now ≡ Err e) }
+    ensures passed { IfOk result (λ _. words_of path.now ≡ Ok (record {
+      names = components path.now;
+      slash = ends_in_slash path.now && is_nonempty (components path.now);
+    })) }
 {
     if path.contains(&0) {
-        return Err(Fault::Errno(Errno::EINVAL));
+        return Err(Errno::EINVAL);
     }
     if path.is_empty() {
-        return Err(Fault::Errno(Errno::ENOENT));
+        return Err(Errno::ENOENT);
     }
-    if path.len() > MAX_PATH {
-        return Err(Fault::Errno(Errno::ENAMETOOLONG));
+    // a path with no more bytes than a name may have has no longer name
+    if path.len() > MAX_PATH || path.len() > MAX_NAME && has_long_name(path) {
+        return Err(Errno::ENAMETOOLONG);
     }
+    Ok(())
+}
+
+/// Cuts a path at its slashes, after what is refused before a walk, in this order: EINVAL for a byte 0 (this profile's
+/// own), ENOENT for an empty path, and ENAMETOOLONG for more than 1,023 bytes or a component of more than 255
+/// (POSIX.1-2017, 4.13 "Pathname Resolution"). Then `NoMemory` comes where the vector of names finds none.
+pub fn split(alloc: Global, path: &[u8]) -> Result<Words<'_>, Fault>
+    ensures told { Told words result (words_of path.now) }
+    ensures wanted { result ≡ Err Fault.NoMemory → IsOk (words_of path.now) }
+{
+    judge(path)?;
     let names = components(alloc, path)?;
-    if has_long_name(names.as_slice()) {
-        return Err(Fault::Errno(Errno::ENAMETOOLONG));
-    }
-    let slash = ends_in_slash(path) && !names.as_slice().is_empty();
+    let slash = has_slash(path);
     Ok(Words { names, slash })
+}
+
+/// The names that lead from the root to a file: those of a path without `.` and `..`, which is cut only where the tree
+/// is told its way, or those that a walk kept.
+#[derive(Drop)]
+pub(crate) enum Way<'a> {
+    Plain(&'a [u8]),
+    Kept(Vec<&'a [u8]>),
+}
+
+impl<'a> Way<'a> {
+    /// The names, in a vector.
+    pub fn names(self, alloc: Global) -> Result<Vec<&'a [u8]>, AllocError>
+        ensures { IfOk result (λ names. path_of names.items ≡ way self.entry) }
+    {
+        match self {
+            Way::Plain(path) => components(alloc, path),
+            Way::Kept(names) => Ok(names),
+        }
+    }
 }

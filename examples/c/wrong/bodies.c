@@ -30,6 +30,15 @@ int64_t __wrap_sag_exit(sag_hub *h, uint32_t ns, uint32_t pid) {
 }
 #endif
 
+#ifdef stat_asks_for_memory_in_vain
+int64_t __real_sag_stat(sag_hub *h, uint32_t ns, uint32_t pid, const void *path, size_t length, sag_meta *meta);
+int64_t __wrap_sag_stat(sag_hub *h, uint32_t ns, uint32_t pid, const void *path, size_t length, sag_meta *meta) {
+    void *volatile block = malloc(1);
+    free(block);
+    return __real_sag_stat(h, ns, pid, path, length, meta);
+}
+#endif
+
 /* A call of a process that may make one asks for memory before its other tests, and where there is none it tells so. */
 #define ASKING(name, parameters, arguments)                                                      \
     int64_t __real_sag_##name parameters;                                                        \
@@ -49,6 +58,9 @@ ASKING(pipe, (sag_hub *h, uint32_t ns, uint32_t pid, bool nonblock, uint32_t *fd
 #endif
 #ifdef set_pipe_size_asks_for_memory_before_its_tests
 ASKING(set_pipe_size, (sag_hub *h, uint32_t ns, uint32_t pid, uint32_t fd, uint64_t bytes), (h, ns, pid, fd, bytes))
+#endif
+#ifdef unlink_asks_for_memory_before_its_tests
+ASKING(unlink, (sag_hub *h, uint32_t ns, uint32_t pid, const void *path, size_t length), (h, ns, pid, path, length))
 #endif
 
 #if defined spawn_with_groups_wants_memory || defined spawn_forgets_the_last_group

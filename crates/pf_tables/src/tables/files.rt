@@ -1,7 +1,8 @@
 //! Files: the calls of `pf_walk` on the tree, for the process that makes them.
 
-ghost use Rattle.std.specs.Prelude.{◌≡◌, Err, IsOk, OnErr};
+ghost use Rattle.std.specs.Prelude.{◌≡◌, Err, IsOk, OnErr, true, false};
 ghost use Rattle.pf_machine.specs.Files.{make, unlink, rmdir, chmod, stat, list};
+ghost use Rattle.pf_machine.specs.Paths.{has_dots};
 ghost use Rattle.pf_machine.specs.State.{of_ready, ready};
 ghost use Rattle.pf_tables.specs.Tables.{Says, made_reply};
 
@@ -19,7 +20,8 @@ fn made_reply(made: Result<(), Fault>) -> Result<Reply, Fault>
     }
 }
 
-// Each wants memory for a process that lives and waits in no call alone.
+// Each wants memory for a process that lives and waits in no call alone, where a name in the path is `.` or `..`, and
+// else, but for stat, where nothing stands against the call.
 impl<A: Allocator + Clone> Tables<A> {
     /// Makes a file of a process at a path (mkdir(), mkfifo()). `bits` is the mode asked for.
     pub fn make_file(
@@ -33,6 +35,8 @@ impl<A: Allocator + Clone> Tables<A> {
         ensures says { Says self.old self.new result
             (of_ready self.old.state pid (λ p. make kind self.old.state p path.now bits)) }
         ensures ready { result ≡ Err Fault.NoMemory → IsOk (ready self.old.state pid) }
+        ensures wanted { result ≡ Err Fault.NoMemory → has_dots path.now ≡ false
+            → IsOk (of_ready self.old.state pid (λ p. make kind self.old.state p path.now bits)) }
         ensures refused { OnErr result (self.new ≡ self.old) }
     {
         let cred = &self.processes.ready(pid)?.cred;
@@ -48,6 +52,8 @@ impl<A: Allocator + Clone> Tables<A> {
         ensures says { Says self.old self.new result
             (of_ready self.old.state pid (λ p. unlink self.old.state p path.now)) }
         ensures ready { result ≡ Err Fault.NoMemory → IsOk (ready self.old.state pid) }
+        ensures wanted { result ≡ Err Fault.NoMemory → has_dots path.now ≡ false
+            → IsOk (of_ready self.old.state pid (λ p. unlink self.old.state p path.now)) }
         ensures refused { OnErr result (self.new ≡ self.old) }
     {
         let cred = &self.processes.ready(pid)?.cred;
@@ -59,6 +65,8 @@ impl<A: Allocator + Clone> Tables<A> {
         ensures says { Says self.old self.new result
             (of_ready self.old.state pid (λ p. rmdir self.old.state p path.now)) }
         ensures ready { result ≡ Err Fault.NoMemory → IsOk (ready self.old.state pid) }
+        ensures wanted { result ≡ Err Fault.NoMemory → has_dots path.now ≡ false
+            → IsOk (of_ready self.old.state pid (λ p. rmdir self.old.state p path.now)) }
         ensures refused { OnErr result (self.new ≡ self.old) }
     {
         let cred = &self.processes.ready(pid)?.cred;
@@ -70,6 +78,8 @@ impl<A: Allocator + Clone> Tables<A> {
         ensures says { Says self.old self.new result
             (of_ready self.old.state pid (λ p. chmod self.old.state p path.now bits)) }
         ensures ready { result ≡ Err Fault.NoMemory → IsOk (ready self.old.state pid) }
+        ensures wanted { result ≡ Err Fault.NoMemory → has_dots path.now ≡ false
+            → IsOk (of_ready self.old.state pid (λ p. chmod self.old.state p path.now bits)) }
         ensures refused { OnErr result (self.new ≡ self.old) }
     {
         let cred = &self.processes.ready(pid)?.cred;
@@ -82,6 +92,7 @@ impl<A: Allocator + Clone> Tables<A> {
         ensures says { Says self.now self.now result
             (of_ready self.now.state pid (λ p. stat self.now.state p path.now)) }
         ensures ready { result ≡ Err Fault.NoMemory → IsOk (ready self.now.state pid) }
+        ensures wanted { result ≡ Err Fault.NoMemory → has_dots path.now ≡ true }
     {
         let cred = &self.processes.ready(pid)?.cred;
         match pf_walk::stat(alloc, self.files.tree(), cred, path) {
@@ -95,6 +106,8 @@ impl<A: Allocator + Clone> Tables<A> {
         ensures says { Says self.now self.now result
             (of_ready self.now.state pid (λ p. list self.now.state p path.now)) }
         ensures ready { result ≡ Err Fault.NoMemory → IsOk (ready self.now.state pid) }
+        ensures wanted { result ≡ Err Fault.NoMemory → has_dots path.now ≡ false
+            → IsOk (of_ready self.now.state pid (λ p. list self.now.state p path.now)) }
     {
         let cred = &self.processes.ready(pid)?.cred;
         match pf_walk::list(alloc, self.files.tree(), cred, path) {

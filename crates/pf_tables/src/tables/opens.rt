@@ -1,10 +1,11 @@
 //! Opens of FIFOs (open(2), fifo(7)): a FIFO has a pipe while somebody has it open, which its first opener is charged
 //! with.
 
-ghost use Rattle.std.specs.Prelude.{◌≡◌, ◌+◌, ◌-◌, ◌^◌, ◌<◌, ◌≤◌, true, None, Some, Ok, Err, IsOk, IfOk, OnOk};
+ghost use Rattle.std.specs.Prelude.{◌≡◌, ◌+◌, ◌-◌, ◌^◌, ◌<◌, ◌≤◌, true, false, None, Some, Ok, Err, IsOk, IfOk, OnOk};
 ghost use Rattle.std.specs.Prelude.{OnErr, length};
 ghost use Rattle.pf_base.specs.declared.TheConstants.{MAX_DESCRIPTORS};
 ghost use Rattle.pf_machine.specs.Opens.{has_flag, access_of, open_path};
+ghost use Rattle.pf_machine.specs.Paths.{has_dots};
 ghost use Rattle.pf_machine.specs.State.{itself, of_ready, ready};
 ghost use Rattle.pf_tables.specs.Rows.{ready_in};
 ghost use Rattle.pf_tables.specs.Opened.{access_seen, counted, IsFew, waits, before, other_opens, lacks_readers};
@@ -172,6 +173,7 @@ fn fifo(
         cred.now file result key }
     ensures drawn { descriptions.new.items ≡ descriptions.old.items }
     ensures room { OnOk result (0 < descriptions.new.room) }
+    ensures wanted { result ≡ Err Fault.NoMemory → key ≡ None → IsOk (fifo_capacity pages.old pipes.old.items cred.now) }
 {
     if let Some(key) = key {
         descriptions.reserve(1)?;
@@ -234,6 +236,10 @@ impl<A: Allocator> Tables<A> {
             (access_of flags.0))) }
         // Memory is wanted for a process that lives and waits in no call.
         ensures ready { result ≡ Err Fault.NoMemory → IsOk (ready self.old.state pid) }
+        // And, where no name in the path is `.` or `..`, where nothing stands against the open.
+        ensures wanted { let s = self.old.state in result ≡ Err Fault.NoMemory → has_dots path.now ≡ false
+            → IsOk (of_ready s pid (λ p. open_path itself (length s.descriptions) itself self.old.limits s pid p path.now
+            (access_of flags.0))) }
         ensures refused { OnErr result (self.new ≡ self.old) }
     {
         let access = Access::new(flags);

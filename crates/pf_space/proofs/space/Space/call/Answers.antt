@@ -4,8 +4,10 @@
 
 use Rattle.std.proofs.Common.{ℕ, ◌+◌, Bool, List, length, refl, subst, sym, ap, ◌∙◌}
 use Rattle.pf_space.proofs.Common.{call, itself, Namespace, Step, meaning, Told}
+use Rattle.pf_machine.specs.Files.{make, unlink, rmdir, chmod, list}
 use Rattle.pf_machine.specs.Machine.{may_want_memory}
 use Rattle.pf_machine.specs.Pipes.{pipe, set_size}
+use Rattle.pf_machine.specs.Opens.{access_of, open_path}
 use Rattle.pf_machine.specs.Processes.{spawn, fork}
 use Rattle.pf_machine.specs.State.{of_ready}
 use Rattle.pf_machine.proofs.Natural.{spawn-as, born-as, dup-as, set_nonblock-as, get_size-as}
@@ -13,14 +15,16 @@ use Rattle.pf_machine.proofs.NaturalCalls.{pipe-call, open-call}
 use Rattle.pf_machine.proofs.NaturalFiles.{make-as, unlink-as, rmdir-as, chmod-as, stat-as, list-as}
 use Rattle.pf_machine.proofs.NaturalSizes.{set_size-as}
 use Rattle.pf_base.specs.declared.meta.Kind.TheVariants as kinds
+use Rattle.pf_base.specs.declared.open_flags.OpenFlags.{OpenFlags}
 use Rattle.pf_base.specs.declared.progress.Crossing.TheVariants as crossings
 use Rattle.pf_base.specs.declared.step.Step.TheVariants as steps
 use Rattle.pf_space.proofs.Books.{Natural, as_ready, booked, looked_up}
 use Rattle.pf_space.proofs.ParkedTransfers.{crossed_first}
-use Rattle.pf_space.proofs.Wants.{not_both, wanted_not, spawn_wants, fork_wants, pipe_wants, set_size_wants}
+use Rattle.pf_space.proofs.Wants.{not_both, not_wanted, wanted_not, spawn_wants, fork_wants, pipe_wants, set_size_wants}
+use Rattle.pf_space.proofs.Wants.{lists_well, path_not, stat_wants}
 use Rattle.pf_space.proofs.space.Space.call.Goals as goal
 
--- what the machine's call is, of the four kinds that are asked for twice: what is told, and what wants memory
+-- what the machine's call is, of the kinds that are asked for twice: what is told, and what wants memory
 
 spawned : (n : Namespace) (uid gid umask : ℕ) (groups : List ℕ)
     → Natural n.limits n.state (steps.Spawn uid gid umask groups)
@@ -44,6 +48,41 @@ sized : (n : Namespace) (pid fd bytes : ℕ)
     (of_ready n.state pid (λ p. set_size itself n.limits n.state p fd bytes))
 sized n pid fd bytes shows =
     as_ready shows n.state pid _ _ (λ p. set_size-as shows itself itself itself (λ m. refl) _ n.state p _ _)
+
+made_dir : (n : Namespace) (pid : ℕ) (path : List ℕ) (mode : ℕ)
+    → Natural n.limits n.state (steps.Mkdir pid path mode)
+    (of_ready n.state pid (λ p. make kinds.Directory n.state p path mode))
+made_dir n pid path mode shows =
+    as_ready shows n.state pid _ _ (λ p. make-as shows itself n.state p path kinds.Directory mode)
+
+made_fifo : (n : Namespace) (pid : ℕ) (path : List ℕ) (mode : ℕ)
+    → Natural n.limits n.state (steps.Mkfifo pid path mode)
+    (of_ready n.state pid (λ p. make kinds.Fifo n.state p path mode))
+made_fifo n pid path mode shows =
+    as_ready shows n.state pid _ _ (λ p. make-as shows itself n.state p path kinds.Fifo mode)
+
+unlinked : (n : Namespace) (pid : ℕ) (path : List ℕ)
+    → Natural n.limits n.state (steps.Unlink pid path) (of_ready n.state pid (λ p. unlink n.state p path))
+unlinked n pid path shows = as_ready shows n.state pid _ _ (λ p. unlink-as shows itself n.state p path)
+
+rmdired : (n : Namespace) (pid : ℕ) (path : List ℕ)
+    → Natural n.limits n.state (steps.Rmdir pid path) (of_ready n.state pid (λ p. rmdir n.state p path))
+rmdired n pid path shows = as_ready shows n.state pid _ _ (λ p. rmdir-as shows itself n.state p path)
+
+chmodded : (n : Namespace) (pid : ℕ) (path : List ℕ) (mode : ℕ)
+    → Natural n.limits n.state (steps.Chmod pid path mode) (of_ready n.state pid (λ p. chmod n.state p path mode))
+chmodded n pid path mode shows = as_ready shows n.state pid _ _ (λ p. chmod-as shows itself n.state p path mode)
+
+listed : (n : Namespace) (pid : ℕ) (path : List ℕ)
+    → Natural n.limits n.state (steps.List pid path) (of_ready n.state pid (λ p. list n.state p path))
+listed n pid path shows = as_ready shows n.state pid _ _ (λ p. list-as shows itself n.state p path)
+
+opened : (n : Namespace) (pid : ℕ) (path : List ℕ) (flags : OpenFlags)
+    → Natural n.limits n.state (steps.Open pid path flags)
+    (of_ready n.state pid (λ p. open_path itself (length n.state.descriptions) itself n.limits n.state pid p path
+    (access_of flags.0)))
+opened n pid path flags shows =
+    open-call shows itself n.limits n.state pid path (length n.state.descriptions) itself refl (λ m. refl) flags
 
 pub returns-in-Tee-clause-told : goal.returns-in-Tee-clause-told
 returns-in-Tee-clause-told g c =
@@ -111,46 +150,38 @@ returns-in-GetSize-clause-told g c =
 
 pub returns-in-Mkdir-clause-told : goal.returns-in-Mkdir-clause-told
 returns-in-Mkdir-clause-told g c =
-    let s = c.self-in-Mkdir.inside.tables.state in
     booked c.self-in-Mkdir.view_is c.requires.door.owns c.handed-in-Mkdir.ensures
     (c.in-Mkdir.is ∙ ap (λ x. steps.Mkdir c.in-Mkdir.pid x c.in-Mkdir.mode) (sym c.as_slice-in-Mkdir.ensures)) _
     c.make_file.ensures.says c.make_file.ensures.refused
-    (λ shows. as_ready shows s c.in-Mkdir.pid _ _
-    (λ p. make-as shows itself s p c.as_slice-in-Mkdir.result.now kinds.Directory c.in-Mkdir.mode))
+    (made_dir c.self-in-Mkdir.inside.tables c.in-Mkdir.pid c.as_slice-in-Mkdir.result.now c.in-Mkdir.mode)
 
 pub returns-in-Mkfifo-clause-told : goal.returns-in-Mkfifo-clause-told
 returns-in-Mkfifo-clause-told g c =
-    let s = c.self-in-Mkfifo.inside.tables.state in
     booked c.self-in-Mkfifo.view_is c.requires.door.owns c.handed-in-Mkfifo.ensures
     (c.in-Mkfifo.is ∙ ap (λ x. steps.Mkfifo c.in-Mkfifo.pid x c.in-Mkfifo.mode) (sym c.as_slice-in-Mkfifo.ensures)) _
     c.make_file-in-Mkfifo.ensures.says c.make_file-in-Mkfifo.ensures.refused
-    (λ shows. as_ready shows s c.in-Mkfifo.pid _ _
-    (λ p. make-as shows itself s p c.as_slice-in-Mkfifo.result.now kinds.Fifo c.in-Mkfifo.mode))
+    (made_fifo c.self-in-Mkfifo.inside.tables c.in-Mkfifo.pid c.as_slice-in-Mkfifo.result.now c.in-Mkfifo.mode)
 
 pub returns-in-Unlink-clause-told : goal.returns-in-Unlink-clause-told
 returns-in-Unlink-clause-told g c =
-    let s = c.self-in-Unlink.inside.tables.state in
     booked c.self-in-Unlink.view_is c.requires.door.owns c.handed-in-Unlink.ensures
     (c.in-Unlink.is ∙ ap (λ x. steps.Unlink c.in-Unlink.pid x) (sym c.as_slice-in-Unlink.ensures)) _
     c.unlink.ensures.says c.unlink.ensures.refused
-    (λ shows. as_ready shows s c.in-Unlink.pid _ _ (λ p. unlink-as shows itself s p c.as_slice-in-Unlink.result.now))
+    (unlinked c.self-in-Unlink.inside.tables c.in-Unlink.pid c.as_slice-in-Unlink.result.now)
 
 pub returns-in-Rmdir-clause-told : goal.returns-in-Rmdir-clause-told
 returns-in-Rmdir-clause-told g c =
-    let s = c.self-in-Rmdir.inside.tables.state in
     booked c.self-in-Rmdir.view_is c.requires.door.owns c.handed-in-Rmdir.ensures
-    (c.in-Rmdir.is ∙ ap (λ x. steps.Rmdir c.in-Rmdir.pid x) (sym c.as_slice-in-Rmdir.ensures)) _ c.rmdir.ensures.says
-    c.rmdir.ensures.refused
-    (λ shows. as_ready shows s c.in-Rmdir.pid _ _ (λ p. rmdir-as shows itself s p c.as_slice-in-Rmdir.result.now))
+    (c.in-Rmdir.is ∙ ap (λ x. steps.Rmdir c.in-Rmdir.pid x) (sym c.as_slice-in-Rmdir.ensures)) _
+    c.rmdir.ensures.says c.rmdir.ensures.refused
+    (rmdired c.self-in-Rmdir.inside.tables c.in-Rmdir.pid c.as_slice-in-Rmdir.result.now)
 
 pub returns-in-Chmod-clause-told : goal.returns-in-Chmod-clause-told
 returns-in-Chmod-clause-told g c =
-    let s = c.self-in-Chmod.inside.tables.state in
     booked c.self-in-Chmod.view_is c.requires.door.owns c.handed-in-Chmod.ensures
     (c.in-Chmod.is ∙ ap (λ x. steps.Chmod c.in-Chmod.pid x c.in-Chmod.mode) (sym c.as_slice-in-Chmod.ensures)) _
     c.chmod.ensures.says c.chmod.ensures.refused
-    (λ shows. as_ready shows s c.in-Chmod.pid _ _
-    (λ p. chmod-as shows itself s p c.as_slice-in-Chmod.result.now c.in-Chmod.mode))
+    (chmodded c.self-in-Chmod.inside.tables c.in-Chmod.pid c.as_slice-in-Chmod.result.now c.in-Chmod.mode)
 
 pub returns-in-Stat-clause-told : goal.returns-in-Stat-clause-told
 returns-in-Stat-clause-told g c =
@@ -161,19 +192,17 @@ returns-in-Stat-clause-told g c =
 
 pub returns-in-List-clause-told : goal.returns-in-List-clause-told
 returns-in-List-clause-told g c =
-    let s = c.self-in-List.inside.tables.state in
     looked_up c.self-in-List.view_is c.requires.door.owns c.handed-in-List.ensures
-    (c.in-List.is ∙ ap (λ x. steps.List c.in-List.pid x) (sym c.as_slice-in-List.ensures)) _ c.list.ensures.says
-    (λ shows. as_ready shows s c.in-List.pid _ _ (λ p. list-as shows itself s p c.as_slice-in-List.result.now))
+    (c.in-List.is ∙ ap (λ x. steps.List c.in-List.pid x) (sym c.as_slice-in-List.ensures)) _
+    c.list.ensures.says
+    (listed c.self-in-List.inside.tables c.in-List.pid c.as_slice-in-List.result.now)
 
 pub returns-in-Open-clause-told : goal.returns-in-Open-clause-told
 returns-in-Open-clause-told g c =
-    let s = c.self-in-Open.inside.tables.state in
     booked c.self-in-Open.view_is c.requires.door.owns c.handed-in-Open.ensures
     (c.in-Open.is ∙ ap (λ x. steps.Open c.in-Open.pid x c.in-Open.flags) (sym c.as_slice-in-Open.ensures)) _
     c.open.ensures.says c.open.ensures.refused
-    (λ shows. open-call shows itself c.self-in-Open.inside.tables.limits s c.in-Open.pid c.as_slice-in-Open.result.now
-    (length s.descriptions) itself refl (λ n. refl) c.in-Open.flags)
+    (opened c.self-in-Open.inside.tables c.in-Open.pid c.as_slice-in-Open.result.now c.in-Open.flags)
 
 -- where a step wants memory it may want it
 
@@ -226,3 +255,90 @@ returns-in-SetSize-clause-succeeds g c quiet none =
     (sized n c.in-SetSize.pid c.in-SetSize.fd c.in-SetSize.bytes)
     (set_size_wants n.limits (meaning f n.state) c.in-SetSize.pid c.in-SetSize.fd c.in-SetSize.bytes)
     (c.set_size.ensures.wanted (sym c.handed-in-SetSize.ensures ∙ none)) quiet
+
+pub returns-in-Mkdir-clause-succeeds : goal.returns-in-Mkdir-clause-succeeds
+returns-in-Mkdir-clause-succeeds g c quiet none =
+    let f = g.F.Frames.live c.args.door.now in
+    let n = c.self-in-Mkdir.inside.tables in
+    let path = c.as_slice-in-Mkdir.result.now in
+    let wanted = sym c.handed-in-Mkdir.ensures ∙ none in
+    path_not f c.self-in-Mkdir.view_is
+    (c.in-Mkdir.is ∙ ap (λ x. steps.Mkdir c.in-Mkdir.pid x c.in-Mkdir.mode) (sym c.as_slice-in-Mkdir.ensures))
+    _ (made_dir n c.in-Mkdir.pid path c.in-Mkdir.mode) c.in-Mkdir.pid path tt (λ w. w)
+    (c.make_file.ensures.ready wanted) (c.make_file.ensures.wanted wanted) quiet
+
+pub returns-in-Mkfifo-clause-succeeds : goal.returns-in-Mkfifo-clause-succeeds
+returns-in-Mkfifo-clause-succeeds g c quiet none =
+    let f = g.F.Frames.live c.args.door.now in
+    let n = c.self-in-Mkfifo.inside.tables in
+    let path = c.as_slice-in-Mkfifo.result.now in
+    let wanted = sym c.handed-in-Mkfifo.ensures ∙ none in
+    path_not f c.self-in-Mkfifo.view_is
+    (c.in-Mkfifo.is ∙ ap (λ x. steps.Mkfifo c.in-Mkfifo.pid x c.in-Mkfifo.mode) (sym c.as_slice-in-Mkfifo.ensures))
+    _ (made_fifo n c.in-Mkfifo.pid path c.in-Mkfifo.mode) c.in-Mkfifo.pid path tt (λ w. w)
+    (c.make_file-in-Mkfifo.ensures.ready wanted) (c.make_file-in-Mkfifo.ensures.wanted wanted) quiet
+
+pub returns-in-Unlink-clause-succeeds : goal.returns-in-Unlink-clause-succeeds
+returns-in-Unlink-clause-succeeds g c quiet none =
+    let f = g.F.Frames.live c.args.door.now in
+    let n = c.self-in-Unlink.inside.tables in
+    let path = c.as_slice-in-Unlink.result.now in
+    let wanted = sym c.handed-in-Unlink.ensures ∙ none in
+    path_not f c.self-in-Unlink.view_is
+    (c.in-Unlink.is ∙ ap (λ x. steps.Unlink c.in-Unlink.pid x) (sym c.as_slice-in-Unlink.ensures))
+    _ (unlinked n c.in-Unlink.pid path) c.in-Unlink.pid path tt (λ w. w)
+    (c.unlink.ensures.ready wanted) (c.unlink.ensures.wanted wanted) quiet
+
+pub returns-in-Rmdir-clause-succeeds : goal.returns-in-Rmdir-clause-succeeds
+returns-in-Rmdir-clause-succeeds g c quiet none =
+    let f = g.F.Frames.live c.args.door.now in
+    let n = c.self-in-Rmdir.inside.tables in
+    let path = c.as_slice-in-Rmdir.result.now in
+    let wanted = sym c.handed-in-Rmdir.ensures ∙ none in
+    path_not f c.self-in-Rmdir.view_is
+    (c.in-Rmdir.is ∙ ap (λ x. steps.Rmdir c.in-Rmdir.pid x) (sym c.as_slice-in-Rmdir.ensures))
+    _ (rmdired n c.in-Rmdir.pid path) c.in-Rmdir.pid path tt (λ w. w)
+    (c.rmdir.ensures.ready wanted) (c.rmdir.ensures.wanted wanted) quiet
+
+pub returns-in-Chmod-clause-succeeds : goal.returns-in-Chmod-clause-succeeds
+returns-in-Chmod-clause-succeeds g c quiet none =
+    let f = g.F.Frames.live c.args.door.now in
+    let n = c.self-in-Chmod.inside.tables in
+    let path = c.as_slice-in-Chmod.result.now in
+    let wanted = sym c.handed-in-Chmod.ensures ∙ none in
+    path_not f c.self-in-Chmod.view_is
+    (c.in-Chmod.is ∙ ap (λ x. steps.Chmod c.in-Chmod.pid x c.in-Chmod.mode) (sym c.as_slice-in-Chmod.ensures))
+    _ (chmodded n c.in-Chmod.pid path c.in-Chmod.mode) c.in-Chmod.pid path tt (λ w. w)
+    (c.chmod.ensures.ready wanted) (c.chmod.ensures.wanted wanted) quiet
+
+pub returns-in-List-clause-succeeds : goal.returns-in-List-clause-succeeds
+returns-in-List-clause-succeeds g c quiet none =
+    let f = g.F.Frames.live c.args.door.now in
+    let n = c.self-in-List.inside.tables in
+    let path = c.as_slice-in-List.result.now in
+    let wanted = sym c.handed-in-List.ensures ∙ none in
+    path_not f c.self-in-List.view_is
+    (c.in-List.is ∙ ap (λ x. steps.List c.in-List.pid x) (sym c.as_slice-in-List.ensures))
+    _ (listed n c.in-List.pid path) c.in-List.pid path (lists_well n.limits (meaning f n.state) c.in-List.pid path) (λ w. w)
+    (c.list.ensures.ready wanted) (c.list.ensures.wanted wanted) quiet
+
+pub returns-in-Open-clause-succeeds : goal.returns-in-Open-clause-succeeds
+returns-in-Open-clause-succeeds g c quiet none =
+    let f = g.F.Frames.live c.args.door.now in
+    let n = c.self-in-Open.inside.tables in
+    let path = c.as_slice-in-Open.result.now in
+    let wanted = sym c.handed-in-Open.ensures ∙ none in
+    path_not f c.self-in-Open.view_is
+    (c.in-Open.is ∙ ap (λ x. steps.Open c.in-Open.pid x c.in-Open.flags) (sym c.as_slice-in-Open.ensures))
+    _ (opened n c.in-Open.pid path c.in-Open.flags) c.in-Open.pid path tt (λ w. w)
+    (c.open.ensures.ready wanted) (c.open.ensures.wanted wanted) quiet
+
+pub returns-in-Stat-clause-succeeds : goal.returns-in-Stat-clause-succeeds
+returns-in-Stat-clause-succeeds g c quiet none =
+    let f = g.F.Frames.live c.args.door.now in
+    let n = c.self-in-Stat.inside.tables in
+    let wanted = sym c.handed-in-Stat.ensures ∙ none in
+    not_wanted f c.self-in-Stat.view_is
+    (c.in-Stat.is ∙ ap (λ x. steps.Stat c.in-Stat.pid x) (sym c.as_slice-in-Stat.ensures))
+    (stat_wants n.limits (meaning f n.state) c.in-Stat.pid c.as_slice-in-Stat.result.now
+    (c.stat.ensures.ready wanted) (c.stat.ensures.wanted wanted)) quiet

@@ -1,7 +1,8 @@
-use Rattle.std.proofs.Common.{◌≡◌, ◌+◌, ◌<◌, ◌^◌, Ok, false, true, length, refl, sym, ap, ◌∙◌, arith, rules}
+use Rattle.std.proofs.Common.{◌≡◌, Err, false, true, length, refl, sym, ap, ◌∙◌, arith, rules}
 use Rattle.std.proofs.lemmas.Bool.{le-leb, lt-leb, lt-ltb, le-ltb}
+use Rattle.pf_base.specs.declared.fault.Fault.TheVariants.{NoMemory}
 use Rattle.pf_tables.proofs.Common.{access_seen}
-use Rattle.pf_tables.proofs.OpensOutcome.{sided, is_ready, has_free, not_named, by_tests, not_piped, opened-whole}
+use Rattle.pf_tables.proofs.OpensOutcome.{sided, is_ready, has_free, not_named, by_tests, not_piped, opened-whole, opens_well}
 use Rattle.pf_tables.proofs.OpensOutcome.{opened-makes}
 use Rattle.pf_tables.proofs.OpensPipe.{still-whole, keeps, is_there, stands}
 use Rattle.pf_tables.proofs.tables.Tables.open.Goals as goal
@@ -10,7 +11,7 @@ pub returns-in_err-file-clause-says : goal.returns-in_err-file-clause-says
 returns-in_err-file-clause-says g c =
     let refused =
     not_named c.self.invariant c.self.view_is c.args.pid c.in_ok-process.ensures c.args.path.now c.new-access.ensures
-    c.args.self.now c.in_err-file.field-0.0 (rw c.tree.ensures at c.in_err-file.ensures) in
+    c.args.self.now c.in_err-file.field-0.0 (rw c.tree.ensures at c.in_err-file.ensures.told) in
     search rules
 
 pub returns-in_err-file-clause-ready : goal.returns-in_err-file-clause-ready
@@ -21,7 +22,7 @@ pub returns-then-fd-ge-MAX_DESCRIPTORS-clause-says : goal.returns-then-fd-ge-MAX
 returns-then-fd-ge-MAX_DESCRIPTORS-clause-says g c =
     let refused =
     by_tests c.self.invariant c.self.view_is c.args.pid c.in_ok-process.ensures c.args.path.now c.new-access.ensures
-    (rw c.tree.ensures at c.in_ok-file.ensures) c.lowest-fd.ensures.lowest refl
+    (rw c.tree.ensures at c.in_ok-file.ensures.told) c.lowest-fd.ensures.lowest refl
     (le-leb _ _ c.if-fd-ge-MAX_DESCRIPTORS.true) refl refl refl in
     search rules
 
@@ -29,7 +30,7 @@ pub returns-then-lacks_readers-clause-says : goal.returns-then-lacks_readers-cla
 returns-then-lacks_readers-clause-says g c =
     let refused =
     by_tests c.self.invariant c.self.view_is c.args.pid c.in_ok-process.ensures c.args.path.now c.new-access.ensures
-    (rw c.tree.ensures at c.in_ok-file.ensures) c.lowest-fd.ensures.lowest
+    (rw c.tree.ensures at c.in_ok-file.ensures.told) c.lowest-fd.ensures.lowest
     (sym c.get.ensures.value ∙ sym c.copied-found.ensures) (lt-leb _ _ c.if-fd-ge-MAX_DESCRIPTORS.false)
     (sym c.lacks_readers.ensures ∙ c.if-lacks_readers.true) refl refl in
     search rules
@@ -38,7 +39,7 @@ pub returns-then-drawn-clause-says : goal.returns-then-drawn-clause-says
 returns-then-drawn-clause-says g c =
     let refused =
     by_tests c.self.invariant c.self.view_is c.args.pid c.in_ok-process.ensures c.args.path.now c.new-access.ensures
-    (rw c.tree.ensures at c.in_ok-file.ensures) c.lowest-fd.ensures.lowest
+    (rw c.tree.ensures at c.in_ok-file.ensures.told) c.lowest-fd.ensures.lowest
     (sym c.get.ensures.value ∙ sym c.copied-found.ensures) (lt-leb _ _ c.if-fd-ge-MAX_DESCRIPTORS.false)
     (sym c.lacks_readers.ensures ∙ c.if-lacks_readers.false)
     (lt-ltb _ _ (omega (arith, c.drawn.ensures, c.if-drawn.true))) refl in
@@ -48,7 +49,7 @@ pub returns-in_err-key-clause-says : goal.returns-in_err-key-clause-says
 returns-in_err-key-clause-says g c =
     let refused =
     not_piped c.self.invariant c.self.view_is c.args.pid c.in_ok-process.ensures c.args.path.now c.new-access.ensures
-    (rw c.tree.ensures at c.in_ok-file.ensures) c.lowest-fd.ensures.lowest
+    (rw c.tree.ensures at c.in_ok-file.ensures.told) c.lowest-fd.ensures.lowest
     (sym c.get.ensures.value ∙ sym c.copied-found.ensures) c.args.self.now _ _ _
     c.in_err-key.field-0.0 c.in_err-key.ensures.gets (lt-leb _ _ c.if-fd-ge-MAX_DESCRIPTORS.false)
     (sym c.lacks_readers.ensures ∙ c.if-lacks_readers.false)
@@ -58,6 +59,24 @@ returns-in_err-key-clause-says g c =
 pub returns-in_err-key-clause-ready : goal.returns-in_err-key-clause-ready
 returns-in_err-key-clause-ready g c =
     λ _. is_ready c.self.invariant c.self.view_is c.args.pid c.in_ok-process.ensures
+
+pub returns-in_err-file-clause-wanted : goal.returns-in_err-file-clause-wanted
+returns-in_err-file-clause-wanted g c none plain =
+    let gives : c.from_residual-in_err-file.result ≡ Err c.in_err-file.field-0.0 = search rules in
+    let fault : c.in_err-file.field-0.0 ≡ NoMemory = cc (sym gives ∙ none) in
+    let dots : true ≡ false = sym (c.in_err-file.ensures.wanted (ap Err fault)) ∙ plain in
+    absurd (cc)
+
+pub returns-in_err-key-clause-wanted : goal.returns-in_err-key-clause-wanted
+returns-in_err-key-clause-wanted g c none plain =
+    let gives : c.from_residual-in_err-key.result ≡ Err c.in_err-key.field-0.0 = search rules in
+    let fault : c.in_err-key.field-0.0 ≡ NoMemory = cc (sym gives ∙ none) in
+    let key_is = sym c.get.ensures.value ∙ sym c.copied-found.ensures in
+    opens_well c.self.invariant c.self.view_is c.args.pid c.in_ok-process.ensures c.args.path.now c.new-access.ensures
+    (rw c.tree.ensures at c.in_ok-file.ensures.told) c.lowest-fd.ensures.lowest key_is
+    (c.in_err-key.ensures.wanted (ap Err fault)) (lt-leb _ _ c.if-fd-ge-MAX_DESCRIPTORS.false)
+    (sym c.lacks_readers.ensures ∙ c.if-lacks_readers.false)
+    (le-ltb _ _ (omega (arith, c.drawn.ensures, c.if-drawn.false, c.drawn.type_inv)))
 
 pub invariant_of-self : goal.invariant_of-self
 invariant_of-self g c =
@@ -71,7 +90,7 @@ value_mut-pipe-requires g c = record {
       is_there c.self.invariant c.in_ok-process.process.now c.in_ok-file.file.number c.self.inside.files
       c.self.inside.files_made c.new-access.result
       (sided c.tree.result.now c.in_ok-process.process.now.cred c.args.path.now (access_seen c.new-access.result)
-      c.in_ok-file.ensures) _ _ _ _
+      c.in_ok-file.ensures.told) _ _ _ _
       (sym c.get.ensures.value ∙ sym c.copied-found.ensures) c.in_ok-key.ensures.gets;
 }
 
@@ -81,7 +100,7 @@ count-requires g c =
     stands c.self.invariant c.in_ok-process.process.now c.in_ok-file.file.number c.self.inside.files
     c.self.inside.files_made c.new-access.result
     (sided c.tree.result.now c.in_ok-process.process.now.cred c.args.path.now (access_seen c.new-access.result)
-    c.in_ok-file.ensures) _ _ _ _
+    c.in_ok-file.ensures.told) _ _ _ _
     (sym c.get.ensures.value ∙ sym c.copied-found.ensures) c.in_ok-key.ensures.gets c.value_mut-pipe.ensures.value in
     x.few (omega (arith, c.drawn.ensures, c.if-drawn.false, c.drawn.type_inv))
 
@@ -100,7 +119,7 @@ invariant_of-self-2 g c =
     stands c.self.invariant c.in_ok-process.process.now c.in_ok-file.file.number c.self.inside.files
     c.self.inside.files_made c.new-access.result
     (sided c.tree.result.now c.in_ok-process.process.now.cred c.args.path.now (access_seen c.new-access.result)
-    c.in_ok-file.ensures) _ _ _ _
+    c.in_ok-file.ensures.told) _ _ _ _
     (sym c.get.ensures.value ∙ sym c.copied-found.ensures) c.in_ok-key.ensures.gets c.value_mut-pipe.ensures.value in
     let z = rw (c.in_ok-key.ensures.drawn, c.end.ensures, c.before-kept.ensures) at c.describe.ensures in
     rw c.count.ensures (opened-whole x z c.in_ok-process.ensures c.lowest-fd.ensures.lowest
@@ -108,13 +127,13 @@ invariant_of-self-2 g c =
 
 pub returns-clause-says : goal.returns-clause-says
 returns-clause-says g c =
-    let found = rw c.tree.ensures at c.in_ok-file.ensures in
+    let found = rw c.tree.ensures at c.in_ok-file.ensures.told in
     let key_is = sym c.get.ensures.value ∙ sym c.copied-found.ensures in
     let x =
     stands c.self.invariant c.in_ok-process.process.now c.in_ok-file.file.number c.self.inside.files
     c.self.inside.files_made c.new-access.result
     (sided c.tree.result.now c.in_ok-process.process.now.cred c.args.path.now (access_seen c.new-access.result)
-    c.in_ok-file.ensures) _ _ _ _ key_is c.in_ok-key.ensures.gets c.value_mut-pipe.ensures.value in
+    c.in_ok-file.ensures.told) _ _ _ _ key_is c.in_ok-key.ensures.gets c.value_mut-pipe.ensures.value in
     let z = rw (c.in_ok-key.ensures.drawn, c.end.ensures, c.before-kept.ensures) at c.describe.ensures in
     rw c.count.ensures
     (opened-makes c.self.invariant c.self.view_is c.args.pid c.in_ok-process.ensures c.args.path.now

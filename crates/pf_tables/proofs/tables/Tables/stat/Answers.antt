@@ -13,7 +13,7 @@ returns-in-Ok-clause-says g c =
     let s = state_of i.processes i.descriptions.items i.pipes.items i.files i.files_made in
     tells c.self.invariant.kept.tied c.self.view_is c.args.pid c.in_ok-cred.ensures (λ t q. stat t q c.args.path.now)
     (calls.stat i.files c.in_ok-cred.field-0.now.cred c.args.path.now) (λ x. Ok (told s (replies.Meta x))) refl
-    c.in-Ok.meta (replies.Meta c.in-Ok.meta) (rw c.tree.ensures at c.in-Ok.ensures) refl
+    c.in-Ok.meta (replies.Meta c.in-Ok.meta) (rw c.tree.ensures at c.in-Ok.ensures.told) refl
 
 pub returns-in-Err-clause-says : goal.returns-in-Err-clause-says
 returns-in-Err-clause-says g c =
@@ -22,4 +22,4 @@ returns-in-Err-clause-says g c =
     tells_not c.self.invariant.kept.tied c.self.view_is c.args.pid c.in_ok-cred.ensures
     (λ t q. stat t q c.args.path.now) (calls.stat i.files c.in_ok-cred.field-0.now.cred c.args.path.now)
     (λ x. Ok (told s (replies.Meta x))) refl (λ (m : Meta). m) c.args.self.now c.in-Err.fault
-    (rw c.tree.ensures at c.in-Err.ensures)
+    (rw c.tree.ensures at c.in-Err.ensures.told)
