@@ -194,7 +194,7 @@ int64_t sag_set_nonblock(sag_hub *h, uint32_t ns, uint32_t pid, uint32_t fd, boo
  * -ENAMETOOLONG above 1,023 bytes, or for a name above 255, wherever that stands; then at each name -ENOTDIR where the
  * one before it is no directory, -EACCES where that may not be searched, -ENOENT where there is none. The last name is
  * walked so by sag_chmod, sag_open_path, sag_stat and sag_list, and with a slash behind it -ENOTDIR is told of a
- * FIFO. */
+ * FIFO. The other four are told -EACCES of the root, too, where it may not be searched. */
 
 /* 0. -EINVAL for a mode above 01777, before the path's; -EEXIST where there is such a file, and for the root, `.` and
  * `..`; -EACCES where the directory may not be written; -ENOSPC where there are 10,000 files. (mkdir(2)) */
