@@ -61,8 +61,9 @@ typedef struct sag_meta {
 
 /* What the pipe of a descriptor is ready for: how many bytes there are to read (FIONREAD of ioctl_pipe(2)), how many a
  * write may have that goes in whole at once, and whether somebody reads the pipe and somebody writes it. In the words
- * of poll(2), of an end that reads: POLLIN where bytes > 0, POLLHUP where !has_writer; and of one that writes: POLLOUT
- * where room >= 4096, POLLERR where !has_reader. */
+ * of poll(2), of an end that reads: POLLIN where bytes > 0, POLLHUP where !has_writer (also of a FIFO that nobody has
+ * opened for writing yet, where poll(2) wants one that was closed); and of one that writes: POLLOUT where room >= 4096,
+ * POLLERR where !has_reader. */
 typedef struct sag_ready {
     uint64_t bytes, room;
     bool has_reader, has_writer;
