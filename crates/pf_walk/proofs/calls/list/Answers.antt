@@ -13,3 +13,9 @@ returns-clause-told g c =
     let told : c.in_ok-names.names.items ≡ listed (names_below (way t.way) c.args.tree.now) =
     c.in_ok-names.ensures ∙ same in
     search rules
+
+pub returns-then-not-may-clause-told : goal.returns-then-not-may-clause-told
+returns-then-not-may-clause-told g c = search rules steps 200000
+
+pub returns-in_err-names-clause-wanted : goal.returns-in_err-names-clause-wanted
+returns-in_err-names-clause-wanted g c = search rules steps 200000

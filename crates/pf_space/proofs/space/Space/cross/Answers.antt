@@ -21,3 +21,6 @@ returns-clause-told g c =
     (λ s. not c.args.again && (c.args.flag
     || (is_nonblocking_at s c.args.pid c.args.source || is_nonblocking_at s c.args.pid c.args.sink)))
     (sym c.mustnt_wait.ensures ∙ c.if-mustnt_wait.false)
+
+pub returns-in-EndOfFile-clause-told : goal.returns-in-EndOfFile-clause-told
+returns-in-EndOfFile-clause-told g c = search rules steps 1000000

@@ -1,6 +1,7 @@
 -- It hands on what its write is told: a refused write leaves what it found, which was swept before. What it adds for
 -- frames is that no more are live than slots in use.
 
+use Rattle.std.proofs.Common.{rules}
 use Rattle.pf_base.specs.declared.step.Step.TheVariants as steps
 use Rattle.pf_tables.proofs.MeaningLaws.{settled-meaning}
 use Rattle.pf_tables.proofs.OwnsLaws.{held_occupied}
@@ -25,3 +26,6 @@ returns-in-Err-Errno-clause-spread g c =
 pub returns-in-Err-NoMemory-clause-spread : goal.returns-in-Err-NoMemory-clause-spread
 returns-in-Err-NoMemory-clause-spread g c =
     held_occupied _ c.write.new.self (g.met.F.Frames.sound _ c.write.ensures.door.fact) c.write.ensures.told.owns
+
+pub returns-in-Err-NoMemory-clause-succeeds : goal.returns-in-Err-NoMemory-clause-succeeds
+returns-in-Err-NoMemory-clause-succeeds g c = search rules steps 1000000

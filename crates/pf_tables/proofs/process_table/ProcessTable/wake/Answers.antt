@@ -1,5 +1,5 @@
 -- Who is woken waits in no call.
-use Rattle.std.proofs.Common.{sym, ap, ◌∙◌, is_some}
+use Rattle.std.proofs.Common.{rules, sym, ap, ◌∙◌, is_some}
 use Rattle.pf_tables.proofs.ProcessTable.{quiet, replaced, still_watched}
 use Rattle.pf_tables.proofs.process_table.ProcessTable.wake.Goals as goal
 use Rattle.pf_tables.proofs.process_table.ProcessTable.wake.Goals.{in-Open, in_default}
@@ -23,3 +23,18 @@ invariant_of-self-2 c =
           (replaced _ _ c.self.invariant _ _ c.value_mut-process.result.now _ c.value_mut-process.ensures.value
           (quiet c.value_mut-process.result.now _ _ c.take.ensures.after) unmarked c.unmark.ensures.others)
     ]
+
+pub returns-in_err-call-clause-call : goal.returns-in_err-call-clause-call
+returns-in_err-call-clause-call c = search rules steps 200000
+
+pub returns-in_err-call-clause-rows : goal.returns-in_err-call-clause-rows
+returns-in_err-call-clause-rows c = search rules steps 200000
+
+pub returns-in_err-call-clause-spare : goal.returns-in_err-call-clause-spare
+returns-in_err-call-clause-spare g c = search rules steps 1000000
+
+pub returns-clause-rows : goal.returns-clause-rows
+returns-clause-rows c = search rules steps 200000
+
+pub returns-clause-call : goal.returns-clause-call
+returns-clause-call c = search rules steps 1000000

@@ -59,3 +59,6 @@ pub returns-clause-says : goal.returns-clause-says
 returns-clause-says g c =
     lemmas.forked c.self.invariant.kept c.self.view_is c.args.pid c.in_ok-parent.ensures _ c.lowest-i.ensures.lowest
     c.if-i-ge-MAX_PROCESSES.false (same g c) c.put.ensures c.name_all.ensures
+
+pub returns-in_err-descriptors-clause-refused : goal.returns-in_err-descriptors-clause-refused
+returns-in_err-descriptors-clause-refused g c = search rules steps 1000000

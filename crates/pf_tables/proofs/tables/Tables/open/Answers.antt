@@ -140,3 +140,6 @@ returns-clause-says g c =
     c.new-access.ensures found c.lowest-fd.ensures.lowest key_is x z c.if-fd-ge-MAX_DESCRIPTORS.false
     (lt-leb _ _ c.if-fd-ge-MAX_DESCRIPTORS.false) (sym c.lacks_readers.ensures ∙ c.if-lacks_readers.false)
     (le-ltb _ _ (omega (arith, c.drawn.ensures, c.if-drawn.false, c.drawn.type_inv))))
+
+pub returns-then-lacks_readers-clause-wanted : goal.returns-then-lacks_readers-clause-wanted
+returns-then-lacks_readers-clause-wanted g c = search rules steps 200000

@@ -1,4 +1,4 @@
-use Rattle.std.proofs.Common.{ℕ, sym, ◌∙◌, subst}
+use Rattle.std.proofs.Common.{rules, ℕ, sym, ◌∙◌, subst}
 use Rattle.pf_tables.proofs.Common.{Covers}
 use Rattle.pf_base.specs.declared.step.Step.TheVariants.{Read}
 use Rattle.pf_tables.proofs.Bounds as lemmas
@@ -19,3 +19,6 @@ returns-clause-covers g c =
     subst (λ (m : ℕ). Covers c.args.self.now (Read c.args.pid c.args.fd c.args.n) m) (sym c.min.ensures)
     (lemmas.reads c.self.invariant.kept c.self.view_is c.args.pid c.args.fd c.args.n c.in-Ok.end
     (sym c.in-Ok.ensures) c.in-Some.pipe.now (sym c.in-Some.ensures) _ c.len.ensures.bytes)
+
+pub returns-clause-most : goal.returns-clause-most
+returns-clause-most g c = search rules steps 200000

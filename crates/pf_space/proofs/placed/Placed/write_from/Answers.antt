@@ -1,0 +1,9 @@
+-- Searches that end soon where there is no proof.
+use Rattle.std.proofs.Common.{rules}
+use Rattle.pf_space.proofs.placed.Placed.write_from.Goals as goal
+
+pub returns-clause-answers : goal.returns-clause-answers
+returns-clause-answers g c = search rules steps 200000
+
+pub returns-clause-succeeds : goal.returns-clause-succeeds
+returns-clause-succeeds g c = search rules steps 200000
