@@ -59,9 +59,10 @@ typedef struct sag_meta {
     uint32_t mode, uid, gid;
 } sag_meta;
 
-/* What the pipe of a descriptor is ready for: how many bytes there are to read (FIONREAD of ioctl_pipe(2)), how many a
- * write may have that goes in whole at once, and whether somebody reads the pipe and somebody writes it. In the words
- * of poll(2), of an end that reads: POLLIN where bytes > 0, POLLHUP where !has_writer (also of a FIFO that nobody has
+/* What the pipe of a descriptor is ready for: how many bytes there are to read (FIONREAD of ioctl_pipe(2)), how many it
+ * has room for, and whether somebody reads the pipe and somebody writes it. A write of at most `room` bytes that isn't
+ * refused goes in whole at once: sag_write takes at most 1,048,576, and wants somebody who reads. In the words of
+ * poll(2), of an end that reads: POLLIN where bytes > 0, POLLHUP where !has_writer (also of a FIFO that nobody has
  * opened for writing yet, where poll(2) wants one that was closed); and of one that writes: POLLOUT where room >= 4096,
  * POLLERR where !has_reader. */
 typedef struct sag_ready {
@@ -69,8 +70,8 @@ typedef struct sag_ready {
     bool has_reader, has_writer;
 } sag_ready;
 
-/* How sag_open_path opens a FIFO: for reading, for writing, or both; and with O_NONBLOCK. Not the numbers of
- * <fcntl.h>. */
+/* How sag_open_path opens a FIFO: for reading, for writing, or both; and with O_NONBLOCK. Other bits mean nothing. Not
+ * the numbers of <fcntl.h>. */
 enum { SAG_READ = 1, SAG_WRITE = 2, SAG_NONBLOCK = 4 };
 
 /* Hubs */
@@ -161,8 +162,8 @@ int64_t sag_tee(sag_hub *h, uint32_t ns, uint32_t pid, uint32_t source, uint32_t
 /* The same, and they leave `source`. -EBADF, -EINVAL, -EPIPE, -EAGAIN, as sag_tee. (splice(2)) */
 int64_t sag_splice(sag_hub *h, uint32_t ns, uint32_t pid, uint32_t source, uint32_t sink, uint64_t n, bool nonblock);
 
-/* Gives a pipe another capacity, and tells it, in bytes: the least power of two of pages, at least
- * one, that has room for so many. -EBADF; -EINVAL for more than 2,147,483,648 bytes; -EPERM above `max`, also where it
+/* Gives a pipe another capacity, and tells it, in bytes: the least power of two of pages, at least one, that has room
+ * for so many. -EBADF; -EINVAL for more than 2,147,483,648 bytes; -EPERM above `max`, also where it
  * doesn't grow, for any uid but 0. Where it grows, -EPERM where the pipes of the user who made it would be above `soft`
  * or `hard`, for any uid but 0, then -ENFILE where all pipes would be above `reserve`. Where it shrinks, -EBUSY where
  * more pages are in use. (fcntl(2), F_SETPIPE_SZ) */
@@ -195,10 +196,12 @@ int64_t sag_set_nonblock(sag_hub *h, uint32_t ns, uint32_t pid, uint32_t fd, boo
  * -ENAMETOOLONG above 1,023 bytes, or for a name above 255, wherever that stands; then at each name -ENOTDIR where the
  * one before it is no directory, -EACCES where that may not be searched, -ENOENT where there is none. The last name is
  * walked so by sag_chmod, sag_open_path, sag_stat and sag_list, and with a slash behind it -ENOTDIR is told of a
- * FIFO. The other four are told -EACCES of the root, too, where it may not be searched. */
+ * FIFO. Of the last name the other four are told -ENOTDIR and -EACCES so, for the root itself too, and what comes then
+ * stands beside them. */
 
 /* 0. -EINVAL for a mode above 01777, before the path's; -EEXIST where there is such a file, and for the root, `.` and
- * `..`; -EACCES where the directory may not be written; -ENOSPC where there are 10,000 files. (mkdir(2)) */
+ * `..`; -EACCES where the directory may not be written; -ENOSPC where there are 10,000 files besides the root.
+ * (mkdir(2)) */
 int64_t sag_mkdir(sag_hub *h, uint32_t ns, uint32_t pid, const void *path, size_t length, uint32_t mode);
 
 /* 0. -EINVAL, -EEXIST, -EACCES, -ENOSPC, as sag_mkdir, and behind -EEXIST -ENOENT where the path ends in a slash.

@@ -1,8 +1,8 @@
 /* Pairs of a write and a read of so many bytes, through the C library and through the kernel's pipe, and the two copies
  * that such a pair can't do without (memcpy), in one process, by turns. Prints a line a size: bytes, nanoseconds a pair
  * through the library, through the kernel, of two copies, and the library's ratios to both.
- * One word: how many pairs of each size. With a second word, only pairs of so many bytes through the library, for a
- * count of instructions. */
+ * One word: how many pairs of each size. With a second word, only pairs of so many bytes, at most 65,536, through the
+ * library, for a count of instructions. */
 #define _GNU_SOURCE
 #include "../../include/sagthrey.h"
 #include <fcntl.h>

@@ -148,7 +148,8 @@ static bool is_ready(uint32_t pid, uint32_t fd, uint64_t bytes, uint64_t room, b
            ready.has_writer == has_writer;
 }
 
-/* Each step of a process, with arguments that would do: for what is the same of all. */
+/* Each call of a process that is refused where there is none, with arguments that would do: for what is the same of
+ * all. */
 static int64_t step(int which, uint32_t ns, uint32_t pid) {
     uint32_t fds[2];
     sag_meta meta;

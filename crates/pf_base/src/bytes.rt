@@ -200,7 +200,7 @@ impl ByteRoom {
         })
     }
 
-    /// A copy of these bytes. Their own memory is shared where it can be, and else this memory is used.
+    /// A copy of these bytes: as `copy` makes it where that finds memory, and else in this memory.
     pub fn fill(self, alloc: Global, bytes: &ByteString) -> ByteString
         requires { length bytes.now ≤ self }
         ensures { result ≡ bytes.now }

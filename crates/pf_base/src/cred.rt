@@ -129,8 +129,8 @@ impl Cred {
         umask <= MAX_UMASK && groups.as_slice().len() <= MAX_GROUPS
     }
 
-    /// Whether the page limits of users don't hold for these credentials, and all access is granted: those of uid 0
-    /// (this profile's choice).
+    /// Whether neither the page limits of users nor pipe-max-size hold for these credentials, and all access is
+    /// granted: those of uid 0 (this profile's choice).
     pub fn is_privileged(&self) -> bool
         ensures { result ≡ is_privileged self.now }
     {

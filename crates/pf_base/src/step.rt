@@ -7,7 +7,8 @@ use crate::meta::Meta;
 use crate::open_flags::OpenFlags;
 use std::alloc::{AllocError, Global};
 
-/// A call of one process of a namespace. `pid`s count from 1, descriptors (`fd`) from 0.
+/// A call of one process of a namespace. `pid`s count from 1, descriptors (`fd`) from 0. What refuses each, in the
+/// order of the tests, stands in docs/SPECIFICATION.md.
 #[derive(Debug, PartialEq, Eq, Drop)]
 pub enum Step {
     /// A new process with these credentials and no descriptor.
@@ -17,7 +18,7 @@ pub enum Step {
         umask: u32,
         groups: Groups,
     },
-    /// The process ends, and with it its descriptors.
+    /// The process ends, also one that waits in a call, and with it that call and its descriptors.
     Exit {
         pid: u32,
     },

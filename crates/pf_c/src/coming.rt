@@ -54,9 +54,10 @@ fn retire_from(hub: &mut Hub<Global>, ns: u32) -> i64
     code_of_retirement(&answer)
 }
 
-/// A namespace of these limits is admitted, and its number is told: the least that was never given. Else -EINVAL for
-/// limits out of their ranges, -ENOSPC where too many live or were given a number, -ENOMEM where too few frames are
-/// left to reserve, or that memory of the heap was wanted; and nothing has changed.
+/// A namespace of these limits is admitted, and its number is told: the least that was never given. Else
+/// SAG_NONAMESPACE of a shut handle, -EINVAL for limits out of their ranges, -ENOSPC where too many live or were given
+/// a number, -ENOMEM where too few frames are left to reserve, or that memory of the heap was wanted; and nothing has
+/// changed.
 #[unsafe(no_mangle)]
 pub extern "C" fn sag_admit(alloc: Global, h: &mut SagHub, limits: &SagLimits) -> i64
     ensures { Admission (hub_of h.old) (hub_of h.new) limits.now alloc result }
@@ -67,7 +68,7 @@ pub extern "C" fn sag_admit(alloc: Global, h: &mut SagHub, limits: &SagLimits) -
     admit_to(h.place.hub(), alloc, limits)
 }
 
-/// A namespace that has no process is retired. -EBUSY where it has one, and nothing has changed.
+/// A namespace that has no process is retired. SAG_NONAMESPACE, or -EBUSY where it has one, and nothing has changed.
 #[unsafe(no_mangle)]
 pub extern "C" fn sag_retire(h: &mut SagHub, ns: u32) -> i64
     ensures { Retirement (hub_of h.old) (hub_of h.new) ns result }

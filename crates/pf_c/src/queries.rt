@@ -32,7 +32,7 @@ pub extern "C" fn sag_free_frames(h: &mut SagHub) -> u32
     h.place.hub().free()
 }
 
-/// How many frames a namespace holds.
+/// How many frames a namespace holds, or SAG_NONAMESPACE.
 #[unsafe(no_mangle)]
 pub extern "C" fn sag_held(h: &mut SagHub, ns: u32) -> i64
     ensures told { result ≡ held_code (hub_of h.old) ns }
@@ -48,8 +48,9 @@ pub extern "C" fn sag_held(h: &mut SagHub, ns: u32) -> i64
     i64::from(hub.held(ns))
 }
 
-/// Whether the call in which a process waits comes further when it is tried again: its sag_resume is told something else than
-/// SAG_PARKED, or more bytes of its write go in. False where it waits in no call.
+/// Whether the call in which a process waits comes further when it is tried again: its sag_resume is told something
+/// else than SAG_PARKED, or more bytes of its write go in. False where it waits in no call, and where there is no such
+/// process or namespace.
 #[unsafe(no_mangle)]
 pub extern "C" fn sag_can_go_on(h: &mut SagHub, ns: u32, pid: u32) -> bool
     ensures told { result ≡ goes_on_in (hub_of h.old) ns pid }
@@ -62,7 +63,7 @@ pub extern "C" fn sag_can_go_on(h: &mut SagHub, ns: u32, pid: u32) -> bool
     hub.lives(ns) && hub.can_go_on(ns, pid)
 }
 
-/// The least pid above `after` whose process can go on, 0 where there is none.
+/// The least pid above `after` whose process can go on, 0 where there is none or no such namespace.
 #[unsafe(no_mangle)]
 pub extern "C" fn sag_next_to_go_on(h: &mut SagHub, ns: u32, after: u32) -> u32
     ensures told { IsNextIn (hub_of h.old) ns after result }
@@ -81,7 +82,8 @@ pub extern "C" fn sag_next_to_go_on(h: &mut SagHub, ns: u32, after: u32) -> u32
     }
 }
 
-/// What the pipe of a descriptor is ready for (poll(2)): into `out`, which is as it was where there is no answer.
+/// What the pipe of a descriptor is ready for (poll(2)): into `out`. Else `out` is as it was: SAG_NONAMESPACE, or
+/// -ESRCH, -EBUSY and -EBADF, as of a question for its capacity.
 #[unsafe(no_mangle)]
 pub extern "C" fn sag_readiness(
     h: &mut SagHub,

@@ -67,7 +67,8 @@ pub(crate) fn code_of(answer: &Option<Answer>) -> i64
     }
 }
 
-/// What C is told of a read into its buffer: how many bytes lie there.
+/// What C is told of a read into its buffer, or of a call that is tried again: its number. Of a read it is how many
+/// bytes it hands out; of one that waited the buffer may have room for fewer.
 pub(crate) fn code_of_read(read: &Option<Result<Option<usize>, Errno>>) -> i64
     ensures { result ≡ code_of_read read.now }
 {

@@ -24,10 +24,10 @@ use std::sync::ledger::{Blank, Book, Ledger, Share};
 /// A depot that many namespaces share, with the books of two ledgers: how many frames they may still take, which are
 /// their credits, and how many they hold.
 ///
-/// A ledger is the whole service's. A namespace has a share of each: its credits, and the number of its frames on loan.
-/// A book has the sum of all shares, and there is one of each ledger, so no other depot can come in the place of this
-/// one. Each free frame is there for a credit, or is reserved for nobody, so whoever has a credit finds one. As that is
-/// true of every value, it is true whenever the lock around one is free.
+/// A ledger is of all namespaces over one depot. A namespace has a share of each: its credits, and the number of its
+/// frames on loan. A book has the sum of all shares, and there is one of each ledger, so no other depot can come in the
+/// place of this one. Each free frame is there for a credit, or is reserved for nobody, so whoever has a credit finds
+/// one. As that is true of every value, it is true whenever the lock around one is free.
 ///
 /// Namespaces come and go: one that comes is dealt a part of each ledger, and gives it back when it goes. A number is
 /// given once.

@@ -67,8 +67,9 @@ impl Depot {
     ghost use Rattle.pf_depot.specs.Depot.{free_of, frames_of, slack_of, IsFresh, SetsAside};
     ghost use Rattle.pf_depot.specs.Loans.{loans_live};
 
-    /// A depot of these frames, all of them free, and loans for as many namespaces as there are reservations, by
-    /// their places. The frames keep the bytes that they have.
+    /// A depot of these frames, all of them free, and loans for as many namespaces as there are reservations, by their
+    /// places. The frames keep the bytes that they have. The faults are those of `PoolFault`, in its order; at one the
+    /// frames are dropped.
     pub fn new(
         alloc: Global,
         frames: Vec<Frame>,

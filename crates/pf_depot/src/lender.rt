@@ -7,9 +7,9 @@ use pf_frame::FrameNo;
 
 /// Where the frames on loan come from, and where they go back to. A frame is moved, and never copied.
 ///
-/// No call takes memory, and each takes constant time. A lender has besides a fact, which is a condition of each call
-/// and kept by each, and a part that no call changes: what a call says of it is one equation of before and after, so
-/// it holds over any number of calls.
+/// No call takes memory, and each takes constant time, beside what it waits for a lock or a gate. A lender has besides
+/// a fact, which is a condition of each call and kept by each, and a part that no call changes: what a call says of it
+/// is one equation of before and after, so it holds over any number of calls.
 pub trait Lender {
     /// How many frames it is sure to give.
     ghost ready: { Self → ℕ };

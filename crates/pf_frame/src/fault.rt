@@ -35,8 +35,8 @@ fn sum_of(reserves: &[u32]) -> u64
 }
 
 impl PoolFault {
-    /// The first test that so many frames and these reservations fail. It takes no memory, and every store of frames makes
-    /// it before it asks for any.
+    /// The first test that so many frames and these reservations fail. It takes no memory, and a pool and a depot make
+    /// it before they ask for any.
     pub fn first(frames: usize, reserves: &[u32]) -> Option<PoolFault>
         ensures { result ≡ fault_of frames reserves.now }
     {

@@ -7,8 +7,9 @@ pub type FrameNo = u32;
 
 /// One namespace's door to its frames.
 ///
-/// A frame is live with its bytes and a count: how many slots name it. Each call changes its own frame alone.
-/// No call takes memory, and each takes constant time, besides the time to copy the bytes of a `fill`.
+/// A frame is live with its bytes and a count: how many slots name it. Each call changes its own frame alone. No call
+/// takes memory, and each takes constant time, besides the time to copy the bytes of a `fill`, and what it waits for a
+/// lock or a gate.
 ///
 /// `take` makes a frame live with count 1, `share` counts one more slot and `release` one less. So `share`, `release`,
 /// `fill` and `view` may find a count above 1: then a `release` frees nothing, and a `fill` is seen by every slot that

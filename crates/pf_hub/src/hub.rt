@@ -207,8 +207,9 @@ impl<A: Allocator + Clone> Hub<A> {
     /// A hub of these frames, with a namespace of each of these limits: their numbers are their places. A namespace's
     /// files, and nothing else, stand in memory of the allocator beside its limits.
     ///
-    /// The frames keep the bytes that they have; no read of a pipe shows them. The frames and limits are tested
-    /// before any memory is asked for.
+    /// The frames keep the bytes that they have; no read of a pipe shows them. The faults are those of `PoolFault`, in
+    /// its order: the frames and limits are tested before any memory is asked for. At a fault the frames and the
+    /// allocators are dropped.
     pub fn new(
         alloc: Global,
         frames: Vec<Frame>,

@@ -62,8 +62,8 @@ impl Model for Pipe {
 }
 
 impl Pipe {
-    /// An empty pipe of so many slots that nothing reads or writes yet, of the FIFO with this number or of none. No later
-    /// call takes memory but `set_size`.
+    /// An empty pipe of so many slots that nothing reads or writes yet, of the FIFO with this number or of none. Of the
+    /// later calls only `set_size` and `read_bytes` take memory.
     pub fn new(
         alloc: Global,
         slots: usize,

@@ -19,11 +19,11 @@ const ABOUT_THREADS: &str =
     "Runs each namespace on a thread of its own, with the same text; admit and retire need one thread";
 
 /// What it says of `--only`.
-const ABOUT_ONLY: &str = "Runs this namespace's steps alone, and prints its section";
+const ABOUT_ONLY: &str = "Runs this namespace's lines alone, and prints its section";
 
 /// What it says of `--tree-heap`.
 const ABOUT_TREE_HEAP: &str =
-    "Keeps each namespace's files in a heap of its own, of 1024 to 16777216 bytes";
+    "Keeps each namespace's files in a heap of its own, of 1024 to 16777216 bytes; it needs one thread";
 
 /// The end of what `--help` says: the lines of a script, and a script.
 const SCRIPT: &str = "Lines of a script:

@@ -40,7 +40,7 @@ pub const MOST_TREE_HEAP: u32 = 16_777_216;
 /// How a script is run.
 #[derive(Debug, Clone, Copy)]
 pub struct Options<'a> {
-    /// The name of the one namespace whose steps are run and whose section is written; all of them where it is `None`.
+    /// The name of the one namespace whose lines are run and whose section is written; all of them where it is `None`.
     pub only: Option<&'a str>,
     /// How many bytes each namespace has for its files, directories and names, in a heap of its own: any number, though
     /// the command line takes those from `LEAST_TREE_HEAP` to `MOST_TREE_HEAP` alone. Where it is `None`, the files

@@ -4,13 +4,14 @@
 ghost use Rattle.pf_play.specs.CommandLine.{ChoosesEachName};
 ghost use Rattle.pf_play.specs.Texts.{SameText, OneSection};
 
-/// A text is a function of the script's bytes and of the name that is chosen, whatever the frames hold, if no step
+/// A text is a function of the script's bytes and of the name that is chosen, whatever the frames hold, if no line
 /// met want of memory.
 pub fn same_text()
     ensures { SameText }
 {}
 
-/// With one name chosen the text is the section with this name of the text of all.
+/// With one name chosen the text is the section with this name of the text of all, if no line of either met want of
+/// memory, and, where namespaces come and go, the run of all admitted it.
 pub fn one_section()
     ensures { OneSection }
 {}

@@ -1,4 +1,4 @@
-//! The replayer: a script is read and judged, its steps are run, and the text of the answers is written.
+//! The replayer: a script is read and judged, its lines are run, and the text of the answers is written.
 #![tactic(auto)]
 
 mod answered;

@@ -33,14 +33,14 @@ const ONE_THREAD: &str = "--tree-heap needs one thread\n";
 /// What the process ends with.
 #[derive(Debug, Clone, Copy)]
 pub enum Status {
-    /// All is done, and no step met want of memory.
+    /// All is done, and no line met want of memory.
     Done = 0,
     /// The script is refused.
     Refused = 1,
     /// The words of the command line aren't taken, they ask for help or for what threads can't have, no namespace has the
     /// name that they choose, or the script needs one thread and they ask for more.
     Usage = 2,
-    /// Memory was wanted, by a step or outside of them.
+    /// Memory was wanted, by a step, by an admission or outside of the lines.
     NoMemory = 3,
     /// A read or a write failed.
     Fault = 4,
@@ -193,9 +193,9 @@ fn do_asked<T: Threads + Wait + Sync, R: Source, W: Sink, G: Gate + Sync>(
 }
 
 /// Judges the words of the command line, of which the first is the program's name, and then does what they say. What is
-/// written is the same with threads and without, but for a script that admits or retires a namespace: that needs one
-/// thread. The gate is told of each step where threads are asked for, and of none else. A heap for the files is for one
-/// thread.
+/// written is the same with threads and without where no memory is wanted, but for a script that admits or retires a
+/// namespace: that needs one thread. The gate is told of each step where threads are asked for, and of none else. A
+/// heap for the files is for one thread.
 pub fn obey<T: Threads + Wait + Sync, R: Source, W: Sink, G: Gate + Sync>(
     rt: &T,
     alloc: Global,
@@ -234,9 +234,10 @@ fn words<T: Env + AllocGlobal>(rt: &T) -> io::Result<Vec<String>> {
 
 /// The whole program `pfplay`: the words of the command line are judged, the script on standard input is run, and the
 /// text goes to standard output. With `--threads` each namespace is run on a thread of its own. With `--only NAME` the
-/// steps of that namespace are run alone, and its section is the text. The process ends with 0 where all is done, 1
-/// where the script is refused, 2 for usage and for a name that no namespace has, 3 where memory was wanted, and 4
-/// where reading or writing failed.
+/// lines of that namespace are run alone, and its section is the text. With `--tree-heap BYTES` each namespace's files
+/// have a heap of their own. The process ends with 0 where all is done, 1 where the script is refused, 2 for usage, for
+/// a name that no namespace has and for what needs one thread, 3 where memory was wanted, and 4 where reading or
+/// writing failed.
 pub fn run_program<T: Threads + Wait + Sync + Env + Input + Print + AllocGlobal>(
     rt: &T,
 ) -> ExitCode {

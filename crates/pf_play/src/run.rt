@@ -17,7 +17,8 @@ use thiserror::Error;
 /// What a run met.
 #[derive(Debug, Clone, Copy, Drop)]
 pub struct Replayed {
-    /// How many steps were answered that memory was wanted. Each may want it, in the state that it met.
+    /// How many lines, steps and admissions, were answered that memory was wanted. Each may want it, in the state that
+    /// it met.
     pub nomem: u64,
 }
 
@@ -27,7 +28,8 @@ pub enum ReplayFault {
     /// The script was refused, after the whole of it was read. Nothing was written.
     #[error("{0}")]
     Script(Refusal),
-    /// A growth of memory was refused outside a step. Nothing was written.
+    /// A growth of memory was refused outside of the lines. A thread that can't be started counts as one. Nothing was
+    /// written.
     #[error("no memory")]
     NoMemory,
     /// The reader failed, or gave one byte more than `INPUT_LIMIT`. Nothing was written.

@@ -69,8 +69,8 @@ impl Model for SlotRing {
 }
 
 impl SlotRing {
-    /// A ring of so many free slots: below 2^32, so that lengths and rooms in bytes fit a machine word. No later call takes
-    /// memory.
+    /// A ring of so many free slots: below 2^32, so that lengths and rooms in bytes fit a machine word. No later call
+    /// takes memory but `resized`.
     pub fn new(alloc: Global, slots: usize) -> Result<Self, AllocError>
         requires { slots < 2 ^ 32 }
         ensures { IfOk result (λ r. r ≡ record { capacity = slots; segments = [] }) }

@@ -163,8 +163,9 @@ fn print_either<W: Sink>(
     out.finish(writer)
 }
 
-/// Prints the text of the answers to a script's steps: of each namespace its name and a line for each of its steps.
-/// With the number of one namespace the answers are those to its own steps, and its section alone is printed.
+/// Prints the text of the answers to a script's lines: of each namespace its name and a line for each of its lines
+/// behind the space lines. With the number of one namespace the answers are those to its own lines, and its section
+/// alone is printed.
 ///
 /// No memory is taken: the text goes through a buffer of fixed size. The writer isn't asked again after a write that
 /// was refused; a front of the text was written then.

@@ -1,7 +1,8 @@
 use std::alloc::AllocError;
 use thiserror::Error;
 
-/// Why a service refused a seat or an event. Nothing has changed, and nothing was logged.
+/// Why a service refused a seat, an event or a question. What was refused has changed nothing, and nothing was logged
+/// of it; of a `call_waiting` the events before it stand.
 #[derive(Clone, Copy, Debug, PartialEq, Eq, Error)]
 pub enum ServiceFault {
     /// A growth of memory was refused.
@@ -33,7 +34,7 @@ impl From<AllocError> for ServiceFault {
 }
 
 /// Why a service's end was refused. The seats are looked at first, and then the namespaces in turn; want of memory may
-/// stand in place of each.
+/// stand in place of each. The service, its transcripts and the seats have gone.
 #[derive(Clone, Copy, Debug, PartialEq, Eq, Error)]
 pub enum CloseFault {
     /// The first namespace that has other limits than it was given, or whose transcript isn't what its seats keep. Of a

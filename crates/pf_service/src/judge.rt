@@ -46,8 +46,8 @@ fn fits(
     is_merge(alloc, transcript.entries(), seats, ns)
 }
 
-/// Whether all seats fit all transcripts, of namespaces of which the first were given these limits, and which gave so many
-/// seats each; or the first cause why they don't.
+/// Whether all seats fit all transcripts, of namespaces of which the first were given these limits, and which gave so
+/// many seats each; or the first cause why they don't, or that memory was wanted.
 ///
 /// It takes time in proportion to the entries, to the events of all seats, and to the seats times the namespaces.
 pub fn compare(

@@ -268,9 +268,10 @@ impl<A: Allocator + Clone, G: Gate, C: Ledger, H: Ledger> Service<A, G, C, H> {
     ///
     /// There is a transcript for each number that was given, whether its namespace lives or is retired. At Ok each is a
     /// merge of what its namespace's seats keep, each event at its place and nothing else; its replies are the lone
-    /// machine's on its steps, under the limits that the namespace was given, or where it was admitted, under the limits
-    /// that it kept; and the seats of each namespace are those numbered from 0 up to some number, each once. Seats of
-    /// another service are judged alike.
+    /// machine's on its steps, under the limits that the namespace was given, or where it was admitted, under the
+    /// limits that it kept; and the seats of each namespace are those numbered from 0 up to some number, each once.
+    /// Seats of another service are judged alike. At a fault, want of memory too, nothing is handed back: the service,
+    /// its transcripts and the seats have gone.
     ///
     /// How many seats were given lies behind the locks, where no clause of this call sees it. That they are all here, and
     /// that each fault has its cause, is a promise of `compare`, to which this call hands what lay there.

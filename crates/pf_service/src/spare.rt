@@ -10,7 +10,7 @@ use std::mem;
 
 /// Memory for the copy of a reply, made before an event's step, so that no want of memory comes after it.
 ///
-/// A contract sees how many bytes it is enough for, and it has memory for just as many.
+/// A contract sees how many bytes it is enough for. It has memory for just as many where they aren't kept in place.
 #[derive(Drop)]
 pub(crate) struct ReplyRoom {
     most: usize,

@@ -1,4 +1,4 @@
-//! One namespace: its processes, their descriptors, and its pipes, over any door to frames.
+//! One namespace: its processes, their descriptors, its pipes and its files, over any door to frames.
 #![tactic(auto)]
 
 pub mod placed;

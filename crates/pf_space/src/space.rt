@@ -12,7 +12,7 @@ mod parked;
 mod queries;
 mod transfers;
 
-/// One namespace: its processes, their descriptors, and its pipes.
+/// One namespace: its processes, their descriptors, its pipes and its files.
 ///
 /// A contract sees its limits and the lone machine's state, with a ring in each pipe in place of its queue. The
 /// bytes stand in the frames of the door that each step is handed.

@@ -1,4 +1,4 @@
-//! One file of a tree with what stands below it. Every call here goes down a path, a level at a time.
+//! One file of a tree with what stands below it. Every call with a path goes down it, a level at a time.
 
 ghost use Rattle.std.specs.Prelude.{◌≡◌, ◌<◌, ◌≤◌, ◌^◌, ◌+◌, [], ◌∷◌, ◌++◌, length, Some, None, IsSome, IfSome, IfNone, IfOk, OnOk, if◌then◌else◌, is_ok};
 ghost use Rattle.std.specs.List.{FoldsTo};

@@ -15,8 +15,8 @@ use std::marker::Model;
 /// Directories and FIFOs under a root directory, in memory of any allocator. A contract sees the finite map from paths to
 /// files.
 ///
-/// A call costs what the names of its path and the widths of their directories cost, and recursion goes no deeper than the
-/// path: names are found by halves.
+/// A call with a path costs what its names and the widths of their directories cost, and recursion goes no deeper than
+/// the path: names are found by halves. `for_each_depth_first` goes to each file.
 #[derive(Drop)]
 pub struct Tree<A: Allocator> {
     root: Node<A>,

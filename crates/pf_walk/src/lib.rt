@@ -1,7 +1,7 @@
 //! What the calls on files do and refuse: paths, permissions and changes over a tree of any allocator.
 //!
-//! Each call answers what `specs/FileCalls` of `pf_machine` says of the tree's map of files, with the refusals in its
-//! order, and changes nothing where it refuses or finds no memory.
+//! Each call answers what `specs/FileCalls` and `specs/Opens` of `pf_machine` say of the tree's map of files, with the
+//! refusals in their order, and changes nothing where it refuses or finds no memory.
 #![tactic(auto)]
 
 pub mod calls;

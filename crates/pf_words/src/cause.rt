@@ -19,17 +19,17 @@ pub enum Cause {
     WrongWords,
     /// A word is no number of its range.
     BadNumber,
-    /// A space line after a step line.
+    /// A space line behind a step line, an admit line or a retire line.
     LateSpace,
     /// A word is no name.
     BadName,
-    /// There is a namespace of this name already.
+    /// A line before has given this name, also where its namespace is retired.
     NameTwice,
-    /// There are as many namespaces as may be.
+    /// 64 names are given, those of retired namespaces among them.
     TooManyNamespaces,
     /// The reservations up to this line are more than the pool's frames.
     ReservationsExceed { sum: u64, frames: u32 },
-    /// No space line has this name.
+    /// No space line and no admit line before gives this name.
     UnknownNamespace,
     /// No call has this name.
     UnknownVerb,

@@ -12,9 +12,9 @@ pub trait Gate {
     /// This gate was told that this namespace takes a frame.
     ghost framed: { Self → ℕ → Type 0 };
 
-    /// A step of a namespace is about to be made, at this place among its steps, counted from 0. In a service the lock that
-    /// the namespace lies behind is held, and where the step is then refused, the next one has the same place. Where each
-    /// namespace has a thread of its own, no lock is held.
+    /// A step of a namespace is about to be made, at this place among its steps, counted from 0. In a service the lock
+    /// that the namespace lies behind is held, and where memory is then wanted for it, the next one has the same place.
+    /// Where each namespace has a thread of its own, no lock is held.
     fn pass(&self, ns: u32, place: u64)
         ensures { passed self.now ns place };
 

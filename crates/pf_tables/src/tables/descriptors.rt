@@ -52,7 +52,7 @@ fn drop_end(pipes: &mut Registry<Pipe>, end: Description) -> Option<Pipe>
     Some(pipes.remove(end.pipe))
 }
 
-/// What an exit lets go with one number.
+/// What a close or an exit lets go with one number.
 #[derive(Drop)]
 pub struct LetGo {
     /// Whether there was a descriptor.
@@ -109,7 +109,8 @@ fn forget(fifos: &mut HashMap<u64, Key>, file: Option<u64>)
 }
 
 impl<A: Allocator> Tables<A> {
-    /// Drops a descriptor of a process, if there is one, and what nobody can reach any more: a part of Exit.
+    /// Drops a descriptor of a process, if there is one, and what nobody can reach any more: Close does so, and Exit of
+    /// each.
     #[inline(always)]
     pub fn empty(&mut self, pid: u32, fd: usize) -> LetGo
         requires some { 0 < pid }

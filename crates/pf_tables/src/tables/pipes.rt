@@ -1,4 +1,4 @@
-//! Pipes: what makes one with its two ends.
+//! Pipes: what makes one with its two ends, what tells its capacity, and what gives it another.
 
 ghost use Rattle.std.specs.Prelude.{◌≡◌, ◌≢◌, ◌+◌, ◌-◌, ◌^◌, ◌<◌, ◌≤◌, Err, Some, None, IsOk, IfOk, OnErr};
 ghost use Rattle.std.specs.Prelude.{length, [], ◌∷◌, ◌++◌, not, ◌&&◌, ◌||◌, nat_lt};
