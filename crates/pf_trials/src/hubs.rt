@@ -1,4 +1,4 @@
-//! How a hub is opened, and how it runs events.
+//! How a hub is opened, how it runs events, and which bounds of replies it tells.
 
 use crate::scripts::{has_text, script_of, spawn};
 use pf_base::{Answer, Config, EventAnswer, Step};
@@ -186,6 +186,81 @@ fn runs_answer_in_order(rt: HostRuntime) -> Result<(), Fail> {
     assert!(rt; held(&hub) == (1, 0, 31));
     drop(hub);
     assert!(rt; runs?);
+    Ok(())
+}
+
+// A process's pipe holds 20 bytes, of which a child of it waits to read 7; and there is a FIFO.
+const WAITS: &str = "pool 16
+space red 16
+red spawn 5 5 022
+red pipe 1
+red fork 1
+red mkfifo 1 /f 0600
+red read 2 0 7
+red write 1 1 20*61
+";
+
+const WAITS_TEXT: &str = "== red
+1: pid 1
+2: fds 0 1
+3: pid 2
+4: num 0
+5: parked
+6: num 20
+";
+
+// Steps behind these: reads of more and of less than there is, of the end that is written, by a process that waits and
+// by none; a list; a Resume of the child, and of a process that waits for nothing; and an exit.
+const ASKS: &str = "pool 16
+space red 16
+red read 1 0 1000000000000
+red read 1 0 5
+red read 1 1 5
+red read 2 0 5
+red read 9 0 5
+red list 1 /
+red resume 2
+red resume 1
+red exit 1
+";
+
+// How many bytes the reply to each may have.
+const BOUNDS: [usize; 9] = [20, 5, 0, 0, 0, 256, 7, 0, 0];
+
+// How many bytes the replies to a script's steps may have, as a hub tells it.
+fn bounds(alloc: Global, hub: &Hub<Global>, script: &Script) -> Result<Vec<usize>, AllocError> {
+    let mut bounds = Vec::new(alloc);
+    for (ns, line) in script.steps() {
+        if let Line::Step(step) = line {
+            if hub.lives(*ns) {
+                bounds.push(hub.reply_bound(*ns, step))?;
+            }
+        }
+    }
+    Ok(bounds)
+}
+
+// Whether a hub with a namespace of 16 frames tells these bounds.
+fn tells_bounds(alloc: Global, hub: &mut Hub<Global>) -> Result<bool, Fail> {
+    let waits = runs(alloc, hub, WAITS, WAITS_TEXT)?;
+    let script = script_of(alloc, ASKS)?;
+    let told = bounds(alloc, hub, &script);
+    drop(script);
+    let tells = match &told {
+        Ok(all) => all.as_slice() == BOUNDS.as_slice(),
+        Err(AllocError) => false,
+    };
+    drop(told);
+    Ok(waits && tells)
+}
+
+#[test]
+fn bounds_of_replies(rt: HostRuntime) -> Result<(), Fail> {
+    let alloc = rt.alloc();
+    let mut hub = open(alloc, frames(alloc, 16)?, &[16])?;
+    let tells = tells_bounds(alloc, &mut hub);
+    drop(hub);
+    assert!(rt; tells?);
     Ok(())
 }
 

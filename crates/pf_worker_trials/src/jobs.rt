@@ -106,7 +106,8 @@ fn asks_alone<R: Wait, C: Ledger, H: Ledger>(
     let Ok(mut tenant) = admit(rt, alloc, book, 33) else {
         return false;
     };
-    let right = does(rt, book, &NoGate, &mut tenant, rows);
+    // Its number is the next one: who was refused, or gave frames back, took none.
+    let right = tenant.number() == 1 && does(rt, book, &NoGate, &mut tenant, rows);
     drop(tenant);
     right
 }
@@ -170,6 +171,60 @@ fn one_goes_when_its_process_has_exited(rt: HostRuntime) -> Result<(), Fail> {
         left,
         Some((RetireFault::Alive { processes: 1 }, no_room, [1, 33]))
     );
+    Ok(())
+}
+
+// What a tenant is told that is to come with so many frames, and whether one with fewer comes then, under this number.
+fn fits<R: Wait, C: Ledger, H: Ledger>(
+    rt: &R,
+    alloc: Global,
+    book: &Mutex<DepotBook<C, H>>,
+    reserves: [u32; 2],
+    number: u32,
+) -> (Option<AdmitFault>, Option<Tenant<C, H>>) {
+    let refused = admit(rt, alloc, book, reserves[0]).err();
+    match admit(rt, alloc, book, reserves[1]) {
+        Ok(tenant) if tenant.number() == number => (refused, Some(tenant)),
+        Ok(tenant) => {
+            drop(tenant);
+            (refused, None)
+        }
+        Err(_) => (refused, None),
+    }
+}
+
+// What two are told that ask for more of 700 frames than is left, and whether one comes behind each.
+fn asks_for_too_many<C: Ledger, H: Ledger, R: Wait>(
+    rt: &R,
+    alloc: Global,
+    credits: Blank,
+    held: Blank,
+) -> Option<[(Option<AdmitFault>, bool); 2]>
+    requires blanks { IsBlankOf C.name C.parts credits × IsBlankOf H.name H.parts held }
+{
+    let book = Mutex::new(bare::<C, H>(alloc, 700, credits, held)?);
+    let (first, red) = fits(rt, alloc, &book, [701, 600], 0);
+    let (second, blue) = fits(rt, alloc, &book, [128, 100], 1);
+    let came = [red.is_some(), blue.is_some()];
+    drop(red);
+    drop(blue);
+    drop(book);
+    Some([(first, came[0]), (second, came[1])])
+}
+
+fn asks_for_too_many_by_name<R: Wait>(
+    rt: &R,
+    alloc: Global,
+) -> Option<[(Option<AdmitFault>, bool); 2]> {
+    asks_for_too_many::<Brand, Brand, R>(rt, alloc, blank(), blank())
+}
+
+#[test]
+fn no_room_is_told_with_what_is_left(rt: HostRuntime) -> Result<(), Fail> {
+    let told = asks_for_too_many_by_name(&rt, rt.alloc());
+    let all = Some(AdmitFault::NoRoom { slack: 700 });
+    let rest = Some(AdmitFault::NoRoom { slack: 100 });
+    assert_eq!(rt; told, Some([(all, true), (rest, true)]));
     Ok(())
 }
 

@@ -84,6 +84,21 @@ pub(crate) fn passes<R: Wait, G: Gate, C: Ledger, H: Ledger>(
     parks && waits && hello && comes && rest && few == *b"hell" && many == *b"ld........"
 }
 
+// Whether calls on slices are refused where there is no such descriptor, and where no call waits.
+pub(crate) fn are_refused<R: Wait, G: Gate, C: Ledger, H: Ledger>(
+    rt: &R,
+    book: &Mutex<DepotBook<C, H>>,
+    gate: &G,
+    worker: &mut Tenant<C, H>,
+) -> bool {
+    let mut buffer = *b"....";
+    let reads = worker.read_into(rt, book, gate, 1, 9, &mut buffer) == Err(Errno::EBADF);
+    let writes = worker.write_from(rt, book, gate, 1, 9, b"x");
+    let writes = is(writes, &Reply::Err(Errno::EBADF));
+    let resumes = worker.resume_into(rt, book, gate, 1, &mut buffer) == Err(Errno::EINVAL);
+    reads && writes && resumes && buffer == *b"...."
+}
+
 // Whether a worker of its own is told so.
 fn is_passed<C: Ledger, H: Ledger, R: Wait>(
     rt: &R,

@@ -1,6 +1,7 @@
 //! What two tenants ask, and what each of them is told alone.
 
-use pf_base::{BYTES_IN_PLACE, ByteString, Errno, Groups, Reply, Step};
+use bitflags::Flags;
+use pf_base::{BYTES_IN_PLACE, ByteString, Errno, Groups, OpenFlags, Reply, Step};
 use std::alloc::{AllocError, Global};
 
 /// A step, what it is told, and whether its bytes stand in a slice.
@@ -28,14 +29,19 @@ pub(crate) fn put_in_slices(rows: &mut [Row]) {
     }
 }
 
-fn spawn() -> Row {
+// A new process of this number.
+fn spawn_of(pid: u32) -> Row {
     let step = Step::Spawn {
         uid: 5,
         gid: 5,
         umask: 18,
         groups: Groups::none(),
     };
-    Row::new(step, Reply::Pid(1))
+    Row::new(step, Reply::Pid(pid))
+}
+
+fn spawn() -> Row {
+    spawn_of(1)
 }
 
 fn pipe(told: Reply) -> Row {
@@ -157,4 +163,156 @@ pub(crate) fn waits_for_a_page(alloc: Global) -> Result<[Row; 7], AllocError> {
     let goes_on = Row::new(Step::Resume { pid: 1 }, Reply::Num(1));
     let pipe = pipe(Reply::Fds(0, 1));
     Ok([spawn(), pipe, fork(), write, waits, grow, goes_on])
+}
+
+/// A process makes two pipes, and a child of it has these too.
+pub(crate) fn begins_two() -> [Row; 4] {
+    let second = pipe(Reply::Fds(2, 3));
+    [spawn(), pipe(Reply::Fds(0, 1)), second, fork()]
+}
+
+fn at_d() -> ByteString {
+    ByteString::in_place(*b"/d            ", 2)
+}
+
+fn at_f() -> ByteString {
+    ByteString::in_place(*b"/d/f          ", 4)
+}
+
+// Bytes pass from a pipe to another and are read, and a read of the child waits, is tried again, and goes on.
+fn passes_on() -> [Row; 10] {
+    let tee = Step::Tee {
+        pid: 1,
+        source: 0,
+        sink: 3,
+        n: 9,
+        nonblock: true,
+    };
+    let splice = Step::Splice {
+        pid: 1,
+        source: 0,
+        sink: 3,
+        n: 9,
+        nonblock: true,
+    };
+    let both = Step::Read {
+        pid: 1,
+        fd: 2,
+        n: 100,
+    };
+    let waits = Step::Read {
+        pid: 2,
+        fd: 0,
+        n: 9,
+    };
+    let busy = Step::Read {
+        pid: 2,
+        fd: 0,
+        n: 9,
+    };
+    let bytes = ByteString::in_place([0x7A; BYTES_IN_PLACE], 2);
+    [
+        write_one(),
+        Row::new(tee, Reply::Num(1)),
+        Row::new(splice, Reply::Num(1)),
+        Row::new(both, Reply::Bytes(bytes)),
+        Row::new(waits, Reply::Parked),
+        Row::new(Step::Resume { pid: 2 }, Reply::Parked),
+        Row::new(busy, Reply::Err(Errno::EBUSY)),
+        write_one(),
+        Row::new(Step::Resume { pid: 2 }, Reply::Bytes(one())),
+        Row::new(Step::Exit { pid: 9 }, Reply::Err(Errno::ESRCH)),
+    ]
+}
+
+// Process 3 comes, has a child that exits, and a pipe of one page.
+fn comes() -> [Row; 9] {
+    let pipe = Step::Pipe {
+        pid: 3,
+        nonblock: true,
+    };
+    let same = Step::SetSize {
+        pid: 3,
+        fd: 0,
+        bytes: 4096,
+    };
+    let on = Step::SetNonblock {
+        pid: 3,
+        fd: 2,
+        on: true,
+    };
+    [
+        spawn_of(3),
+        Row::new(Step::Fork { pid: 3 }, Reply::Pid(4)),
+        Row::new(Step::Exit { pid: 4 }, Reply::Num(0)),
+        Row::new(pipe, Reply::Fds(0, 1)),
+        Row::new(Step::GetSize { pid: 3, fd: 0 }, Reply::Num(4096)),
+        Row::new(same, Reply::Num(4096)),
+        Row::new(Step::Dup { pid: 3, fd: 0 }, Reply::Num(2)),
+        Row::new(on, Reply::Num(0)),
+        Row::new(Step::Close { pid: 3, fd: 2 }, Reply::Num(0)),
+    ]
+}
+
+// It makes a directory with a FIFO, which it opens, takes both away, and exits.
+fn makes_files_and_goes() -> [Row; 10] {
+    let mkdir = Step::Mkdir {
+        pid: 3,
+        path: at_d(),
+        mode: 0o755,
+    };
+    let mkfifo = Step::Mkfifo {
+        pid: 3,
+        path: at_f(),
+        mode: 0o644,
+    };
+    let chmod = Step::Chmod {
+        pid: 3,
+        path: at_f(),
+        mode: 0o600,
+    };
+    let stat = Step::Stat {
+        pid: 3,
+        path: ByteString::in_place(*b"/n            ", 2),
+    };
+    let list = Step::List {
+        pid: 3,
+        path: at_d(),
+    };
+    let names = ByteString::in_place(*b"f/            ", 2);
+    let open = Step::Open {
+        pid: 3,
+        path: at_f(),
+        flags: OpenFlags::from_bits_retain(3),
+    };
+    let unlink = Step::Unlink {
+        pid: 3,
+        path: at_f(),
+    };
+    let rmdir = Step::Rmdir {
+        pid: 3,
+        path: at_d(),
+    };
+    [
+        Row::new(mkdir, Reply::Num(0)),
+        Row::new(mkfifo, Reply::Num(0)),
+        Row::new(chmod, Reply::Num(0)),
+        Row::new(stat, Reply::Err(Errno::ENOENT)),
+        Row::new(list, Reply::Names(names)),
+        Row::new(open, Reply::Num(2)),
+        Row::new(Step::Close { pid: 3, fd: 2 }, Reply::Num(0)),
+        Row::new(unlink, Reply::Num(0)),
+        Row::new(rmdir, Reply::Num(0)),
+        Row::new(Step::Exit { pid: 3 }, Reply::Num(0)),
+    ]
+}
+
+/// Steps of each kind, by the processes of `begins_two` and others that come and go: they leave all as it was. Two of
+/// them take a frame each.
+pub(crate) fn each_kind(alloc: Global) -> Result<Vec<Row>, AllocError> {
+    let mut rows = Vec::with_capacity(alloc, 29)?;
+    rows.extend(passes_on())?;
+    rows.extend(comes())?;
+    rows.extend(makes_files_and_goes())?;
+    Ok(rows)
 }
