@@ -25,10 +25,11 @@ from collections import Counter, namedtuple
 from concurrent.futures import ThreadPoolExecutor
 
 import wrong_bodies
-from wrong_bodies import Trial, bytes_of, check, edits_of, functions_of, groups_of, is_proved, read, run, say
+from wrong_bodies import Trial, bytes_of, check, edits_of, functions_of, groups_of, in_its_place, is_proved
+from wrong_bodies import read, run, say
 
 DEAREST = 25  # how many wrong bodies are named at the end, with what each took
-CHECKS = 4  # how many checks of a crate with wrong bodies one lane makes, where another lane can take the others
+CHECKS = 2  # how many checks of a crate with wrong bodies one lane makes, where another lane can take the others
 LANE_BYTES = 4 << 30  # what a check may take of memory
 LANE_ROOM = 8 << 30  # what a lane may take of the disk
 REASON = 240  # how many characters are said of why something wasn't done
@@ -271,7 +272,8 @@ class WrongBodies:
         builds, and a check before it would read all of it once more. Where it isn't, the functions are proved that its
         wrong bodies are of, and no others: that all are proved `rt ci` shows, in a whole run."""
         when, folder = "as it stands, so its wrong bodies and what stands on it aren't tried", f"crates/{crate}"
-        spots = functions_of([it for part in self.parts.get(crate, []) for group in part for it in group])
+        edits = [it for part in self.parts.get(crate, []) for group in part for it in group]
+        spots = functions_of(in_its_place(f"{tree}/{folder}", edits))
         ran = library(f"{tree}/{folder}") if is_built else check(f"{tree}/{folder}", spots)
         self.proved[crate] += ran.seconds
         if not is_proved(ran, crate, when):

@@ -1,7 +1,8 @@
 """Wrong bodies: edits of a crate's source that turn a function's meaning, and that the prover must refuse.
 
 One is a file crates/CRATE/wrong/NAME.edit in the form of the kit's must-fail edits: a line 'file: PATH', then pairs of
-lines 'old: TEXT' and 'new: TEXT'. They are tried by `rt check` and `rt must-fail` alone, in a copy of the tree.
+lines 'old: TEXT' and 'new: TEXT'. A line 'breaks: GOAL' before them may say which part of the contract it breaks, where
+the function's proof file answers that. They are tried by `rt check` and `rt must-fail` alone, in a copy of the tree.
 
 A body is checked against the contracts of what it calls and not against their bodies. So wrong bodies of different
 functions stand in one check, of these functions alone. One counts as refused where its own function isn't proved
@@ -17,6 +18,16 @@ For a function that it refuses the prover works out what could be written in the
 as long again as the refusal. It doesn't where the file has a fault of its own. So in company each wrong body's function
 has a proof file with a planted fault, which is no reason: there a function counts as refused where the prover says
 which part of its contract isn't proved, or finds another fault in the file.
+
+A part of a contract that the proof file answers is judged by that answer, and each other one by the prover's tactics,
+which are tried to their limits where there is no proof. So a wrong body that says which answer it breaks stands in
+company with no tactics at its function, and is refused there only where that answer doesn't hold, by which the
+untouched text is proved. Where it does hold, the wrong body stands in company once more, with tactics.
+
+The start of a check takes as long as a dozen such refusals. So of a function's wrong bodies each further one stands in
+the same check, in a copy of the function under another name with copies of its proof files. That it is refused for
+what it does, and not as a copy, is seen behind all of them: there a copy of the untouched text must be proved with it.
+Where that isn't so, all are tried without copies.
 
 A check says when it is done with a function. So what each wrong body took is known, but for those that the kit judged.
 
@@ -41,11 +52,13 @@ LAST = 40  # how many lines are printed of a check that should have passed
 FUNCTION = re.compile(r'^([ \t]*)(?:pub(?:\([^)]*\))? )?(?:const )?(?:unsafe )?(?:extern "C" )?fn (\w+)', re.M)
 NAME = re.compile(r"\bfn (\w+)")
 OWNER = re.compile(r"^(?:unsafe )?impl\b([^{]*)\{|^(?:pub(?:\([^)]*\))? )?trait (\w+)", re.M)
+ABOVE = re.compile(r"(?:^[ \t]*(?:#\[|///).*\n)*\Z", re.M)  # what is written before a function's head
+TACTIC = re.compile(r"^[ \t]*#\[tactic\(.*\)\]\n", re.M)
 ITEM = re.compile(r"^\s*(?:pub(?:\([^)]*\))? )?(?:struct|enum|impl|trait|mod|const|static|type|use)\b", re.M)
 # What a check says: of a function, of a place in a function's proof file, of a goal in the source, and of a source that
 # it can't read, where it judges nothing
 VERDICT = re.compile(r"^fn (\S+): (?:no proof|not proved)(?![;:] it calls)")
-FAULT = re.compile(r"^(?:\./)?proofs/(\S+)/(?:Answers|Invariants|Proof)\.antt:\d+:\d+: error: (?!`planted`)")
+FAULT = re.compile(r"^(?:\./)?proofs/(\S+)/(?:Answers|Invariants|Proof)\.antt:\d+:\d+: error: (?!`planted`)(`[^`]*`)?")
 UNPROVED = re.compile(r"^note: (?:\./)?(src/\S+?):(\d+):(\d+): (?:it is not proved that|`search` found no proof)")
 UNREAD = re.compile(r"^(?:\./)?(?:src|specs)/\S+?:\d+:\d+: error|\berror\[[\w-]+\]")
 OF_A_FUNCTION = re.compile(r"^fn \S+: ")  # a check that comes to its end says it of each
@@ -62,7 +75,9 @@ HOLLOW_VERDICT = re.compile(  # of a record without a field the kit gives the fi
     rf"refused, as it must be(?: \(only because a proof file|: \S*proofs/.*(?:{HOLLOW.pattern}|record `.*` \(nearest:))"
 )
 
-Edit = namedtuple("Edit", "name text pairs spots")  # pairs: (file, old, new); spots: what it edits, as spot_at names it
+# pairs: (file, old, new); spots: what it edits, as spot_at names it; breaks: the answer that it says it breaks, or "";
+# copies: the functions that it makes a copy of, to edit that
+Edit = namedtuple("Edit", "name text pairs spots breaks copies")
 Tried = namedtuple("Tried", "name verdict said")
 NO_REASONS = {}, {}
 WAS_REFUSED, SHOWS_NOTHING, LET_THROUGH = "refused", "shows nothing", "let through"  # the verdicts
@@ -207,8 +222,25 @@ def spot_of_goal(folder, file, text, line, column):
 def edits_of(folder):
     """The wrong bodies of a crate."""
     files = sorted(os.listdir(f"{folder}/wrong")) if os.path.isdir(f"{folder}/wrong") else []
-    texts = {it: read(f"{folder}/wrong/{it}") for it in files}
-    return [Edit(name, text, pairs_of(text), spots_of(folder, pairs_of(text))) for name, text in texts.items()]
+    return [edit_of(folder, it, read(f"{folder}/wrong/{it}")) for it in files]
+
+
+def edit_of(folder, name, text):
+    """The edit of a file of this text."""
+    breaks = [it.removeprefix("breaks: ").strip() for it in text.split("\n") if it.startswith("breaks: ")]
+    return Edit(name, text, pairs_of(text), spots_of(folder, pairs_of(text)), "".join(breaks[:1]), set())
+
+
+def in_its_place(folder, edits):
+    """Edits of the functions themselves, in the place of those of copies."""
+    return [edit_of(folder, it.name, it.text) if it.copies else it for it in edits]
+
+
+def untouched(folder, edits):
+    """A copy of each function that these make copies of, with its own text."""
+    firsts = {min(it.copies): edit_of(folder, it.name, it.text) for it in edits if it.copies}
+    same = lambda it: it._replace(pairs=[(file, old, old) for file, old, _ in it.pairs[:1]])
+    return [copy_of(folder, same(it), 2) for it in firsts.values()]
 
 
 def pairs_of(text):
@@ -262,15 +294,54 @@ def functions_of(edits):
     return sorted(set().union(*(it.spots for it in edits))) if all(map(is_of_functions, edits)) else []
 
 
-def groups_of(folder, edits):
-    """Edits of different functions together, and what is in no function by itself. The functions with the most edits
-    come first, as no check has two of one function, and as many checks as these need are made before any is full."""
+def text_in(text, head):
+    """What stands of a function in a source: what is written before its head, its head's line, and the rest of it; or
+    nothing where its end isn't found."""
+    above = ABOVE.search(text[: head.start()]).start()
+    start = text.find("\n", head.end()) + 1
+    end = re.search(rf"^{head[1]}\}}\n", text[start:], re.M)
+    last = start + end.end() if end else 0
+    is_whole = end and not FUNCTION.search(text, start, last)
+    return (text[above : head.start()], text[head.start() : start], text[start:last]) if is_whole else None
+
+
+def copy_of(folder, edit, number):
+    """An edit that makes a copy of its function, with its proof files, and edits that; None where that can't be: it is
+    of several functions or brings one, or its function is one of a trait, or for C, or calls itself."""
+    file, spot = edit.pairs[0][0], min(edit.spots)
+    text, name, home = text_of(folder, file), spot.split("::")[-1], f"proofs/{spot.replace('::', '/')}"
+    heads = [it for it in FUNCTION.finditer(text) if spot_at(folder, file, text, it.end()) == spot]
+    found = text_in(text, heads[0]) if len(heads) == 1 == len(edit.spots) else None
+    owner = [it for it in OWNER.finditer(text) if it.start() < heads[0].start()][-1:] if found and heads[0][1] else []
+    if not found or 'extern "' in found[1] or any(it[2] or " for " in it[1] for it in owner):
+        return None
+    calls_itself = os.path.isdir(f"{folder}/{os.path.dirname(home)}/+{os.path.basename(home)}")
+    if text.count("".join(found[:2])) != 1 or os.path.isfile(f"{folder}/{home}/Proof.antt") or calls_itself:
+        return None
+    body, head = "".join(found), "".join(found[:2])
+    for of, old, new in edit.pairs:
+        if of != file or body.count(old) != 1 or "fn " in new:
+            return None
+        body = body.replace(old, new)
+    pairs = [(file, head, re.sub(rf"\bfn {name}\b", f"fn {name}_{number}", body, count=1) + f"\n{head}")]
+    module = rf"\b(Rattle\.{os.path.basename(folder)}\.proofs\.{spot.replace('::', '.')})(?=\.)"
+    for it in ("Answers.antt", "Invariants.antt"):
+        if proof := text_of(folder, f"{home}/{it}"):
+            pairs.append((f"{home}_{number}/{it}", "", re.sub(module, rf"\1_{number}", proof)))
+    return edit._replace(pairs=pairs, spots={f"{spot}_{number}"}, copies={spot})
+
+
+def groups_of(folder, edits, with_copies=True):
+    """Edits that stand in one check, and what is in no function by itself. The functions with the most edits come
+    first: of one function a check has another one in a copy alone, so where that can't be as many checks are made as
+    these need before any is full."""
     groups, counts = [], Counter(spot for edit in edits for spot in edit.spots)
     for edit in sorted(edits, key=lambda it: -max((counts[spot] for spot in it.spots), default=0)):
         for group in groups if is_of_functions(edit) else []:
-            is_free = len(group) < MOST and is_of_functions(group[0]) and not any(edit.spots & it.spots for it in group)
-            if is_free and edited(folder, [*group, edit]):
-                group.append(edit)
+            taken = sum(bool(edit.spots & (it.spots | it.copies)) for it in group)
+            it = (copy_of(folder, edit, taken + 1) if with_copies else None) if taken else edit
+            if it and len(group) < MOST and is_of_functions(group[0]) and edited(folder, [*group, it]):
+                group.append(it)
                 break
         else:
             groups.append([edit])
@@ -285,19 +356,23 @@ def spot_of_fault(fault):
     return fault[1].replace("/", "::").replace("+", "")
 
 
-def reasons_in(said, spot_at_goal, planted):
+def reasons_in(said, spot_at_goal, planted, silent):
     """By their functions, lines of what a check said: those that are a reason of the function's own not to be proved,
-    and those that say nothing of its contract. None where it couldn't read the texts, and so judged nothing."""
+    and those that say nothing of its contract. Of a function with no tactics (silent) only the fault of one answer is a
+    reason. None where it couldn't read the texts, and so judged nothing."""
     lines = BROKEN.sub(" ", said).split("\n")
     found = lambda pattern: [it for it in map(pattern.match, lines) if it]
     if any(UNREAD.search(it) for it in lines) or not found(OF_A_FUNCTION):
         return None
     faults = [(spot_of_fault(it), it.string) for it in reversed(found(FAULT))]
     verdicts = {it[1].partition("::")[2]: it.string for it in found(VERDICT)}
+    goals = [(spot_at_goal(it[1], int(it[2]), int(it[3])), it.string) for it in found(UNPROVED)]
     hollow = {spot: line for spot, line in [*verdicts.items(), *faults] if HOLLOW.search(line)}
-    reasons = {spot: line for spot, line in verdicts.items() if spot not in planted and spot not in hollow}
+    reasons = {spot: line for spot, line in verdicts.items() if spot not in planted | hollow}
     reasons |= {spot: line for spot, line in faults if not HOLLOW.search(line)}
-    return reasons | {spot_at_goal(it[1], int(it[2]), int(it[3])): it.string for it in found(UNPROVED)}, hollow
+    reasons = {spot: line for spot, line in [*reasons.items(), *goals] if spot not in silent}
+    answers = {(spot_of_fault(it), it[2]): it.string for it in found(FAULT) if not HOLLOW.search(it.string)}
+    return reasons | {it: answers[it, f"`{of}`"] for it, of in silent.items() if (it, f"`{of}`") in answers}, hollow
 
 
 def fault_in(said):
@@ -316,6 +391,19 @@ def planted_in(folder, spots, texts):
             file = f"{home}/Answers.antt"
             planted[spot] = file, texts.get(file, text_of(folder, file)) + PLANTED
     return planted
+
+
+def silenced(folder, texts, spots):
+    """The texts with no tactics at these functions, in the place of what is said of tactics there."""
+    made = {}
+    for file, text in texts.items():
+        for head in reversed([*FUNCTION.finditer(text)]):
+            if spot_at(folder, file, text, head.end()) in spots:
+                above = ABOVE.search(text[: head.start()]).start()
+                said = TACTIC.sub("", text[above : head.start()])
+                text = f"{text[:above]}{said}{head[1]}#[tactic(none)]\n{text[head.start() :]}"
+        made[file] = text
+    return made
 
 
 @contextlib.contextmanager
@@ -353,14 +441,24 @@ class Trial:
         self.tried.append(Tried(edit.name, verdict, said))
         print(f"wrong {self.crate}/{edit.name}: {said}", flush=True)
 
-    def play(self, groups):
+    def play(self, groups, with_copies=True):
+        copies = untouched(self.folder, [it for group in groups for it in group])
+        edits = in_its_place(self.folder, [it for group in groups for it in group])
         with self.out_kept():
             rest = [it for group in groups for it in self.try_together(group)]
-            left = [it for it in rest if not self.try_alone(it)]
+            again = [it._replace(breaks="") for it in in_its_place(self.folder, [it for it in rest if it.breaks])]
+            again = groups_of(self.folder, again, with_copies)
+            rest = [it for it in rest if not it.breaks] + [it for group in again for it in self.try_together(group)]
+            left = [it for it in in_its_place(self.folder, rest) if not self.try_alone(it)]
             self.leave_to_the_kit(left)
             # the kit judges by the whole crate, so where it did that must check whole
-            spots = [] if left else functions_of([it for group in groups for it in group])
-            ran = self.counted(check(self.folder, spots))
+            spots = [] if left else functions_of([*edits, *copies])
+            with in_place(self.folder, edited(self.folder, copies)):
+                ran = self.counted(check(self.folder, spots))
+        if ran.status and copies:
+            say(f"{self.crate}: copies of the untouched text don't check, so all are tried without copies")
+            self.tried = []
+            return self.play(groups_of(self.folder, edits, with_copies=False), with_copies=False)
         self.holds = is_proved(ran, self.crate, "again, behind its wrong bodies")
         return self
 
@@ -408,13 +506,16 @@ class Trial:
             return None
         texts, spots = edited(self.folder, group), functions_of(group)
         planted, laps = planted_in(self.folder, spots, texts) if plants else {}, Laps()
+        silent = {spot: it.breaks for it in group for spot in it.spots if it.breaks and spot in planted}
+        texts = silenced(self.folder, texts, silent)
         self.put_back()
         with in_place(self.folder, texts | dict(planted.values())):
             ran = self.counted(check(self.folder, spots, laps))
         self.took.update({it.name: sum(laps.seconds[spot] for spot in it.spots) for it in group})
         text = lambda file: texts.get(file) or text_of(self.folder, file)
         spot_at_goal = lambda file, *place: spot_of_goal(self.folder, file, text(file), *place)
-        found = reasons_in(ran.said, spot_at_goal, planted) if ran.status == 1 else None if ran.status else NO_REASONS
+        judged = lambda: reasons_in(ran.said, spot_at_goal, planted, silent)
+        found = judged() if ran.status == 1 else None if ran.status else NO_REASONS
         if not found:
             what = f"status {ran.status}, {fault_in(ran.said)}"
             say(f"{self.crate}: a check of {len(group)} wrong bodies judged nothing: {what}")
@@ -429,7 +530,7 @@ class Trial:
             os.rename(own, aside)
         os.mkdir(own)
         for it in edits:
-            shutil.copy2(f"{self.folder}/wrong/{it.name}", own)
+            write(f"{own}/{it.name}", re.sub(r"^breaks: .*\n", "", it.text, flags=re.M))
         ran = self.counted(run(["rt", "must-fail", self.crate, *known(self.words, self.tree)], self.tree))
         shutil.rmtree(own)
         if os.path.isdir(aside):
