@@ -1,4 +1,4 @@
-use Rattle.std.proofs.Common.{ap, codes, map, string_bytes, sym, ◌≡◌, ◌∙◌}
+use Rattle.std.proofs.Common.{rules, ap, codes, map, string_bytes, sym, ◌≡◌, ◌∙◌}
 use Rattle.std.specs.Option.{option_and_then}
 use Rattle.std.specs.Str.Parse.{ParsesUnsigned, ExplainsUnsignedError, HasUnsignedDigitsIfOk}
 use Rattle.clap.specs.Words.{app_of, fault_of, first_of, found_of, one_of, one_text, is_simple, is_simple_and_free, matches_of}
@@ -37,3 +37,6 @@ returns-clause-refusals c =
     let app : app_of c.in_ok-command.command ≡ pfplay = c.in_ok-command.ensures in
     ap (λ a. fault_of a (map string_bytes c.args.words.now)) (sym app)
     ∙ c.in_ok-matches.ensures.kinds (ap is_simple_and_free app ∙ simple_and_free)
+
+pub returns-clause-fill : goal.returns-clause-fill
+returns-clause-fill c = search rules steps 100000

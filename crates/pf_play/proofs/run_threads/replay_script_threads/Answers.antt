@@ -1,4 +1,4 @@
-use Rattle.std.proofs.Common.{true, refl, sym, ◌∙◌, ◌≡◌, ℕ, Option, option_copied}
+use Rattle.std.proofs.Common.{rules, true, refl, sym, ◌∙◌, ◌≡◌, ℕ, Option, option_copied}
 use Rattle.std.proofs.lemmas.Result.{IfErr-weaker, IfOk-weaker}
 use Rattle.pf_script.specs.Ports.{IsWritten}
 use Rattle.pf_script.specs.Script.{read_script}
@@ -59,3 +59,6 @@ returns-clause-framed g c = λ input rest read ok.
       told_framed framed old new script (read_script read.0) name c.in-Ok.only run.0 read.2 c.in-Ok.ensures.names run.2
           told.1.0 run.3,
     )
+
+pub returns-in_default-clause-fault : goal.returns-in_default-clause-fault
+returns-in_default-clause-fault g c = search rules steps 500000

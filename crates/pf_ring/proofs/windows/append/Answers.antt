@@ -1,3 +1,4 @@
+use Rattle.std.proofs.lemmas.Grind.{common_steps}
 use Rattle.std.proofs.Common.{◌≡◌, ℕ, ◌+◌, length, sym, ◌∙◌, eqb-true, Bool, false, ◌==◌, arith}
 use Rattle.std.proofs.lemmas.Bool.Decides.{nat_tests}
 use Rattle.pf_ring.proofs.WindowLaws.{bytes_in_le}
@@ -30,3 +31,6 @@ returns-then-is_empty-clause-most g c = omega (arith, bytes_in_le c.loop.windows
 
 pub returns-then-is_empty-clause-puts : goal.returns-then-is_empty-clause-puts
 returns-then-is_empty-clause-puts g c = steps_are c.loop.invariant.appending (appending_end _ _ _ _ _ _ _ _ _ c.loop.invariant.appending.door.frames (eqb-true _ _ (sym c.is_empty.ensures ∙ c.if-is_empty.true))).1
+
+pub loop-init : goal.loop-init
+loop-init g c = grind (arith, common_steps)

@@ -29,3 +29,6 @@ loop-rest-preserved g c =
       made = made_on c.loop-rest.digits.items front behind c.block_digits.result _ _ items c.block_digits.ensures
           (rw join c.loop-rest.invariant.made);
     }
+
+pub returns : goal.returns
+returns g c = search rules steps 500000

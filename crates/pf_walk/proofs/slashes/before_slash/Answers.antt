@@ -1,4 +1,4 @@
-use Rattle.std.proofs.Common.{◌≡◌, ◌<◌, true, sym, ap, ◌∙◌, arith, take, map, length, nat_eq, slice_index}
+use Rattle.std.proofs.Common.{rules, ◌≡◌, ◌<◌, true, sym, ap, ◌∙◌, arith, take, map, length, nat_eq, slice_index}
 use Rattle.std.specs.Int.Count.{count_trailing_zeros}
 use Rattle.std.specs.Simd.Lanes.{mask_l}
 use Rattle.std.proofs.lemmas.Bool.Decides.{nat_tests}
@@ -25,3 +25,6 @@ returns-then-text-k-eq47 c =
 
 pub returns : goal.returns
 returns c = sym (position_or_len_is (λ b. nat_eq b 47) c.args.text.now (length c.args.text.now) 0 (omega arith) (λ j lt. c.loop-k.invariant j (omega (arith, lt))) (λ lt. absurd (omega (arith, lt))))
+
+pub loop-k-init : goal.loop-k-init
+loop-k-init g c = search rules steps 100000

@@ -1,5 +1,6 @@
 -- Each event names a namespace, and goes on with the run.
-use Rattle.std.proofs.Common.{ℕ, ◌+◌, length, take, ap, sym, ◌∙◌, subst, rules, length-append, List, ◌∷◌, [], ◌++◌}
+use Rattle.std.proofs.lemmas.Grind.{common_steps}
+use Rattle.std.proofs.Common.{arith, ℕ, ◌+◌, length, take, ap, sym, ◌∙◌, subst, rules, length-append, List, ◌∷◌, [], ◌++◌}
 use Rattle.pf_base.specs.declared.step.Step.{Step}
 use Rattle.pf_base.specs.declared.step.Answer.{Answer}
 use Rattle.std.proofs.lemmas.List.{take_more}
@@ -50,3 +51,6 @@ loop-event-preserved g c =
       allocators = c.step_in-answer.ensures.allocators ∙ c.loop-event.invariant.allocators;
       covered = c.step_in-answer.ensures.stepped.covered;
     }
+
+pub returns-clause-ran : goal.returns-clause-ran
+returns-clause-ran g c = grind (arith, common_steps)

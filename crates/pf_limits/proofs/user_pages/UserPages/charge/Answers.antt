@@ -1,4 +1,4 @@
-use Rattle.std.proofs.Common.{◌≡◌, ◌+◌, ◌≤◌, nat_eq, sym, ap, subst, ◌∙◌, arith}
+use Rattle.std.proofs.Common.{rules, ◌≡◌, ◌+◌, ◌≤◌, nat_eq, sym, ap, subst, ◌∙◌, arith}
 use Rattle.std.specs.Prelude.{unwrap_or}
 use Rattle.std.specs.HashMap.{get}
 use Rattle.pf_limits.proofs.KeptLaws.{IsKept-charge}
@@ -15,3 +15,6 @@ invariant_of-self-2 c =
     IsKept-charge c.self.inside.users c.insert.new.self c.args.uid _ _ _ c.args.pages c.self.invariant _ _
     (omega arith) (omega (arith, within)) (omega (arith, was)) (omega (arith, c.if-pages-eq0.false))
     inserts.old inserts.entries inserts.updates.0
+
+pub returns-then-pages-eq0-clause-known : goal.returns-then-pages-eq0-clause-known
+returns-then-pages-eq0-clause-known g c = search rules steps 20000

@@ -15,3 +15,6 @@ returns-then-number-le-BYTES_IN_PLACE-clause-passes g c =
     subst (λ (m : Passed). Passes c.args.self.now c.read_now-progress.new.self f (g.F.Frames.live c.read_now-progress.new.door) c.read_now-progress.result m)
     (ap (read_now q c.args.self.now.writers) (search rules) ∙ few_read q c.args.self.now.writers c.args.most few)
     c.read_now-progress.ensures.passes
+
+pub returns-in_default-clause-many : goal.returns-in_default-clause-many
+returns-in_default-clause-many g c = search rules steps 100000

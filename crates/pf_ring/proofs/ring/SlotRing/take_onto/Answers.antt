@@ -1,4 +1,4 @@
-use Rattle.std.proofs.Common.{◌≡◌, ℕ, min, List, ◌++◌, take, ◌∙◌, ap, arith}
+use Rattle.std.proofs.Common.{rules, ◌≡◌, ℕ, min, List, ◌++◌, take, ◌∙◌, ap, arith}
 use Rattle.pf_machine.specs.Queue.{joined}
 use Rattle.pf_ring.specs.Ring.{Ring, shown}
 use Rattle.pf_ring.specs.Windows.{bytes_in}
@@ -15,3 +15,6 @@ returns-clause-bytes g c =
     let least : c.min-taken.result ≡ min (bytes_in c.args.self.now.segments) c.args.most = omega (arith, c.min-taken.ensures, c.len.ensures.number) in
     c.move_onto.ensures.received.bytes_come ∙ ap (λ (b : List ℕ). c.args.out.now.items ++ b)
     (ap (λ (r : Ring). take c.min-taken.result (joined (shown (g.F.Frames.live c.args.door.now) r.segments))) c.self.view_is ∙ taken_all _ _ _ _ (g.met.F.Frames.sound _ c.requires.door.fact) c.requires.door.stands least)
+
+pub invariant_of-self : goal.invariant_of-self
+invariant_of-self g c = search rules steps 200000

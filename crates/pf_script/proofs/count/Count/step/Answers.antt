@@ -1,5 +1,5 @@
 -- The last digit alone changes, where it isn't a nine.
-use Rattle.std.proofs.Common.{◌≤◌, length, sym, ◌∙◌, arith}
+use Rattle.std.proofs.Common.{rules, ◌≤◌, length, sym, ◌∙◌, arith}
 use Rattle.pf_script.proofs.Counting.{grown, short}
 use Rattle.pf_script.proofs.count.Count.step.Goals as goal
 
@@ -14,3 +14,6 @@ invariant_of-self c =
     rw c.push.ensures.items
     (sym (grown c.self.inside.number c.pop.new.self.items c.in-Some.last (omega (arith, c.requires, c.self.view_is))
     (sym c.self.invariant ∙ c.in-Some.ensures.items) c.if-last-lt57.true))
+
+pub invariant_of-self-in_default : goal.invariant_of-self-in_default
+invariant_of-self-in_default c = search rules steps 100000

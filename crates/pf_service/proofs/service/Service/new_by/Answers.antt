@@ -32,3 +32,6 @@ invariant_of-result g c =
     let kept : length c.in-Ok.kept.items ≡ length c.args.configs.items =
     ap (λ (ls : List Limits). length ls) limits ∙ length-map c.args.configs.items (λ e. e.0) in
     (c.in-Ok-places_of.ensures.numbered ∙ ap (λ (n : ℕ). range_with_len 0 n) (sym kept), (omega (arith, kept, most), tt))
+
+pub returns-in-Some-clause-fault : goal.returns-in-Some-clause-fault
+returns-in-Some-clause-fault g c = search rules steps 500000

@@ -1,7 +1,8 @@
 -- It chains two changes where it waits: an attempt that put some bytes or none, and a process that parks with the
 -- rest of them.
 
-use Rattle.std.proofs.Common.{◌≡◌, ◌+◌, false, Ok, refl, sym, ap, subst, ◌∙◌}
+use Rattle.std.proofs.lemmas.Grind.{common_steps}
+use Rattle.std.proofs.Common.{arith, ◌≡◌, ◌+◌, false, Ok, refl, sym, ap, subst, ◌∙◌}
 use Rattle.pf_space.proofs.Common.{Writing, Moving, Waits, transfer_told, Namespace, meaning, Told, tried_call}
 use Rattle.pf_base.specs.declared.step.Reply.TheVariants as replies
 use Rattle.pf_space.proofs.ParkedTransfers.{parks, goes_on, stays_waiting}
@@ -27,3 +28,9 @@ returns-clause-told g c =
     subst (λ (o : Namespace). Told f after o c.park.new.self (Ok replies.Parked)
     (tried_call (meaning f o.state) c.args.pid false (Writing c.args.fd x c.args.write.written))) c.self.view_is
     (parks g.F.Frames.live came (Moving (Writing c.args.fd rest.bytes rest.written)) refl waits c.park.ensures)
+
+pub returns-in-NoReader-clause-told : goal.returns-in-NoReader-clause-told
+returns-in-NoReader-clause-told g c = grind (arith, common_steps)
+
+pub returns-then-written-n-clause-told : goal.returns-then-written-n-clause-told
+returns-then-written-n-clause-told g c = grind (arith, common_steps)

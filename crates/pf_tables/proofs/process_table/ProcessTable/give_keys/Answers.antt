@@ -1,4 +1,4 @@
-use Rattle.std.proofs.Common.{refl}
+use Rattle.std.proofs.Common.{rules, refl}
 use Rattle.pf_tables.proofs.ProcessTable.{given, still_watched}
 use Rattle.pf_tables.proofs.process_table.ProcessTable.give_keys.Goals as goal
 
@@ -7,3 +7,6 @@ invariant_of-self c =
     let p = c.value_mut-process.result.now in
     let there = c.value_mut-process.ensures.value in
     still_watched _ _ c.self.invariant _ p _ there (given c.self.view_is c.args.pid c.requires.ready p there _) refl
+
+pub returns : goal.returns
+returns c = search rules steps 100000

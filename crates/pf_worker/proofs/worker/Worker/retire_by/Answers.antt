@@ -1,5 +1,6 @@
 -- Where no process lives its loans are vacant: so its credits and its stock are its reservation, and went that way.
-use Rattle.std.proofs.Common.{◌≡◌, arith, ap, sym, subst, ◌∙◌}
+use Rattle.std.proofs.lemmas.Grind.{common_steps}
+use Rattle.std.proofs.Common.{rules, ◌≡◌, arith, ap, sym, subst, ◌∙◌}
 use Rattle.pf_depot.specs.AllLoans.{reserved_of}
 use Rattle.pf_worker.proofs.WorkerLaws.{is_vacated}
 use Rattle.pf_worker.proofs.worker.Worker.retire_by.Goals as goal
@@ -31,3 +32,9 @@ returns-clause-returned g c =
     let all = subst (λ reserve. g.D.Returns.returned c.args.way.now c.self.inside.number reserve stock)
     (ap reserved_of made.loans ∙ dealt) back in
     (stock, subst (λ n. g.D.Returns.returned c.args.way.now n c.args.self.tenant.limits.reserve stock) number all)
+
+pub returns-clause-retired : goal.returns-clause-retired
+returns-clause-retired g c = search rules steps 500000
+
+pub returns-then-processes-gt0-clause-retired : goal.returns-then-processes-gt0-clause-retired
+returns-then-processes-gt0-clause-retired g c = grind (arith, common_steps)

@@ -1,5 +1,6 @@
 -- The frames that a namespace owns are no more than its slots in use; and the lender knows how many they were at first.
-use Rattle.std.proofs.Common.{ap, ◌∙◌, arith}
+use Rattle.std.proofs.lemmas.Grind.{common_steps}
+use Rattle.std.proofs.Common.{rules, ap, ◌∙◌, arith}
 use Rattle.pf_depot.specs.Loans.{loans_live}
 use Rattle.pf_depot.specs.Lent.{loans_sound}
 use Rattle.pf_hub.proofs.TenantLaws.{rising}
@@ -17,3 +18,9 @@ returns-clause-framed g c = λ more.
     told_of_more g.G.Gate.framed c.args.gate.now c.args.self.now.number _ _ c.held-frames.result (loans_live c.step_over.new.loans).held _
     c.holding-depot.ensures.gate (c.holding-depot.ensures.ns ∙ number) c.holding-depot.ensures.begun made.rest made.fact.3
     made.covered.held (omega (arith, c.held-frames.ensures, ap (λ w. w.tenant.held) c.self.view_is, more))
+
+pub returns-clause-succeeds : goal.returns-clause-succeeds
+returns-clause-succeeds g c = grind (arith, common_steps)
+
+pub returns-clause-answers : goal.returns-clause-answers
+returns-clause-answers g c = search rules steps 500000

@@ -1,0 +1,6 @@
+-- Answers that soon fail where a wrong body breaks them.
+use Rattle.std.proofs.Common.{rules}
+use Rattle.pf_pool.proofs.pool.FramePool.new.Goals as goal
+
+pub returns-in-Ok : goal.returns-in-Ok
+returns-in-Ok c = search rules steps 500000
