@@ -273,7 +273,7 @@ class WrongBodies:
         wrong bodies are of, and no others: that all are proved `rt ci` shows, in a whole run."""
         when, folder = "as it stands, so its wrong bodies and what stands on it aren't tried", f"crates/{crate}"
         edits = [it for part in self.parts.get(crate, []) for group in part for it in group]
-        spots = functions_of(in_its_place(f"{tree}/{folder}", edits))
+        spots = functions_of(in_its_place(edits))
         ran = library(f"{tree}/{folder}") if is_built else check(f"{tree}/{folder}", spots)
         self.proved[crate] += ran.seconds
         if not is_proved(ran, crate, when):

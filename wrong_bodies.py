@@ -1,8 +1,9 @@
 """Wrong bodies: edits of a crate's source that turn a function's meaning, and that the prover must refuse.
 
 One is a file crates/CRATE/wrong/NAME.edit in the form of the kit's must-fail edits: a line 'file: PATH', then pairs of
-lines 'old: TEXT' and 'new: TEXT'. A line 'breaks: GOAL' before them may say which part of the contract it breaks, where
-the function's proof file answers that. They are tried by `rt check` and `rt must-fail` alone, in a copy of the tree.
+lines 'old: TEXT' and 'new: TEXT'. A line 'breaks: GOAL' before them may say which goal it breaks, where the function's
+proof file answers that, or which lemma there. They are tried by `rt check` and `rt must-fail` alone, in a copy of the
+tree.
 
 A body is checked against the contracts of what it calls and not against their bodies. So wrong bodies of different
 functions stand in one check, of these functions alone. One counts as refused where its own function isn't proved
@@ -19,15 +20,16 @@ as long again as the refusal. It doesn't where the file has a fault of its own. 
 has a proof file with a planted fault, which is no reason: there a function counts as refused where the prover says
 which part of its contract isn't proved, or finds another fault in the file.
 
-A part of a contract that the proof file answers is judged by that answer, and each other one by the prover's tactics,
-which are tried to their limits where there is no proof. So a wrong body that says which answer it breaks stands in
-company with no tactics at its function, and is refused there only where that answer doesn't hold, by which the
-untouched text is proved. Where it does hold, the wrong body stands in company once more, with tactics.
+A goal that the proof file answers is judged by that answer, and each other one by the prover's tactics, which are tried
+to their limits where there is no proof. So where a wrong body says which answer it breaks, in company its function has
+no tactics, and it is refused there only by a fault in that answer that isn't one of names. Else it stands in company
+once more, with tactics, as it does where that answer doesn't hold in the untouched text without tactics, which is seen
+first.
 
-The start of a check takes as long as a dozen such refusals. So of a function's wrong bodies each further one stands in
-the same check, in a copy of the function under another name with copies of its proof files. That it is refused for
-what it does, and not as a copy, is seen behind all of them: there a copy of the untouched text must be proved with it.
-Where that isn't so, all are tried without copies.
+The start of a check takes as long as several such refusals. So of a function's wrong bodies each further one stands in
+the same check, where one can be made in a copy of the function under another name with copies of its proof files. That
+it is refused for what it does, and not as a copy, is seen behind all of them: there a copy of the untouched text must
+be proved with it. Where that isn't so, all are tried again without copies.
 
 A check says when it is done with a function. So what each wrong body took is known, but for those that the kit judged.
 
@@ -51,6 +53,7 @@ MOST = 30
 LAST = 40  # how many lines are printed of a check that should have passed
 FUNCTION = re.compile(r'^([ \t]*)(?:pub(?:\([^)]*\))? )?(?:const )?(?:unsafe )?(?:extern "C" )?fn (\w+)', re.M)
 NAME = re.compile(r"\bfn (\w+)")
+OWN = re.compile(r'(?:pub(?:\([^)]*\))? )?(?:const )?(?:unsafe )?(?:extern "C" )?\bfn \w+')
 OWNER = re.compile(r"^(?:unsafe )?impl\b([^{]*)\{|^(?:pub(?:\([^)]*\))? )?trait (\w+)", re.M)
 ABOVE = re.compile(r"(?:^[ \t]*(?:#\[|///).*\n)*\Z", re.M)  # what is written before a function's head
 TACTIC = re.compile(r"^[ \t]*#\[tactic\(.*\)\]\n", re.M)
@@ -61,7 +64,7 @@ VERDICT = re.compile(r"^fn (\S+): (?:no proof|not proved)(?![;:] it calls)")
 FAULT = re.compile(r"^(?:\./)?proofs/(\S+)/(?:Answers|Invariants|Proof)\.antt:\d+:\d+: error: (?!`planted`)(`[^`]*`)?")
 UNPROVED = re.compile(r"^note: (?:\./)?(src/\S+?):(\d+):(\d+): (?:it is not proved that|`search` found no proof)")
 UNREAD = re.compile(r"^(?:\./)?(?:src|specs)/\S+?:\d+:\d+: error|\berror\[[\w-]+\]")
-OF_A_FUNCTION = re.compile(r"^fn \S+: ")  # a check that comes to its end says it of each
+OF_A_FUNCTION = re.compile(r"^fn (\S+): ")  # a check that comes to its end says it of each
 # A fault that is one of names, that follows from another, or that is no fault of what the function does; and where its
 # line may be broken
 HOLLOW = re.compile(
@@ -76,8 +79,8 @@ HOLLOW_VERDICT = re.compile(  # of a record without a field the kit gives the fi
 )
 
 # pairs: (file, old, new); spots: what it edits, as spot_at names it; breaks: the answer that it says it breaks, or "";
-# copies: the functions that it makes a copy of, to edit that
-Edit = namedtuple("Edit", "name text pairs spots breaks copies")
+# own: of an edit of a copy the one of the function itself, else None
+Edit = namedtuple("Edit", "name text pairs spots breaks own")
 Tried = namedtuple("Tried", "name verdict said")
 NO_REASONS = {}, {}
 WAS_REFUSED, SHOWS_NOTHING, LET_THROUGH = "refused", "shows nothing", "let through"  # the verdicts
@@ -227,20 +230,24 @@ def edits_of(folder):
 
 def edit_of(folder, name, text):
     """The edit of a file of this text."""
-    breaks = [it.removeprefix("breaks: ").strip() for it in text.split("\n") if it.startswith("breaks: ")]
-    return Edit(name, text, pairs_of(text), spots_of(folder, pairs_of(text)), "".join(breaks[:1]), set())
+    breaks, *_ = [*re.findall(r"^breaks: (\S+)", text, re.M), ""]
+    return Edit(name, text, pairs_of(text), spots_of(folder, pairs_of(text)), breaks, None)
 
 
-def in_its_place(folder, edits):
+def in_its_place(edits):
     """Edits of the functions themselves, in the place of those of copies."""
-    return [edit_of(folder, it.name, it.text) if it.copies else it for it in edits]
+    return [it.own or it for it in edits]
 
 
-def untouched(folder, edits):
+def untouched(edit):
+    """An edit of the same function that leaves its text as it is."""
+    return edit._replace(pairs=[(file, old, old) for file, old, _ in edit.pairs[:1]])
+
+
+def untouched_copies(folder, edits):
     """A copy of each function that these make copies of, with its own text."""
-    firsts = {min(it.copies): edit_of(folder, it.name, it.text) for it in edits if it.copies}
-    same = lambda it: it._replace(pairs=[(file, old, old) for file, old, _ in it.pairs[:1]])
-    return [copy_of(folder, same(it), 2) for it in firsts.values()]
+    firsts = {min(it.own.spots): it.own for it in edits if it.own}
+    return [copy_of(folder, untouched(it), 2) for it in firsts.values()]
 
 
 def pairs_of(text):
@@ -296,7 +303,7 @@ def functions_of(edits):
 
 def text_in(text, head):
     """What stands of a function in a source: what is written before its head, its head's line, and the rest of it; or
-    nothing where its end isn't found."""
+    nothing where its end isn't found before another function's head."""
     above = ABOVE.search(text[: head.start()]).start()
     start = text.find("\n", head.end()) + 1
     end = re.search(rf"^{head[1]}\}}\n", text[start:], re.M)
@@ -305,30 +312,37 @@ def text_in(text, head):
     return (text[above : head.start()], text[head.start() : start], text[start:last]) if is_whole else None
 
 
+def answers_of(folder, spot):
+    """The file of a function's answers, or nothing where its proof isn't of the form that has one."""
+    home = f"proofs/{spot.replace('::', '/')}"
+    calls_itself = os.path.isdir(f"{folder}/{os.path.dirname(home)}/+{os.path.basename(home)}")
+    return "" if calls_itself or os.path.isfile(f"{folder}/{home}/Proof.antt") else f"{home}/Answers.antt"
+
+
 def copy_of(folder, edit, number):
     """An edit that makes a copy of its function, with its proof files, and edits that; None where that can't be: it is
-    of several functions or brings one, or its function is one of a trait, or for C, or calls itself."""
+    of several functions or brings one, or its function is one of a trait, or for C, or its proof has no such files."""
     file, spot = edit.pairs[0][0], min(edit.spots)
-    text, name, home = text_of(folder, file), spot.split("::")[-1], f"proofs/{spot.replace('::', '/')}"
+    text, name, answers = text_of(folder, file), spot.split("::")[-1], answers_of(folder, spot)
     heads = [it for it in FUNCTION.finditer(text) if spot_at(folder, file, text, it.end()) == spot]
     found = text_in(text, heads[0]) if len(heads) == 1 == len(edit.spots) else None
     owner = [it for it in OWNER.finditer(text) if it.start() < heads[0].start()][-1:] if found and heads[0][1] else []
-    if not found or 'extern "' in found[1] or any(it[2] or " for " in it[1] for it in owner):
+    if not found or not answers or 'extern "' in found[1] or any(it[2] or " for " in it[1] for it in owner):
         return None
-    calls_itself = os.path.isdir(f"{folder}/{os.path.dirname(home)}/+{os.path.basename(home)}")
-    if text.count("".join(found[:2])) != 1 or os.path.isfile(f"{folder}/{home}/Proof.antt") or calls_itself:
-        return None
-    body, head = "".join(found), "".join(found[:2])
+    above, head, rest = found
+    body = f"{above}{re.sub(rf'fn {name}', f'fn {name}_{number}', head, count=1)}{rest}"
     for of, old, new in edit.pairs:
-        if of != file or body.count(old) != 1 or "fn " in new:
+        if of != file or body.count(old) != 1 or "fn " in new.replace(old, ""):
             return None
         body = body.replace(old, new)
-    pairs = [(file, head, re.sub(rf"\bfn {name}\b", f"fn {name}_{number}", body, count=1) + f"\n{head}")]
+    pairs = [(file, above + head, f"{body}\n{above}{head}")]
     module = rf"\b(Rattle\.{os.path.basename(folder)}\.proofs\.{spot.replace('::', '.')})(?=\.)"
-    for it in ("Answers.antt", "Invariants.antt"):
-        if proof := text_of(folder, f"{home}/{it}"):
-            pairs.append((f"{home}_{number}/{it}", "", re.sub(module, rf"\1_{number}", proof)))
-    return edit._replace(pairs=pairs, spots={f"{spot}_{number}"}, copies={spot})
+    for it in (answers, answers.replace("Answers", "Invariants")):
+        if proof := text_of(folder, it):
+            home, _, of = it.rpartition("/")
+            pairs.append((f"{home}_{number}/{of}", "", re.sub(module, rf"\1_{number}", proof)))
+    is_free = not text.count(f"fn {name}_{number}") and text.count(above + head) == 1
+    return edit._replace(pairs=pairs, spots={f"{spot}_{number}"}, own=edit) if is_free else None
 
 
 def groups_of(folder, edits, with_copies=True):
@@ -338,10 +352,10 @@ def groups_of(folder, edits, with_copies=True):
     groups, counts = [], Counter(spot for edit in edits for spot in edit.spots)
     for edit in sorted(edits, key=lambda it: -max((counts[spot] for spot in it.spots), default=0)):
         for group in groups if is_of_functions(edit) else []:
-            taken = sum(bool(edit.spots & (it.spots | it.copies)) for it in group)
-            it = (copy_of(folder, edit, taken + 1) if with_copies else None) if taken else edit
-            if it and len(group) < MOST and is_of_functions(group[0]) and edited(folder, [*group, it]):
-                group.append(it)
+            others = [it for it in in_its_place(group) if edit.spots & it.spots]
+            one = edit if not others else copy_of(folder, edit, len(others) + 1) if with_copies else None
+            if one and len(group) < MOST and is_of_functions(group[0]) and edited(folder, [*group, one]):
+                group.append(one)
                 break
         else:
             groups.append([edit])
@@ -358,21 +372,20 @@ def spot_of_fault(fault):
 
 def reasons_in(said, spot_at_goal, planted, silent):
     """By their functions, lines of what a check said: those that are a reason of the function's own not to be proved,
-    and those that say nothing of its contract. Of a function with no tactics (silent) only the fault of one answer is a
-    reason. None where it couldn't read the texts, and so judged nothing."""
+    and those that say nothing of its contract. Of a function with no tactics (silent has the name of an answer for it)
+    only a fault of that answer counts. None where it couldn't read the texts, and so judged nothing."""
     lines = BROKEN.sub(" ", said).split("\n")
     found = lambda pattern: [it for it in map(pattern.match, lines) if it]
     if any(UNREAD.search(it) for it in lines) or not found(OF_A_FUNCTION):
         return None
-    faults = [(spot_of_fault(it), it.string) for it in reversed(found(FAULT))]
+    is_asked = lambda fault: silent.get(spot_of_fault(fault), fault[2]) == fault[2]
+    faults = [(spot_of_fault(it), it.string) for it in reversed(found(FAULT)) if is_asked(it)]
     verdicts = {it[1].partition("::")[2]: it.string for it in found(VERDICT)}
-    goals = [(spot_at_goal(it[1], int(it[2]), int(it[3])), it.string) for it in found(UNPROVED)]
+    goals = {spot_at_goal(it[1], int(it[2]), int(it[3])): it.string for it in found(UNPROVED)}
     hollow = {spot: line for spot, line in [*verdicts.items(), *faults] if HOLLOW.search(line)}
     reasons = {spot: line for spot, line in verdicts.items() if spot not in planted | hollow}
     reasons |= {spot: line for spot, line in faults if not HOLLOW.search(line)}
-    reasons = {spot: line for spot, line in [*reasons.items(), *goals] if spot not in silent}
-    answers = {(spot_of_fault(it), it[2]): it.string for it in found(FAULT) if not HOLLOW.search(it.string)}
-    return reasons | {it: answers[it, f"`{of}`"] for it, of in silent.items() if (it, f"`{of}`") in answers}, hollow
+    return reasons | {spot: line for spot, line in goals.items() if spot not in silent}, hollow
 
 
 def fault_in(said):
@@ -383,14 +396,8 @@ def fault_in(said):
 
 def planted_in(folder, spots, texts):
     """The texts of proof files with a fault, for functions whose proof is of the form that has such a file."""
-    planted = {}
-    for spot in spots:
-        home = f"proofs/{spot.replace('::', '/')}"
-        calls_itself = os.path.isdir(f"{folder}/{os.path.dirname(home)}/+{os.path.basename(home)}")
-        if not calls_itself and not os.path.isfile(f"{folder}/{home}/Proof.antt"):
-            file = f"{home}/Answers.antt"
-            planted[spot] = file, texts.get(file, text_of(folder, file)) + PLANTED
-    return planted
+    files = {it: answers_of(folder, it) for it in spots}
+    return {it: (file, texts.get(file, text_of(folder, file)) + PLANTED) for it, file in files.items() if file}
 
 
 def silenced(folder, texts, spots):
@@ -398,10 +405,12 @@ def silenced(folder, texts, spots):
     made = {}
     for file, text in texts.items():
         for head in reversed([*FUNCTION.finditer(text)]):
-            if spot_at(folder, file, text, head.end()) in spots:
+            line = text.find("\n", head.end())
+            if spot_at(folder, file, text, line) in spots:
                 above = ABOVE.search(text[: head.start()]).start()
                 said = TACTIC.sub("", text[above : head.start()])
-                text = f"{text[:above]}{said}{head[1]}#[tactic(none)]\n{text[head.start() :]}"
+                own = [*OWN.finditer(text, head.start(), line)][-1].start()  # behind what an edit brings before it
+                text = f"{text[:above]}{said}{text[head.start() : own]}#[tactic(none)]\n{head[1]}{text[own:]}"
         made[file] = text
     return made
 
@@ -442,25 +451,45 @@ class Trial:
         print(f"wrong {self.crate}/{edit.name}: {said}", flush=True)
 
     def play(self, groups, with_copies=True):
-        copies = untouched(self.folder, [it for group in groups for it in group])
-        edits = in_its_place(self.folder, [it for group in groups for it in group])
+        edits = in_its_place([it for group in groups for it in group])
         with self.out_kept():
-            rest = [it for group in groups for it in self.try_together(group)]
-            again = [it._replace(breaks="") for it in in_its_place(self.folder, [it for it in rest if it.breaks])]
-            again = groups_of(self.folder, again, with_copies)
-            rest = [it for it in rest if not it.breaks] + [it for group in again for it in self.try_together(group)]
-            left = [it for it in in_its_place(self.folder, rest) if not self.try_alone(it)]
+            holding = self.answers_that_hold(edits)
+            tried, rest = self.in_company(groups, holding, with_copies)
+            left = [it for it in rest if not self.try_alone(it)]
             self.leave_to_the_kit(left)
+            copies = untouched_copies(self.folder, tried)
             # the kit judges by the whole crate, so where it did that must check whole
             spots = [] if left else functions_of([*edits, *copies])
             with in_place(self.folder, edited(self.folder, copies)):
                 ran = self.counted(check(self.folder, spots))
         if ran.status and copies:
-            say(f"{self.crate}: copies of the untouched text don't check, so all are tried without copies")
+            say(f"{self.crate}: copies of the untouched text don't check, so all are tried again, without copies")
             self.tried = []
             return self.play(groups_of(self.folder, edits, with_copies=False), with_copies=False)
         self.holds = is_proved(ran, self.crate, "again, behind its wrong bodies")
         return self
+
+    def answers_that_hold(self, edits):
+        """Those edits that say which answer they break, where it holds in the untouched text without tactics."""
+        asked = [it for it in edits if it.breaks and is_of_functions(it)]
+        firsts = [untouched(it) for it in {min(it.spots): it for it in asked}.values()]
+        said = "".join(self.ran(firsts[at : at + MOST], plants=True)[0].said for at in range(0, len(firsts), MOST))
+        faulty = {(spot_of_fault(it), it[2]) for it in map(FAULT.match, said.split("\n")) if it}
+        judged = {it[1].partition("::")[2] for it in map(OF_A_FUNCTION.match, said.split("\n")) if it}
+        holds = lambda it: all(spot in judged and (spot, f"`{it.breaks}`") not in faulty for spot in it.spots)
+        for it in (it for it in asked if not holds(it)):
+            say(f"{self.crate}: {it.name} says that it breaks {it.breaks}, which doesn't hold without tactics")
+        return {it.name for it in asked if holds(it)}
+
+    def in_company(self, groups, holding, with_copies):
+        """Tries groups, and once more, with tactics, what says which answer it breaks and isn't seen refused. Returns
+        all that was tried, and what isn't seen refused."""
+        known = lambda it: it if it.name in holding else it._replace(breaks="")
+        rest = [it for group in groups for it in self.try_together([known(it) for it in group])]
+        again = [it._replace(breaks="") for it in in_its_place([it for it in rest if it.breaks])]
+        more = groups_of(self.folder, again, with_copies)
+        rest = [it for it in rest if not it.breaks] + [it for group in more for it in self.try_together(group)]
+        return [it for group in [*groups, *more] for it in group], in_its_place(rest)
 
     @contextlib.contextmanager
     def out_kept(self):
@@ -504,13 +533,7 @@ class Trial:
         """Why a check with these edits doesn't prove functions, as reasons_in has it; None where it judges nothing."""
         if not all(map(is_of_functions, group)):
             return None
-        texts, spots = edited(self.folder, group), functions_of(group)
-        planted, laps = planted_in(self.folder, spots, texts) if plants else {}, Laps()
-        silent = {spot: it.breaks for it in group for spot in it.spots if it.breaks and spot in planted}
-        texts = silenced(self.folder, texts, silent)
-        self.put_back()
-        with in_place(self.folder, texts | dict(planted.values())):
-            ran = self.counted(check(self.folder, spots, laps))
+        ran, laps, texts, planted, silent = self.ran(group, plants)
         self.took.update({it.name: sum(laps.seconds[spot] for spot in it.spots) for it in group})
         text = lambda file: texts.get(file) or text_of(self.folder, file)
         spot_at_goal = lambda file, *place: spot_of_goal(self.folder, file, text(file), *place)
@@ -520,6 +543,17 @@ class Trial:
             what = f"status {ran.status}, {fault_in(ran.said)}"
             say(f"{self.crate}: a check of {len(group)} wrong bodies judged nothing: {what}")
         return found
+
+    def ran(self, group, plants):
+        """A check with these edits, what it took, its texts, the faults planted there, and the answers asked for."""
+        texts, spots = edited(self.folder, group), functions_of(group)
+        planted, laps = planted_in(self.folder, spots, texts) if plants else {}, Laps()
+        silent = {spot: f"`{it.breaks}`" for it in group for spot in it.spots if it.breaks and spot in planted}
+        texts = silenced(self.folder, texts, silent)
+        self.put_back()
+        with in_place(self.folder, texts | dict(planted.values())):
+            ran = self.counted(check(self.folder, spots, laps))
+        return ran, laps, texts, planted, silent
 
     def leave_to_the_kit(self, edits):
         """Tries edits by `rt must-fail`, with no others in must-fail/."""
