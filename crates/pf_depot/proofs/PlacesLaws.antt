@@ -1,6 +1,6 @@
 -- What a change of counts and places is to the live frames.
 
-use Rattle.std.proofs.Common.{◌≡◌, ◌≢◌, ℕ, zero, suc, ◌+◌, ◌-◌, ◌<◌, List, [], length, map, slice_index, slice_index_or, slice_set, ◌==◌, if◌then◌else◌, refl, arith, sym, subst, ap, ◌∙◌, inl, inr, get_or-set_same, get_or-set_other, length-set, replicate}
+use Rattle.std.proofs.Common.{◌≡◌, ◌≢◌, ℕ, zero, suc, ◌+◌, ◌-◌, ◌<◌, List, length, map, slice_index, slice_index_or, slice_set, ◌==◌, if◌then◌else◌, refl, arith, sym, subst, ap, ◌∙◌, inl, inr, get_or-set_same, get_or-set_other, length-set, replicate, []}
 use Rattle.std.specs.Prelude.{Option, Some, None, IsSome}
 use Rattle.std.proofs.lemmas.List.{get_or-map, map-set, length-map, length-replicate}
 use Rattle.std.proofs.lemmas.Bool.{cases_eq}
@@ -69,21 +69,6 @@ lent_counts counts places nr v some more lent =
       ];
     }
 
--- a frame's bytes change
-pub lent_fills : (counts : List ℕ) (places : List (Option Frame)) (nr : ℕ) (f : Frame) → length places ≡ length counts → 0 < slice_index counts nr → AreLent counts places → AreLent counts (slice_set places nr (Some f))
-lent_fills counts places nr f size some lent =
-    let here : slice_index_or (slice_set places nr (Some f)) nr None ≡ Some f = get_or-set_same places nr (Some f) None (omega (arith, counted_within counts nr some)) in
-    record {
-      some = λ q h. elim (cases_eq q nr) [
-        | inl e ↦ subst (λ (k : ℕ). IsSome (slice_index_or (slice_set places nr (Some f)) k None)) (sym e) (subst (λ (p : Option Frame). IsSome p) (sym here) refl)
-        | inr ne ↦ subst (λ (p : Option Frame). IsSome p) (sym (get_or-set_other places nr q (Some f) None ne)) (lent.some q h)
-      ];
-      none = λ q h. elim (cases_eq q nr) [
-        | inl e ↦ absurd (omega (arith, same_count counts q nr e))
-        | inr ne ↦ get_or-set_other places nr q (Some f) None ne ∙ lent.none q h
-      ];
-    }
-
 -- no place has a frame
 none_there : (n q : ℕ) → slice_index_or (replicate {A = Option Frame} n None) q None ≡ None
 none_there zero q = refl
@@ -125,14 +110,6 @@ is_given counts places nr p one =
     let gone : slice_index (slice_set counts nr (slice_index counts nr - 1)) nr ≡ slice_index counts nr - 1 = get_or-set_same counts nr _ 0 (counted_within counts nr (omega arith)) in
     let kept : (q : ℕ) → 0 < slice_index (slice_set counts nr (slice_index counts nr - 1)) q → slice_index_or (map page_at (slice_set places nr p)) q [] ≡ slice_index_or (map page_at places) q [] = λ q some. page_kept places nr q p (λ e. omega (arith, same_count (slice_set counts nr (slice_index counts nr - 1)) q nr e)) in
     rw (length-set counts nr 0) (subst (λ (k : ℕ). Releases (live_by (length counts) counts (map page_at places)) (live_by (length counts) (slice_set counts nr k) (map page_at (slice_set places nr p))) nr) less (is_released (length counts) counts (map page_at places) (map page_at (slice_set places nr p)) nr kept (omega arith)))
-
--- the bytes of the frame that goes were the place's
-pub bytes_given : (counts : List ℕ) (places : List (Option Frame)) (nr : ℕ) (f : Frame) → length places ≡ length counts → 0 < slice_index counts nr → slice_index_or places nr None ≡ Some f
-    → page_of f ≡ (if slice_index counts nr == 0 then [] else slice_index_or (map page_at places) nr [])
-bytes_given counts places nr f size some at =
-    let less : nr < length places = omega (arith, counted_within counts nr some) in
-    let here : slice_index_or (map page_at places) nr [] ≡ page_of f = get_or-map page_at places nr None [] less ∙ ap page_at at in
-    sym (page_shown _ _ some ∙ here)
 
 pub is_raised : (counts : List ℕ) (pages : List (List ℕ)) (nr v : ℕ) → 0 < slice_index counts nr → v ≡ slice_index counts nr
     → Shares (live_by (length counts) counts pages) (live_by (length (slice_set counts nr (v + 1))) (slice_set counts nr (v + 1)) pages) nr

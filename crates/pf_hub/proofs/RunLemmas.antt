@@ -1,10 +1,9 @@
 -- One more event of a run.
 
-use Rattle.std.proofs.Common.{◌≡◌, ◌≢◌, ℕ, zero, suc, cond, length-append, ◌+◌, ◌<◌, List, [], ◌∷◌, ◌++◌, length, map, get_or, refl, ap, sym, ◌∙◌, subst, arith, Bool, true, false, ◌≤◌}
-use Rattle.std.specs.Prelude.{Option, Some, None, nat_le, nat_eq, not, is_some}
+use Rattle.std.proofs.Common.{◌≡◌, ◌≢◌, ℕ, zero, suc, cond, length-append, ◌+◌, ◌<◌, List, ◌∷◌, ◌++◌, length, get_or, refl, ap, sym, ◌∙◌, subst, arith, Bool, true, false, []}
+use Rattle.std.specs.Prelude.{Option, Some, None, nat_eq, not, is_some}
 use Rattle.std.specs.List.{position_from}
-use Rattle.std.proofs.Common.{inl, inr}
-use Rattle.std.proofs.lemmas.Bool.{cases_lt, eqb-true, eqb-false, leb-false, le-leb, lt-leb}
+use Rattle.std.proofs.lemmas.Bool.{eqb-true, eqb-false}
 use Rattle.pf_base.specs.Limits.{Limits}
 use Rattle.pf_machine.specs.Machine.{Answers, may_want_memory}
 use Rattle.pf_machine.specs.Runs.{Run, run_of, lone}
@@ -14,7 +13,6 @@ use Rattle.pf_base.specs.declared.step.Step.{Step}
 use Rattle.pf_base.specs.declared.step.Answer.{Answer}
 use Rattle.pf_base.specs.declared.step.Answer.TheVariants.{NoMemory}
 use Rattle.pf_machine.specs.Numbered.{at}
-use Rattle.pf_hub.specs.Opening.{new_hub, new_tenant}
 use Rattle.pf_hub.specs.Tenants.{Tenants, Tenant, tenant_or, is_living, Lives, limits_at, state_at}
 use Rattle.pf_hub.specs.Stepped.{Stepped}
 use Rattle.pf_hub.specs.Isolation.{Ran, first_missing, AreAlone, TwoWorlds}
@@ -85,38 +83,6 @@ pub lives_next : (old mid : Tenants) (events so_far : List (ℕ × Step)) (answe
     first_missing old events ≡ None → Ran old so_far answers mid → i < length events → e ≡ get_or events i e → Lives mid e.0
 lives_next old mid events so_far answers i e none ran low is =
     ran.lives e.0 ∙ subst (λ (x : ℕ × Step). Lives old x.0) (sym is) (lives_at old events i e none low)
-
--- where no event names a number that isn't below this one, each names one below
-pub exists_at : (number : ℕ) (events : List (ℕ × Step)) (i : ℕ) (d : ℕ × Step) →
-    position_from (λ e. nat_le number e.0) 0 events ≡ None → i < length events → (get_or events i d).0 < number
-exists_at number events i d none h = leb-false number (get_or events i d).0 (none_passes (λ e. nat_le number e.0) events 0 i d none h)
-
--- in a hub fresh from its opening, who lives is whose number is below that of the limits
-pub missing_new : (configs : List Limits) (frames : ℕ) (events : List (ℕ × Step)) →
-    first_missing (new_hub configs frames) events ≡ position_from (λ e. nat_le (length configs) e.0) 0 events
-missing_new configs frames events = from 0 events
-  where
-    there : (cs : List Limits) (k : ℕ) → k < length cs → is_some (at (map (λ c. Some (new_tenant c)) cs) k) ≡ true
-    there [] k low = absurd (omega arith)
-    there (c ∷ cs) zero low = refl
-    there (c ∷ cs) (suc k) low = there cs k (omega (arith, low))
-
-    past : (cs : List Limits) (k : ℕ) → length cs ≤ k → is_some (at (map (λ c. Some (new_tenant c)) cs) k) ≡ false
-    past [] k high = refl
-    past (c ∷ cs) zero high = absurd (omega arith)
-    past (c ∷ cs) (suc k) high = past cs k (omega (arith, high))
-
-    stands : (cs : List Limits) (k : ℕ) → not (is_some (at (map (λ c. Some (new_tenant c)) cs) k)) ≡ nat_le (length cs) k
-    stands cs k = elim (cases_lt k (length cs)) [
-      | inl h ↦ ap not (there cs k h) ∙ sym (lt-leb (length cs) k h)
-      | inr h ↦ ap not (past cs k h) ∙ sym (le-leb (length cs) k h)
-    ]
-
-    from : (i : ℕ) (es : List (ℕ × Step)) →
-        position_from (λ e. not (is_living (new_hub configs frames) e.0)) i es
-        ≡ position_from (λ e. nat_le (length configs) e.0) i es
-    from i [] = refl
-    from i (e ∷ es) = λ j. cond (stands configs e.0 j) (Some i) (from (i + 1) es j)
 
 pub two_worlds : TwoWorlds
 two_worlds first second es fs as' bs first' second' n ran ran' opened opened' limits same ample ample' =

@@ -1,6 +1,6 @@
 -- Whatever a Write, a Tee or a Splice is told, it gave that many bytes in all.
 
-use Rattle.std.proofs.Common.{◌≡◌, ◌≢◌, ℕ, zero, suc, ◌+◌, ◌-◌, ◌<◌, Bool, true, false, ◌&&◌, ◌||◌, List, [], ◌∷◌, ◌++◌, length, drop, Option, Some, None, Ok, Err, refl, sym, ap, ◌∙◌, subst, ◌⊎◌, inl, inr, ⊎_elim, arith, nat_eq, nat_le, nat_lt, if◌then◌else◌, length-append, length-take}
+use Rattle.std.proofs.Common.{◌≡◌, ◌≢◌, ℕ, zero, suc, ◌+◌, ◌-◌, ◌<◌, Bool, true, false, ◌&&◌, ◌||◌, List, ◌∷◌, ◌++◌, length, drop, Option, Some, None, Ok, Err, refl, sym, ap, ◌∙◌, subst, ◌⊎◌, inl, inr, ⊎_elim, arith, nat_eq, nat_le, nat_lt, if◌then◌else◌, length-append, length-take, []}
 use Rattle.std.proofs.lemmas.Bool.{eqb-true, eqb-false, eq-eqb}
 use Rattle.std.proofs.lemmas.List.Elements.{All-cons, All-nil}
 use Rattle.std.specs.Prelude.{Result, is_some, map, filter, All, ⊤}
@@ -339,9 +339,6 @@ other-told : (s : State Segment ℕ) (began : ℕ → ℕ) (k i j : ℕ) (y : St
     → IsNoResumeOf (suc j) y → nat_eq (told_at s began i y) k ≡ false
 other-told s began k i j (steps.Resume q) apart alone h = began-next s began k i q apart (alone q h)
 other-told s began k i j y apart alone h = apart
-
-can-go : (s : State Segment ℕ) → Settled s → (j : ℕ) (call : Transfer) (w : InCall s j call) → IsOk (tried s w.who call)
-can-go s is j call w = subst (λ (o : Option (Call ℕ)). CanTry s w.who o) w.waits (is.can_try.each j w.who w.stands)
 
 -- one step, where so much is known of the later ones
 module _ (c : Limits) (ys : List Step) (s : State Segment ℕ) (is : Settled s) (began : ℕ → ℕ) (k i j : ℕ) (l : k < i)

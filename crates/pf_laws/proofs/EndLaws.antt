@@ -1,6 +1,6 @@
 -- The readers and writers of a pipe, counted over descriptions, are the live descriptions and the parked opens.
 
-use Rattle.std.proofs.Common.{◌≡◌, ℕ, zero, suc, ◌+◌, ◌<◌, ◌≤◌, Bool, true, false, List, [], ◌∷◌, Option, Some, None, refl, sym, ap, ◌∙◌, ◌⊎◌, inl, inr, ⊎_elim, arith, nat_eq, nat_lt, if◌then◌else◌}
+use Rattle.std.proofs.Common.{◌≡◌, ℕ, zero, suc, ◌+◌, ◌<◌, ◌≤◌, Bool, true, false, List, ◌∷◌, Option, Some, None, refl, sym, ap, ◌∙◌, ◌⊎◌, inl, inr, ⊎_elim, arith, nat_eq, nat_lt, if◌then◌else◌, []}
 use Rattle.std.proofs.lemmas.Bool.Decides.{nat_tests}
 use Rattle.pf_machine.specs.Numbered.{at, weight, sum_of, keep_from, keep, one_if}
 use Rattle.pf_machine.proofs.NumberedLaws.{at-keep, length-keep, same_at}
@@ -9,7 +9,7 @@ use Rattle.pf_machine.specs.Calls.{Call, Opening, Moving}
 use Rattle.pf_machine.specs.State.{itself, State, Process, Description}
 use Rattle.pf_machine.specs.Counts.{names, readers, writers}
 use Rattle.pf_machine.specs.Sweep.{sweep}
-use Rattle.pf_laws.specs.Standing.{opens, held, opening_it, of_open, reads_it, writes_it, apart_count}
+use Rattle.pf_laws.specs.Standing.{opens, held, opening_it, of_open, apart_count}
 
 -- what a parked open made, nothing else names
 pub record IsApart (ps : List (Option (Process ℕ))) : Type 0 where
@@ -111,9 +111,3 @@ counted_apart h s swept apart =
     let total = sum_of-split h (λ n. nat_lt 0 (names itself s.processes n)) (λ n. nat_lt 0 (held s.processes n)) (λ n. nat_lt 0 (opening_it s.processes n)) 0 s.descriptions (λ n. or_alone (names itself s.processes n) (held s.processes n) (opening_it s.processes n) (names-are s.processes n) (apart.alone n)) in
     let most : (n : ℕ) → opening_it s.processes n ≤ 1 = λ n. ⊎_elim (λ e. omega (arith, e)) (λ e. omega (arith, e.0)) (apart.alone n) in
     ap (sum_of h) swept ∙ total ∙ ap (λ m. sum_of h (keep (λ n. nat_lt 0 (held s.processes n)) s.descriptions) + m) (all_calls h s.descriptions s.processes most)
-
-pub readers-apart : (s : State Segment ℕ) (p : ℕ) → s.descriptions ≡ (sweep itself s).descriptions → IsApart s.processes → readers itself s p ≡ apart_count (reads_it p) s
-readers-apart s p swept apart = counted_apart (reads_it p) s swept apart
-
-pub writers-apart : (s : State Segment ℕ) (p : ℕ) → s.descriptions ≡ (sweep itself s).descriptions → IsApart s.processes → writers itself s p ≡ apart_count (writes_it p) s
-writers-apart s p swept apart = counted_apart (writes_it p) s swept apart

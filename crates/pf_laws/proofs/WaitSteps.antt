@@ -1,7 +1,6 @@
 -- Each step keeps that whoever waits in a call can try it again; and what a step but Resume comes to is no error.
 
-use Rattle.std.proofs.Common.{◌≡◌, ℕ, ◌+◌, ◌-◌, Bool, List, [], ◌∷◌, ◌++◌, length, set, Option, Some, None, refl, sym, ap, ◌∙◌, subst, ◌⊎◌, inl, inr, ⊎_elim}
-use Rattle.std.specs.Prelude.{⊤}
+use Rattle.std.proofs.Common.{◌≡◌, ℕ, ◌+◌, ◌-◌, Bool, List, ◌∷◌, ◌++◌, length, set, Option, Some, None, refl, sym, ap, ◌∙◌, subst, ◌⊎◌, inl, inr, ⊎_elim, []}
 use Rattle.std.specs.Option.{option_map, option_and_then}
 use Rattle.pf_machine.specs.Refusals.{or_refuse}
 use Rattle.pf_base.specs.Limits.{Limits}
@@ -87,9 +86,6 @@ module _ (s : State Segment ℕ) (is : AllCanTry s) where
 
   lasts-s : Lasting s.descriptions s.pipes s.descriptions s.pipes
   lasts-s = lasting-same s.descriptions s.pipes
-
-  no_error : ⊤
-  no_error = tt
 
   -- the process of a pid is another one, that waits in no call
   put : (pid : ℕ) (q : Process ℕ) (r : Reply) → q.parked ≡ None → IsNoError r

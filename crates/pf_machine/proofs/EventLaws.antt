@@ -1,6 +1,6 @@
 -- Laws of lists of events: appended lists, and one more event.
 
-use Rattle.std.proofs.Common.{ℕ, ◌≡◌, true, false, List, [], ◌∷◌, ◌++◌, length, refl, ap, sym, ◌∙◌, arith, append-nil}
+use Rattle.std.proofs.Common.{ℕ, ◌≡◌, true, false, List, ◌∷◌, ◌++◌, length, refl, ap, sym, ◌∙◌, arith, append-nil, []}
 use Rattle.std.proofs.lemmas.Bool.{eq-eqb, ne_eqb, eqb-true}
 use Rattle.std.specs.Prelude.{nat_eq, if◌then◌else◌}
 use Rattle.pf_base.specs.Limits.{Limits}
@@ -24,12 +24,6 @@ keep_reply-append (Done r) xs ys = refl
 keep_reply-append NoMemory xs ys = refl
 
 -- Appended lists
-
-pub mine-append : (es fs : List (ℕ × Step)) (n : ℕ) → mine (es ++ fs) n ≡ mine es n ++ mine fs n
-mine-append [] fs n = refl
-mine-append (e ∷ es) fs n =
-    ap (λ (r : List Step). if nat_eq e.0 n then e.1 ∷ r else r) (mine-append es fs n)
-    ∙ elim (nat_eq e.0 n) as (λ t. (if t then e.1 ∷ (mine es n ++ mine fs n) else mine es n ++ mine fs n) ≡ (if t then e.1 ∷ mine es n else mine es n) ++ mine fs n) [ true ↦ refl | false ↦ refl ]
 
 pub kept-append : (es fs : List (ℕ × Step)) (answers bs : List Answer) (n : ℕ) → length es ≡ length answers → kept (es ++ fs) (answers ++ bs) n ≡ kept es answers n ++ kept fs bs n
 kept-append [] fs [] bs n l = refl

@@ -1,6 +1,6 @@
 -- What the changes of a map of files keep: each stays a map of files, and only the one path's file changes.
 
-use Rattle.std.proofs.Common.{◌≡◌, ℕ, ◌+◌, List, [], ◌∷◌, ◌++◌, length, refl, sym, ap, ◌∙◌, subst, arith, cond, T, Bool, true, false, Option, Some, None, is_some}
+use Rattle.std.proofs.Common.{◌≡◌, ℕ, ◌+◌, List, ◌∷◌, ◌++◌, length, refl, sym, ap, ◌∙◌, subst, arith, cond, T, Bool, true, false, Option, Some, None, is_some, []}
 use Rattle.std.specs.Prelude.{IsSome, IsTrue}
 use Rattle.std.specs.Cmp.{IsTotalOrder}
 use Rattle.std.proofs.lemmas.Cmp.{lists_total, nat_list_cmp_total, tied_itself}
@@ -30,9 +30,6 @@ is_tied : (o : Ordering) → is_eq o ≡ true → o ≡ Equal
 is_tied Less e = absurd (subst T (sym e) tt)
 is_tied Equal e = refl
 is_tied Greater e = absurd (subst T (sym e) tt)
-
-pub same_path-itself : (p : Path) → same_path p p ≡ true
-same_path-itself p = ap is_eq (path_itself p)
 
 pub same_path-eq : (p q : Path) → same_path p q ≡ true → p ≡ q
 same_path-eq p q e = path_tied p q (is_tied (path_cmp p q) e)

@@ -1,6 +1,6 @@
 -- The calls on files keep them within the limits, and so a list of names is.
 
-use Rattle.std.proofs.Common.{◌≡◌, ℕ, ◌+◌, ◌*◌, ◌≤◌, Bool, true, false, not, ◌||◌, ◌&&◌, List, [], ◌∷◌, ◌++◌, length, Option, Some, None, is_some, refl, ap, subst, arith, length-append, nat_eq, nat_lt, nat_le, if◌then◌else◌}
+use Rattle.std.proofs.Common.{◌≡◌, ℕ, ◌+◌, ◌*◌, ◌≤◌, Bool, true, false, not, ◌||◌, ◌&&◌, List, ◌∷◌, ◌++◌, length, Option, Some, None, is_some, refl, ap, subst, arith, length-append, nat_eq, nat_lt, nat_le, if◌then◌else◌, []}
 use Rattle.std.specs.Prelude.{⊤}
 use Rattle.std.specs.List.{list_any}
 use Rattle.std.specs.Option.{option_to_list}
@@ -9,9 +9,9 @@ use Rattle.std.specs.declared.cmp.Ordering.TheVariants.{Less, Equal, Greater}
 use Rattle.std.proofs.lemmas.Bool.{ltb-false}
 use Rattle.pf_machine.specs.Refusals.{refuse_if, or_refuse}
 use Rattle.pf_base.specs.Permissions.{is_privileged}
-use Rattle.pf_machine.specs.FileMap.{Files, Path, Name, find, insert, remove, set_mode, same_path, same_name, path_cmp, by_order, with_mode, name_below, names_below, listed, is_directory, IsDirectory, root_alone}
+use Rattle.pf_machine.specs.FileMap.{Files, Path, Name, find, insert, remove, set_mode, same_path, same_name, path_cmp, by_order, name_below, names_below, listed, is_directory, IsDirectory}
 use Rattle.pf_machine.specs.FileCalls as calls
-use Rattle.pf_machine.specs.FileCalls.{Place, place_of, place, permitted_change, permitted_removal, is_fifo, is_full, made_by}
+use Rattle.pf_machine.specs.FileCalls.{place_of, place, permitted_change, permitted_removal, is_fifo, is_full, made_by}
 use Rattle.pf_machine.specs.Paths.{Words, Resolved, Last, Nothing, Dot, DotDot, Named, components, words_of, reach, searched, entry_of, entry, target, is_dot, is_dot_dot, last_of, is_nonempty}
 use Rattle.pf_base.specs.declared.cred.Cred.{Cred}
 use Rattle.pf_base.specs.declared.errno.Errno.{Errno}
@@ -198,6 +198,3 @@ chmod-within files c path mode w =
     (λ t. passes IsWithin (refuse_if (not (is_privileged c) && not (nat_eq c.uid t.file.meta.uid)) EPERM) _ (set_mode-within t.path mode files w))
 
 -- At the opening
-
-pub root_within : IsWithin root_alone
-root_within = record { number = omega arith; short = (tt, tt) }

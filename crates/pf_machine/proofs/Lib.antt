@@ -3,7 +3,6 @@ pub mod NumberedLaws
 pub mod ChargeLaws
 pub mod SweepLaws
 pub mod ExitLaws
-pub mod MachineLaws
 pub mod RunLaws
 pub mod EventLaws
 pub mod FileLaws
@@ -14,9 +13,7 @@ pub mod NaturalFiles
 pub mod NaturalSizes
 pub mod NaturalOpens
 pub mod NaturalWaits
-pub mod NaturalTransfers
 pub mod NaturalCalls
-pub mod NaturalSteps
 pub mod StepLaws
 pub mod AttemptLaws
 pub mod ReplyLaws

@@ -1,6 +1,6 @@
 -- How maps go through what stands by number, and through refusals.
 
-use Rattle.std.proofs.Common.{◌≡◌, ◌≢◌, arith, set, ℕ, zero, suc, Bool, true, false, List, [], ◌∷◌, Option, Some, None, Result, Ok, Err, refl, ap, cond}
+use Rattle.std.proofs.Common.{◌≡◌, ◌≢◌, arith, set, ℕ, zero, suc, Bool, true, false, List, ◌∷◌, Option, Some, None, Result, Ok, Err, refl, ap, cond, []}
 use Rattle.std.specs.Option.{option_map}
 use Rattle.pf_machine.specs.Refusals.{◌>>=◌, ◌>>◌, or_refuse}
 use Rattle.pf_machine.specs.Numbered.{at, change_at, keep_from}
@@ -94,9 +94,3 @@ pub bind-same : {A C D : Type 0} (j : C → D) (r : Result A Errno) (k : A → R
     → ((a : A) → m a ≡ if_ok j (k a)) → (r >>= m) ≡ if_ok j (r >>= k)
 bind-same j (Ok a) k m same = same a
 bind-same j (Err e) k m same = refl
-
--- a map that goes on
-pub bind-map : {A B C : Type 0} (h : A → B) (r : Result A Errno) (k : B → Result C Errno)
-    → (if_ok h r >>= k) ≡ (r >>= (λ a. k (h a)))
-bind-map h (Ok a) k = refl
-bind-map h (Err e) k = refl

@@ -1,7 +1,7 @@
 -- A step of a state under other names, with other things in its slots, is the step of the state: what a process is told
 -- doesn't depend on what its slots hold, nor on how its descriptions are named.
 
-use Rattle.std.proofs.Common.{◌≡◌, ℕ, zero, suc, ◌+◌, ◌-◌, ◌*◌, if◌then◌else◌, ◌||◌, Bool, List, [], ◌∷◌, ◌++◌, nat_le, nat_lt, nat_eq, not, is_some, Option, Some, None, Result, Ok, refl, sym, ap, ◌∙◌}
+use Rattle.std.proofs.Common.{◌≡◌, ℕ, zero, suc, ◌+◌, ◌-◌, ◌*◌, if◌then◌else◌, ◌||◌, Bool, List, ◌∷◌, ◌++◌, nat_le, nat_lt, nat_eq, not, is_some, Option, Some, None, Result, Ok, refl, sym, ap, ◌∙◌, []}
 use Rattle.std.specs.Option.{option_map, option_and_then}
 use Rattle.std.proofs.lemmas.List.{map-set, map-append, length-map}
 use Rattle.pf_base.specs.Capacities.{new_capacity, told_as}
@@ -18,7 +18,7 @@ use Rattle.pf_base.specs.declared.errno.Errno.TheVariants.{ESRCH, EBUSY, EBADF, 
 use Rattle.pf_base.specs.declared.step.Reply.TheVariants.{Pid, Fds}
 use Rattle.pf_machine.specs.Queue.{empty}
 use Rattle.pf_machine.specs.Calls.{Call, Opening, Moving, made_by}
-use Rattle.pf_machine.specs.State.{Process, Description, Pipe, State, Outcome, End, vacant, opening, process, living, ready, end_at, end_of, with_process, with_descriptor, told, done}
+use Rattle.pf_machine.specs.State.{Process, Description, Pipe, State, Outcome, End, vacant, process, living, ready, end_at, end_of, with_process, with_descriptor, told, done}
 use Rattle.pf_machine.specs.Counts.{charged, total, named_in, names_of, names, ends}
 use Rattle.pf_machine.specs.Sweep.{live_descriptions, live_pipes, sweep}
 use Rattle.pf_machine.specs.Processes.{born, spawn, exit}
@@ -134,9 +134,6 @@ module _ {X Y : Type 0} (f : X → Y) {N M : Type 0} (g : N → M) where
     where
       bare : {L : Type 0} → List (Option L) → Process L
       bare xs = record { cred = cred; descriptors = xs; parked = None }
-
-  pub opening-as : S opening ≡ opening
-  opening-as = ap (λ ps. record (opening {X = Y} {N = M}) { processes = ps }) (vacant-map (process_as g) MAX_PROCESSES)
 
   pub close-as : (s : State X N) (pid : ℕ) (p : Process N) (fd : ℕ)
       → close (S s) pid (process_as g p) fd ≡ if_ok O (close s pid p fd)

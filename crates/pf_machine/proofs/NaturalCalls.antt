@@ -2,7 +2,7 @@
 -- that move no bytes, those that draw a name, and those that let something go or on. Of the others the lemma of their
 -- own says it, by `call-as`. A slot shows a segment, and a name stands for a number.
 
-use Rattle.std.proofs.Common.{◌≡◌, ℕ, ◌+◌, List, length, Bool, Option, Some, None, Result, Ok, Err, refl, sym, ap, ◌∙◌}
+use Rattle.std.proofs.Common.{◌≡◌, ℕ, ◌+◌, List, length, Bool, Option, Some, None, Result, Ok, refl, sym, ap, ◌∙◌}
 use Rattle.std.specs.Option.{option_map, option_and_then}
 use Rattle.std.proofs.lemmas.List.{length-map}
 use Rattle.pf_base.specs.Limits.{Limits}
@@ -100,8 +100,3 @@ module _ {X N : Type 0} (shows : X → Segment) (number : N → ℕ) where
         resume-of (Some (Opening n kept)) _ waits (λ p.
         ap (λ r. Ok (again (S s) pid r)) (reopened-as shows number number itself (λ k. refl) s pid p n kept)
         ∙ ap Ok (again-as shows number s pid (reopened number s pid p n kept)))
-
-    -- and of a process that waits in no call
-    pub awake-call : call_of s pid ≡ None
-        → call c (S s) (Resume pid) ≡ if_ok O (of_living s pid (λ p. Err EINVAL))
-    awake-call awake = resume-of None _ awake (λ p. refl)

@@ -1,17 +1,16 @@
 -- The same of calls that wait: parking, who waits, and an open that is tried again. Of transfers, the ends that they
 -- ask for.
 
-use Rattle.std.proofs.Common.{◌≡◌, ℕ, ◌-◌, Bool, true, false, not, ◌&&◌, ◌||◌, nat_lt, is_some, if◌then◌else◌, Option, Some, None, Result, Ok, Err, refl, sym, ap, ◌∙◌}
+use Rattle.std.proofs.Common.{◌≡◌, ℕ, ◌-◌, Bool, true, false, not, nat_lt, is_some, if◌then◌else◌, Option, Some, None, Result, Ok, Err, refl, sym, ap, ◌∙◌}
 use Rattle.std.specs.Option.{option_map, option_and_then}
 use Rattle.pf_base.specs.declared.errno.Errno.{Errno}
 use Rattle.pf_base.specs.declared.errno.Errno.TheVariants.{EBADF}
-use Rattle.pf_base.specs.declared.step.Step.{Step}
 use Rattle.pf_base.specs.declared.step.Reply.TheVariants.{Parked, Err as Refused}
 use Rattle.pf_machine.specs.Refusals.{◌>>=◌, ◌>>◌, refuse_if, or_refuse}
 use Rattle.pf_machine.specs.Calls.{Call, Opening}
 use Rattle.pf_machine.specs.State.{Process, State, Outcome, End, process, end_at, end_of, reading_end, writing_end, change_process, waiting, told}
 use Rattle.pf_machine.specs.Attempts.{Attempt, Finished, Waits, other_opens, given, open_told, reopened, parked, again, has_nonblock}
-use Rattle.pf_machine.specs.Machine.{pid_of, is_for_waiting, call_of, lives, waits, is_let_in}
+use Rattle.pf_machine.specs.Machine.{call_of, waits}
 use Rattle.pf_machine.specs.Maps.{if_ok, call_as, process_as, state_as, outcome_as, end_as, attempt_as}
 use Rattle.pf_machine.proofs.MapLaws.{change_at-map, or_refuse-as, then-as, bind-as}
 use Rattle.pf_machine.proofs.Natural.{process-as, end_at-as, end_of-as}
@@ -62,17 +61,9 @@ module _ {X Y : Type 0} (f : X → Y) {N M : Type 0} (g : N → M) where
   stands-as h None = refl
   stands-as h (Some x) = refl
 
-  lives-as : (s : State X N) (o : Option ℕ) → lives (S s) o ≡ lives s o
-  lives-as s None = refl
-  lives-as s (Some pid) = ap is_some (process-as f g s pid) ∙ stands-as (process_as g) (process s pid)
-
   waits-as : (s : State X N) (o : Option ℕ) → waits (S s) o ≡ waits s o
   waits-as s None = refl
   waits-as s (Some pid) = ap is_some (call_of-as s pid) ∙ stands-as (call_as g) (call_of s pid)
-
-  pub is_let_in-as : (s : State X N) (step : Step) → is_let_in (S s) step ≡ is_let_in s step
-  is_let_in-as s step = λ i.
-      lives-as s (pid_of step) i && (is_for_waiting step || not (waits-as s (pid_of step) i))
 
   -- A call that is tried again
 

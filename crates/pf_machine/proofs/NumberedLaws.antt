@@ -1,6 +1,6 @@
 -- Laws of things by number: what stands where after a change, what a sum is after it, and when a list is what a test keeps.
 
-use Rattle.std.proofs.Common.{◌≡◌, ◌≢◌, ℕ, zero, suc, ◌+◌, ◌<◌, ◌≤◌, Bool, true, false, List, [], ◌∷◌, ◌++◌, length, map, set, Option, Some, None, refl, sym, ap, ◌∙◌, arith, if◌then◌else◌}
+use Rattle.std.proofs.Common.{◌≡◌, ◌≢◌, ℕ, zero, suc, ◌+◌, ◌<◌, ◌≤◌, Bool, true, false, List, ◌∷◌, ◌++◌, length, map, set, Option, Some, None, refl, sym, ap, ◌∙◌, arith, if◌then◌else◌, []}
 use Rattle.std.specs.Option.{option_map}
 use Rattle.std.proofs.lemmas.List.{get_or-set_same, get_or-set_other, get_or_past, get_or_append_left, get_or_push}
 use Rattle.pf_machine.specs.Numbered.{at, weight, sum_of, keep_from, keep, first_free}
@@ -107,11 +107,6 @@ module _ {X : Type 0} where
   sum_of-keep h test xs = sum_of-keep_from h test 0 xs
 
   -- The lowest free number
-
-  pub first_free-le : (xs : List (Option X)) → first_free xs ≤ length xs
-  first_free-le [] = omega arith
-  first_free-le (None ∷ xs) = omega arith
-  first_free-le (Some x ∷ xs) = omega (arith, first_free-le xs)
 
   pub at-first_free : (xs : List (Option X)) → at xs (first_free xs) ≡ None
   at-first_free [] = refl

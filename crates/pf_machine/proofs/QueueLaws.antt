@@ -1,12 +1,12 @@
 -- Laws of queues: what put, take, tee and a new capacity do to the bytes, the segments and the room.
 
-use Rattle.std.proofs.Common.{ℕ, zero, suc, ◌+◌, ◌-◌, ◌*◌, ◌<◌, ◌≤◌, ◌≡◌, Bool, true, false, List, [], ◌∷◌, ◌++◌, length, take, drop, refl, ap, sym, ◌∙◌, subst, ◌⊎◌, inl, inr, ⊎_elim, arith, append-nil, append_assoc, length-append, length-take, length-drop}
+use Rattle.std.proofs.Common.{ℕ, zero, suc, ◌+◌, ◌-◌, ◌*◌, ◌<◌, ◌≤◌, ◌≡◌, Bool, true, false, List, ◌∷◌, ◌++◌, length, take, drop, refl, ap, sym, ◌∙◌, subst, ◌⊎◌, inl, inr, ⊎_elim, arith, append-nil, append_assoc, length-append, length-take, length-drop, []}
 use Rattle.std.proofs.lemmas.Bool.{leb-true, leb-false, le-leb, lt-leb, cases_lt}
 use Rattle.std.proofs.lemmas.List.{take-append-drop, take_all, take-append-le, drop_all, drop-append-le, nil_from_length}
 use Rattle.std.proofs.lemmas.List.Elements.{All-nil, All-cons, All-head, All-tail, All-append}
 use Rattle.std.proofs.Math.Seq.{drop-append-add, take-append-add}
 use Rattle.std.specs.Prelude.{All, nat_le, if◌then◌else◌}
-use Rattle.pf_machine.specs.Queue.{Segment, Queue, IsSegment, IsQueue, joined, bytes_of, free_of, last_room, room_of, topped_up, pieces, put, without_front, taken, after_take, copied, tee_number, after_tee, after_splice, with_capacity}
+use Rattle.pf_machine.specs.Queue.{Segment, Queue, IsSegment, IsQueue, joined, bytes_of, free_of, last_room, room_of, topped_up, pieces, put, without_front, taken, after_take, copied, tee_number, after_tee}
 use Rattle.pf_machine.specs.Progress.{portion}
 use Rattle.pf_base.specs.declared.TheConstants.{PAGE_SIZE}
 
@@ -216,14 +216,6 @@ without_front-all n (s ∷ ss) l =
     let all : length s.bytes + length (joined ss) ≤ n = subst (λ m. m ≤ n) (length-append s.bytes (joined ss)) l in
     without_front-emptied n s ss (omega (arith, all)) ∙ without_front-all (n - length s.bytes) ss (omega (arith, all))
 
-pub without_front-some : (n : ℕ) (ss : List Segment) → n < length (joined ss) → 0 < length (without_front n ss)
-without_front-some n [] l = absurd (omega (arith, l))
-without_front-some n (s ∷ ss) l =
-    elim (nat_le (length s.bytes) n) as (λ t. nat_le (length s.bytes) n ≡ t → 0 < length (if t then without_front (n - length s.bytes) ss else record s { bytes = drop n s.bytes } ∷ ss)) [
-      | true ↦ λ e. without_front-some (n - length s.bytes) ss (omega (arith, l, length-append s.bytes (joined ss), leb-true (length s.bytes) n e))
-      | false ↦ λ e. omega arith
-    ] refl
-
 -- the last segment keeps its room as long as a byte is left
 pub last_room-without_front : (n : ℕ) (ss : List Segment) → n < length (joined ss) → last_room (without_front n ss) ≡ last_room ss
 last_room-without_front n [] l = refl
@@ -329,14 +321,7 @@ IsQueue-after_tee source sink n is-source is-sink = record {
   slots = omega (arith, is-sink.slots, length-append sink.segments (copied (free_of sink) n source.segments), length-copied (free_of sink) n source.segments);
 }
 
--- the source loses what the sink got
-pub bytes_of-after_splice : (source sink : Queue) (n : ℕ) → bytes_of (after_splice source sink n) ≡ drop (tee_number source sink n) (bytes_of source)
-bytes_of-after_splice source sink n = bytes_of-after_take source (tee_number source sink n)
-
 -- Capacities
-
-pub IsQueue-with_capacity : (slots : ℕ) (q : Queue) → IsQueue q → length q.segments ≤ slots → IsQueue (with_capacity slots q)
-IsQueue-with_capacity slots q is fits = record { each = is.each; slots = fits }
 
 -- What goes in at once
 
@@ -365,12 +350,6 @@ portion-le true n room =
 portion-le false n room = omega arith
 
 -- What segments say of the bytes
-
--- a queue of segments holds at least a byte for each, and at most a page
-pub length-joined-ge : (ss : List Segment) → All IsSegment ss → length ss ≤ length (joined ss)
-length-joined-ge [] each = omega arith
-length-joined-ge (s ∷ ss) each =
-    omega (arith, (All-head IsSegment s ss each).some, length-append s.bytes (joined ss), length-joined-ge ss (All-tail IsSegment s ss each))
 
 pub length-joined-le : (ss : List Segment) → All IsSegment ss → length (joined ss) + last_room ss ≤ PAGE_SIZE * length ss
 length-joined-le [] each = omega arith

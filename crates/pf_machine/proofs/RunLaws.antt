@@ -1,6 +1,6 @@
 -- Laws of runs: the run of two lists in turn, and of one more step.
 
-use Rattle.std.proofs.Common.{◌≡◌, ℕ, List, [], ◌∷◌, ◌++◌, length, suc, refl, ap, sym, ◌∙◌, append-nil}
+use Rattle.std.proofs.Common.{◌≡◌, ℕ, List, ◌∷◌, ◌++◌, refl, ap, sym, ◌∙◌, append-nil, []}
 use Rattle.pf_base.specs.Limits.{Limits}
 use Rattle.pf_machine.specs.Queue.{Segment}
 use Rattle.pf_machine.specs.State.{State}
@@ -22,11 +22,6 @@ run_of-append c s (x ∷ xs) ys =
 -- one more step
 pub run_of-push : (c : Limits) (s : State Segment ℕ) (xs : List Step) (x : Step) → run_of c s (xs ++ x ∷ []) ≡ record { state = (step_of c (run_of c s xs).state x).state; replies = (run_of c s xs).replies ++ (step_of c (run_of c s xs).state x).reply ∷ [] }
 run_of-push c s xs x = run_of-append c s xs (x ∷ [])
-
--- a reply for each step
-pub length-replies : (c : Limits) (s : State Segment ℕ) (xs : List Step) → length (run_of c s xs).replies ≡ length xs
-length-replies c s [] = refl
-length-replies c s (x ∷ xs) = ap (λ n. suc n) (length-replies c (step_of c s x).state xs)
 
 -- a run, where it led and what it replied, goes on by an answer
 pub run_of-answered : (c : Limits) (s old new : State Segment ℕ) (xs : List Step) (x : Step) (rs : List Reply) (a : Answer) → run_of c s xs ≡ record { state = old; replies = rs } → Answers c a old x new → run_of c s (xs ++ keep_step a x []) ≡ record { state = new; replies = rs ++ keep_reply a [] }

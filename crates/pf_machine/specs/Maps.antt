@@ -1,16 +1,13 @@
 -- One state as another: other things in the slots, and other names. Code that keeps a state of its own says by such a
 -- map what it means.
 
-use Rattle.std.specs.Prelude.{◌≡◌, ℕ, map, List, Option, Result, Ok, Err}
+use Rattle.std.specs.Prelude.{map, List, Option, Result, Ok, Err}
 use Rattle.std.specs.Option.{option_map}
 use Rattle.pf_base.specs.declared.errno.Errno.{Errno}
 use Rattle.pf_machine.specs.Queue.{Slots}
 use Rattle.pf_machine.specs.Calls.{Call, Opening, Moving}
 use Rattle.pf_machine.specs.Attempts.{Attempt, Finished, Waits}
-use Rattle.pf_machine.specs.State.{Process, Description, Pipe, State, Outcome, End, told}
-use Rattle.pf_machine.specs.Sweep.{sweep}
-use Rattle.pf_base.specs.declared.step.Reply.{Reply}
-use Rattle.pf_base.specs.declared.step.Reply.TheVariants.{Err as Refused}
+use Rattle.pf_machine.specs.State.{Process, Description, Pipe, State, Outcome, End}
 
 -- of what is not refused
 abbrev pub if_ok : {A B : Type 0} → (A → B) → Result A Errno → Result B Errno
@@ -74,23 +71,3 @@ module _ {X Y : Type 0} (f : X → Y) {N M : Type 0} (g : N → M) where
   abbrev pub attempt_as : Attempt X N → Attempt Y M
   attempt_as (Finished s reply) = Finished (state_as s) reply
   attempt_as (Waits s call) = Waits (state_as s) (call_as g call)
-
--- What such code says of a call at its own state
-
--- what it tells of a result
-abbrev pub reply_of : {A : Type 0} → (A → Reply) → Result A Errno → Reply
-reply_of reply (Ok a) = reply a
-reply_of reply (Err e) = Refused e
-
-module _ {X N A : Type 0} where
-  -- the call was made, and this is told; or its refusal is the call's, and nothing has changed
-  abbrev pub Says : (A → Reply) → State X N → State X N → Result A Errno → Result (Outcome X N) Errno → Type 0
-  Says reply old new (Ok a) call = call ≡ Ok (told new (reply a))
-  Says reply old new (Err e) call = (call ≡ Err e) × (new ≡ old)
-
-  -- the same of a call that lets things go, which are gone already
-  abbrev pub Leaves :
-      (N → ℕ) → (A → Reply) → State X N → State X N → Result A Errno → Result (Outcome X N) Errno → Type 0
-  Leaves number reply old new (Ok a) call =
-      (s : State X N) × (call ≡ Ok (told s (reply a))) × (new ≡ sweep number s)
-  Leaves number reply old new (Err e) call = (call ≡ Err e) × (new ≡ old)

@@ -3,7 +3,7 @@
 
 use Rattle.std.specs.Prelude.{ℕ, List, Option, nat_lt}
 use Rattle.pf_machine.specs.Numbered.{keep}
-use Rattle.pf_machine.specs.State.{State, Process, Description, Pipe, Outcome}
+use Rattle.pf_machine.specs.State.{State, Process, Description, Pipe}
 use Rattle.pf_machine.specs.Counts.{names, ends}
 
 module _ {N : Type 0} (number : N → ℕ) where
@@ -23,7 +23,3 @@ module _ {N : Type 0} (number : N → ℕ) where
     descriptions = live_descriptions s.processes s.descriptions;
     pipes = live_pipes (live_descriptions s.processes s.descriptions) s.pipes;
   }
-
-  -- the same of what a step leaves
-  abbrev pub swept_by : {X : Type 0} → Outcome X N → Outcome X N
-  swept_by o = record { state = sweep o.state; reply = o.reply }

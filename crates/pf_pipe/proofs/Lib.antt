@@ -1,3 +1,2 @@
-pub mod PipeLaws
 pub mod PipeCross
 pub mod PipeReads

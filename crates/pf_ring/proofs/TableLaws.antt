@@ -1,10 +1,10 @@
 -- A table of rings in the frames of one door: what a call on one of them is to the others.
 
-use Rattle.std.proofs.Common.{◌≡◌, ◌≢◌, ℕ, zero, suc, ◌+◌, ◌-◌, ◌<◌, ◌≤◌, List, [], ◌∷◌, ◌++◌, length, map, set, refl, sym, ◌∙◌, ap, subst, inl, inr, arith}
+use Rattle.std.proofs.Common.{◌≡◌, ◌≢◌, ℕ, zero, suc, ◌+◌, ◌-◌, ◌<◌, ◌≤◌, List, ◌∷◌, ◌++◌, length, map, set, refl, sym, ◌∙◌, ap, subst, inl, inr, arith, []}
 use Rattle.std.proofs.lemmas.Bool.{cases_lt, cases_eq}
 use Rattle.std.proofs.lemmas.Bool.Decides.{nat_tests}
 use denote.Struct.Props.{props}
-use Rattle.std.proofs.lemmas.List.{get_or_past, get_or-set_same, get_or-set_other, map-set, set_past, nil_from_length, length-map}
+use Rattle.std.proofs.lemmas.List.{get_or_past, get_or-set_same, get_or-set_other, set_past, nil_from_length, length-map}
 use Rattle.std.proofs.lemmas.List.Sums.{sum_by-cons, sum_by-set, sum_by_push, get_or-le-sum_by, sum_by-le-sum_by}
 use Rattle.std.specs.Prelude.{slice_index_or}
 use Rattle.std.specs.List.{sum_by}
@@ -15,7 +15,7 @@ pub use Rattle.pf_frame.specs.Live.{SameLive}
 use Rattle.pf_ring.specs.declared.ring.Window.{Window}
 use Rattle.pf_ring.specs.Ring.{Ring, segment_of, queue_of, no_ring}
 use Rattle.pf_ring.specs.Windows.{named, reach, opens, limit, NoEmpty, bytes_in, Stands, Keeps}
-use Rattle.pf_ring.proofs.WindowLaws.{NoEmpty-prop, NoEmpty-append, named-append, opens-append, reach-append, limit-append, opens_le_named, reach_unnamed, limit_closed, reach_here, take_less, segments_stay, segments_same, window_whole, stands_rest, segments_length}
+use Rattle.pf_ring.proofs.WindowLaws.{NoEmpty-prop, NoEmpty-append, named-append, opens-append, reach-append, limit-append, opens_le_named, reach_unnamed, limit_closed, reach_here, take_less, segments_stay, window_whole, stands_rest, segments_length}
 use Rattle.pf_ring.specs.Table.{ring_at, named_by, opens_by, slots_of, slots_used, Joined}
 
 -- what is 0 at no ring is, at one ring or at two, at most its sum
@@ -146,10 +146,6 @@ queue_stays f g rings k i r src j c n =
     take_less _ _ _ _ (j.apart q i k) (c.contents q (omega (arith, both, m)) (omega (arith, both, m, c.counts q)))) in
     with_segments (ring_at rings i).capacity same
 
-pub queues_after : (f g : Live) (rings : List Ring) (k : ℕ) (r : Ring) (src : List Window) → k < length rings → Joined f rings
-    → Keeps src (ring_at rings k).segments r.segments f g → map (queue_of g) (set rings k r) ≡ set (map (queue_of f) rings) k (queue_of g r)
-queues_after f g rings k r src l j c = map-set (queue_of g) rings k r ∙ set_same (queue_of g) (queue_of f) rings k (queue_of g r) (λ i n. queue_stays f g rings k i r src j c n)
-
 -- a ring with other slots, as many as are in use at least, where all slots stay within the reservation
 pub joined_resized : (f : Live) (rings : List Ring) (k slots : ℕ) → k < length rings → Joined f rings → slots_used (ring_at rings k) ≤ slots
     → sum_by slots_of rings + slots ≤ f.reserved + slots_of (ring_at rings k) → Joined f (set rings k (record { capacity = slots; segments = (ring_at rings k).segments }))
@@ -189,25 +185,6 @@ rings_stand f rings i j n is =
       apart = λ q. omega (arith, reach-append q a b, limit-append q a b, is.apart q i i, is.apart q i j, is.apart q j i, is.apart q j j);
       some = NoEmpty-append a b (is.some i) (is.some j);
     }
-
--- a call on another namespace's door in between
-pub joined_same : (f g : Live) (rings : List Ring) → Joined f rings → SameLive f g → Joined g rings
-joined_same f g rings j s = record {
-  counts = λ q. j.counts q ∙ sym (s.counts q);
-  total = j.total ∙ sym s.shares;
-  single = j.single;
-  within = j.within;
-  apart = j.apart;
-  some = j.some;
-  fits = j.fits;
-  reserve = omega (arith, j.reserve, s.reserved);
-}
-
-pub queue_same : (f g : Live) (rings : List Ring) (i : ℕ) → Joined f rings → SameLive f g → queue_of g (ring_at rings i) ≡ queue_of f (ring_at rings i)
-queue_same f g rings i j s = with_segments (ring_at rings i).capacity (segments_same f g (ring_at rings i).segments (λ q m. s.bytes q (omega (arith, m, at_le (named_by q) rings i refl, j.counts q))))
-
-pub queues_same : (f g : Live) (rings : List Ring) → Joined f rings → SameLive f g → map (queue_of g) rings ≡ map (queue_of f) rings
-queues_same f g rings j s = map_same (queue_of g) (queue_of f) rings (λ i. queue_same f g rings i j s)
 
 -- an empty table in frames of which none is live
 pub joined_nothing : (f : Live) → ((q : ℕ) → f.count q ≡ 0) → f.shares ≡ 0 → Joined f []

@@ -1,6 +1,6 @@
 -- Windows that are put on the frames of another ring's windows: one, and as many as a loop puts.
 
-use Rattle.std.proofs.Common.{◌≡◌, ◌⊎◌, ℕ, zero, suc, ◌+◌, ◌-◌, ◌<◌, ◌≤◌, ◌^◌, min, false, List, [], ◌∷◌, ◌++◌, length, get_or, take, drop, refl, sym, ◌∙◌, ap, subst, inl, inr, append_assoc, arith}
+use Rattle.std.proofs.Common.{◌≡◌, ◌⊎◌, ℕ, zero, suc, ◌+◌, ◌-◌, ◌<◌, ◌≤◌, min, false, List, ◌∷◌, ◌++◌, length, get_or, take, drop, refl, sym, ◌∙◌, ap, subst, inl, inr, append_assoc, arith, []}
 use Rattle.std.proofs.lemmas.Bool.{cases_eq, cases_lt}
 use Rattle.std.proofs.lemmas.Bool.Decides.{nat_tests}
 use Rattle.std.proofs.lemmas.List.{map-append, append-nil, get_or-drop, drop_all, drop-drop, take-take, take_min, length-drop, length-append, length-map}
@@ -13,7 +13,7 @@ use Rattle.pf_ring.specs.Calls.{Gets}
 use Rattle.pf_ring.specs.Ring.{Ring, segment_of, shown, queue_of}
 use Rattle.pf_ring.specs.Steps.{Copies}
 use Rattle.pf_ring.specs.Windows.{named, reach, opens, limit, bytes_in, Stands, Keeps, Moves}
-use Rattle.pf_ring.proofs.WindowLaws.{named-append, opens-append, reach-append, limit-append, limit_le, NoEmpty-append, bytes_in-append, reach_here, named_tail, reach_tail, segments_same, segments_length, window_whole, keeps_then, keeps_same, stands_first, stands_second, stands_rest, both_stand, reach_first}
+use Rattle.pf_ring.proofs.WindowLaws.{named-append, opens-append, reach-append, limit-append, limit_le, NoEmpty-append, bytes_in-append, reach_here, reach_tail, segments_same, segments_length, window_whole, keeps_then, keeps_same, stands_first, stands_second, stands_rest, both_stand, reach_first}
 use Rattle.pf_ring.proofs.Changes.{First, is_first, own, other}
 use Rattle.pf_ring.proofs.Queues.{same_segment, copied_step, copied_no_slot, copied_no_byte, copied_no_segment}
 
@@ -100,12 +100,6 @@ copies_then f g h src old mid new m n c d = record {
   held = d.held ∙ c.held;
   bytes = omega (arith, c.bytes, d.bytes);
 }
-
--- a window behind some others of the windows src
-drop_named : (q n : ℕ) (ws : List Window) → named q (drop n ws) ≤ named q ws
-drop_named q zero ws = omega arith
-drop_named q (suc n) [] = omega arith
-drop_named q (suc n) (w ∷ ws) = omega (arith, drop_named q n ws, named_tail q w ws)
 
 drop_reach : (q n : ℕ) (ws : List Window) → reach q (drop n ws) ≤ reach q ws
 drop_reach q zero ws = omega arith
@@ -198,11 +192,6 @@ sharing_more f0 f g src ws0 ws new slots n place done m target w sound stood a h
           ∙ (append_assoc (shown f ws) (segment_of g v ∷ []) (copied (slots - length (ws ++ v ∷ [])) (n - (done + m)) (shown f0 (drop (place + 1) src)))
           ∙ (ap (λ (us : List Segment). shown f ws ++ us) tail ∙ a.segments));
     })
-
--- a count that goes up by one is below the end of its type
-pub sharing_few : (f0 f : Live) (src ws0 ws : List Window) (slots n place done : ℕ) (target : List Segment) → IsSound f → Sharing f0 f src ws0 ws slots n place done target → length ws < slots → f0.shares + slots < 2 ^ 32
-    → (q : ℕ) → f.count q + 1 < 2 ^ 32
-sharing_few f0 f src ws0 ws slots n place done target sound a free few q = omega (arith, sound.most q, a.copies.keeps.total, free, few)
 
 -- copying that is at its end: no byte is left to copy, no slot, or no window
 pub sharing_end : (f0 f : Live) (src ws0 ws : List Window) (slots n place done : ℕ) (target : List Segment) → Sharing f0 f src ws0 ws slots n place done target

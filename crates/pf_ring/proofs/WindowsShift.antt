@@ -1,6 +1,6 @@
 -- Windows whose bytes go to the end of another ring's windows: one, and as many as a loop moves.
 
-use Rattle.std.proofs.Common.{◌≡◌, ◌⊎◌, ℕ, ◌+◌, ◌-◌, ◌<◌, ◌≤◌, ◌^◌, min, max, List, [], ◌∷◌, ◌++◌, length, get_or, drop, take, set, refl, sym, ◌∙◌, ap, subst, inl, inr, append_assoc, arith}
+use Rattle.std.proofs.Common.{◌≡◌, ◌⊎◌, ℕ, ◌+◌, ◌-◌, ◌<◌, ◌≤◌, min, max, List, ◌∷◌, ◌++◌, length, get_or, drop, take, set, refl, sym, ◌∙◌, ap, subst, inl, inr, append_assoc, arith, []}
 use Rattle.std.proofs.lemmas.Bool.{cases_eq, cases_lt}
 use Rattle.std.proofs.lemmas.Bool.Decides.{nat_tests}
 use Rattle.std.proofs.lemmas.List.{map-append, append-nil, length-append, nil_from_length}
@@ -263,11 +263,6 @@ module _ (f g : Live) (src0 src ws0 ws : List Window) (slots n place done : ℕ)
             ∙ ap (λ (us : List Window). without_front m (shown f us)) (sym first.split)
             ∙ (ap (without_front m) a.source ∙ without_more done m (shown f src0));
       }))
-
--- a count that goes up by one is below the end of its type
-pub shifting_few : (f g : Live) (src0 src ws0 ws : List Window) (slots n place done : ℕ) (target : List Segment) → IsSound g → Shifting f g src0 src ws0 ws slots n place done target → length ws < slots → f.shares + slots < 2 ^ 32
-    → (q : ℕ) → g.count q + 1 < 2 ^ 32
-shifting_few f g src0 src ws0 ws slots n place done target sound a free few q = omega (arith, sound.most q, a.total, a.less.used, free, few)
 
 -- moving that is at its end
 pub shifting_end : (f g : Live) (src0 src ws0 ws : List Window) (slots n place done : ℕ) (target : List Segment) → Shifting f g src0 src ws0 ws slots n place done target

@@ -1,7 +1,7 @@
 -- What a call answers, of what its parts do.
 
 use Rattle.std.proofs.Common.{◌≡◌, ℕ, ◌<◌, List, sym, subst}
-use Rattle.std.specs.Prelude.{Result, Ok, Err, IfOk, IfErr, IsErr, IsErrAnd, OnOk, OnErr}
+use Rattle.std.specs.Prelude.{Result, Ok, Err, IfOk, IfErr, IsErr, OnOk, OnErr}
 use Rattle.pf_base.specs.declared.TheConstants.{MAX_NUMBERS}
 use Rattle.pf_base.specs.declared.admission.RetireFault.{RetireFault}
 use Rattle.pf_base.specs.declared.step.Step.{Step}
@@ -31,15 +31,6 @@ unseen es Gone fault = absurd fault
 pub unknown : {A C H : Type 0} (t : Tenant (OneLiving A C H)) (e : ServiceFault) → IsTenantFault t e → IsEventFault e
 unknown (Living l) e fault = unseen l.logged.transcript e fault
 unknown (Retired t) e fault = subst IsEventFault (sym fault) tt
-
-pub event_fault : {A C H T : Type 0} (t : Tenant (OneLiving A C H)) (r : Result T ServiceFault) → IfErr r (IsTenantFault t) → IfErr r IsEventFault
-event_fault t (Ok x) fault = tt
-event_fault t (Err e) fault = unknown t e fault
-
--- and where it is handed on
-pub refused_event : {A C H T : Type 0} (t : Tenant (OneLiving A C H)) (e : ServiceFault) (r : Result T ServiceFault) → IsErrAnd r (λ x. x ≡ e) → IsTenantFault t e → IfErr r IsEventFault
-refused_event t e (Ok x) is fault = tt
-refused_event t e (Err x) is fault = unknown t x (subst (IsTenantFault t) (sym is) fault)
 
 -- of a namespace that is there
 pub call_fault : {T : Type 0} (first ns : ℕ) (r : Result T ServiceFault) → ns < MAX_NUMBERS → IfErr r IsEventFault → IfErr r (IsCallFault first ns)

@@ -1,18 +1,17 @@
 -- A namespace's transcript, and those that aren't there.
 
-use Rattle.std.proofs.Common.{◌≡◌, ℕ, ◌+◌, ◌<◌, ◌≤◌, List, [], ◌∷◌, length, inl, inr, Bool, true, false, nat_eq, get_or, refl, ap, sym, ◌∙◌, subst, arith, if◌then◌else◌, zero-add}
-use Rattle.std.specs.Prelude.{All, slice_get, slice_index, option_map, Some, None, count_by, Result, Ok, Err, IfErr, IsErrAnd}
+use Rattle.std.proofs.Common.{◌≡◌, ℕ, ◌+◌, ◌<◌, ◌≤◌, List, ◌∷◌, length, inl, inr, Bool, true, false, nat_eq, refl, ap, sym, ◌∙◌, subst, arith, if◌then◌else◌, zero-add, []}
+use Rattle.std.specs.Prelude.{All, slice_index, count_by, Result, Ok, Err, IfErr, IsErrAnd}
 use Rattle.std.specs.List.{flat_map}
 use Rattle.std.proofs.lemmas.Bool.{cases_lt, ne_eqb, and_left, eq-eqb, and_from, le-ltb}
 use Rattle.std.proofs.lemmas.List.{get_or_past}
 use Rattle.std.proofs.lemmas.List.Elements.{All-nil, All-head, All-tail}
-use Rattle.std.proofs.lemmas.Option.{slice_get_read, slice_get_past, slice_get-get_or, get_or_from_slice_get}
 use Rattle.std.proofs.lemmas.List.Sums.{sum_by-cons}
 use Rattle.pf_base.specs.Limits.{Limits}
 use Rattle.pf_service.specs.declared.event.Event.{Event}
 use Rattle.pf_service.specs.declared.fault.CloseFault.{CloseFault}
 use Rattle.pf_service.specs.declared.fault.CloseFault.TheVariants.{Disagree, SeatsMissing, NoMemory}
-use Rattle.pf_service.specs.Judged.{Fits, Agrees, IsCause, IsClosed, IsClosedFault, IsUnlockedFault}
+use Rattle.pf_service.specs.Judged.{Agrees, IsCause, IsClosed, IsClosedFault, IsUnlockedFault}
 use Rattle.pf_service.specs.Merge.{at, stands, Rises, IsMerge}
 use Rattle.pf_service.specs.Seats.{OneSeat, is_seat, lists_of, AreGiven, IsGiven}
 use Rattle.pf_service.specs.Transcripts.{OneTranscript, IsLone, transcript_at, no_transcript}
@@ -55,30 +54,6 @@ no_events : (i : ℕ) → at i (flat_map (λ (es : List Event). es) []) ≡ stan
 no_events i = refl
 
 module _ (configs : List Limits) (ts : List OneTranscript) (seats : List OneSeat) where
-  pub fits_agrees : (n : ℕ) (t : OneTranscript) → n < length ts → t ≡ get_or ts n t → Fits configs t seats n → Agrees configs ts seats n
-  fits_agrees n t within is f =
-      let some : slice_get ts n ≡ Some t = slice_get_read ts (length ts) n t refl within is in
-      record {
-        limits = λ there. ap (option_map (λ (u : OneTranscript). u.limits)) some ∙ sym (f.limits there);
-        merge = subst (λ (u : OneTranscript). IsMerge u.entries (lists_of n seats)) (sym (get_or_from_slice_get ts n t no_transcript some)) f.merge;
-      }
-
-  pub agrees_fits : (n : ℕ) (t : OneTranscript) → n < length ts → t ≡ get_or ts n t → Agrees configs ts seats n → Fits configs t seats n
-  agrees_fits n t within is a =
-      let some : slice_get ts n ≡ Some t = slice_get_read ts (length ts) n t refl within is in
-      record {
-        limits = λ there. sym (a.limits there) ∙ ap (option_map (λ (u : OneTranscript). u.limits)) some;
-        merge = subst (λ (u : OneTranscript). IsMerge u.entries (lists_of n seats)) (get_or_from_slice_get ts n t no_transcript some) a.merge;
-      }
-
-  -- a namespace without a transcript
-  pub too_few : length ts < length configs → Agrees configs ts seats (length ts) → ⊥
-  too_few lt a =
-      let none : slice_get ts (length ts) ≡ None = slice_get_past ts (length ts) (omega arith) in
-      let some : slice_get configs (length ts) ≡ Some (get_or configs (length ts) no_transcript.limits) = slice_get-get_or configs (length ts) no_transcript.limits lt in
-      let both : None ≡ Some (get_or configs (length ts) no_transcript.limits) = sym (ap (option_map (λ (u : OneTranscript). u.limits)) none) ∙ a.limits lt ∙ some in
-      absurd (cc)
-
   -- a namespace that isn't there
   pub past : (given : List ℕ) → AreGiven given seats → length ts ≡ length given → length configs ≤ length ts → (n : ℕ) → length ts ≤ n → Agrees configs ts seats n
   past given all each few n over =

@@ -1,12 +1,12 @@
 -- A namespace's seats together.
 
-use Rattle.std.proofs.Common.{◌≡◌, ℕ, ◌+◌, ◌<◌, ◌++◌, inl, inr, [], ◌∷◌, List, length, Bool, true, false, nat_eq, map, take, drop, replicate, get_or, slice_index_or, Some, refl, ap, sym, ◌∙◌, subst, arith, if◌then◌else◌}
+use Rattle.std.proofs.Common.{◌≡◌, ℕ, ◌+◌, ◌<◌, ◌++◌, inl, inr, ◌∷◌, List, length, Bool, true, false, nat_eq, map, take, drop, get_or, slice_index_or, Some, refl, ap, sym, ◌∙◌, subst, arith, if◌then◌else◌, []}
 use Rattle.std.specs.Prelude.{All, filter}
 use Rattle.std.specs.List.{flat_map}
 use Rattle.std.specs.Bool.{MatchBool, OnTrue, OnFalse}
 use Rattle.std.proofs.lemmas.Bool.{cases_lt}
 use Rattle.std.proofs.lemmas.Option.{slice_get_past, slice_get_cases}
-use Rattle.std.proofs.lemmas.List.{get_or-replicate, get_or_past, length-replicate, append-nil, append_assoc, map-append, take_more, drop_more, take-append-drop, drop_at}
+use Rattle.std.proofs.lemmas.List.{get_or_past, append-nil, append_assoc, map-append, take_more, drop_more, take-append-drop, drop_at}
 use Rattle.std.proofs.lemmas.List.Elements.{filter-append, All-head, All-drop}
 use Rattle.std.proofs.lemmas.List.Concat.{flat_map-append}
 use Rattle.pf_base.specs.declared.step.Step.{Step}
@@ -68,15 +68,6 @@ seen_from t ls before es after is m =
     let all : All Rises (before ++ es ∷ after) = subst (All Rises) is m.rising in
     let rest : All Rises (es ∷ after) = subst (All Rises) (drop_at before (es ∷ after) (length before) refl) (All-drop Rises (length before) (before ++ es ∷ after) all) in
     (All-head Rises es after rest, λ i. subst (λ (vs : List Event). at i vs ≡ stands t i) (joined-around before es after) (subst (λ (vs : List (List Event)). at i (joined vs) ≡ stands t i) is (m.each i)))
-
-pub none_marked : (t : List (Step × Reply)) (n : ℕ) → IsMarked t (replicate n false) []
-none_marked t n i =
-    let is : get_or (replicate n false) i false ≡ false =
-    elim (cases_lt i n) [
-      | inl within ↦ get_or-replicate n i false false within
-      | inr past ↦ get_or_past (replicate n false) i false (omega (arith, length-replicate n false))
-    ] in
-    ap (λ (b : Bool). if b then stands t i else []) (sym is)
 
 pub all_done : (t : List (Step × Reply)) (marks : List Bool) (done : List Event) → length marks ≡ length t → IsMarked t marks done
     → ((i : ℕ) → i < length marks → slice_index_or marks i false ≡ true) → (i : ℕ) → at i done ≡ stands t i

@@ -1,22 +1,13 @@
 -- One more seat and its number.
 
-use Rattle.std.proofs.Common.{◌≡◌, ℕ, ◌+◌, ◌<◌, ◌≤◌, inl, inr, [], List, length, Bool, true, false, nat_eq, take, drop, replicate, get_or, slice_index_or, slice_set, refl, ap, sym, ◌∙◌, subst, arith, if◌then◌else◌, eq-eqb}
+use Rattle.std.proofs.Common.{◌≡◌, ℕ, ◌+◌, ◌<◌, ◌≤◌, inl, inr, List, length, Bool, true, false, nat_eq, take, drop, get_or, slice_index_or, refl, ap, sym, ◌∙◌, subst, arith, if◌then◌else◌, eq-eqb}
 use Rattle.std.specs.Prelude.{count_by}
 use Rattle.std.specs.Bool.{MatchBool, OnTrue, OnFalse}
-use Rattle.std.proofs.lemmas.Bool.{cases_lt, cases_eq, ne_eqb, lt-ltb, le-ltb, and_from, and_right, and_left}
-use Rattle.std.proofs.lemmas.List.{get_or-replicate, get_or_past, get_or-set_same, get_or-set_other, length-replicate, take-append-drop}
+use Rattle.std.proofs.lemmas.Bool.{cases_lt, ne_eqb, lt-ltb, le-ltb, and_from, and_right, and_left}
+use Rattle.std.proofs.lemmas.List.{get_or_past, take-append-drop}
 use Rattle.std.proofs.lemmas.List.Sums.{count_by_more_yes, count_by_more_no, sum_by-append}
 use Rattle.pf_service.specs.Marks.{IsCounted}
 use Rattle.pf_service.specs.Seats.{OneSeat, is_seat, IsGiven}
-
-pub none_counted : (ns n : ℕ) → IsCounted ns (replicate n false) []
-none_counted ns n k =
-    let is : get_or (replicate n false) k false ≡ false =
-    elim (cases_lt k n) [
-      | inl within ↦ get_or-replicate n k false false within
-      | inr past ↦ get_or_past (replicate n false) k false (omega (arith, length-replicate n false))
-    ] in
-    ap (λ (b : Bool). if b then 1 else 0) (sym is)
 
 pub yes : (ns : ℕ) (seats : List OneSeat) (i : ℕ) (s : OneSeat) → i < length seats → s ≡ get_or seats i s → s.ns ≡ ns
     → count_by (is_seat ns s.number) (take (i + 1) seats) ≡ count_by (is_seat ns s.number) (take i seats) + 1
@@ -35,28 +26,6 @@ pub others : (ns k : ℕ) (seats : List OneSeat) (i : ℕ) (s : OneSeat) → i <
 others ns k seats i s within is away =
     count_by_more_no (is_seat ns k) seats i s within
     (subst (λ (v : OneSeat). is_seat ns k v ≡ false) is (and_left (nat_eq s.ns ns) (nat_eq s.number k) (ne_eqb s.ns ns away)))
-
-pub counted_other : (ns : ℕ) (marks : List Bool) (seats : List OneSeat) (i : ℕ) (s : OneSeat) → i < length seats → s ≡ get_or seats i s → (s.ns ≡ ns → ⊥)
-    → IsCounted ns marks (take i seats) → IsCounted ns marks (take (i + 1) seats)
-counted_other ns marks seats i s within is away so k = others ns k seats i s within is away ∙ so k
-
-pub counted_more : (ns : ℕ) (marks : List Bool) (seats : List OneSeat) (i : ℕ) (s : OneSeat) → i < length seats → s ≡ get_or seats i s → s.ns ≡ ns
-    → s.number < length marks → slice_index_or marks s.number false ≡ false
-    → IsCounted ns marks (take i seats) → IsCounted ns (slice_set marks s.number true) (take (i + 1) seats)
-counted_more ns marks seats i s within is mine in' was so k =
-    elim (cases_eq k s.number) [
-      | inl here ↦
-          let P : ℕ → Type 0 = λ n. count_by (is_seat ns n) (take (i + 1) seats) ≡ (if slice_index_or (slice_set marks s.number true) n false then 1 else 0) in
-          subst P (sym here) (
-          yes ns seats i s within is mine
-          ∙ ap (λ (n : ℕ). n + 1) (so s.number ∙ ap (λ (b : Bool). if b then 1 else 0) was)
-          ∙ ap (λ (b : Bool). if b then 1 else 0) (sym (get_or-set_same marks s.number true false in'))
-          )
-      | inr away ↦
-          no ns k seats i s within is (λ e. away (sym e))
-          ∙ so k
-          ∙ ap (λ (b : Bool). if b then 1 else 0) (sym (get_or-set_other marks s.number k true false away))
-    ]
 
 -- how many there are at least
 pub at_least : (ns k : ℕ) (seats : List OneSeat) (j : ℕ) → count_by (is_seat ns k) (take j seats) ≤ count_by (is_seat ns k) seats

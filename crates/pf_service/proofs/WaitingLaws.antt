@@ -1,6 +1,6 @@
 -- Who waits, and one more try of a call that waits.
 
-use Rattle.std.proofs.Common.{◌≡◌, ◌≢◌, ℕ, true, false, Ok, Err, List, [], ◌∷◌, ◌++◌, map, refl, ap, sym, ◌∙◌, subst}
+use Rattle.std.proofs.Common.{◌≡◌, ◌≢◌, ℕ, true, false, Ok, Err, List, ◌∷◌, ◌++◌, map, refl, ap, sym, ◌∙◌, subst, []}
 use Rattle.std.proofs.Common.{arith}
 use Rattle.std.specs.Prelude.{All, Result}
 use Rattle.std.proofs.lemmas.List.{append_assoc, map-append, append-nil}
@@ -65,9 +65,6 @@ IsParked e = e.reply ≡ Parked
 pub record Going (Says : Step → ℕ → Reply → Type 0) (step : Step) (old new : OneSeat) (before after : List Receipt) (es : List Event) (last : Event) : Type 0 where
   pub waited : IsWaited Says step old new before after (es ++ last ∷ [])
   pub parked : All IsParked es
-
-pub resumed_again : (step : Step) → resume_of (resume_of step) ≡ resume_of step
-resumed_again step = refl
 
 pub answered : (es : List Event) (last : Event) → last.reply ≢ Parked → IsAnswered (es ++ last ∷ [])
 answered [] last ne = ne

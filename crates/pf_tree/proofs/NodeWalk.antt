@@ -1,12 +1,11 @@
 -- The visits of a directory: its own, and then those of its entries.
-use Rattle.std.proofs.Common.{◌≡◌, ℕ, zero, suc, ◌<◌, ◌≤◌, ◌+◌, List, [], ◌∷◌, ◌++◌, length, drop, slice_index_or, refl, sym, ap, ◌∙◌, subst, arith, length-append, Some}
+use Rattle.std.proofs.Common.{◌≡◌, ℕ, zero, suc, ◌<◌, ◌≤◌, ◌+◌, List, ◌∷◌, ◌++◌, length, drop, slice_index_or, refl, sym, ap, ◌∙◌, subst, arith, Some, []}
 use Rattle.std.specs.List.{FoldsTo}
 use Rattle.std.specs.Option.{unwrap_or}
 use Rattle.pf_base.specs.declared.meta.File.{File}
 use Rattle.pf_machine.specs.FileMap.{Name, Files, find}
 use Rattle.pf_tree.specs.Visits.{visits, last_or, depth_from}
 use Rattle.pf_tree.specs.Node.{Boxed, below, all_below}
-use Rattle.pf_tree.specs.NodeFalls.{length-below}
 
 pub folds_append : {P X : Type 0} (R : P → X → P → Type 0) (p j q : P) (xs ys : List X) → FoldsTo R p xs j → FoldsTo R j ys q → FoldsTo R p (xs ++ ys) q
 folds_append R p j q [] ys a b = subst (λ s. FoldsTo R s ys q) (sym a) b
@@ -33,8 +32,3 @@ module _ {Z : Type 0} where
   past_below [] (suc i) le = refl
   past_below (e ∷ es) zero le = absurd (omega arith)
   past_below (e ∷ es) (suc i) le = past_below es i (omega arith)
-
-  pub shorter_at : (es : List (Boxed Z)) (i : ℕ) (e : Boxed Z) → i < length es → e ≡ slice_index_or es i e → length e.value.node ≤ length (all_below es)
-  shorter_at [] i e lt here = absurd (omega arith)
-  shorter_at (x ∷ es) zero e lt here = subst (λ y. length y.value.node ≤ length (all_below (x ∷ es))) (sym here) (omega (arith, length-append (below x.value.name.items x.value.node) (all_below es), length-below x.value.name.items x.value.node))
-  shorter_at (x ∷ es) (suc i) e lt here = omega (arith, shorter_at es i e (omega arith) here, length-append (below x.value.name.items x.value.node) (all_below es))
