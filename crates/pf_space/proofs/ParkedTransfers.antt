@@ -6,7 +6,7 @@ use Rattle.std.proofs.Common.{if◌then◌else◌}
 use Rattle.std.proofs.lemmas.Bool.{ne_eqb}
 use Rattle.pf_tables.proofs.Refusals.{both_came, not_refused, is_there, same_ok, is_none, bind-bind}
 use Rattle.pf_space.proofs.Common.{option_map, Reading, Writing, Bringing, Call, Moving, at, change_at, Segment, ◌>>=◌}
-use Rattle.pf_space.proofs.Common.{or_refuse, itself, State, Process, Outcome, ready, sweep, Tried, Finished, Waits}
+use Rattle.pf_space.proofs.Common.{or_refuse, itself, State, Process, ready, sweep, Tried, Finished, Waits}
 use Rattle.pf_space.proofs.Common.{transfer_told, Errno, ESRCH, Fault, Progress, Moved, WouldBlock, EndOfFile, NoReader}
 use Rattle.pf_space.proofs.Common.{Reply, Live, Window, Namespace, meaning, Owns, Told, tried_call, is_nonblocking_at}
 use Rattle.pf_space.proofs.Common.{waits_in, settled}
@@ -17,7 +17,7 @@ use Rattle.pf_machine.specs.Numbered.{sum_of, weight, one_if, keep}
 use Rattle.pf_machine.proofs.NumberedLaws.{at_within, sum_of-set}
 use Rattle.pf_machine.specs.Progress.{moved}
 use Rattle.pf_machine.specs.Refusals.{◌>>◌, refuse_if}
-use Rattle.pf_machine.specs.State.{End, process, reading_end, writing_end, change_process, told, waiting}
+use Rattle.pf_machine.specs.State.{End, process, reading_end, writing_end, change_process, waiting}
 use Rattle.pf_machine.specs.Sweep.{live_descriptions, live_pipes}
 use Rattle.pf_machine.specs.Transfers.{tried, two_ends, try_read, try_write, try_cross}
 use Rattle.pf_machine.specs.Attempts.{Attempt, attempt, first, is_nonblocking, nonblocking, transfer}
@@ -27,7 +27,7 @@ use Rattle.pf_base.specs.declared.fault.Fault.TheVariants as faults
 use Rattle.pf_base.specs.declared.progress.Crossing.{Crossing}
 use Rattle.pf_base.specs.declared.step.Reply.TheVariants as replies
 use Rattle.pf_parked.specs.UnfinishedWrite.{UnfinishedWrite}
-use Rattle.pf_tables.specs.Told.{Came, Refused, Still, Stops, IsShort, attempted, flag_of, transferred}
+use Rattle.pf_tables.specs.Told.{Came, Refused, IsShort, attempted, flag_of, transferred}
 use Rattle.pf_tables.proofs.TablesShown.{place_in}
 use Rattle.pf_space.proofs.Books.{flag-meaning}
 
@@ -177,16 +177,6 @@ module _ {D : Type 0} (live : D → Live) {x y : D} where
             (called (meaning (live x) old.state) pid b t refused.0, λ i. meaning (live (still.1 i)) (still.0 i).state);
       })
 
-  -- A call goes on where nothing was done before
-  pub goes_from : {old mid new before : Namespace} {z : D} {result : Result Reply Fault} → Still x y old mid
-      → old ≡ before
-      → (machine : Live → State Window ℕ → Result (Outcome Segment ℕ) Errno)
-      → Told (live y) (live z) mid new result (machine (live y) mid.state)
-      → Told (live x) (live z) before new result (machine (live x) before.state)
-  goes_from {new} {z} {result} still view machine =
-      subst (λ (w : D × Namespace). Told (live w.0) (live z) w.1 new result (machine (live w.0) w.1.state))
-      (λ i. (still.1 i, (still.0 ∙ view) i))
-
 -- It doesn't wait
 
 -- the descriptions say so: the tables', and those of what they mean
@@ -257,31 +247,15 @@ stays_waiting r fd write rest is progress blocked =
     (elim blocked [ inl none ↦ ap told (progress ∙ none) | inr none ↦ ap told (progress ∙ none) ])
     ∙ ap (λ (w : UnfinishedWrite). Ok (Waits r.state (Moving (Writing fd w.bytes w.written)))) (sym is)
 
--- the machine's call leaves its process waiting
-pub record Parks (machine : Result (Outcome Segment ℕ) Errno) : Type 0 where
-  pub state : State Segment ℕ
-  pub is : machine ≡ Ok (told state replies.Parked)
-
--- a first write that stops short of its end waits, where nobody asked it not to
-pub stops_short : (f : Live) (s : State Window ℕ) (pid fd : ℕ) (x : List ℕ) → is_nonblocking_at s pid fd ≡ false
-    → Stops (attempted (meaning f s) pid (Writing fd x 0)) (length x)
-    → Parks (transferred (meaning f s) pid false (Writing fd x 0))
-stops_short f s pid fd x nobody h =
-    subst Parks (write_as f s pid fd x false nobody) (by_progress h.tried.progress refl h.short)
-  where
-    waits : (n : ℕ) → transfer_told (Writing fd x 0) h.tried h.tried.progress
-        ≡ Ok (Waits h.tried.state (Moving (Writing fd x n)))
-        → Parks (tried_call (meaning f s) pid false (Writing fd x 0))
-    waits n is = record {
-      state = change_process (waiting (Some (Moving (Writing fd x n)))) h.tried.state pid;
-      is = called (meaning f s) pid false (Writing fd x 0) h.is ∙ ap (λ a. a >>= first pid false) is;
-    }
-
-    by_progress : (q : Progress) → h.tried.progress ≡ q → IsShort q (length x)
-        → Parks (tried_call (meaning f s) pid false (Writing fd x 0))
-    by_progress (Moved n) e some =
-        waits (0 + n) (goes_on h.tried fd x 0 n (record { bytes = x; written = 0 + n }) (λ all. absurd (omega
-        (arith, all, some))) refl e)
-    by_progress WouldBlock e some = waits 0 (ap (transfer_told (Writing fd x 0) h.tried) e)
-    by_progress EndOfFile e none = absurd none
-    by_progress NoReader e none = absurd none
+-- a first write that stopped short of its end, where some bytes or none went in, waits with the rest
+pub waits_short : (r : Tried) (fd : ℕ) (x : List ℕ) (q : Progress) → r.progress ≡ q → IsShort q (length x)
+    → (rest : UnfinishedWrite) → rest ≡ record { bytes = x; written = moved q }
+    → transfer_told (Writing fd x 0) r r.progress ≡ Ok (Waits r.state (Moving (Writing fd rest.bytes rest.written)))
+waits_short r fd x (Moved n) e short rest is =
+    let first : n ≡ 0 + n = omega arith in
+    goes_on r fd x 0 n rest (λ all. absurd (omega (arith, all, short)))
+    (is ∙ ap (λ (m : ℕ). record { bytes = x; written = m }) first) e
+waits_short r fd x WouldBlock e short rest is =
+    stays_waiting r fd (record { bytes = x; written = 0 }) rest is e (inl refl)
+waits_short r fd x EndOfFile e none rest is = absurd none
+waits_short r fd x NoReader e none rest is = absurd none

@@ -2,18 +2,16 @@
 -- and a call on a path but Stat, all where they aren't refused, a call on a path that is walked by `.` or `..` also where
 -- it is, and a Read and a Write of many bytes.
 
-use Rattle.std.proofs.Common.{◌≡◌, ℕ, ◌+◌, ◌<◌, Bool, true, false, not, ◌&&◌, ◌||◌, List}
+use Rattle.std.proofs.Common.{◌≡◌, ℕ, ◌+◌, Bool, true, false, not, ◌&&◌, ◌||◌, List}
 use Rattle.std.proofs.Common.{length, is_some, Result, Ok, Err, IsOk, refl, sym, ap, subst, ◌∙◌}
 use Rattle.std.specs.Prelude.{⊤}
-use Rattle.std.proofs.lemmas.Bool.{lt-ltb}
 use Rattle.std.specs.Option.{option_and_then}
-use Rattle.pf_base.specs.declared.TheConstants.{BYTES_IN_PLACE}
 use Rattle.pf_base.specs.declared.errno.Errno.TheVariants.{EBUSY}
 use Rattle.pf_base.specs.declared.step.Reply.TheVariants as replies
 use Rattle.pf_base.specs.declared.step.Step.TheVariants as steps
 use Rattle.pf_machine.specs.Attempts.{Attempt, first, nonblocking, transfer}
 use Rattle.pf_machine.specs.Calls.{Transfer}
-use Rattle.pf_machine.specs.Machine.{act, call_of, hands_many, is_parked, is_refusal, may_want_memory}
+use Rattle.pf_machine.specs.Machine.{act, call_of, hands_many, is_refusal, may_want_memory}
 use Rattle.pf_machine.specs.FileCalls as calls
 use Rattle.pf_machine.specs.Paths.{has_dots}
 use Rattle.pf_machine.specs.Pipes.{pipe, set_size}
@@ -24,13 +22,12 @@ use Rattle.pf_machine.specs.Transfers.{tried}
 use Rattle.pf_machine.proofs.AttemptLaws.{open-comes}
 use Rattle.pf_machine.proofs.HoldsLaws.{Holds}
 use Rattle.pf_machine.proofs.StepLaws.{IsNoError, Moves, Still, step-keeps}
-use Rattle.pf_tables.specs.Told.{HandsMany, attempted, transferred}
+use Rattle.pf_tables.specs.Told.{HandsMany, attempted}
 use Rattle.pf_tables.proofs.Refusals.{both_came, not_refused, is_there}
-use Rattle.pf_space.proofs.Common.{Reading, Writing, Limits, call, Segment, ◌>>=◌, or_refuse, State, Process, Outcome}
+use Rattle.pf_space.proofs.Common.{Reading, Limits, call, Segment, ◌>>=◌, or_refuse, State, Process, Outcome}
 use Rattle.pf_space.proofs.Common.{ready, itself, transfer_told, Reply, Step, Errno, ESRCH}
 use Rattle.pf_space.proofs.Common.{Live, Window, Namespace, meaning}
 use Rattle.pf_space.proofs.Books.{Natural, ok-as}
-use Rattle.pf_space.proofs.ParkedTransfers.{Parks}
 
 -- who wants it may: a step that may not never does
 pub not_both : (may : Step → Bool) {step given : Step} → step ≡ given → may step ≡ false → may given ≡ true → ⊥
@@ -78,14 +75,6 @@ read_wants c s pid fd n h =
     ∙ ap (λ g. goes (transfer_told t h.tried g)) h.progress in
     let many = ap (λ (r : Result (Outcome Segment ℕ) Errno). hands_many (settle s r).reply) made ∙ h.many in
     λ i. many i && let_in s pid w.0 w.1 i
-
-pub write_wants : (c : Limits) (s : State Segment ℕ) (pid fd : ℕ) (x : List ℕ)
-    → Parks (transferred s pid false (Writing fd x 0)) → BYTES_IN_PLACE < length x
-    → may_want_memory c s (steps.Write pid fd x) ≡ true
-write_wants c s pid fd x h many =
-    let w = both_came (ready s pid) (λ p. transfer s pid p false (Writing fd x 0)) h.is in
-    let parks = ap (λ (r : Result (Outcome Segment ℕ) Errno). is_parked (settle s r).reply) h.is in
-    λ i. (parks i && lt-ltb BYTES_IN_PLACE (length x) many i) && let_in s pid w.0 w.1 i
 
 -- A step that makes something wants memory only where it isn't refused
 

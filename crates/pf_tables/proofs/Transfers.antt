@@ -174,7 +174,7 @@ module _ {files : Files} {files_made : ℕ} {limits : Limits} {charges : UserPag
     abbrev with_pipe : Pipe → PipeRows
     with_pipe r' = put_at pipes d.pipe.serial (d.pipe.slot, r')
 
-    abbrev after : Pipe → Namespace
+    abbrev pub after : Pipe → Namespace
     after r' = record { limits = limits; state = state_of ps ds (with_pipe r') files files_made }
 
     module _ {r' : Pipe} (e : r' ≡ r) where

@@ -1,8 +1,10 @@
--- A write that comes to its end at once, or stops short of it; and whether a descriptor's description has O_NONBLOCK.
+-- The first try of a write: it comes to its end at once, or stops short of it; and whether a descriptor's description
+-- has O_NONBLOCK.
 
 use Rattle.std.proofs.Common.{◌≡◌, ℕ, zero, suc, ◌<◌, ◌≤◌, Bool, true, false, List, length, nat_eq, nat_le, Some, None}
-use Rattle.std.proofs.Common.{Result, Ok, Err, inl, inr, if◌then◌else◌, refl, sym, ap, subst, ◌∙◌, arith}
+use Rattle.std.proofs.Common.{not, Option, Result, Ok, Err, inl, inr, if◌then◌else◌, refl, sym, ap, subst, ◌∙◌, arith}
 use Rattle.std.proofs.lemmas.Bool.{eqb-true, eqb-false, le-leb, lt-leb}
+use Rattle.pf_tables.proofs.Common.{at, put_at, refuse_if, or_refuse, ◌>>◌, EBADF, Side, ready_in, end_of_row}
 use Rattle.pf_tables.proofs.Common.{Files, Limits, ◌>>=◌, Queue, room_of, Passed, itself, State, End, ready, readers}
 use Rattle.pf_tables.proofs.Common.{PIPE_BUF, MAX_WRITE, Errno, find, queue_of, Window, UserPages, Namespace, meaning}
 use Rattle.pf_tables.proofs.Common.{pipe_meaning, ProcessRows, DescriptionRows, PipeRows, Description, Pipe, Key}
@@ -15,9 +17,17 @@ use Rattle.pf_base.specs.declared.progress.Progress.TheVariants.{Moved}
 use Rattle.pf_base.specs.declared.progress.Side.TheVariants.{Write}
 use Rattle.pf_frame.specs.declared.frames.Frames.{Ghosts}
 use Rattle.pf_tables.specs.Door.{Serves}
-use Rattle.pf_tables.specs.Told.{flag_of, is_nonblocking_at, IsDone, IsShort, Stops}
+use Rattle.pf_base.specs.declared.fault.Fault.{Fault}
+use Rattle.pf_base.specs.declared.fault.Fault.TheVariants as faults
+use Rattle.pf_base.specs.declared.progress.Progress.{Progress}
+use Rattle.pf_tables.specs.declared.tables.transfers.FirstWrite.{FirstWrite}
+use Rattle.pf_tables.specs.declared.tables.transfers.FirstWrite.TheVariants as tries
+use Rattle.pf_tables.specs.Rows.{description_in, has}
+use Rattle.pf_tables.specs.Told.{flag_of, is_nonblocking_at, IsDone, IsShort, Put, PutShort, CameFirst, Stops}
+use Rattle.pf_tables.specs.Told.{WroteFirst}
 use Rattle.pf_tables.proofs.Ends.{end_of_rows, kept_ends}
-use Rattle.pf_tables.proofs.Transfers.{tried_write, counts}
+use Rattle.pf_tables.proofs.Refusals.{both_came, not_refused, same_ok}
+use Rattle.pf_tables.proofs.Transfers.{tried_write, counts, passed-whole, same-whole, same_view, wrote, after}
 
 -- How far a write comes
 
@@ -101,24 +111,76 @@ module _ {ps : ProcessRows} {ds : DescriptionRows} {pipes : PipeRows} (tied : Ti
       → d.nonblocking ≡ is_nonblocking_at n.state pid fd
   flag_told d h = found_flag ((kept_ends None files files_made tied pid fd).found h).is
 
+  -- for whichever side it was found
+  pub found_told : (side : Option Side) (d : Description) → end_in side ps ds pid fd ≡ Ok d
+      → d.nonblocking ≡ is_nonblocking_at n.state pid fd
+  found_told side d h =
+      let of_side : Description → Result Description Errno = λ e. refuse_if (not (has side e)) EBADF >> Ok e in
+      let of_key : Key → Result Description Errno = λ k. or_refuse EBADF (description_in ds k) >>= of_side in
+      let p = both_came (ready_in ps pid) (λ p. end_of_row side p ds fd) h in
+      let k = both_came (or_refuse EBADF (at p.0.descriptors fd)) of_key p.2 in
+      let e = both_came (or_refuse EBADF (description_in ds k.0)) of_side k.2 in
+      let same : e.0 ≡ d = same_ok (not_refused (not (has side e.0)) EBADF (Ok e.0) e.2).1 in
+      flag_told d (ap (λ r. r >>= (λ q. end_of_row None q ds fd)) p.1
+      ∙ ap (λ r. r >>= (λ k. or_refuse EBADF (description_in ds k) >>= (λ e. Ok e))) k.1
+      ∙ ap (λ r. r >>= (λ e. Ok e)) e.1 ∙ ap Ok same)
+
   pub no_flag : (e : Errno) → end_in None ps ds pid fd ≡ Err e → false ≡ is_nonblocking_at n.state pid fd
   no_flag e h = found_flag ((kept_ends None files files_made tied pid fd).refused h)
 
--- a write into a pipe that was found, which has readers and no room for all bytes, stops short of its end
+-- a first try of a write into a pipe that was found, which has readers and no room for all bytes, stops short
 module _ {files : Files} {files_made : ℕ} {limits : Limits} {charges : UserPages} {es : List (ℕ × Key)}
     {ps : ProcessRows} {ds : DescriptionRows} {pipes : PipeRows} (rows : Whole charges es ps ds pipes) {n : Namespace}
     (view : record { limits = limits; state = state_of ps ds pipes files files_made } ≡ n) {D : Type 0} {F : Ghosts D}
     {x : D} (served : Serves F x n) (d : Description) {r : Pipe}
     (handed : find pipes d.pipe.slot d.pipe.serial ≡ Some r) where
-  pub stops_at : (pid fd : ℕ) (w : List ℕ) → end_in (Some Write) ps ds pid fd ≡ Ok d → length w ≤ MAX_WRITE
-      → 0 < r.readers → room_of (queue_of (F.live x) r.ring) < length w
-      → Stops (attempted (meaning (F.live x) n.state) pid (Writing fd w 0)) (length w)
-  stops_at pid fd w h fits some short =
-      let s = meaning (F.live x) (state_of ps ds pipes files files_made) in
-      subst (λ (v : Namespace). Stops (attempted (meaning (F.live x) v.state) pid (Writing fd w 0)) (length w)) view
-      (record {
-        tried = try_write s (end_of_rows (pipe_meaning (F.live x)) d r) w 0;
-        is = tried_write rows view served pid fd w 0 h handed fits;
-        short = stops (queue_of (F.live x) r.ring) (nat_le (length w) PIPE_BUF) w (readers itself s d.pipe.serial)
-            (subst (λ k. 0 < k) (sym (counts rows view served d handed).0) some) short;
-      })
+  pub short-whole : (w : List ℕ) (y : D) (r' : Pipe) (o : Result FirstWrite Fault)
+      → PutShort F.live x y r r' w d.nonblocking o
+      → Whole charges es ps ds (put_at pipes d.pipe.serial (d.pipe.slot, r'))
+  short-whole w y r' (Ok (tries.Ended progress)) o = absurd o
+  short-whole w y r' (Ok (tries.Short progress)) o = passed-whole rows view served d handed o.1.passes
+  short-whole w y r' (Ok (tries.Waits write)) o = passed-whole rows view served d handed o.3.passes
+  short-whole w y r' (Err (faults.Errno e)) o = absurd o
+  short-whole w y r' (Err faults.NoMemory) o = same-whole rows view served d handed o.2
+
+  module _ (pid fd : ℕ) (w : List ℕ) (h : end_in (Some Write) ps ds pid fd ≡ Ok d) (fits : length w ≤ MAX_WRITE)
+      (some : 0 < r.readers) (short : room_of (queue_of (F.live x) r.ring) < length w) where
+    abbrev whole : Bool
+    whole = nat_le (length w) PIPE_BUF
+
+    stops_at : Stops (attempted (meaning (F.live x) n.state) pid (Writing fd w 0)) (length w)
+    stops_at =
+        let s = meaning (F.live x) (state_of ps ds pipes files files_made) in
+        subst (λ (v : Namespace). Stops (attempted (meaning (F.live x) v.state) pid (Writing fd w 0)) (length w)) view
+        (record {
+          tried = try_write s (end_of_rows (pipe_meaning (F.live x)) d r) w 0;
+          is = tried_write rows view served pid fd w 0 h handed fits;
+          short = stops (queue_of (F.live x) r.ring) whole w (readers itself s d.pipe.serial)
+              (subst (λ k. 0 < k) (sym (counts rows view served d handed).0) some) short;
+        })
+
+    module _ (y : D) (r' : Pipe) where
+      came_short : {progress : Progress} → Put F.live x y r r' w progress
+          → CameFirst F.live x y n (after rows view served d handed r') pid fd w progress × IsShort progress (length w)
+      came_short p = (
+        wrote rows view served d handed pid fd p.untouched w 0 whole h fits refl p.passes,
+        subst (λ (m : Passed). IsShort m.progress (length w)) p.passes.told
+            (stops (queue_of (F.live x) r.ring) whole w r.readers some short),
+      )
+
+      pub wrote_short : (o : Result FirstWrite Fault) → PutShort F.live x y r r' w d.nonblocking o
+          → WroteFirst F.live x y n (after rows view served d handed r') pid fd w o
+      wrote_short (Ok (tries.Ended progress)) o = absurd o
+      wrote_short (Ok (tries.Short progress)) o =
+          let came = came_short o.1 in
+          (came.0, came.1, sym (found_told rows.kept.tied view pid fd (Some Write) d h) ∙ o.0)
+      wrote_short (Ok (tries.Waits write)) o =
+          let came = came_short o.3 in
+          (o.0, came.0, came.1, sym (found_told rows.kept.tied view pid fd (Some Write) d h) ∙ o.1, o.2)
+      wrote_short (Err (faults.Errno e)) o = absurd o
+      wrote_short (Err faults.NoMemory) o = (
+        stops_at,
+        (same_view rows view served d handed o.2, o.3),
+        sym (found_told rows.kept.tied view pid fd (Some Write) d h) ∙ o.0,
+        o.1,
+      )

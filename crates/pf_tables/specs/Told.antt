@@ -1,11 +1,12 @@
 -- What a call of a namespace does over the frames of its door, and what it is told.
 
 use Rattle.std.specs.Prelude.{◌≡◌, ℕ, ◌<◌, ◌⊎◌, Bool, true, false, List, length, Option, Some, None, take, ⊤, Result}
-use Rattle.std.specs.Prelude.{Ok, Err}
+use Rattle.std.specs.Prelude.{Ok, Err, nat_le}
+use Rattle.pf_base.specs.declared.TheConstants.{BYTES_IN_PLACE, PIPE_BUF}
 use Rattle.pf_machine.specs.Refusals.{◌>>=◌}
 use Rattle.pf_machine.specs.Queue.{Segment}
-use Rattle.pf_machine.specs.Progress.{moved}
-use Rattle.pf_machine.specs.Calls.{Transfer, Call, Moving}
+use Rattle.pf_machine.specs.Progress.{moved, write_now}
+use Rattle.pf_machine.specs.Calls.{Transfer, Call, Moving, Writing}
 use Rattle.pf_machine.specs.State.{itself, State, Process, Outcome, ready, change_process, waiting}
 use Rattle.pf_machine.specs.Transfers.{Tried, tried}
 use Rattle.pf_machine.specs.Attempts.{attempt, first, has_nonblock, transfer}
@@ -20,6 +21,10 @@ use Rattle.pf_base.specs.declared.progress.Progress.TheVariants.{Moved, WouldBlo
 use Rattle.pf_base.specs.declared.step.Reply.{Reply}
 use Rattle.pf_base.specs.declared.step.Reply.TheVariants as replies
 use Rattle.pf_frame.specs.Live.{Live}
+use Rattle.pf_pipe.specs.Pipe.{CountedPipe, Passes}
+use Rattle.pf_ring.specs.Ring.{queue_of}
+use Rattle.pf_tables.specs.declared.tables.transfers.FirstWrite.{FirstWrite}
+use Rattle.pf_tables.specs.declared.tables.transfers.FirstWrite.TheVariants as tries
 use Rattle.pf_tables.specs.declared.tables.transfers.Taken.{Taken}
 use Rattle.pf_tables.specs.Meaning.{Namespace, meaning}
 use Rattle.pf_tables.specs.Owns.{Owns}
@@ -105,13 +110,6 @@ module _ {D : Type 0} (live : D → Live) (d e : D) (old new : Namespace) (pid :
   Wrote x (Ok progress) = Came progress (λ r. r.bytes ≡ take (moved progress) x)
   Wrote x (Err err) = Refused err
 
-  -- one that does nothing where it would wait
-  abbrev pub WroteWhole : List ℕ → Result (Option Progress) Errno → Type 0
-  WroteWhole x (Ok (Some progress)) =
-      Came progress (λ r. r.bytes ≡ take (moved progress) x) × IsDone progress (length x)
-  WroteWhole x (Ok None) = Stops (attempted (meaning (live d) old.state) pid call) (length x) × Still d e old new
-  WroteWhole x (Err err) = Refused err
-
   -- a read, and want of memory
   abbrev pub HasRead : Result Taken Fault → Type 0
   HasRead (Ok t) = Came t.progress (λ r. r.bytes ≡ t.bytes)
@@ -122,6 +120,43 @@ module _ {D : Type 0} (live : D → Live) (d e : D) (old new : Namespace) (pid :
   abbrev pub HasCrossed : Result Progress Errno → Type 0
   HasCrossed (Ok progress) = Came progress (λ r. ⊤)
   HasCrossed (Err err) = Refused err
+
+module _ {D : Type 0} (live : D → Live) (d e : D) where
+  -- these bytes went into a pipe as far as the machine's do. Where none did, nothing was done
+  pub record Put (old new : CountedPipe) (x : List ℕ) (progress : Progress) : Type 0 where
+    pub passes : Passes old new (live d) (live e) progress
+        (write_now (queue_of (live d) old.ring) old.readers (nat_le (length x) PIPE_BUF) x)
+    pub untouched : moved progress ≡ 0 → (new ≡ old) × (e ≡ d)
+
+  -- what is left waits, unless it is not to; or memory was wanted for it, and nothing was done
+  abbrev pub PutShort : CountedPipe → CountedPipe → List ℕ → Bool → Result FirstWrite Fault → Type 0
+  PutShort old new x nonblocking (Ok (tries.Ended progress)) = ⊥
+  PutShort old new x nonblocking (Ok (tries.Short progress)) = (nonblocking ≡ true) × Put old new x progress
+  PutShort old new x nonblocking (Ok (tries.Waits write)) =
+      (progress : Progress) × (nonblocking ≡ false) × (write ≡ record { bytes = x; written = moved progress })
+      × Put old new x progress
+  PutShort old new x nonblocking (Err (faults.Errno err)) = ⊥
+  PutShort old new x nonblocking (Err faults.NoMemory) =
+      (nonblocking ≡ false) × (BYTES_IN_PLACE < length x) × (new ≡ old) × (e ≡ d)
+
+  module _ (old new : Namespace) (pid fd : ℕ) (x : List ℕ) where
+    -- the first try of a write of these bytes came so far
+    abbrev pub CameFirst : Progress → Type 0
+    CameFirst progress = Came live d e old new pid (Writing fd x 0) progress (λ r. r.bytes ≡ take (moved progress) x)
+
+    -- it came to its end; or not, and what is left waits, unless it is not to; or it is refused; or memory was wanted
+    -- where the machine's would wait, and nothing was done
+    abbrev pub WroteFirst : Result FirstWrite Fault → Type 0
+    WroteFirst (Ok (tries.Ended progress)) = CameFirst progress × IsDone progress (length x)
+    WroteFirst (Ok (tries.Short progress)) =
+        CameFirst progress × IsShort progress (length x) × (is_nonblocking_at old.state pid fd ≡ true)
+    WroteFirst (Ok (tries.Waits write)) =
+        (progress : Progress) × CameFirst progress × IsShort progress (length x)
+        × (is_nonblocking_at old.state pid fd ≡ false) × (write ≡ record { bytes = x; written = moved progress })
+    WroteFirst (Err (faults.Errno err)) = Refused live d e old new pid (Writing fd x 0) err
+    WroteFirst (Err faults.NoMemory) =
+        Stops (attempted (meaning (live d) old.state) pid (Writing fd x 0)) (length x) × Still d e old new
+        × (is_nonblocking_at old.state pid fd ≡ false) × (BYTES_IN_PLACE < length x)
 
 -- what a write is told that came to its end at once
 abbrev pub write_ended : Progress → Result Reply Fault

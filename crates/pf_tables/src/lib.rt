@@ -6,4 +6,4 @@ mod file_tree;
 mod process_table;
 pub mod tables;
 
-pub use tables::Tables;
+pub use tables::{FirstWrite, Tables};

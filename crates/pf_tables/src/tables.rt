@@ -27,6 +27,7 @@ use pf_pipe::Pipe;
 use std::alloc::{AllocError, Allocator, Global};
 use std::collections::HashMap;
 use std::marker::Model;
+pub use transfers::FirstWrite;
 
 // An open file description: an end of a pipe.
 #[derive(Clone, Copy)]

@@ -16,7 +16,8 @@ use super::Space;
 use pf_base::{Answer, ByteString, Crossing, Errno, Fault, Progress, Reply, Step};
 use pf_frame::Frames;
 use pf_parked::{Call, UnfinishedWrite};
-use std::alloc::{AllocError, Allocator, Global};
+use pf_tables::FirstWrite;
+use std::alloc::Allocator;
 
 // What a write is told that came to its end at once.
 fn write_ended(progress: Progress) -> Result<Reply, Fault>
@@ -28,28 +29,7 @@ fn write_ended(progress: Progress) -> Result<Reply, Fault>
     }
 }
 
-/// From so many bytes on, a write that waits shares those of its step, where its host can't tell. By default the C
-/// library may ask the kernel for memory of this size (mallopt(3), M_MMAP_THRESHOLD), which then comes page by page: of
-/// 1 MiB that costs more than the bytes.
-const SHARED_FROM: usize = 131_072;
-
-// What a write that waits keeps: a step's own bytes, where they are many and the step alone has them, and else a copy.
-// So no spare capacity of the host's stays for as long as the write waits.
-fn kept(alloc: Global, bytes: &[u8], payload: Option<&ByteString>) -> Result<ByteString, AllocError>
-    requires { IfSome payload (λ p. p.now ≡ bytes.now) }
-    ensures bytes { IfOk result (λ kept. kept ≡ bytes.now) }
-    ensures in_place { length bytes.now ≤ BYTES_IN_PLACE → IsOk result }
-{
-    if let Some(payload) = payload
-        && bytes.len() >= SHARED_FROM
-        && let Some(shared) = payload.share()
-    {
-        return Ok(shared);
-    }
-    ByteString::from_slice(alloc, bytes)
-}
-
-// A step and its resume share `write_on`, `read_on` and `cross`. They are inlined in both, or a reply goes through
+// A step and its resume share `read_on` and `cross`. They are inlined in both, or a reply goes through
 // memory at each call above them: a write and a read of a byte through a hub then take 1.7 times as long.
 impl<A: Allocator + Clone> Space<A> {
     /// The step that writes these bytes into the pipe that a process's descriptor names (write(2)): its answer and what
@@ -165,35 +145,17 @@ impl<A: Allocator + Clone> Space<A> {
             → may_want_memory self.old.limits (meaning (F.live door.old) self.old.state)
             (Step.Write pid fd bytes.now) ≡ true }
     {
-        if let Some(progress) = self.tables.write_whole(door, pid, fd, bytes)? {
-            return write_ended(progress);
-        }
-        if self.tables.is_nonblocking(pid, fd) {
-            return self.write_some(door, pid, fd, bytes);
-        }
-        // What may be refused comes first.
-        let kept = kept(self.alloc, bytes, payload)?;
-        self.write_on(door, pid, fd, UnfinishedWrite::new(kept))
-    }
-
-    // Writes as many bytes as go in now, and waits for none.
-    fn write_some<F: Frames>(
-        &mut self,
-        door: &mut F,
-        pid: u32,
-        fd: u32,
-        bytes: &[u8],
-    ) -> Result<Reply, Fault>
-        requires door { Serves F.Frames door.old self.old }
-        ensures door { HandsOn F.Frames door.old door.new }
-        ensures told { Told (F.live door.old) (F.live door.new) self.old self.new result
-            (tried_call (meaning (F.live door.old) self.old.state) pid true (Writing fd bytes.now 0)) }
-        ensures succeeds { result ≢ Err Fault.NoMemory }
-    {
-        match self.tables.write_now(door, pid, fd, bytes, 0)? {
-            Progress::Moved(n) => Ok(Reply::Num(n)),
-            Progress::NoReader => Err(Errno::EPIPE.into()),
-            Progress::WouldBlock | Progress::EndOfFile => Err(Errno::EAGAIN.into()),
+        match self
+            .tables
+            .write(self.alloc, door, pid, fd, bytes, payload)?
+        {
+            FirstWrite::Ended(progress) => write_ended(progress),
+            FirstWrite::Short(Progress::Moved(n)) => Ok(Reply::Num(n)),
+            FirstWrite::Short(_) => Err(Errno::EAGAIN.into()),
+            FirstWrite::Waits(write) => {
+                self.tables.park(pid, Call::Write { fd, write });
+                Ok(Reply::Parked)
+            }
         }
     }
 
