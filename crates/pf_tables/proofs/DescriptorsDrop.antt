@@ -2,12 +2,11 @@
 
 use Rattle.std.proofs.Common.{◌≡◌, ℕ, zero, suc, ◌-◌, ◌<◌, ◌≤◌, List, set, Option, Some, None, Result, Ok, Err, refl}
 use Rattle.std.proofs.Common.{ap, sym, ◌∙◌, subst, arith, inl, inr}
-use Rattle.pf_tables.proofs.Common.{option_map, Files, Limits, at, clear_at, State, Outcome, of_ready, with_process}
-use Rattle.pf_tables.proofs.Common.{done, MAX_PROCESSES, MAX_DESCRIPTORS, Errno, Num, Window, UserPages, charged_to}
-use Rattle.pf_tables.proofs.Common.{Charges, Namespace, key_in, pipe_of, ProcessRows, DescriptionRows, PipeRows, Key}
-use Rattle.pf_tables.proofs.Common.{Process, keys_of, process_of, processes_of, pipes_of, state_of, Tied, Kept, Whole}
-use Rattle.pf_tables.proofs.Common.{AreCharged, LetsGo, Makes, cases_lt, map-set, at-map, at_past, at_within, emptied}
-use Rattle.pf_tables.proofs.Common.{Left}
+use Rattle.pf_tables.proofs.Common.{option_map, Files, Limits, at, clear_at, State, Outcome, of_ready, done}
+use Rattle.pf_tables.proofs.Common.{MAX_PROCESSES, MAX_DESCRIPTORS, Errno, Num, Window, UserPages, charged_to, Charges}
+use Rattle.pf_tables.proofs.Common.{Namespace, key_in, pipe_of, ProcessRows, DescriptionRows, PipeRows, Key, Process}
+use Rattle.pf_tables.proofs.Common.{keys_of, process_of, processes_of, pipes_of, state_of, Tied, Kept, Whole, LetsGo}
+use Rattle.pf_tables.proofs.Common.{Makes, cases_lt, map-set, at-map, at_past, at_within, emptied, Left}
 use Rattle.pf_machine.specs.State as machine
 use Rattle.pf_machine.specs.Descriptors.{close, without_descriptor}
 use Rattle.pf_machine.specs.Processes.{exit}
@@ -34,17 +33,12 @@ module _ {charges : UserPages} {ps : ProcessRows} {ds : DescriptionRows} {pipes 
   pub gone_kept : {ps' : ProcessRows} {ds' : DescriptionRows} {pipes' : PipeRows} → Tied ps' ds' pipes'
       → pipes_of pipes' ≡ clear_at (pipes_of pipes) m → (charges' : UserPages) (owner pages : ℕ) → owner ≡ p.owner
       → pages ≡ p.ring.capacity → Charges charges' charges owner pages → Kept charges' ps' ds' pipes'
-  gone_kept tied left charges' owner pages o e refunds =
-      let back : Charges charges' charges p.owner p.ring.capacity =
-      subst (λ (n : ℕ). Charges charges' charges p.owner n) e
-      (subst (λ (u : ℕ). Charges charges' charges u pages) o refunds) in
-      record {
-        tied = tied;
-        charged =
-            subst (AreCharged charges') (sym left)
-            (refunded (λ (q : machine.Pipe Window). q.owner) (λ (q : machine.Pipe Window). q.queue.capacity) charges
-            charges' (pipes_of pipes) k.charged m _ there back);
-      }
+  gone_kept tied left charges' owner pages o e refunds = record {
+    tied = tied;
+    charged = rw left
+        (refunded (λ (q : machine.Pipe Window). q.owner) (λ (q : machine.Pipe Window). q.queue.capacity) charges
+        charges' (pipes_of pipes) k.charged m _ there (rw (o, e) at refunds));
+  }
 
 -- A descriptor went
 
@@ -67,16 +61,14 @@ module _ {limits : Limits} (ps : ProcessRows) (ds : DescriptionRows) (pipes : Pi
     pub closed_is : {k : Key} → Has ps pid fd k → closes n.state ≡ Ok (done (emptied n.state (pid - 1) fd) 0)
     closed_is w =
         let s = state_of ps ds pipes files files_made in
-        rw (← view) (named_is ps pid fd (λ p _. Ok (done (with_process s pid (without_descriptor fd p)) 0)) w
+        rw (← view) (named_is ps pid fd _ w
         ∙ ap (λ o. Ok (done (record s {
           processes = set (processes_of ps) (pid - 1) (option_map (without_descriptor fd) o);
         }) 0))
         (sym (shown process_of ps (pid - 1) w.p (place_is ps pid w.p w.caller))))
 
     pub closed_not : {e : Errno} → key_in ps pid fd ≡ Err e → closes n.state ≡ Err e
-    closed_not {e} h =
-        let s = state_of ps ds pipes files files_made in
-        rw (← view) (names_nothing ps pid fd (λ p _. Ok (done (with_process s pid (without_descriptor fd p)) 0)) h)
+    closed_not h = rw (← view) (names_nothing ps pid fd _ h)
 
 -- A process that has no descriptors goes
 
@@ -108,8 +100,7 @@ module _ {charges : UserPages} {limits : Limits} {es : List (ℕ × Key)} {ps : 
   i_in = omega (arith, at_within ps (pid - 1) w.0 w.1, whole.kept.tied.places)
 
   vacated : Tied ps' ds pipes
-  vacated =
-      subst (λ x. Tied x ds pipes) (sym is) (gone ps ds pipes whole.kept.tied (pid - 1) i_in w.0 w.1 bare_all)
+  vacated = rw is (gone ps ds pipes whole.kept.tied (pid - 1) i_in w.0 w.1 bare_all)
 
   pub vacated-whole : Whole charges es ps' ds pipes
   vacated-whole = record { kept = record { tied = vacated; charged = whole.kept.charged }; filed = whole.filed }

@@ -8,11 +8,12 @@ use Rattle.pf_tables.proofs.Common.{option_map, Files, Limits, at, put_at, chang
 use Rattle.pf_tables.proofs.Common.{refuse_if, State, Outcome, of_ready, with_process, with_descriptor, done}
 use Rattle.pf_tables.proofs.Common.{MAX_DESCRIPTORS, Errno, EMFILE, Num, names_of, one_more, find, UserPages, Window}
 use Rattle.pf_tables.proofs.Common.{Namespace, ProcessRows, DescriptionRows, PipeRows, Key, Named, Process, Description}
-use Rattle.pf_tables.proofs.Common.{ready_in, key_in, process_of, description_of, descriptions_of, state_of, keys_of}
-use Rattle.pf_tables.proofs.Common.{names_it, held, NamedRow, TiedWith, Tied, Kept, Makes, nat_tests, map-set}
+use Rattle.pf_tables.proofs.Common.{ready_in, key_in, process_of, processes_of, description_of, descriptions_of}
+use Rattle.pf_tables.proofs.Common.{state_of, keys_of, names_it, held, NamedRow, TiedWith, Kept, Makes, map-set}
 use Rattle.pf_tables.proofs.Common.{at-first_free, first_free-map}
 use Rattle.pf_machine.specs.Descriptors.{dup}
-use Rattle.pf_tables.specs.Rows.{call_of, with_key, named}
+use Rattle.pf_tables.specs.Rows.{with_key, named}
+use Rattle.pf_tables.proofs.Refusals.{too_high, low_enough}
 use Rattle.pf_tables.proofs.TablesSettled.{makes}
 use Rattle.pf_tables.proofs.ProcessTableReady.{place_is}
 use Rattle.pf_tables.proofs.DescriptorsNamed.{Has, has_by, key_row, named_is}
@@ -50,31 +51,27 @@ module _ {K : List Key} {ps : ProcessRows} {ds : DescriptionRows} {pipes : PipeR
       let row = subst (NamedRow (named ps n + held (names_it n) K)) stands (t.names n) in
       omega (arith, row.0, few_of_all n ps t.wide, t.places, few_held n K)
 
--- its row, counted once more, and what is shown of it
+-- its row, counted once more
 
 module _ (ds : DescriptionRows) (k : Key) (e : Named Description) (stands : at ds k.serial ≡ Some (k.slot, e)) where
   pub named_row : change_at one_more ds k.serial ≡ put_at ds k.serial (k.slot, record e { names = e.names + 1 })
   named_row = ap (λ (o : Option (ℕ × Named Description)). set ds k.serial (option_map one_more o)) stands
 
-  pub recounted_shown : (m : ℕ) → descriptions_of (put_at ds k.serial (k.slot, record e { names = m }))
-      ≡ descriptions_of ds
-  recounted_shown m = shown_same description_of ds k.serial (k.slot, e) (k.slot, record e { names = m }) stands refl
-
   pub names_are : names_of (find ds k.slot k.serial) ≡ e.names
   names_are = ap names_of (find_at ds k.slot k.serial e stands)
 
-module _ {K : List Key} {E : List Description} {ps : ProcessRows} {ds : DescriptionRows} {pipes : PipeRows} where
-  module _ (k : Key) (d : Named Description) (stands : at ds k.serial ≡ Some (k.slot, d)) where
-    -- one name more, of a key in the hand
-    pub named_again : TiedWith K E ps ds pipes → TiedWith (k ∷ K) E ps
-        (put_at ds k.serial (k.slot, record d { names = d.names + 1 })) pipes
-    named_again t =
-        let more = record d { names = d.names + 1 } in
-        redescribed t k.serial (k.slot, d) stands (Some (k.slot, more)) (k ∷ K) E
-        (place_and_end pipes k.slot more (t.is_end k.serial (k.slot, d) stands)) (found ds k d stands, t.in_hand)
-        (λ n ne. omega (arith, names_none n k (λ e. ne (sym e))))
-        (let r = names_row k d stands t in let one = names_one k in
-        (omega (arith, r.0, one), omega (arith, r.1))) t.ends_in_hand (λ n. refl) (λ n. refl)
+-- one name more, of a key in the hand
+pub named_again : {K : List Key} {E : List Description} {ps : ProcessRows} {ds : DescriptionRows} {pipes : PipeRows}
+    (k : Key) (d : Named Description) → at ds k.serial ≡ Some (k.slot, d) → TiedWith K E ps ds pipes
+    → TiedWith (k ∷ K) E ps (put_at ds k.serial (k.slot, record d { names = d.names + 1 })) pipes
+named_again {K} {E} {ds = ds} {pipes = pipes} k d stands t =
+    let more = record d { names = d.names + 1 } in
+    let r = names_row k d stands t in
+    let one = names_one k in
+    redescribed t k.serial (k.slot, d) stands (Some (k.slot, more)) (k ∷ K) E
+    (place_and_end pipes k.slot more (t.is_end k.serial (k.slot, d) stands)) (found ds k d stands, t.in_hand)
+    (λ n ne. omega (arith, names_none n k (λ e. ne (sym e)))) (omega (arith, r.0, one), omega (arith, r.1))
+    t.ends_in_hand (λ n. refl) (λ n. refl)
 
 -- The call
 
@@ -101,68 +98,49 @@ module _ {charges : UserPages} {limits : Limits} {ps : ProcessRows} {ds : Descri
   abbrev call : State Window ℕ → Result (Outcome Window ℕ) Errno
   call t = of_ready t pid (λ q. dup t pid q fd)
 
-  -- what it says, by the test of the lowest free number
-  abbrev tested : Bool → Result (Outcome Window ℕ) Errno
-  tested full =
-      refuse_if full EMFILE >> Ok (done (with_process s pid (with_descriptor to k.serial (process_of p))) to)
+  abbrev puts : ℕ → Result (Outcome Window ℕ) Errno
+  puts m = Ok (done (with_process s pid (with_descriptor m k.serial (process_of p))) m)
 
-  call_is : call s ≡ tested (nat_le MAX_DESCRIPTORS to)
+  -- it goes by the test of the lowest free number
+  call_is : call s ≡ (refuse_if (nat_le MAX_DESCRIPTORS to) EMFILE >> puts to)
   call_is =
-      named_is ps pid fd (λ q m. refuse_if (nat_le MAX_DESCRIPTORS (first_free q.descriptors)) EMFILE
-      >> Ok (done (with_process s pid (with_descriptor (first_free q.descriptors) m q)) (first_free q.descriptors))) w
-      ∙ ap (λ m. refuse_if (nat_le MAX_DESCRIPTORS m) EMFILE
-      >> Ok (done (with_process s pid (with_descriptor m k.serial (process_of p))) m))
+      named_is ps pid fd _ w ∙ ap (λ m. refuse_if (nat_le MAX_DESCRIPTORS m) EMFILE >> puts m)
       (first_free-map (λ (x : Key). x.serial) p.descriptors ∙ sym lowest)
 
   pub not_duped : MAX_DESCRIPTORS ≤ to → call n.state ≡ Err EMFILE
-  not_duped past =
-      let full : nat_le MAX_DESCRIPTORS to ≡ true = grind (arith, nat_tests) in
-      subst (λ (m : Namespace). call m.state ≡ Err EMFILE) view (call_is ∙ ap tested full)
+  not_duped past = rw (← view) (call_is ∙ too_high _ _ _ _ past)
 
-  module _ (to_in : to < MAX_DESCRIPTORS) where
+  module _ (to_in : to < MAX_DESCRIPTORS) {qs : ProcessRows} {es : DescriptionRows}
+      (given : qs ≡ change_at (with_key to k) ps (pid - 1)) (counted : es ≡ change_at one_more ds k.serial) where
     abbrev p' : Process
     p' = record p { descriptors = put_at p.descriptors to k }
 
-    abbrev ds' : DescriptionRows
-    ds' = put_at ds k.serial (k.slot, record row.0 { names = row.0.names + 1 })
+    given_is : qs ≡ put_at ps (pid - 1) p'
+    given_is = given ∙ ap (λ o. set ps (pid - 1) (option_map (with_key to k) o)) (place_is ps pid p caller)
 
-    now_tied : Tied (put_at ps (pid - 1) p') ds' pipes
-    now_tied =
-        put (pid - 1) to p (place_is ps pid p caller) to_in k
-        (ap (at p.descriptors) lowest ∙ at-first_free p.descriptors) (named_again k row.0 row.1 kept.tied)
+    counted_is : es ≡ put_at ds k.serial (k.slot, record row.0 { names = row.0.names + 1 })
+    counted_is = counted ∙ named_row ds k row.0 row.1
 
-    now_shown : state_of (put_at ps (pid - 1) p') ds' pipes files files_made
-        ≡ with_process s pid (with_descriptor to k.serial (process_of p))
-    now_shown =
-        (λ i. record s {
-          processes = map-set (option_map process_of) ps (pid - 1) (Some p') i;
-          descriptions = recounted_shown ds k row.0 row.1 (row.0.names + 1) i;
-        })
-        ∙ ap (λ xs. with_process s pid (record {
-          cred = p.cred;
-          descriptors = xs;
-          parked = option_map call_of p.parked;
-        })) (map-set (option_map (λ (x : Key). x.serial)) p.descriptors to (Some k))
+    pub duped-kept : Kept charges qs es pipes
+    duped-kept = record {
+      tied = rw (given_is, counted_is)
+          (put (pid - 1) to p (place_is ps pid p caller) to_in k
+          (ap (at p.descriptors) lowest ∙ at-first_free p.descriptors) (named_again k row.0 row.1 kept.tied));
+      charged = kept.charged;
+    }
 
-    module _ {qs : ProcessRows} {es : DescriptionRows} (given : qs ≡ change_at (with_key to k) ps (pid - 1))
-        (counted : es ≡ change_at one_more ds k.serial) where
-      given_is : qs ≡ put_at ps (pid - 1) p'
-      given_is = given ∙ ap (λ o. set ps (pid - 1) (option_map (with_key to k) o)) (place_is ps pid p caller)
+    now_shown : state_of qs es pipes files files_made ≡ with_process s pid (with_descriptor to k.serial (process_of p))
+    now_shown = λ i. record s {
+      processes =
+          (ap processes_of given_is ∙ map-set (option_map process_of) ps (pid - 1) (Some p')
+          ∙ ap (λ xs. put_at (processes_of ps) (pid - 1) (record (process_of p) { descriptors = xs }))
+          (map-set (option_map (λ (x : Key). x.serial)) p.descriptors to (Some k))) i;
+      descriptions =
+          (ap descriptions_of counted_is ∙ shown_same description_of ds k.serial (k.slot, row.0) _ row.1 refl) i;
+    }
 
-      counted_is : es ≡ ds'
-      counted_is = counted ∙ named_row ds k row.0 row.1
-
-      tied : Tied qs es pipes
-      tied = rw (given_is, counted_is) now_tied
-
-      pub duped-kept : Kept charges qs es pipes
-      duped-kept = record { tied = tied; charged = kept.charged }
-
-      pub duped : Makes n (record { limits = limits; state = state_of qs es pipes files files_made }) (call n.state)
-          (Num to)
-      duped =
-          let room : nat_le MAX_DESCRIPTORS to ≡ false = grind (arith, nat_tests) in
-          makes tied files files_made view refl call (Num to)
-          (call_is ∙ ap tested room
-          ∙ ap (λ t. Ok (done t to))
-          (sym ((λ i. state_of (given_is i) (counted_is i) pipes files files_made) ∙ now_shown)))
+    pub duped : Makes n (record { limits = limits; state = state_of qs es pipes files files_made }) (call n.state)
+        (Num to)
+    duped =
+        makes duped-kept.tied files files_made view refl call (Num to)
+        (call_is ∙ low_enough _ _ _ _ to_in ∙ ap (λ t. Ok (done t to)) (sym now_shown))

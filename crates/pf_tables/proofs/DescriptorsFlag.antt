@@ -1,13 +1,13 @@
 -- A description gets O_NONBLOCK or loses it, in the meaning of the state that it leaves.
 
-use Rattle.std.proofs.Common.{◌≡◌, ℕ, Bool, [], set, Option, Some, Result, Ok, refl, sym, ap, subst, ◌∙◌}
+use Rattle.std.proofs.Common.{◌≡◌, ℕ, Bool, [], set, Option, Some, Result, Ok, refl, sym, ap, ◌∙◌}
 use Rattle.pf_tables.proofs.TablesShown.{shown_change, find_at}
 use Rattle.pf_tables.proofs.Refusals.{same_some}
 use Rattle.pf_tables.proofs.Common.{option_map, Files, Limits, at, put_at, change_at, itself, State, Outcome, of_ready}
 use Rattle.pf_tables.proofs.Common.{done, Errno, Num, find, UserPages, Window, Namespace, ProcessRows, DescriptionRows}
-use Rattle.pf_tables.proofs.Common.{PipeRows, Key, Named, Description, description_of, descriptions_of, state_of}
-use Rattle.pf_tables.proofs.Common.{TiedWith, Kept, Makes}
-use Rattle.pf_machine.specs.Descriptors.{with_nonblocking, with_flag, set_nonblock}
+use Rattle.pf_tables.proofs.Common.{PipeRows, Key, Named, Description, description_of, descriptions_of, state_of, Kept}
+use Rattle.pf_tables.proofs.Common.{Makes}
+use Rattle.pf_machine.specs.Descriptors.{with_nonblocking, set_nonblock}
 use Rattle.pf_fds.specs.Descriptions.{revalued}
 use Rattle.pf_tables.proofs.TablesTied.{redescribed, place_and_end, names_row}
 use Rattle.pf_tables.proofs.DescriptorsNamed.{Has, key_row, named_is}
@@ -43,17 +43,12 @@ module _ {charges : UserPages} {limits : Limits} {ps : ProcessRows} {ds : Descri
 
   pub flagged-kept : Kept charges ps after pipes
   flagged-kept = record {
-    tied = subst (λ x. TiedWith [] [] ps x pipes) (sym after_is)
+    tied = rw after_is
         (redescribed kept.tied k.serial (k.slot, row.0) row.1 (Some row') [] []
         (place_and_end pipes k.slot row'.1 (kept.tied.is_end k.serial (k.slot, row.0) row.1))
         tt (λ m ne. refl) (names_row k row.0 row.1 kept.tied) tt (λ m. refl) (λ m. refl));
     charged = kept.charged;
   }
-
-  flagged-shown : descriptions_of after ≡ change_at (with_nonblocking on) (descriptions_of ds) k.serial
-  flagged-shown =
-      ap descriptions_of after_is
-      ∙ shown_change description_of (with_nonblocking on) ds k.serial (k.slot, row.0) row' row.1 refl
 
   abbrev call : State Window ℕ → Result (Outcome Window ℕ) Errno
   call t = of_ready t pid (λ q. set_nonblock itself t q fd on)
@@ -63,5 +58,7 @@ module _ {charges : UserPages} {limits : Limits} {ps : ProcessRows} {ds : Descri
   flagged =
       let s : State Window ℕ = state_of ps ds pipes files files_made in
       makes flagged-kept.tied files files_made view refl call (Num 0)
-      (named_is ps pid fd (λ _ m. Ok (done (with_flag s m on) 0)) w
-      ∙ ap (λ xs. Ok (done (record s { descriptions = xs }) 0)) (sym flagged-shown))
+      (named_is ps pid fd _ w
+      ∙ ap (λ xs. Ok (done (record s { descriptions = xs }) 0))
+      (sym (ap descriptions_of after_is
+      ∙ shown_change description_of (with_nonblocking on) ds k.serial (k.slot, row.0) row' row.1 refl)))

@@ -1,19 +1,18 @@
 -- A pipe is made: two descriptions and a pipe under the next numbers, and two keys at the lowest free descriptors.
 
 use Rattle.std.proofs.Common.{◌≡◌, ℕ, suc, ◌+◌, ◌-◌, ◌<◌, ◌≤◌, Bool, true, false, List, [], ◌∷◌, ◌++◌, length, set}
-use Rattle.std.proofs.Common.{Option, Some, None, ◌||◌, Result, Ok, Err, IsOk, nat_lt, nat_le, refl, sym, ap, subst}
-use Rattle.std.proofs.Common.{◌∙◌, arith, append_assoc}
-use Rattle.std.proofs.lemmas.Bool.Decides.{nat_tests}
+use Rattle.std.proofs.Common.{Option, Some, None, ◌||◌, Result, Ok, IsOk, nat_lt, nat_le, refl, sym, ap, subst, ◌∙◌}
+use Rattle.std.proofs.Common.{Err, arith, append_assoc}
 use Rattle.std.proofs.Math.Seq.{set-append_seam}
-use Rattle.pf_tables.proofs.Refusals.{not_refused, same_ok, then-bind}
+use Rattle.pf_tables.proofs.Refusals.{not_refused, same_ok, too_high, low_enough, then-bind}
 use Rattle.pf_tables.proofs.Common.{option_map, Window, ◌>>=◌, ◌>>◌, refuse_if, Files, at, put_at, change_at}
-use Rattle.pf_tables.proofs.Common.{first_free, told_as, is_privileged, empty, State, Outcome, of_ready, told}
-use Rattle.pf_tables.proofs.Common.{is_spent, capacity_for, MAX_DESCRIPTORS, Errno, EMFILE, ENFILE, one_more, Joined}
-use Rattle.pf_tables.proofs.Common.{unopened, UserPages, charged_to, Charges, Namespace, AreCharged, rings_of}
-use Rattle.pf_tables.proofs.Common.{ProcessRows, DescriptionRows, PipeRows, Key, Process, Description, Pipe, ready_in}
-use Rattle.pf_tables.proofs.Common.{process_of, description_of, pipe_of, pipes_of, state_of, NamedRow, TiedWith, Tied}
-use Rattle.pf_tables.proofs.Common.{Kept, Named, Makes, map-set, length-map, map_push, length_push, set-set}
-use Rattle.pf_tables.proofs.Common.{at-push_new, at_within, at-put_same, at-first_free, first_free-map}
+use Rattle.pf_tables.proofs.Common.{first_free, told_as, is_privileged, empty, State, Outcome, of_ready, told, is_spent}
+use Rattle.pf_tables.proofs.Common.{capacity_for, MAX_DESCRIPTORS, Errno, EMFILE, ENFILE, one_more, Joined, unopened}
+use Rattle.pf_tables.proofs.Common.{UserPages, charged_to, Charges, Namespace, rings_of, ProcessRows, DescriptionRows}
+use Rattle.pf_tables.proofs.Common.{PipeRows, Key, Process, Description, Pipe, ready_in, process_of, description_of}
+use Rattle.pf_tables.proofs.Common.{pipe_of, processes_of, descriptions_of, pipes_of, state_of, Tied, Kept, Named}
+use Rattle.pf_tables.proofs.Common.{Makes, map-set, length-map, map_push, length_push, set-set, at-push_new, at_within}
+use Rattle.pf_tables.proofs.Common.{at-put_same, at-first_free, first_free-map}
 use Rattle.pf_machine.proofs.MapLaws.{second_free-map}
 use Rattle.pf_base.specs.Capacities.{new_capacity}
 use Rattle.pf_machine.specs.State as machine
@@ -28,20 +27,6 @@ use Rattle.pf_tables.specs.Tables.{two_free}
 use Rattle.pf_tables.proofs.ProcessTableReady.{readies, place_is}
 use Rattle.pf_tables.proofs.TablesTied.{finds-new, miss, once, sides, described, piped, put}
 use Rattle.pf_tables.proofs.TablesSettled.{makes_over}
-
--- what is in the hand has no order
-module _ {K : List Key} {E : List Description} {ps : ProcessRows} {ds : DescriptionRows} {pipes : PipeRows} where
-  pub swapped : (j k : Key) → TiedWith (k ∷ j ∷ K) E ps ds pipes → TiedWith (j ∷ k ∷ K) E ps ds pipes
-  swapped j k t = record {
-    places = t.places;
-    wide = t.wide;
-    finds = t.finds;
-    in_hand = (t.in_hand.1.0, (t.in_hand.0, t.in_hand.1.1));
-    names = λ n. subst (λ c. NamedRow c (at ds n)) (omega arith) (t.names n);
-    is_end = t.is_end;
-    ends_in_hand = t.ends_in_hand;
-    uses = t.uses;
-  }
 
 -- Its two lowest free descriptors
 
@@ -62,9 +47,7 @@ second_left (Some x ∷ xs) n = ap suc (second_left xs n)
 
 module _ (xs : List (Option Key)) where
   pub has_none : MAX_DESCRIPTORS ≤ second_free xs → Err EMFILE ≡ two_free xs
-  has_none none =
-      let full : nat_le MAX_DESCRIPTORS (second_free xs) ≡ true = grind (arith, nat_tests) in
-      ap (λ b. refuse_if b EMFILE >> Ok (first_free xs, second_free xs)) (sym full)
+  has_none none = sym (too_high _ _ _ _ none)
 
   module _ (first : ℕ) (lowest : first ≡ first_free xs) (second : ℕ)
       (next : (k : Key) → second ≡ first_free (put_at xs first k)) where
@@ -75,10 +58,7 @@ module _ (xs : List (Option Key)) where
 
     pub has_two : second < MAX_DESCRIPTORS → Ok (first, second) ≡ two_free xs
     has_two within =
-        let same = second_is in
-        let free : nat_le MAX_DESCRIPTORS (second_free xs) ≡ false = grind (arith, nat_tests) in
-        (λ i. Ok (lowest i, second_is i)) ∙ ap (λ b. refuse_if b EMFILE >> Ok (first_free xs, second_free xs))
-        (sym free)
+        (λ i. Ok (lowest i, second_is i)) ∙ sym (low_enough _ _ _ _ (omega (arith, second_is, within)))
 
   -- which they are
   module _ (free : ℕ × ℕ) (two : Ok free ≡ two_free xs) where
@@ -180,9 +160,9 @@ module _ {files : Files} {files_made : ℕ} {charges : UserPages} {ps : ProcessR
       ∙ (λ i. found (sym free_is i) (sym spent_is i) (sym slots_is i)))
 
   -- nothing stands against it
-  pub goes : {free : ℕ × ℕ} {slots : ℕ} → Ok free ≡ two_free p.descriptors
-      → false ≡ (is_spent ds 2 || is_spent pipes 1) → Ok slots ≡ capacity → IsOk (calls n)
-  goes two left room = subst IsOk (sym (by_finds two left room)) refl
+  pub goes : {free : ℕ × ℕ} {spent : Bool} {slots : ℕ} → Ok free ≡ two_free p.descriptors
+      → spent ≡ (is_spent ds 2 || is_spent pipes 1) → spent ≡ false → Ok slots ≡ capacity → IsOk (calls n)
+  goes two spent left room = subst IsOk (sym (by_finds two (sym left ∙ spent) room)) refl
 
   stands : at ps (pid - 1) ≡ Some p
   stands = place_is ps pid p is
@@ -199,56 +179,45 @@ module _ {files : Files} {files_made : ℕ} {charges : UserPages} {ps : ProcessR
     abbrev both : Process
     both = record p { descriptors = put_at (put_at p.descriptors free.0 m.j) free.1 m.k }
 
-    abbrev r_ends : List Description
-    r_ends = reading m.r nonblocking ∷ writing m.r nonblocking ∷ []
-
-    abbrev pipes1 : PipeRows
-    pipes1 = pipes ++ Some (m.r.slot, two_ended slots p.cred.uid) ∷ []
-
     abbrev ds1 : DescriptionRows
     ds1 = ds ++ Some (m.j.slot, once (reading m.r nonblocking)) ∷ []
-
-    abbrev ds2 : DescriptionRows
-    ds2 = ds1 ++ Some (m.k.slot, once (writing m.r nonblocking)) ∷ []
 
     processes_are : ps' ≡ put_at ps (pid - 1) both
     processes_are = m.set_to ∙ ap (λ o. set ps (pid - 1) (with_keys free.0 m.j free.1 m.k o)) stands
 
-    -- the chain: a pipe, its two descriptions, their two keys
+    -- the chain: a pipe, and then each of its descriptions, whose key is put down
     tied_after : Tied ps' ds' pipes'
     tied_after =
         let a = sides (reading m.r nonblocking) in
         let b = sides (writing m.r nonblocking) in
         let new = finds-new pipes (two_ended slots p.cred.uid) m.r m.r_is in
-        let with_pipe = piped m.r (two_ended slots p.cred.uid) r_ends m.r_is
+        let with_pipe =
+        piped m.r (two_ended slots p.cred.uid) (reading m.r nonblocking ∷ writing m.r nonblocking ∷ []) m.r_is
         ((new, omega arith), ((new, omega arith), tt))
         (λ n ne.
         let reads = miss m.r.serial n true (λ e. ne (sym e)) in
         let none = miss m.r.serial n false (λ e. ne (sym e)) in
         (omega (arith, reads, none), omega (arith, reads, none)))
         (omega (arith, a.0, b.0)) (omega (arith, a.1, b.1)) (omega arith) kept.tied in
-        let with_reading = described m.j (reading m.r nonblocking) m.j_is with_pipe in
-        let with_both = described m.k (writing m.r nonblocking) m.k_is with_reading in
         let first_in : free.0 < MAX_DESCRIPTORS =
         omega (arith, in_order p.descriptors, first_is, (known p.descriptors free two).1, within) in
         let next : free.1 ≡ first_free one.descriptors =
         (known p.descriptors free two).1 ∙ second_left p.descriptors m.j
         ∙ ap (λ a. first_free (put_at p.descriptors a m.j)) (sym first_is) in
         let with_first = put (pid - 1) free.0 p stands first_in m.j
-        (ap (at p.descriptors) first_is ∙ at-first_free p.descriptors) (swapped m.j m.k with_both) in
+        (ap (at p.descriptors) first_is ∙ at-first_free p.descriptors)
+        (described m.j (reading m.r nonblocking) m.j_is with_pipe) in
         let with_second = put (pid - 1) free.1 one
         (at-put_same ps (pid - 1) (Some one) (at_within ps (pid - 1) p stands)) within m.k
-        (ap (at one.descriptors) next ∙ at-first_free one.descriptors) with_first in
-        rw (processes_are, m.named_to, m.piped_to)
-        (subst (λ x. Tied x ds2 pipes1) (set-set ps (pid - 1) (Some one) (Some both)) with_second)
+        (ap (at one.descriptors) next ∙ at-first_free one.descriptors)
+        (described m.k (writing m.r nonblocking) m.k_is with_first) in
+        rw (processes_are, m.named_to, m.piped_to, ← set-set ps (pid - 1) (Some one) (Some both)) with_second
 
     pub opened-kept : {charges' : UserPages} → Charges charges charges' p.cred.uid slots → Kept charges' ps' ds' pipes'
     opened-kept {charges'} more = record {
       tied = tied_after;
       charged =
-          subst (AreCharged charges')
-          (sym (ap pipes_of m.piped_to ∙ map_push (option_map pipe_of) pipes
-          (Some (m.r.slot, two_ended slots p.cred.uid))))
+          rw (m.piped_to, map_push (option_map pipe_of) pipes (Some (m.r.slot, two_ended slots p.cred.uid)))
           (made (λ (q : machine.Pipe Window). q.owner) (λ (q : machine.Pipe Window). q.queue.capacity) charges charges'
           (pipes_of pipes) kept.charged (pipe_of (m.r.slot, two_ended slots p.cred.uid)) more);
     }
@@ -270,23 +239,18 @@ module _ {files : Files} {files_made : ℕ} {charges : UserPages} {ps : ProcessR
 
     shown : state_of ps' ds' pipes' files files_made ≡ with_pipe slots
     shown =
-        let two_more =
-        map_push (option_map description_of) ds1 (Some (m.k.slot, once (writing m.r nonblocking)))
-        ∙ ap (λ xs. xs ++ Some (machine_writing m.r.serial nonblocking) ∷ [])
-        (map_push (option_map description_of) ds (Some (m.j.slot, once (reading m.r nonblocking))))
-        ∙ append_assoc s.descriptions (Some (machine_reading m.r.serial nonblocking) ∷ [])
+        let keys = keys_shown in
+        let processes = ap processes_of processes_are ∙ map-set (option_map process_of) ps (pid - 1) (Some both) in
+        let second =
+        ap descriptions_of m.named_to
+        ∙ map_push (option_map description_of) ds1 (Some (m.k.slot, once (writing m.r nonblocking))) in
+        let first = map_push (option_map description_of) ds (Some (m.j.slot, once (reading m.r nonblocking))) in
+        let joined = append_assoc s.descriptions (Some (machine_reading m.r.serial nonblocking) ∷ [])
         (Some (machine_writing m.r.serial nonblocking) ∷ []) in
         let number : m.r.serial ≡ length s.pipes = m.r_is ∙ sym (length-map pipes (option_map pipe_of)) in
-        (λ i. state_of (processes_are i) (m.named_to i) (m.piped_to i) files files_made)
-        ∙ (λ i. record s {
-          processes =
-              (map-set (option_map process_of) ps (pid - 1) (Some both)
-              ∙ ap (λ q. put_at s.processes (pid - 1) q) keys_shown) i;
-          descriptions =
-              (two_more ∙ ap (λ r. s.descriptions
-              ++ Some (machine_reading r nonblocking) ∷ Some (machine_writing r nonblocking) ∷ []) number) i;
-          pipes = map_push (option_map pipe_of) pipes (Some (m.r.slot, two_ended slots p.cred.uid)) i;
-        })
+        let all =
+        ap pipes_of m.piped_to ∙ map_push (option_map pipe_of) pipes (Some (m.r.slot, two_ended slots p.cred.uid)) in
+        cc
 
     pub makes_pipe : {charges' : UserPages} → Charges charges charges' p.cred.uid slots
         → false ≡ (is_spent ds 2 || is_spent pipes 1) → Ok slots ≡ capacity

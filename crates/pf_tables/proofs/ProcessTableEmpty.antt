@@ -46,13 +46,9 @@ module _ (ps : ProcessRows) (ds : DescriptionRows) (pipes : PipeRows) (t : Tied 
 module _ (ps : ProcessRows) (ds : DescriptionRows) (pipes : PipeRows) (bare : ps ≡ vacant MAX_PROCESSES)
     (none : ds ≡ []) (no_pipe : pipes ≡ []) where
   pub nothing_tied : Tied ps ds pipes
-  nothing_tied = rw (bare, none, no_pipe) nothing
-    where
-      nobody : {P : Type 0} (i : ℕ) (p : Process) → at (vacant MAX_PROCESSES) i ≡ Some p → P
-      nobody i p h = let gap = vacant_at {X = Process} MAX_PROCESSES i in absurd (cc)
-
-      nothing : Tied (vacant MAX_PROCESSES) [] []
-      nothing = record {
+  nothing_tied =
+      rw (bare, none, no_pipe)
+      (record {
         places = length-vacant Process MAX_PROCESSES;
         wide = λ i p h. nobody i p h;
         finds = λ i m p k h g. nobody i p h;
@@ -61,7 +57,10 @@ module _ (ps : ProcessRows) (ds : DescriptionRows) (pipes : PipeRows) (bare : ps
         is_end = λ n e h. absurd (cc);
         ends_in_hand = tt;
         uses = λ n. (refl, refl);
-      }
+      })
+    where
+      nobody : {P : Type 0} (i : ℕ) (p : Process) → at (vacant MAX_PROCESSES) i ≡ Some p → P
+      nobody i p h = let gap = vacant_at {X = Process} MAX_PROCESSES i in absurd (cc)
 
   -- nobody is charged
   pub nothing_charged : (limits : Limits) (u : UserPages) → u ≡ record { limits = limits; users = []; total = 0 }

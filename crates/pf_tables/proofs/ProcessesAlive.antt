@@ -2,8 +2,7 @@
 
 use Rattle.std.proofs.Common.{◌≡◌, ℕ, List, [], ◌∷◌, length, Option, Some, None, nat_lt}
 use Rattle.std.proofs.Common.{if◌then◌else◌, refl, ap, ◌∙◌, arith}
-use Rattle.pf_tables.proofs.Common.{at, sum_of, itself, State, ends, sweep, Namespace, occupied, Process, ProcessRows}
-use Rattle.pf_tables.proofs.Common.{process_of, processes_of, sum_of-map, sum_of-none}
+use Rattle.pf_tables.proofs.Common.{at, sum_of, itself, State, ends, sweep, Namespace, occupied, sum_of-none}
 use Rattle.pf_machine.specs.Numbered.{keep}
 use Rattle.pf_machine.proofs.NumberedLaws.{at-keep}
 use Rattle.pf_machine.specs.State.{Pipe}
@@ -12,10 +11,6 @@ use Rattle.pf_machine.specs.Processes.{alive}
 use Rattle.pf_machine.specs.Sweep.{live_descriptions}
 use Rattle.pf_tables.specs.Held.{HoldsNone}
 use Rattle.pf_tables.proofs.OwnsLaws.{held_occupied}
-
--- those that live in the rows are those that live for the machine
-pub shown_alive : (ps : ProcessRows) → sum_of (λ p. 1) (processes_of ps) ≡ sum_of (λ (p : Process). 1) ps
-shown_alive ps = sum_of-map process_of (λ p. 1) ps
 
 -- Nobody lives
 
@@ -35,16 +30,11 @@ module _ {X : Type 0} where
       at-keep (λ n. nat_lt 0 (count n)) xs k ∙ ap (λ n. if nat_lt 0 n then at xs k else None) (zeros k) in
       absurd (cc))
 
-module _ {X : Type 0} (s : State X ℕ) (nobody : alive s ≡ 0) where
-  unnamed : (n : ℕ) → names itself s.processes n ≡ 0
-  unnamed n = none_summed _ s.processes nobody
-
-  unused : (p : ℕ) → ends itself (live_descriptions itself s.processes s.descriptions) p ≡ 0
-  unused p = none_kept _ (names itself s.processes) s.descriptions unnamed
-
-  -- the sweep leaves no pipe
-  no_pipes : (h : Pipe X → ℕ) → sum_of h (sweep itself s).pipes ≡ 0
-  no_pipes h = none_kept h (ends itself (live_descriptions itself s.processes s.descriptions)) s.pipes unused
+-- the sweep leaves no pipe
+no_pipes : {X : Type 0} (s : State X ℕ) → alive s ≡ 0 → (h : Pipe X → ℕ) → sum_of h (sweep itself s).pipes ≡ 0
+no_pipes s nobody h =
+    none_kept h (ends itself (live_descriptions itself s.processes s.descriptions)) s.pipes
+    (λ p. none_kept _ (names itself s.processes) s.descriptions (λ n. none_summed _ s.processes nobody))
 
 -- so a namespace that is swept has no frame
 pub holds_none : (n : Namespace) → n.state ≡ sweep itself n.state → alive n.state ≡ 0 → HoldsNone n

@@ -1,32 +1,28 @@
 -- A process again under another pid: each of its keys names its description once more, and comes into the hand, until
 -- the process that has them all is put down.
 
-use Rattle.std.proofs.Common.{◌≡◌, ℕ, zero, suc, ◌+◌, ◌-◌, ◌^◌, ◌<◌, ◌≤◌, Bool, true, false, nat_le, List, [], ◌∷◌}
-use Rattle.std.proofs.Common.{length, map, drop, Option, Some, None, IsSome, IsOk, is_some, Result, Ok, Err, refl, sym}
-use Rattle.std.proofs.Common.{ap, subst, ◌∙◌, arith, length-set}
+use Rattle.std.proofs.Common.{◌≡◌, ℕ, zero, suc, ◌+◌, ◌-◌, ◌^◌, ◌<◌, ◌≤◌, List, [], ◌∷◌, length, map, drop, Option}
+use Rattle.std.proofs.Common.{Some, None, IsSome, IsOk, is_some, Result, Ok, Err, refl, sym, ap, subst, ◌∙◌, arith}
+use Rattle.std.proofs.Common.{length-set}
 use Rattle.std.proofs.lemmas.List.{at_drop_more}
 use Rattle.pf_tables.proofs.Refusals.{same_some}
 use Rattle.pf_tables.proofs.Common.{option_map, Files, Limits, at, put_at, change_at, first_free, sum_of, weight, ◌>>=◌}
-use Rattle.pf_tables.proofs.Common.{◌>>◌, refuse_if, State, Outcome, of_ready, with_process, told, MAX_PROCESSES, Errno}
-use Rattle.pf_tables.proofs.Common.{names_of, one_more, find, UserPages, Window, Namespace, ProcessRows}
-use Rattle.pf_tables.proofs.Common.{DescriptionRows, PipeRows, Key, Named, Process, Description, ready_in, made_by}
-use Rattle.pf_tables.proofs.Common.{keys_of, keys_to, names_it, held, process_of, description_of, processes_of}
-use Rattle.pf_tables.proofs.Common.{state_of, TiedWith, Tied, Kept, Makes, nat_tests, map-set, at-map, at_within}
-use Rattle.pf_tables.proofs.Common.{at-first_free, first_free-map, Finds, AllFind, named_once_more}
-use Rattle.pf_machine.specs.Processes.{fork}
+use Rattle.pf_tables.proofs.Common.{State, Outcome, of_ready, MAX_PROCESSES, Errno, names_of, one_more, find, UserPages}
+use Rattle.pf_tables.proofs.Common.{Window, Namespace, ProcessRows, DescriptionRows, PipeRows, Key, Named, Process}
+use Rattle.pf_tables.proofs.Common.{Description, ready_in, made_by, keys_of, keys_to, names_it, held, process_of}
+use Rattle.pf_tables.proofs.Common.{description_of, state_of, TiedWith, Kept, Makes, at-map, at_within, at-first_free}
+use Rattle.pf_tables.proofs.Common.{Finds, AllFind, named_once_more}
+use Rattle.pf_machine.specs.Processes.{fork, born}
 use Rattle.pf_base.specs.declared.errno.Errno.TheVariants.{EAGAIN}
 use Rattle.pf_base.specs.declared.step.Reply.TheVariants.{Pid}
 use Rattle.pf_tables.specs.Rows.{holding, AreFew, with_name}
 use Rattle.pf_tables.proofs.ProcessTableReady.{readies, place_is, is_awake}
-use Rattle.pf_tables.proofs.TablesTied.{finds, by_set, held-holding, reseated}
+use Rattle.pf_tables.proofs.TablesTied.{Row, finds, by_set, held-holding, reseated}
 use Rattle.pf_tables.proofs.DescriptorsDup.{few_names, named_row, names_are, named_again}
 use Rattle.pf_tables.proofs.TablesShown.{find_at}
-use Rattle.pf_tables.proofs.TablesSettled.{makes}
+use Rattle.pf_tables.proofs.ProcessesSpawn.{no_pid, some_pid, is_born}
 
 -- What one name more leaves of the rows
-
-abbrev Row : Type 0
-Row = ℕ × Named Description
 
 -- whatever doesn't see how many names there are is the same
 module _ {Y : Type 0} (g : Row → Y) (same : (e : Row) → g (one_more e) ≡ g e) where
@@ -121,17 +117,6 @@ module _ (ps : ProcessRows) (pipes : PipeRows) where
       in_hand ks (k ∷ K) (change_at one_more ds k.serial) (λ m j h. still_finds ds k.serial j (all (suc m) j h))
       (subst (λ x. TiedWith (k ∷ K) [] ps x pipes) (sym (named_row ds k r.0 r.1)) (named_again k r.0 r.1 t))
 
-  -- and are put down at once
-  forked-tied : (ds : DescriptionRows) → Tied ps ds pipes → (i : ℕ) (p : Process) → at ps i ≡ Some p → p.parked ≡ None
-      → (j : ℕ) → at ps j ≡ None → j < MAX_PROCESSES → Tied (put_at ps j p) (named_once_more p.descriptors ds) pipes
-  forked-tied ds t i p there asleep j free j_in =
-      let u = in_hand p.descriptors [] ds (λ m k h. t.finds i (suc m) p k there h) t in
-      reseated u j (omega (arith, t.places, j_in)) (Some p) []
-      (λ q e. let it : p ≡ q = cc in ap (λ (x : Process). length x.descriptors) (sym it) ∙ t.wide i p there)
-      (λ m q k e g. let it : p ≡ q = cc in u.finds i m p k there (ap (λ (x : Process). at (keys_of x) m) it ∙ g)) tt
-      (λ n. let none = ap (λ o. weight (names_it n) (made_by o)) asleep in
-      omega (arith, ap (weight (keys_to n)) free, none, held_hand (names_it n) p.descriptors []))
-
 -- What the machine says, and what is left
 
 module _ {charges : UserPages} {limits : Limits} {ps : ProcessRows} {ds : DescriptionRows} {pipes : PipeRows}
@@ -147,56 +132,43 @@ module _ {charges : UserPages} {limits : Limits} {ps : ProcessRows} {ds : Descri
   pub are_few : AreFew ds
   are_few m e h = few_names kept.tied m e h
 
-  module _ (i : ℕ) (lowest : i ≡ first_free ps) where
-    abbrev s : State Window ℕ
-    s = state_of ps ds pipes files files_made
+  abbrev s : State Window ℕ
+  s = state_of ps ds pipes files files_made
 
-    abbrev call : State Window ℕ → Result (Outcome Window ℕ) Errno
-    call t = of_ready t pid (λ q. fork t q)
+  abbrev call : State Window ℕ → Result (Outcome Window ℕ) Errno
+  call t = of_ready t pid (λ q. fork t q)
 
-    -- what it says, by the test of the lowest free pid
-    abbrev tested : Bool → Result (Outcome Window ℕ) Errno
-    tested full = refuse_if full EAGAIN >> Ok (told (with_process s (i + 1) (process_of p)) (Pid (i + 1)))
+  call_is : call s ≡ born s (process_of p)
+  call_is = ap (λ r. r >>= (λ q. fork s q)) (readies ps pid p caller)
 
-    call_is : call s ≡ tested (nat_le MAX_PROCESSES i)
-    call_is =
-        ap (λ r. r >>= (λ q. fork s q)) (readies ps pid p caller)
-        ∙ ap (λ m. refuse_if (nat_le MAX_PROCESSES m) EAGAIN
-        >> Ok (told (with_process s (m + 1) (process_of p)) (Pid (m + 1)))) (first_free-map process_of ps ∙ sym lowest)
-
+  module _ {i : ℕ} (lowest : i ≡ first_free ps) where
     pub has_no_room : MAX_PROCESSES ≤ i → call n.state ≡ Err EAGAIN
-    has_no_room past =
-        let full : nat_le MAX_PROCESSES i ≡ true = grind (arith, nat_tests) in
-        subst (λ (m : Namespace). call m.state ≡ Err EAGAIN) view (call_is ∙ ap tested full)
+    has_no_room = no_pid kept.tied view lowest p call call_is
 
-    pub has_room : i < MAX_PROCESSES → IsOk (call n.state)
-    has_room within =
-        let room : nat_le MAX_PROCESSES i ≡ false = grind (arith, nat_tests) in
-        rw (← view) (subst IsOk (sym (call_is ∙ ap tested room)) refl)
+    module _ (within : i < MAX_PROCESSES) where
+      pub has_room : IsOk (call n.state)
+      has_room = some_pid kept.tied view lowest p call call_is within
 
-    module _ (i_in : i < MAX_PROCESSES) {child : Process} (same : child ≡ p) {qs : ProcessRows} {es : DescriptionRows}
-        (put : qs ≡ put_at ps i child) (named : es ≡ named_once_more child.descriptors ds) where
-      now_tied : Tied qs es pipes
-      now_tied =
-          rw (put, named, same)
-          (forked-tied ps pipes ds kept.tied (pid - 1) p there (is_awake ps pid p caller) i
-          (ap (at ps) lowest ∙ at-first_free ps) i_in)
+      module _ {child : Process} (same : child ≡ p) {qs : ProcessRows} {es : DescriptionRows}
+          (put : qs ≡ put_at ps i child) (named : es ≡ named_once_more child.descriptors ds) where
+        -- the keys come into the hand, and are put down at once
+        pub forked-kept : Kept charges qs es pipes
+        forked-kept =
+            let u = in_hand ps pipes p.descriptors [] ds all_find kept.tied in
+            let free = ap (at ps) lowest ∙ at-first_free ps in
+            record {
+              tied = rw (put, named, same)
+                  (reseated u i (omega (arith, u.places, within)) (Some p) []
+                  (λ q e. ap (λ (x : Process). length x.descriptors) (sym (same_some e)) ∙ u.wide (pid - 1) p there)
+                  (λ m q k e g. u.finds (pid - 1) m p k there
+                  (ap (λ (x : Process). at (keys_of x) m) (same_some e) ∙ g)) tt
+                  (λ n. let none = ap (λ o. weight (names_it n) (made_by o)) (is_awake ps pid p caller) in
+                  omega (arith, ap (weight (keys_to n)) free, none, held_hand (names_it n) p.descriptors [])));
+              charged = kept.charged;
+            }
 
-      pub forked-kept : Kept charges qs es pipes
-      forked-kept = record { tied = now_tied; charged = kept.charged }
-
-      now_shown : state_of qs es pipes files files_made ≡ with_process s (i + 1) (process_of p)
-      now_shown =
-          let place : i ≡ i + 1 - 1 = omega arith in
-          rw (put, named, same) ((λ j. record s {
-            processes = map-set (option_map process_of) ps i (Some p) j;
-            descriptions = all_changed description_of (λ e. refl) p.descriptors ds j;
-          })
-          ∙ ap (λ m. record s { processes = put_at (processes_of ps) m (process_of p) }) place)
-
-      pub forked : Makes n (record { limits = limits; state = state_of qs es pipes files files_made }) (call n.state)
-          (Pid (i + 1))
-      forked =
-          let room : nat_le MAX_PROCESSES i ≡ false = grind (arith, nat_tests) in
-          makes now_tied files files_made view refl call (Pid (i + 1))
-          (call_is ∙ ap tested room ∙ ap (λ t. Ok (told t (Pid (i + 1)))) (sym now_shown))
+        pub forked : Makes n (record { limits = limits; state = state_of qs es pipes files files_made }) (call n.state)
+            (Pid (i + 1))
+        forked =
+            is_born kept.tied view lowest p call call_is within forked-kept.tied (put ∙ ap (λ q. put_at ps i q) same)
+            (rw (named, same) (all_changed description_of (λ e. refl) p.descriptors ds))

@@ -1,80 +1,107 @@
--- A process with no descriptors, under the lowest free pid.
+-- A process under the lowest free pid: what is told of any, and one with no descriptors.
 
-use Rattle.std.proofs.Common.{◌≡◌, ℕ, zero, suc, ◌+◌, ◌-◌, ◌<◌, ◌≤◌, Bool, true, false, not, nat_le, Some, None, Result}
-use Rattle.std.proofs.Common.{Ok, Err, IsOk, refl, sym, ap, subst, ◌∙◌, arith}
+use Rattle.std.proofs.Common.{◌≡◌, ℕ, zero, suc, ◌+◌, ◌-◌, ◌<◌, ◌≤◌, true, not, nat_le, List, Option, Some, None}
+use Rattle.std.proofs.Common.{Result, Ok, Err, IsOk, refl, sym, ap, ◌∙◌, arith}
 use Rattle.pf_machine.specs.State.{vacant}
 use Rattle.pf_tables.proofs.Common.{option_map, Limits, MAX_PROCESSES, MAX_DESCRIPTORS, Cred, Errno, EINVAL, Files, at}
 use Rattle.pf_tables.proofs.Common.{put_at, first_free, ◌>>◌, refuse_if, State, Outcome, with_process, told, Window}
 use Rattle.pf_tables.proofs.Common.{Namespace, ProcessRows, DescriptionRows, PipeRows, Key, Process, keys_of}
-use Rattle.pf_tables.proofs.Common.{process_of, processes_of, state_of, Tied, Makes, nat_tests, map-set, vacant-map}
-use Rattle.pf_tables.proofs.Common.{at-first_free, first_free-map}
+use Rattle.pf_tables.proofs.Common.{process_of, processes_of, descriptions_of, state_of, Tied, Makes, map-set}
+use Rattle.pf_tables.proofs.Common.{vacant-map, at-first_free, first_free-map}
 use Rattle.pf_base.specs.Credentials.{is_valid}
 use Rattle.pf_base.specs.declared.errno.Errno.TheVariants.{EAGAIN}
 use Rattle.pf_base.specs.declared.step.Reply.TheVariants.{Pid}
 use Rattle.pf_machine.specs.Processes.{spawn, born}
-use Rattle.pf_machine.specs.State as machine
 use Rattle.pf_tables.proofs.ProcessTableEmpty.{vacant_at, length-vacant, made}
+use Rattle.pf_tables.proofs.Refusals.{too_high, low_enough}
 use Rattle.pf_tables.proofs.TablesSettled.{makes}
 
--- with these credentials, and as the machine sees it
+-- with these credentials and no descriptors
 abbrev pub spawned : Cred → Process
 spawned cred = record { cred = cred; descriptors = vacant MAX_DESCRIPTORS; parked = None }
 
-abbrev seen : Cred → machine.Process ℕ
-seen cred = record { cred = cred; descriptors = vacant MAX_DESCRIPTORS; parked = None }
+bare : (cred : Cred) (m : ℕ) → at (keys_of (spawned cred)) m ≡ None
+bare cred zero = refl
+bare cred (suc m) = vacant_at MAX_DESCRIPTORS m
 
-module _ {ps : ProcessRows} {ds : DescriptionRows} {pipes : PipeRows} (t : Tied ps ds pipes) {i : ℕ}
-    (lowest : i ≡ first_free ps) (cred : Cred) where
-  bare : (m : ℕ) → at (keys_of (spawned cred)) m ≡ None
-  bare zero = refl
-  bare (suc m) = vacant_at MAX_DESCRIPTORS m
+module _ {ps : ProcessRows} {ds : DescriptionRows} {pipes : PipeRows} (t : Tied ps ds pipes) {limits : Limits}
+    {files : Files} {files_made : ℕ} {n : Namespace}
+    (view : record { limits = limits; state = state_of ps ds pipes files files_made } ≡ n) {i : ℕ}
+    (lowest : i ≡ first_free ps) where
+  abbrev s : State Window ℕ
+  s = state_of ps ds pipes files files_made
 
-  module _ {limits : Limits} {files : Files} {files_made : ℕ} {n : Namespace}
-      (view : record { limits = limits; state = state_of ps ds pipes files files_made } ≡ n)
-      (valid : is_valid cred ≡ true) where
-    abbrev s : State Window ℕ
-    s = state_of ps ds pipes files files_made
+  -- a call that puts a process down
+  module _ (p : Process) (call : State Window ℕ → Result (Outcome Window ℕ) Errno)
+      (is : call s ≡ born s (process_of p)) where
+    abbrev puts : ℕ → Result (Outcome Window ℕ) Errno
+    puts m = Ok (told (with_process s (m + 1) (process_of p)) (Pid (m + 1)))
 
-    -- what the call says, by the test of the lowest free pid
-    abbrev tested : Bool → ℕ → Result (Outcome Window ℕ) Errno
-    tested full m = refuse_if full EAGAIN >> Ok (told (with_process s (m + 1) (seen cred)) (Pid (m + 1)))
-
-    call_is : spawn s cred ≡ tested (nat_le MAX_PROCESSES i) i
+    -- it goes by the test of the lowest free pid
+    call_is : call s ≡ (refuse_if (nat_le MAX_PROCESSES i) EAGAIN >> puts i)
     call_is =
-        ap (λ b. refuse_if (not b) EINVAL >> born s (seen cred)) valid
-        ∙ ap (λ m. tested (nat_le MAX_PROCESSES m) m) (first_free-map process_of ps ∙ sym lowest)
+        is ∙ ap (λ m. refuse_if (nat_le MAX_PROCESSES m) EAGAIN >> puts m) (first_free-map process_of ps ∙ sym lowest)
 
-    pub no_pid : MAX_PROCESSES ≤ i → spawn n.state cred ≡ Err EAGAIN
-    no_pid past =
-        let full : nat_le MAX_PROCESSES i ≡ true = grind (arith, nat_tests) in
-        subst (λ (m : Namespace). spawn m.state cred ≡ Err EAGAIN) view (call_is ∙ ap (λ b. tested b i) full)
+    pub no_pid : MAX_PROCESSES ≤ i → call n.state ≡ Err EAGAIN
+    no_pid past = rw (← view) (call_is ∙ too_high _ _ _ _ past)
 
-    pub some_pid : i < MAX_PROCESSES → IsOk (spawn n.state cred)
-    some_pid within =
-        let room : nat_le MAX_PROCESSES i ≡ false = grind (arith, nat_tests) in
-        rw (← view) (subst IsOk (sym (call_is ∙ ap (λ b. tested b i) room)) refl)
+    module _ (within : i < MAX_PROCESSES) where
+      goes : call s ≡ puts i
+      goes = call_is ∙ low_enough _ _ _ _ within
 
-    module _ (i_in : i < MAX_PROCESSES) {p : Process} (same : p ≡ spawned cred) {qs : ProcessRows}
-        (put : qs ≡ put_at ps i p) where
-      pub spawned-tied : Tied qs ds pipes
-      spawned-tied =
-          rw (put, same)
-          (made ps ds pipes t i i_in (ap (at ps) lowest ∙ at-first_free ps) (spawned cred) bare
-          (length-vacant Key MAX_DESCRIPTORS))
+      pub some_pid : IsOk (call n.state)
+      some_pid = rw (← view, goes) refl
 
-      now_shown : state_of qs ds pipes files files_made ≡ with_process s (i + 1) (seen cred)
-      now_shown =
+      pub is_born : {qs : ProcessRows} {es : DescriptionRows} → Tied qs es pipes → qs ≡ put_at ps i p
+          → descriptions_of es ≡ descriptions_of ds
+          → Makes n (record { limits = limits; state = state_of qs es pipes files files_made }) (call n.state)
+          (Pid (i + 1))
+      is_born tied put named =
           let place : i ≡ i + 1 - 1 = omega arith in
-          rw (put, same) ((λ j. record s { processes = map-set (option_map process_of) ps i (Some (spawned cred)) j })
-          ∙ (λ j. record s {
-            processes = put_at (processes_of ps) (place j) (record (seen cred) {
-              descriptors = vacant-map (λ (k : Key). k.serial) MAX_DESCRIPTORS j;
-            });
-          }))
+          let all =
+          ap processes_of put ∙ map-set (option_map process_of) ps i (Some p)
+          ∙ ap (λ m. put_at (processes_of ps) m (process_of p)) place in
+          makes tied files files_made view refl call (Pid (i + 1))
+          (goes ∙ (λ j. Ok (told (record s { processes = sym all j; descriptions = sym named j }) (Pid (i + 1)))))
 
-      pub spawns : Makes n (record { limits = limits; state = state_of qs ds pipes files files_made })
-          (spawn n.state cred) (Pid (i + 1))
-      spawns =
-          let room : nat_le MAX_PROCESSES i ≡ false = grind (arith, nat_tests) in
-          makes spawned-tied files files_made view refl (λ t. spawn t cred) (Pid (i + 1))
-          (call_is ∙ ap (λ b. tested b i) room ∙ ap (λ t. Ok (told t (Pid (i + 1)))) (sym now_shown))
+  -- a spawn
+  module _ (cred : Cred) (valid : is_valid cred ≡ true) where
+    spawn_is : spawn s cred ≡ born s (process_of (spawned cred))
+    spawn_is =
+        ap (λ b. refuse_if (not b) EINVAL >> born s (record (process_of (spawned cred)) {
+          descriptors = vacant MAX_DESCRIPTORS;
+        })) valid
+        ∙ ap (λ xs. born s (record (process_of (spawned cred)) { descriptors = xs }))
+        (sym (vacant-map (λ (k : Key). k.serial) MAX_DESCRIPTORS))
+
+    pub no_spawn : MAX_PROCESSES ≤ i → spawn n.state cred ≡ Err EAGAIN
+    no_spawn = no_pid (spawned cred) (λ t. spawn t cred) spawn_is
+
+    module _ (within : i < MAX_PROCESSES) where
+      pub may_spawn : IsOk (spawn n.state cred)
+      may_spawn = some_pid (spawned cred) (λ t. spawn t cred) spawn_is within
+
+      module _ {groups : List ℕ} (copied : groups ≡ cred.groups) {ks : List (Option Key)}
+          (none : ks ≡ vacant MAX_DESCRIPTORS) {qs : ProcessRows}
+          (put : qs ≡ put_at ps i (record {
+            cred = record cred { groups = groups };
+            descriptors = ks;
+            parked = None;
+          })) where
+        put_is : qs ≡ put_at ps i (spawned cred)
+        put_is =
+            put ∙ (λ j. put_at ps i (record {
+              cred = record cred { groups = copied j };
+              descriptors = none j;
+              parked = None;
+            }))
+
+        pub spawned-tied : Tied qs ds pipes
+        spawned-tied =
+            rw put_is
+            (made ps ds pipes t i within (ap (at ps) lowest ∙ at-first_free ps) (spawned cred) (bare cred)
+            (length-vacant Key MAX_DESCRIPTORS))
+
+        pub spawns : Makes n (record { limits = limits; state = state_of qs ds pipes files files_made })
+            (spawn n.state cred) (Pid (i + 1))
+        spawns = is_born (spawned cred) (λ t. spawn t cred) spawn_is within spawned-tied put_is refl

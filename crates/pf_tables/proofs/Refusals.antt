@@ -1,6 +1,8 @@
 -- What came through a chain of refusals: each of its steps gave what the next went on with.
 
-use Rattle.std.proofs.Common.{◌≡◌, Bool, true, false, Option, Some, None, is_some, Result, Ok, Err, refl, ap, ◌∙◌}
+use Rattle.std.proofs.Common.{◌≡◌, ℕ, ◌<◌, ◌≤◌, Bool, true, false, nat_le, Option, Some, None, is_some, Result, Ok}
+use Rattle.std.proofs.Common.{Err, refl, ap, ◌∙◌}
+use Rattle.std.proofs.lemmas.Bool.{le-leb, lt-leb}
 use Rattle.pf_tables.proofs.Common.{◌>>=◌, ◌>>◌, refuse_if, or_refuse, Errno}
 
 -- a first step, and one that went on from it
@@ -29,6 +31,18 @@ same_ok is = cc
 pub is_none : {A : Type 0} (o : Option A) → is_some o ≡ false → o ≡ None
 is_none None h = refl
 is_none (Some x) h = absurd (cc)
+
+-- a test that is met, and one that a number is too high
+pub is_refused : {A : Type 0} {b : Bool} (e : Errno) (r : Result A Errno) → b ≡ true → (refuse_if b e >> r) ≡ Err e
+is_refused e r met = ap (λ b. refuse_if b e >> r) met
+
+pub too_high : {A : Type 0} (most i : ℕ) (e : Errno) (r : Result A Errno) → most ≤ i
+    → (refuse_if (nat_le most i) e >> r) ≡ Err e
+too_high most i e r past = is_refused e r (le-leb most i past)
+
+pub low_enough : {A : Type 0} (most i : ℕ) (e : Errno) (r : Result A Errno) → i < most
+    → (refuse_if (nat_le most i) e >> r) ≡ r
+low_enough most i e r within = ap (λ b. refuse_if b e >> r) (lt-leb most i within)
 
 -- the third step goes on from the second as from the two together
 pub bind-bind : {A B C : Type 0} (m : Result A Errno) (h : A → Result B Errno) (go : B → Result C Errno)

@@ -43,6 +43,10 @@ by_push P xs y new old k =
 
 -- Keys that find something
 
+-- what stands somewhere is in a place
+abbrev IsIn : {T : Type 0} → ℕ → Option (ℕ × T) → Type 0
+IsIn place o = option_map (λ e. e.0) o ≡ Some place
+
 pub finds : {T : Type 0} (rows : List (Option (ℕ × T))) (k : Key) → Finds rows k
     → (x : T) × (at rows k.serial ≡ Some (k.slot, x))
 finds {T} rows k f =
@@ -59,16 +63,16 @@ pub in_place : {T : Type 0} {place : ℕ} {x : T} {e : ℕ × T} → ◌≡◌ {
 in_place h = sym (ap (λ e. e.0) (same_some h))
 
 finds-set : {T : Type 0} (rows : List (Option (ℕ × T))) (n : ℕ) (y : Option (ℕ × T)) → n < length rows → (k : Key)
-    → (k.serial ≡ n → option_map (λ (e : ℕ × T). e.0) y ≡ Some k.slot) → Finds rows k → Finds (set rows n y) k
-finds-set {T} rows n y l k new f =
-    by_set (λ m o. k.serial ≡ m → option_map (λ (e : ℕ × T). e.0) o ≡ Some k.slot) rows n y l new
-    (λ m other e. subst (λ s. option_map (λ (e : ℕ × T). e.0) (at rows s) ≡ Some k.slot) e f) k.serial refl
+    → (k.serial ≡ n → IsIn k.slot y) → Finds rows k → Finds (set rows n y) k
+finds-set rows n y l k new f =
+    by_set (λ m o. k.serial ≡ m → IsIn k.slot o) rows n y l new
+    (λ m other e. subst (λ s. IsIn k.slot (at rows s)) e f) k.serial refl
 
 finds-push : {T : Type 0} (rows : List (Option (ℕ × T))) (y : Option (ℕ × T)) (k : Key) → Finds rows k
     → Finds (rows ++ y ∷ []) k
-finds-push {T} rows y k f =
-    let x = finds rows k f in ap (option_map (λ (e : ℕ × T). e.0))
-    (at-push_old rows y k.serial (at_within rows k.serial (k.slot, x.0) x.1)) ∙ f
+finds-push rows y k f =
+    let x = finds rows k f in
+    subst (IsIn k.slot) (sym (at-push_old rows y k.serial (at_within rows k.serial (k.slot, x.0) x.1))) f
 
 pub finds-new : {T : Type 0} (rows : List (Option (ℕ × T))) (x : T) (k : Key) → k.serial ≡ length rows
     → Finds (rows ++ Some (k.slot, x) ∷ []) k
@@ -117,11 +121,21 @@ held-holding h None xs = omega arith
 held-holding h (Some x) xs = refl
 
 -- what a description's row counts for a pipe
-abbrev reads_row : ℕ → ℕ × Named Description → ℕ
+abbrev pub Row : Type 0
+Row = ℕ × Named Description
+
+abbrev reads_row : ℕ → Row → ℕ
 reads_row n = λ e. reads_it n e.1.value
 
-abbrev writes_row : ℕ → ℕ × Named Description → ℕ
+abbrev writes_row : ℕ → Row → ℕ
 writes_row n = λ e. writes_it n e.1.value
+
+-- a row by what is counted, in the rows and in the hand
+abbrev pub Names : ProcessRows → List Key → ℕ → Option Row → Type 0
+Names ps K n o = NamedRow (named ps n + held (names_it n) K) o
+
+abbrev pub Uses : DescriptionRows → List Description → ℕ → Option (ℕ × Pipe) → Type 0
+Uses ds E n o = UsedRow (read_by ds n + held (reads_it n) E) (written_by ds n + held (writes_it n) E) o
 
 used_as : (o : Option (ℕ × Pipe)) (r w r' w' : ℕ) → UsedRow r w o → r ≡ r' → w ≡ w' → UsedRow r' w' o
 used_as o r w r' w' u a b = subst (λ m. UsedRow m w' o) a (subst (λ m. UsedRow r m o) b u)
@@ -162,10 +176,15 @@ module _ (K : List Key) {E : List Description} {ps : ProcessRows} {ds : Descript
         ≡ keys_to n p' + held (names_it n) (holding (at (keys_of p) m) K)
     recount n =
         let h = names_it n in
-        let keys_there = ap (weight (keys_to n)) stands in
         let changed = sum_of-set h (keys_of p) m o (omega (arith, width, m_in)) in
-        let taken = held-holding h (at (keys_of p) m) K in
-        omega (arith, keys_there, ap (λ ks. sum_of h ks) is, changed, held-holding h o K, taken)
+        omega (
+          arith,
+          ap (weight (keys_to n)) stands,
+          ap (λ ks. sum_of h ks) is,
+          changed,
+          held-holding h o K,
+          held-holding h (at (keys_of p) m) K,
+        )
 
     let_go : (x : Option Key) → Each (Finds ds) (holding x K)
         → ((k : Key) → x ≡ Some k → Finds ds k) × Each (Finds ds) K
@@ -189,44 +208,39 @@ module _ (K : List Key) {E : List Description} {ps : ProcessRows} {ds : Descript
 
 module _ {K : List Key} {E : List Description} {ps : ProcessRows} {ds : DescriptionRows} {pipes : PipeRows} where
   -- 2. A description changes or goes: its names by what is in the hand, its ends too
-  module _ (t : TiedWith K E ps ds pipes) (s : ℕ) (row : ℕ × Named Description) (stands : at ds s ≡ Some row)
-      (y : Option (ℕ × Named Description)) (K' : List Key) (E' : List Description)
-      (same_place : (e : ℕ × Named Description) → y ≡ Some e → (e.0 ≡ row.0) × IsEnd pipes e.1.value)
-      (in_hand : Each (Finds ds) K')
-      (others : (n : ℕ) → n ≢ s → held (names_it n) K ≡ held (names_it n) K')
-      (is : NamedRow (named ps s + held (names_it s) K') y)
+  module _ (t : TiedWith K E ps ds pipes) (s : ℕ) (row : Row) (stands : at ds s ≡ Some row) (y : Option Row)
+      (K' : List Key) (E' : List Description)
+      (same_place : (e : Row) → y ≡ Some e → (e.0 ≡ row.0) × IsEnd pipes e.1.value) (in_hand : Each (Finds ds) K')
+      (others : (n : ℕ) → n ≢ s → held (names_it n) K ≡ held (names_it n) K') (is : Names ps K' s y)
       (ends_in_hand : Each (IsEnd pipes) E')
-      (reads : (n : ℕ) → weight (reads_row n) y + held (reads_it n) E'
-      ≡ reads_it n row.1.value + held (reads_it n) E)
-      (writes : (n : ℕ) → weight (writes_row n) y + held (writes_it n) E'
-      ≡ writes_it n row.1.value + held (writes_it n) E) where
+      (reads : (n : ℕ) → weight (reads_row n) y + held (reads_it n) E' ≡ reads_row n row + held (reads_it n) E)
+      (writes : (n : ℕ) → weight (writes_row n) y + held (writes_it n) E' ≡ writes_row n row
+      + held (writes_it n) E) where
     row_within : s < length ds
     row_within = at_within ds s row stands
 
     still_finds : (k : Key) → (k.serial ≡ s → 0 < named ps s + held (names_it s) K') → Finds ds k → Finds (set ds s y) k
     still_finds k some f = finds-set ds s y row_within k (λ e. by_row y refl is (some e) e) f
       where
-        by_row : (o : Option (ℕ × Named Description)) → y ≡ o → NamedRow (named ps s + held (names_it s) K') o
-            → 0 < named ps s + held (names_it s) K' → k.serial ≡ s
-            → option_map (λ (e : ℕ × Named Description). e.0) o ≡ Some k.slot
+        by_row : (o : Option Row) → y ≡ o → Names ps K' s o → 0 < named ps s + held (names_it s) K' → k.serial ≡ s
+            → IsIn k.slot o
         by_row None h none l e = absurd (omega (arith, none, l))
         by_row (Some x) h c l e =
-            ap Some ((same_place x h).0) ∙ (sym (ap (option_map (λ (e : ℕ × Named Description). e.0))
-            (ap (at ds) e ∙ stands)) ∙ f)
+            ap Some (same_place x h).0 ∙ subst (IsIn k.slot) (ap (at ds) e ∙ stands) f
 
     pub redescribed : TiedWith K' E' ps (set ds s y) pipes
     redescribed = record {
       places = t.places;
       wide = t.wide;
       finds =
-          λ i fd p k h g. still_finds k (λ e. let c = counts ps i fd p k h g in let d = ap (named ps) e in omega
-          (arith, c, d)) (t.finds i fd p k h g);
+          λ i fd p k h g. still_finds k (λ e. omega (arith, counts ps i fd p k h g, ap (named ps) e))
+          (t.finds i fd p k h g);
       in_hand =
           each-map names_it names_it (Finds ds) (Finds (set ds s y)) K'
-          (λ k a _. still_finds k (λ e. let one = names_one k in let le = a k.serial in let same = ap
-          (λ m. held (names_it m) K') e in omega (arith, one, le, same))) in_hand;
+          (λ k a _. still_finds k (λ e. omega (arith, names_one k, a k.serial, ap (λ m. held (names_it m) K') e)))
+          in_hand;
       names =
-          by_set (λ n x. NamedRow (named ps n + held (names_it n) K') x) ds s y row_within is
+          by_set (Names ps K') ds s y row_within is
           (λ n ne. subst (λ c. NamedRow (named ps n + c) (at ds n)) (others n ne) (t.names n));
       is_end =
           λ n e. by_set (λ _ x. x ≡ Some e → IsEnd pipes e.1.value) ds s y row_within (λ h. (same_place e h).1)
@@ -239,31 +253,24 @@ module _ {K : List Key} {E : List Description} {ps : ProcessRows} {ds : Descript
 
   -- 3. A pipe changes or goes
   module _ (t : TiedWith K E ps ds pipes) (s : ℕ) (row : ℕ × Pipe) (stands : at pipes s ≡ Some row)
-      (y : Option (ℕ × Pipe)) (E' : List Description)
-      (same_place : (e : ℕ × Pipe) → y ≡ Some e → e.0 ≡ row.0)
-      (ends_in_hand : Each (IsEnd pipes) E')
-      (others : (n : ℕ) → n ≢ s → (held (reads_it n) E ≡ held (reads_it n) E')
-      × (held (writes_it n) E ≡ held (writes_it n) E'))
-      (is : UsedRow (read_by ds s + held (reads_it s) E') (written_by ds s + held (writes_it s) E') y) where
+      (y : Option (ℕ × Pipe)) (E' : List Description) (same_place : (e : ℕ × Pipe) → y ≡ Some e → e.0 ≡ row.0)
+      (ends_in_hand : Each (IsEnd pipes) E') (others : (n : ℕ) → n ≢ s → (held (reads_it n) E ≡ held (reads_it n) E')
+      × (held (writes_it n) E ≡ held (writes_it n) E')) (is : Uses ds E' s y) where
     pipe_within : s < length pipes
     pipe_within = at_within pipes s row stands
 
-    still_end : (d : Description) → (reads_it d.pipe.serial d ≤ read_by ds d.pipe.serial + held (reads_it d.pipe.serial)
-        E') → (writes_it d.pipe.serial d ≤ written_by ds d.pipe.serial + held (writes_it d.pipe.serial) E')
+    still_end : (d : Description)
+        → reads_it d.pipe.serial d ≤ read_by ds d.pipe.serial + held (reads_it d.pipe.serial) E'
+        → writes_it d.pipe.serial d ≤ written_by ds d.pipe.serial + held (writes_it d.pipe.serial) E'
         → IsEnd pipes d → IsEnd (set pipes s y) d
     still_end d r w f = (finds-set pipes s y pipe_within d.pipe (λ e. by_row y refl is e) f.0, f.1)
       where
-        by_row : (o : Option (ℕ × Pipe)) → y ≡ o → UsedRow (read_by ds s + held (reads_it s) E')
-            (written_by ds s + held (writes_it s) E') o → d.pipe.serial ≡ s
-            → option_map (λ (e : ℕ × Pipe). e.0) o ≡ Some d.pipe.slot
+        by_row : (o : Option (ℕ × Pipe)) → y ≡ o → Uses ds E' s o → d.pipe.serial ≡ s → IsIn d.pipe.slot o
         by_row None h none e =
-            let none' : ((read_by ds d.pipe.serial + held (reads_it d.pipe.serial) E') ≡ 0)
-            × ((written_by ds d.pipe.serial + held (writes_it d.pipe.serial) E') ≡ 0) =
-            subst (λ m. ((read_by ds m + held (reads_it m) E') ≡ 0) × ((written_by ds m + held (writes_it m) E') ≡ 0))
-            (sym e) none in
+            let none' = rw (← e) at none in
             absurd (omega (arith, none'.0, none'.1, r, w, (sides d).0, (sides d).1, f.1))
         by_row (Some x) h c e =
-            ap Some (same_place x h) ∙ (sym (ap (option_map (λ (e : ℕ × Pipe). e.0)) (ap (at pipes) e ∙ stands)) ∙ f.0)
+            ap Some (same_place x h) ∙ subst (IsIn d.pipe.slot) (ap (at pipes) e ∙ stands) f.0
 
     pub repiped : TiedWith K E' ps ds (set pipes s y)
     repiped = record {
@@ -281,40 +288,37 @@ module _ {K : List Key} {E : List Description} {ps : ProcessRows} {ds : Descript
           each-map reads_it writes_it (IsEnd pipes) (IsEnd (set pipes s y)) E'
           (λ d a b. still_end d (omega (arith, a d.pipe.serial)) (omega (arith, b d.pipe.serial))) ends_in_hand;
       uses =
-          by_set (λ n x. UsedRow (read_by ds n + held (reads_it n) E') (written_by ds n + held (writes_it n) E') x)
-          pipes s y pipe_within is
-          (λ n ne. used_as (at pipes n) _ _ _ _ (t.uses n) (ap (λ c. read_by ds n + c) (others n ne).0)
-          (ap (λ c. written_by ds n + c) (others n ne).1));
+          by_set (Uses ds E') pipes s y pipe_within is
+          (λ n ne. used_as (at pipes n) _ _ _ _ (t.uses n) (omega (arith, (others n ne).0))
+          (omega (arith, (others n ne).1)));
     }
 
   -- 4. A description that was in the hand is made, and its one name is in the hand
   pub described : (k : Key) (d : Description) → k.serial ≡ length ds → TiedWith K (d ∷ E) ps ds pipes
       → TiedWith (k ∷ K) E ps (ds ++ Some (k.slot, once d) ∷ []) pipes
   described k d k_is t =
-      let none : named ps (length ds) + held (names_it (length ds)) K ≡ 0 =
-      subst (NamedRow (named ps (length ds) + held (names_it (length ds)) K)) (at_past ds (length ds) (omega arith))
-      (t.names (length ds)) in record {
+      let none : Names ps K (length ds) None =
+      subst (NamedRow _) (at_past ds (length ds) (omega arith)) (t.names (length ds)) in
+      let row : Option Row = Some (k.slot, once d) in
+      let one : names_it (length ds) k ≡ 1 = subst (λ n. names_it n k ≡ 1) k_is (names_one k) in
+      record {
         places = t.places;
         wide = t.wide;
-        finds = λ i fd p j h g. finds-push ds (Some (k.slot, once d)) j (t.finds i fd p j h g);
+        finds = λ i fd p j h g. finds-push ds row j (t.finds i fd p j h g);
         in_hand = (
           finds-new ds (once d) k k_is,
-          each-map names_it names_it (Finds ds)
-              (Finds (ds ++ Some (k.slot, once d) ∷ [])) K (λ j _ _. finds-push ds (Some (k.slot, once d)) j) t.in_hand,
+          each-map names_it names_it (Finds ds) (Finds (ds ++ row ∷ [])) K (λ j _ _. finds-push ds row j) t.in_hand,
         );
-        names = by_push (λ n x. NamedRow (named ps n + held (names_it n) (k ∷ K)) x) ds (Some (k.slot, once d))
-            (let mine = names_one k in let at_it = ap (λ n. names_it n k) k_is in
-            (omega (arith, none, mine, at_it), omega (arith, none, mine, at_it)))
+        names =
+            by_push (Names ps (k ∷ K)) ds row (omega (arith, none, one), omega (arith, none, one))
             (λ n ne. subst (λ c. NamedRow (named ps n + c) (at ds n))
-            (let zero = names_none n k (λ e. ne (sym e ∙ k_is)) in omega (arith, zero)) (t.names n));
+            (omega (arith, names_none n k (λ e. ne (sym e ∙ k_is)))) (t.names n));
         is_end =
-            λ n e. by_push (λ _ x. x ≡ Some e → IsEnd pipes e.1.value) ds (Some (k.slot, once d))
-            (λ h. subst (λ (x : ℕ × Named Description). IsEnd pipes x.1.value) (same_some h) t.ends_in_hand.0)
-            (λ m _. t.is_end m e) n;
+            λ n e. by_push (λ _ x. x ≡ Some e → IsEnd pipes e.1.value) ds row
+            (λ h. subst (λ (x : Row). IsEnd pipes x.1.value) (same_some h) t.ends_in_hand.0) (λ m _. t.is_end m e) n;
         ends_in_hand = t.ends_in_hand.1;
-        uses = λ n. used_as (at pipes n) _ _ _ _ (t.uses n)
-            (omega (arith, sum_of-push (reads_row n) ds (Some (k.slot, once d))))
-            (omega (arith, sum_of-push (writes_row n) ds (Some (k.slot, once d))));
+        uses = λ n. used_as (at pipes n) _ _ _ _ (t.uses n) (omega (arith, sum_of-push (reads_row n) ds row))
+            (omega (arith, sum_of-push (writes_row n) ds row));
       }
 
   -- 5. A pipe is made, and its ends are in the hand
@@ -325,10 +329,9 @@ module _ {K : List Key} {E : List Description} {ps : ProcessRows} {ds : Descript
       → p.readers ≡ held (reads_it r.serial) E' → p.writers ≡ held (writes_it r.serial) E' → 0 < p.readers + p.writers
       → TiedWith K E ps ds pipes → TiedWith K E' ps ds (pipes ++ Some (r.slot, p) ∷ [])
   piped r p E' r_is ends_in_hand others readers writers some t =
-      let none =
-      subst (UsedRow (read_by ds r.serial + held (reads_it r.serial) E)
-      (written_by ds r.serial + held (writes_it r.serial) E)) (at_past pipes r.serial (omega (arith, r_is)))
-      (t.uses r.serial) in record {
+      let none : Uses ds E r.serial None =
+      subst (UsedRow _ _) (at_past pipes r.serial (omega (arith, r_is))) (t.uses r.serial) in
+      record {
         places = t.places;
         wide = t.wide;
         finds = t.finds;
@@ -337,42 +340,31 @@ module _ {K : List Key} {E : List Description} {ps : ProcessRows} {ds : Descript
         is_end = λ n e h. let end = t.is_end n e h in (finds-push pipes (Some (r.slot, p)) e.1.value.pipe end.0, end.1);
         ends_in_hand = ends_in_hand;
         uses =
-            by_push (λ n x. UsedRow (read_by ds n + held (reads_it n) E') (written_by ds n + held (writes_it n) E') x)
-            pipes (Some (r.slot, p))
-            (subst (λ n. UsedRow (read_by ds n + held (reads_it n) E') (written_by ds n + held (writes_it n) E')
-            (Some (r.slot, p))) r_is (
+            by_push (Uses ds E') pipes (Some (r.slot, p))
+            (subst (λ n. Uses ds E' n (Some (r.slot, p))) r_is (
               omega (arith, none.0, readers),
               omega (arith, none.1, writers),
-              omega
-                  (arith, none.0, none.1, readers, writers, some),
+              omega (arith, none.0, none.1, readers, writers, some),
             ))
             (λ n ne. let o = others n (λ e. ne (e ∙ r_is)) in used_as (at pipes n) _ _ _ _ (t.uses n)
-            (ap (λ c. read_by ds n + c) o.0) (ap (λ c. written_by ds n + c) o.1));
+            (omega (arith, o.0)) (omega (arith, o.1)));
       }
 
 -- a description in its place is an end there
 pub place_and_end : (pipes : PipeRows) (place : ℕ) (d : Named Description) → IsEnd pipes d.value
-    → (e : ℕ × Named Description) → ◌≡◌ {A = Option (ℕ × Named Description)} (Some (place, d)) (Some e)
-    → (e.0 ≡ place) × IsEnd pipes e.1.value
-place_and_end pipes place d end e h =
-    (in_place h, subst (λ (x : ℕ × Named Description). IsEnd pipes x.1.value) (same_some h) end)
+    → (e : Row) → ◌≡◌ {A = Option Row} (Some (place, d)) (Some e) → (e.0 ≡ place) × IsEnd pipes e.1.value
+place_and_end pipes place d end e h = (in_place h, subst (λ (x : Row). IsEnd pipes x.1.value) (same_some h) end)
 
 -- What a row of tied tables counts, and instances
 
 module _ {K : List Key} {E : List Description} {ps : ProcessRows} {ds : DescriptionRows} {pipes : PipeRows} where
-  module _ (k : Key) (d : Named Description) (stands : at ds k.serial ≡ Some (k.slot, d)) where
-    pub names_row : TiedWith K E ps ds pipes → (d.names ≡ named ps k.serial + held (names_it k.serial) K)
-        × (0 < named ps k.serial + held (names_it k.serial) K)
-    names_row t = subst (NamedRow (named ps k.serial + held (names_it k.serial) K)) stands (t.names k.serial)
+  pub names_row : (k : Key) (d : Named Description) → at ds k.serial ≡ Some (k.slot, d) → TiedWith K E ps ds pipes
+      → Names ps K k.serial (Some (k.slot, d))
+  names_row k d stands t = subst (NamedRow _) stands (t.names k.serial)
 
   module _ (r : Key) (p : Pipe) (stands : at pipes r.serial ≡ Some (r.slot, p)) where
-    pub pipe_row : TiedWith K E ps ds pipes → (p.readers ≡ read_by ds r.serial + held (reads_it r.serial) E)
-        × (p.writers ≡ written_by ds r.serial + held (writes_it r.serial) E)
-        × (0 < (read_by ds r.serial + held (reads_it r.serial) E)
-        + (written_by ds r.serial + held (writes_it r.serial) E))
-    pipe_row t =
-        subst (UsedRow (read_by ds r.serial + held (reads_it r.serial) E)
-        (written_by ds r.serial + held (writes_it r.serial) E)) stands (t.uses r.serial)
+    pub pipe_row : TiedWith K E ps ds pipes → Uses ds E r.serial (Some (r.slot, p))
+    pipe_row t = subst (UsedRow _ _) stands (t.uses r.serial)
 
     -- another ring
     pub requeued : (w : Pipe) → w.readers ≡ p.readers → w.writers ≡ p.writers → TiedWith K E ps ds pipes
@@ -383,10 +375,10 @@ module _ {K : List Key} {E : List Description} {ps : ProcessRows} {ds : Descript
         (let c = pipe_row t in (a ∙ c.0, b ∙ c.1, c.2))
 
   -- a key goes from the hand into an empty descriptor
-  module _ (i fd : ℕ) (p : Process) (stands : at ps i ≡ Some p) (fd_in : fd < MAX_DESCRIPTORS) where
-    pub put : (k : Key) → at p.descriptors fd ≡ None → TiedWith (k ∷ K) E ps ds pipes
-        → TiedWith K E (put_at ps i (record p { descriptors = put_at p.descriptors fd k })) ds pipes
-    put k e t =
-        let q = record p { descriptors = put_at p.descriptors fd k } in
-        subst (λ o. TiedWith (holding o K) E (put_at ps i q) ds pipes) e
-        (moved K i (suc fd) p q stands (omega arith) (Some k) refl t)
+  pub put : (i fd : ℕ) (p : Process) → at ps i ≡ Some p → fd < MAX_DESCRIPTORS → (k : Key)
+      → at p.descriptors fd ≡ None → TiedWith (k ∷ K) E ps ds pipes
+      → TiedWith K E (put_at ps i (record p { descriptors = put_at p.descriptors fd k })) ds pipes
+  put i fd p stands fd_in k e t =
+      let q = record p { descriptors = put_at p.descriptors fd k } in
+      subst (λ o. TiedWith (holding o K) E (put_at ps i q) ds pipes) e
+      (moved K i (suc fd) p q stands (omega arith) (Some k) refl t)

@@ -4,6 +4,5 @@ use Rattle.pf_tables.proofs.process_table.ProcessTable.give_key.Goals as goal
 
 pub invariant_of-self : goal.invariant_of-self
 invariant_of-self c =
-    let p = c.value_mut-process.result.now in
-    let there = c.value_mut-process.ensures.value in
-    still_watched _ _ c.self.invariant _ p _ there (given c.self.view_is c.args.pid c.requires.ready p there _) refl
+    still_watched _ _ c.self.invariant _ _ _ c.value_mut-process.ensures.value
+    (given c.self.view_is c.args.pid c.requires.ready _ c.value_mut-process.ensures.value _) refl

@@ -1,5 +1,6 @@
 -- Who is woken waits in no call.
-use Rattle.std.proofs.Common.{rules, sym, ap, ◌∙◌, is_some}
+use Rattle.std.proofs.Common.{rules, sym, ap, ◌∙◌, is_some, List, Option}
+use Rattle.pf_tables.proofs.Common.{Key}
 use Rattle.pf_tables.proofs.ProcessTable.{quiet, replaced, still_watched}
 use Rattle.pf_tables.proofs.process_table.ProcessTable.wake.Goals as goal
 use Rattle.pf_tables.proofs.process_table.ProcessTable.wake.Goals.{in-Open, in_default}
@@ -12,16 +13,14 @@ invariant_of-self c =
 
 pub invariant_of-self-2 : goal.invariant_of-self-2
 invariant_of-self-2 c =
-    let unmarked = c.unmark.ensures.unmarked ∙ sym (ap is_some c.take.ensures.after) in
+    let p = c.value_mut-process.result.now in
+    let woken = λ (ks : List (Option Key)). replaced _ _ c.self.invariant _ _ p
+    (record p { descriptors = ks; parked = c.take.new.self }) c.value_mut-process.ensures.value
+    (quiet p ks _ c.take.ensures.after)
+    (c.unmark.ensures.unmarked ∙ sym (ap is_some c.take.ensures.after)) c.unmark.ensures.others in
     elim c.match-call.branch [
-      | in-Open w ↦
-          rw w.self-inside-is
-          (replaced _ _ c.self.invariant _ _ c.value_mut-process.result.now _ c.value_mut-process.ensures.value
-          (quiet c.value_mut-process.result.now _ _ c.take.ensures.after) unmarked c.unmark.ensures.others)
-      | in_default w ↦
-          rw w.self-inside-is
-          (replaced _ _ c.self.invariant _ _ c.value_mut-process.result.now _ c.value_mut-process.ensures.value
-          (quiet c.value_mut-process.result.now _ _ c.take.ensures.after) unmarked c.unmark.ensures.others)
+      | in-Open w ↦ rw w.self-inside-is (woken _)
+      | in_default w ↦ rw w.self-inside-is (woken _)
     ]
 
 pub returns-in_err-call-clause-call : goal.returns-in_err-call-clause-call

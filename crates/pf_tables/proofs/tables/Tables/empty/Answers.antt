@@ -1,4 +1,4 @@
-use Rattle.std.proofs.Common.{◌-◌, sym, refl, subst, ◌∙◌, arith}
+use Rattle.std.proofs.Common.{sym, refl, subst, ◌∙◌, arith}
 use Rattle.pf_tables.proofs.Common.{AreCharged}
 use Rattle.pf_tables.proofs.Fifos.{fifos-gone, fifos-same}
 use Rattle.pf_tables.proofs.DescriptorsDrop.{gone_covered, gone_kept, left_off}
@@ -19,9 +19,8 @@ invariant_of-self g c =
           gone_kept c.self.invariant.kept w.0 c.in-Some.pipe w.2 c.let_go-gone.ensures.left.tied w.3 _ _ _
           c.owner.ensures c.slots.ensures.number c.refund.ensures;
       filed =
-          fifos-gone _ _ c.in-Some.pipe c.let_go-gone.ensures.drawn
-          (rw c.in-Some.is at c.let_go-gone.ensures.opens) (rw c.file.ensures at c.forget.ensures)
-          c.self.invariant.filed;
+          fifos-gone _ _ c.in-Some.pipe c.let_go-gone.ensures.drawn (rw c.in-Some.is at c.let_go-gone.ensures.opens)
+          (rw c.file.ensures at c.forget.ensures) c.self.invariant.filed;
     }
 
 pub returns-in-Some-clause-leaves : goal.returns-in-Some-clause-leaves
@@ -48,9 +47,7 @@ invariant_of-self-in_default g c =
     }
 
 pub returns-in-Some-clause-was_open : goal.returns-in-Some-clause-was_open
-returns-in-Some-clause-was_open g c =
-    c.let_go-gone.ensures.was_open ∙ open_shown _ _ _ c.self.view_is (c.args.pid - 1) c.args.fd
+returns-in-Some-clause-was_open g c = c.let_go-gone.ensures.was_open ∙ open_shown _ _ _ c.self.view_is _ _
 
 pub returns-in_default-clause-was_open : goal.returns-in_default-clause-was_open
-returns-in_default-clause-was_open g c =
-    c.let_go-gone.ensures.was_open ∙ open_shown _ _ _ c.self.view_is (c.args.pid - 1) c.args.fd
+returns-in_default-clause-was_open g c = c.let_go-gone.ensures.was_open ∙ open_shown _ _ _ c.self.view_is _ _

@@ -1,5 +1,5 @@
-use Rattle.std.proofs.Common.{◌≡◌, List, length, Option, None, sym, ap, ◌∙◌, subst, rules}
-use Rattle.pf_tables.proofs.Common.{at, Key, Process, at-first_free, AllFind}
+use Rattle.std.proofs.Common.{◌≡◌, length, None, sym, ap, ◌∙◌, rules}
+use Rattle.pf_tables.proofs.Common.{Process, at-first_free}
 use Rattle.pf_tables.proofs.ProcessTableReady.{is_awake}
 use Rattle.pf_tables.proofs.ProcessesFork as lemmas
 use Rattle.pf_tables.proofs.Fifos.{fifos-changed}
@@ -10,28 +10,26 @@ use Rattle.pf_tables.proofs.tables.Tables.fork.Goals as goal
 pub returns-then-i-ge-MAX_PROCESSES-clause-says : goal.returns-then-i-ge-MAX_PROCESSES-clause-says
 returns-then-i-ge-MAX_PROCESSES-clause-says g c =
     let refused =
-    lemmas.has_no_room c.self.invariant.kept c.self.view_is c.args.pid c.in_ok-parent.ensures _
-    c.lowest-i.ensures.lowest c.if-i-ge-MAX_PROCESSES.true in
+    lemmas.has_no_room c.self.invariant.kept c.self.view_is _ c.in_ok-parent.ensures c.lowest-i.ensures.lowest
+    c.if-i-ge-MAX_PROCESSES.true in
     search rules
 
 pub returns-in_err-cred-clause-wanted : goal.returns-in_err-cred-clause-wanted
 returns-in_err-cred-clause-wanted g c _ =
-    lemmas.has_room c.self.invariant.kept c.self.view_is c.args.pid c.in_ok-parent.ensures _
-    c.lowest-i.ensures.lowest c.if-i-ge-MAX_PROCESSES.false
+    lemmas.has_room c.self.invariant.kept c.self.view_is _ c.in_ok-parent.ensures c.lowest-i.ensures.lowest
+    c.if-i-ge-MAX_PROCESSES.false
 
 pub returns-in_err-descriptors-clause-wanted : goal.returns-in_err-descriptors-clause-wanted
 returns-in_err-descriptors-clause-wanted g c _ =
-    lemmas.has_room c.self.invariant.kept c.self.view_is c.args.pid c.in_ok-parent.ensures _
-    c.lowest-i.ensures.lowest c.if-i-ge-MAX_PROCESSES.false
+    search (rules, lemmas.has_room c.self.invariant.kept c.self.view_is c.args.pid)
 
 pub name_all-requires-clause-stand : goal.name_all-requires-clause-stand
 name_all-requires-clause-stand g c =
-    subst (λ (keys : List (Option Key)). AllFind keys c.self.inside.descriptions.items)
-    (sym c.in_ok-descriptors.ensures)
-    (lemmas.all_find c.self.invariant.kept c.self.view_is c.args.pid c.in_ok-parent.ensures)
+    rw c.in_ok-descriptors.ensures
+    (lemmas.all_find c.self.invariant.kept c.self.view_is _ c.in_ok-parent.ensures)
 
 pub name_all-requires-clause-few : goal.name_all-requires-clause-few
-name_all-requires-clause-few g c = lemmas.are_few c.self.invariant.kept c.self.view_is c.args.pid c.in_ok-parent.ensures
+name_all-requires-clause-few g c = lemmas.are_few c.self.invariant.kept c.self.view_is _ c.in_ok-parent.ensures
 
 same : (g : Over) (c : After-put g) → ◌≡◌ {A = Process}
     (record { cred = c.in_ok-cred.cred; descriptors = c.in_ok-descriptors.descriptors; parked = None })
@@ -41,15 +39,14 @@ same g c =
     λ j. record { cred = c.in_ok-cred.ensures j; descriptors = c.in_ok-descriptors.ensures j; parked = sym awake j }
 
 pub put-requires-clause-free : goal.put-requires-clause-free
-put-requires-clause-free g c =
-    ap (at c.self.inside.processes) c.lowest-i.ensures.lowest ∙ at-first_free c.self.inside.processes
+put-requires-clause-free g c = rw c.lowest-i.ensures.lowest (at-first_free c.self.inside.processes)
 
 pub invariant_of-self : goal.invariant_of-self
 invariant_of-self g c =
     record {
       kept =
-          lemmas.forked-kept c.self.invariant.kept c.self.view_is c.args.pid c.in_ok-parent.ensures _
-          c.lowest-i.ensures.lowest c.if-i-ge-MAX_PROCESSES.false (same g c) c.put.ensures c.name_all.ensures;
+          lemmas.forked-kept c.self.invariant.kept c.self.view_is _ c.in_ok-parent.ensures c.lowest-i.ensures.lowest
+          c.if-i-ge-MAX_PROCESSES.false (same g c) c.put.ensures c.name_all.ensures;
       filed =
           fifos-changed _ _ _ (ap length c.name_all.ensures
           ∙ lemmas.as_many c.in_ok-descriptors.descriptors c.self.inside.descriptions.items) c.self.invariant.filed;
@@ -57,7 +54,7 @@ invariant_of-self g c =
 
 pub returns-clause-says : goal.returns-clause-says
 returns-clause-says g c =
-    lemmas.forked c.self.invariant.kept c.self.view_is c.args.pid c.in_ok-parent.ensures _ c.lowest-i.ensures.lowest
+    lemmas.forked c.self.invariant.kept c.self.view_is _ c.in_ok-parent.ensures c.lowest-i.ensures.lowest
     c.if-i-ge-MAX_PROCESSES.false (same g c) c.put.ensures c.name_all.ensures
 
 pub returns-in_err-descriptors-clause-refused : goal.returns-in_err-descriptors-clause-refused

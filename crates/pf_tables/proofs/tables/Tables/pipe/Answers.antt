@@ -30,50 +30,50 @@ puts g c =
 pub returns-in_err-free-clause-says : goal.returns-in_err-free-clause-says
 returns-in_err-free-clause-says g c =
     let refused =
-    by_finds c.self.invariant.kept c.self.view_is c.args.pid c.args.nonblocking c.in_ok-process.ensures
+    by_finds c.self.invariant.kept c.self.view_is _ c.args.nonblocking c.in_ok-process.ensures
     c.in_err-free.ensures.found refl refl in
     search rules
 
 pub returns-then-is_spent-clause-says : goal.returns-then-is_spent-clause-says
 returns-then-is_spent-clause-says g c =
     let refused =
-    by_finds c.self.invariant.kept c.self.view_is c.args.pid c.args.nonblocking c.in_ok-process.ensures
+    by_finds c.self.invariant.kept c.self.view_is _ c.args.nonblocking c.in_ok-process.ensures
     c.in_ok-free.ensures.found (sym c.if-is_spent.true ∙ c.is_spent.ensures) refl in
     search rules
 
 pub returns-in_err-slots-clause-says : goal.returns-in_err-slots-clause-says
 returns-in_err-slots-clause-says g c =
     let refused =
-    by_finds c.self.invariant.kept c.self.view_is c.args.pid c.args.nonblocking c.in_ok-process.ensures
+    by_finds c.self.invariant.kept c.self.view_is _ c.args.nonblocking c.in_ok-process.ensures
     c.in_ok-free.ensures.found (sym c.if-is_spent.false ∙ c.is_spent.ensures) c.in_err-slots.ensures.found in
     search rules
 
 pub returns-in_err-pipe-clause-wanted : goal.returns-in_err-pipe-clause-wanted
-returns-in_err-pipe-clause-wanted g c =
-    λ _. goes c.self.invariant.kept c.self.view_is c.args.pid c.args.nonblocking c.in_ok-process.ensures
-    c.in_ok-free.ensures.found (sym c.if-is_spent.false ∙ c.is_spent.ensures) c.in_ok-slots.ensures.found
+returns-in_err-pipe-clause-wanted g c _ =
+    goes c.self.invariant.kept c.self.view_is _ c.args.nonblocking c.in_ok-process.ensures c.in_ok-free.ensures.found
+    c.is_spent.ensures c.if-is_spent.false c.in_ok-slots.ensures.found
 
 pub returns-in_err-reserve-clause-wanted : goal.returns-in_err-reserve-clause-wanted
-returns-in_err-reserve-clause-wanted g c =
-    λ _. goes c.self.invariant.kept c.self.view_is c.args.pid c.args.nonblocking c.in_ok-process.ensures
-    c.in_ok-free.ensures.found (sym c.if-is_spent.false ∙ c.is_spent.ensures) c.in_ok-slots.ensures.found
+returns-in_err-reserve-clause-wanted g c _ =
+    goes c.self.invariant.kept c.self.view_is _ c.args.nonblocking c.in_ok-process.ensures c.in_ok-free.ensures.found
+    c.is_spent.ensures c.if-is_spent.false c.in_ok-slots.ensures.found
 
 pub returns-in_err-reserve-2-clause-wanted : goal.returns-in_err-reserve-2-clause-wanted
-returns-in_err-reserve-2-clause-wanted g c =
-    λ _. goes c.self.invariant.kept c.self.view_is c.args.pid c.args.nonblocking c.in_ok-process.ensures
-    c.in_ok-free.ensures.found (sym c.if-is_spent.false ∙ c.is_spent.ensures) c.in_ok-slots.ensures.found
+returns-in_err-reserve-2-clause-wanted g c _ =
+    goes c.self.invariant.kept c.self.view_is _ c.args.nonblocking c.in_ok-process.ensures c.in_ok-free.ensures.found
+    c.is_spent.ensures c.if-is_spent.false c.in_ok-slots.ensures.found
 
 pub returns-in_err-charge-clause-wanted : goal.returns-in_err-charge-clause-wanted
-returns-in_err-charge-clause-wanted g c =
-    λ _. goes c.self.invariant.kept c.self.view_is c.args.pid c.args.nonblocking c.in_ok-process.ensures
-    c.in_ok-free.ensures.found (sym c.if-is_spent.false ∙ c.is_spent.ensures) c.in_ok-slots.ensures.found
+returns-in_err-charge-clause-wanted g c _ =
+    goes c.self.invariant.kept c.self.view_is _ c.args.nonblocking c.in_ok-process.ensures c.in_ok-free.ensures.found
+    c.is_spent.ensures c.if-is_spent.false c.in_ok-slots.ensures.found
 
 pub invariant_of-self-2 : goal.invariant_of-self-2
 invariant_of-self-2 g c =
     let m = puts g (goal.at.invariant_of-self-2 g c).After-give_keys in
     record {
       kept =
-          opened-kept c.self.invariant.kept c.self.view_is c.args.pid c.args.nonblocking c.in_ok-process.ensures
+          opened-kept c.self.invariant.kept c.self.view_is _ c.args.nonblocking c.in_ok-process.ensures
           c.in_ok-free.ensures.found c.in_ok-free.ensures.within.1 m c.in_ok-charge.ensures.charged;
       filed =
           lemmas.more_opens c.self.inside.fifos.entries c.self.inside.descriptions.items c.self.inside.pipes.items m
@@ -82,7 +82,7 @@ invariant_of-self-2 g c =
 
 pub returns-clause-says : goal.returns-clause-says
 returns-clause-says g c =
-    makes_pipe c.self.invariant.kept c.self.view_is c.args.pid c.args.nonblocking c.in_ok-process.ensures
+    makes_pipe c.self.invariant.kept c.self.view_is _ c.args.nonblocking c.in_ok-process.ensures
     c.in_ok-free.ensures.found c.in_ok-free.ensures.within.1 (puts g (goal.at.returns-clause-says g c).After-give_keys)
     c.in_ok-charge.ensures.charged (sym c.if-is_spent.false ∙ c.is_spent.ensures) c.in_ok-slots.ensures.found
     c.in_ok-slots.ensures.room

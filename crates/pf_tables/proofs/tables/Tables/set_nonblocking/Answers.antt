@@ -6,7 +6,7 @@ use Rattle.pf_tables.proofs.tables.Tables.set_nonblocking.Goals as goal
 
 pub value_mut-end-requires : goal.value_mut-end-requires
 value_mut-end-requires g c = record {
-  stands = key_stands c.self.invariant.kept.tied c.args.pid c.args.fd (has _ _ _ (sym c.in_ok-key_of.ensures));
+  stands = key_stands c.self.invariant.kept.tied _ _ (has _ _ _ (sym c.in_ok-key_of.ensures));
 }
 
 pub invariant_of-self-2 : goal.invariant_of-self-2

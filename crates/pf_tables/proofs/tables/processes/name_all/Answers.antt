@@ -1,7 +1,6 @@
 use Rattle.std.proofs.Common.{◌+◌, ◌≤◌, None, Some, sym, ◌∙◌, arith}
 use Rattle.std.proofs.lemmas.List.{at_drop_all}
 use Rattle.pf_tables.proofs.Common.{named_once_more}
-use Rattle.pf_tables.proofs.ProcessesDrop.{on_from}
 use Rattle.pf_tables.proofs.ProcessesFork as lemmas
 use Rattle.pf_tables.proofs.tables.processes.name_all.Goals as goal
 
@@ -20,20 +19,15 @@ loop-fd-preserved-in-Some c =
     let ds = c.loop-fd.descriptions.items in
     let here = sym c.get.ensures ∙ c.in-Some.is in
     let finds = c.loop-fd.invariant.stand c.loop-fd.fd c.in-Some.key here in
-    record {
-      named = rw c.name.ensures.items
-          (sym (lemmas.one_named ks ds c.loop-fd.fd (Some c.in-Some.key)
-          (omega (arith, c.loop-fd-test.true, c.requires.wide)) here) ∙ c.loop-fd.invariant.named);
-      stand = rw c.name.ensures.items
-          (λ m k h. lemmas.still_finds ds c.in-Some.key.serial k (c.loop-fd.invariant.stand m k h));
-      few = rw c.name.ensures.items
-          (λ n e h. omega (
-            arith,
-            lemmas.few_more ds c.in-Some.key finds (65792 + c.loop-fd.fd)
-                c.loop-fd.invariant.few n e h,
-          ));
+    rw c.name.ensures.items
+    (record {
+      named = sym (lemmas.one_named ks ds c.loop-fd.fd (Some c.in-Some.key)
+          (omega (arith, c.loop-fd-test.true, c.requires.wide)) here) ∙ c.loop-fd.invariant.named;
+      stand = λ m k h. lemmas.still_finds ds c.in-Some.key.serial k (c.loop-fd.invariant.stand m k h);
+      few = λ n e h. omega
+          (arith, lemmas.few_more ds c.in-Some.key finds (65792 + c.loop-fd.fd) c.loop-fd.invariant.few n e h);
       within = omega (arith, c.loop-fd-test.true);
-    }
+    })
 
 -- where there is no key, the next one is looked for
 pub loop-fd-preserved : goal.loop-fd-preserved
@@ -41,7 +35,7 @@ loop-fd-preserved c =
     let ks = c.args.descriptors.now in
     let ds = c.loop-fd.descriptions.items in
     let on : c.loop-fd.fd + 1 ≤ c.next-fd-in_default.result =
-    on_from _ _ (omega (arith, c.loop-fd-test.true)) c.next-fd-in_default.ensures.above in
+    grind (arith, c.loop-fd-test.true, c.next-fd-in_default.ensures.above) in
     record {
       named = sym (lemmas.one_named ks ds c.loop-fd.fd None (omega (arith, c.loop-fd-test.true, c.requires.wide))
           (sym c.get.ensures ∙ lemmas.nothing c.get.result c.in_default.not-Some)
