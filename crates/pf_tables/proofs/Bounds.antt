@@ -1,11 +1,11 @@
 -- How much a reply hands out, as the tables know it.
 
-use Rattle.std.proofs.Common.{◌≡◌, ℕ, ◌≤◌, not, List, length, Option, Some, None, Result, Ok, Err, refl, ap, subst}
-use Rattle.std.proofs.Common.{◌∙◌, arith}
+use Rattle.std.proofs.Common.{◌≡◌, ℕ, ◌≤◌, not, List, length, Option, Some, None, Ok, refl, ap, subst, ◌∙◌}
+use Rattle.std.proofs.Common.{arith}
 use Rattle.std.specs.Prelude.{min}
 use Rattle.pf_tables.proofs.Common.{◌>>=◌, ◌>>◌, option_map, option_and_then, Window, Files, Limits, refuse_if, Segment}
-use Rattle.pf_tables.proofs.Common.{bytes_of, at, weight, itself, State, End, ready, end_at, reading_end, Errno, EBADF}
-use Rattle.pf_tables.proofs.Common.{find, Live, IsSound, UserPages, Ring, queue_of, Stands, slots_used, slots_of}
+use Rattle.pf_tables.proofs.Common.{bytes_of, at, weight, itself, State, End, ready, end_at, reading_end, EBADF}
+use Rattle.pf_tables.proofs.Common.{find, Live, IsSound, UserPages, queue_of, Stands}
 use Rattle.pf_tables.proofs.Common.{Covers, Namespace, meaning, pipe_meaning, pages, Owns, ProcessRows, DescriptionRows}
 use Rattle.pf_tables.proofs.Common.{PipeRows, Description, Pipe, state_of, end_in, Kept, weight-le-sum_of}
 use Rattle.pf_machine.specs.FileMap.{Path, names_below, listed, is_directory}
@@ -28,7 +28,7 @@ use Rattle.pf_ring.proofs.TableLaws.{ring_queue}
 use Rattle.pf_machine.specs.Replies.{reply_length}
 use Rattle.pf_tables.proofs.OwnsLaws.{ring_at-pipe, stands_at, pages_within}
 use Rattle.pf_machine.proofs.ReplyLaws.{read_bytes, read-few, resume-few, list-few, quiet, few}
-use Rattle.pf_tables.proofs.Ends.{end_of_rows, Agree, ends, not_lost, reaches}
+use Rattle.pf_tables.proofs.Ends.{end_of_rows, Agree, ends, named, not_lost, reaches}
 use Rattle.pf_tables.proofs.Refusals.{both_came, not_refused, is_there, same_ok}
 use Rattle.pf_tables.proofs.TablesShown.{from_map, was}
 use Rattle.pf_tables.proofs.Transfers as transfers
@@ -44,8 +44,7 @@ module _ (f : Live) (n : Namespace) (sound : IsSound f) (owns : Owns f n) (most 
       → length (bytes_of p.queue) ≤ 268435456
   all_bytes j p there =
       let w = was (pipe_meaning f) n.state.pipes j p there in
-      let fits : slots_used w.0.queue ≤ slots_of w.0.queue =
-      subst (λ (r : Ring). slots_used r ≤ slots_of r) (ring_at-pipe n.state.pipes j w.0 w.1) (owns.joined.fits j) in
+      let fits = rw (ring_at-pipe n.state.pipes j w.0 w.1) at (owns.joined.fits j) in
       let queue : IsQueue (queue_of f w.0.queue) =
       ring_queue f w.0.queue sound (stands_at f n.state j w.0 owns.joined w.1) fits in
       let bytes = length-joined-le (queue_of f w.0.queue).segments queue.each in
@@ -54,9 +53,7 @@ module _ (f : Live) (n : Namespace) (sound : IsSound f) (owns : Owns f n) (most 
       let weighs = ap (weight h) w.1 in
       let among = weight-le-sum_of h n.state.pipes j in
       let within : pages n.state ≤ n.limits.reserve = pages_within f n owns in
-      let here : length (bytes_of (queue_of f w.0.queue)) ≤ 268435456 =
-      omega (arith, bytes, slots, weighs, among, within, most) in
-      subst (λ (q : machine.Pipe Segment). length (bytes_of q.queue) ≤ 268435456) w.2 here
+      rw (← w.2) (omega (arith, bytes, slots, weighs, among, within, most))
 
 -- A read
 
@@ -75,15 +72,8 @@ module _ {files : Files} {files_made : ℕ} {limits : Limits} {charges : UserPag
   pub no_read : ((d : Description) → end_in (Some sides.Read) ps ds pid fd ≡ Ok d → ⊥)
       → Covers n (steps.Read pid fd count) 0
   no_read none f sound owns =
-      subst (AtMost f (steps.Read pid fd count) 0) view (by_end (end_in (Some sides.Read) ps ds pid fd) refl)
-    where
-      by_end : (r : Result Description Errno) → end_in (Some sides.Read) ps ds pid fd ≡ r
-          → AtMost f (steps.Read pid fd count) 0 (record
-          { limits = limits; state = state_of ps ds pipes files files_made })
-      by_end (Ok d) h = absurd (none d h)
-      by_end (Err e) h =
-          few (shows f) 0 (call limits (shows f) (steps.Read pid fd count)) (read-few (shows f) 0 limits pid fd count
-          (λ x is. absurd (cc ((its f).refused h))))
+      rw (← view) (few (shows f) 0 (call limits (shows f) (steps.Read pid fd count)) (read-few (shows f) 0 limits pid fd
+      count (λ x is. let w = named (its f) is in absurd (none w.0 w.1))))
 
   module _ (d : Description) (h : end_in (Some sides.Read) ps ds pid fd ≡ Ok d) where
     -- it has a pipe
@@ -97,7 +87,7 @@ module _ {files : Files} {files_made : ℕ} {limits : Limits} {charges : UserPag
     reads r handed held holds f sound owns =
         let stands : Stands f r.ring.segments = transfers.stands_in k view owns d handed in
         let number : held ≡ length (bytes_of (queue_of f r.ring)) = holds f sound stands in
-        subst (AtMost f (steps.Read pid fd count) (min held count)) view
+        rw (← view)
         (few (shows f) (min held count) (call limits (shows f) (steps.Read pid fd count))
         (read-few (shows f) (min held count) limits pid fd count
         (λ x is.
@@ -113,7 +103,7 @@ module _ {files : Files} {files_made : ℕ} (limits : Limits) (ps : ProcessRows)
   pub lists : (most : ℕ) → ((path : Path) → length (listed (names_below path files)) ≤ most) → (pid : ℕ) (path : List ℕ)
       → Covers n (steps.List pid path) most
   lists most h pid path f sound owns =
-      subst (AtMost f (steps.List pid path) most) view
+      rw (← view)
       (few s most (call limits s (steps.List pid path)) (list-few s most limits pid path
       (λ p ready. carries Short (target files p.cred path) _
       (λ t. passes Short (refuse_if (not (is_directory t.file)) ENOTDIR) _
@@ -139,16 +129,16 @@ came h (Some x) is = (x, refl, is)
 reading_there : (s : State Segment ℕ) (p : machine.Process ℕ) (fd : ℕ) (e : End Segment ℕ)
     → reading_end itself s p fd ≡ Ok e → Standing s e
 reading_there s p fd e is =
-    let named = both_came (end_of itself s p fd)
+    let came_by = both_came (end_of itself s p fd)
     (λ (x : End Segment ℕ). refuse_if (not x.description.reads) EBADF >> Ok x) is in
-    let same = same_ok (not_refused (not named.0.description.reads) EBADF (Ok named.0) named.2).1 in
+    let same = same_ok (not_refused (not came_by.0.description.reads) EBADF (Ok came_by.0) came_by.2).1 in
     let number = came (end_at itself s) (at p.descriptors fd)
-    (is_there EBADF (option_and_then (end_at itself s) (at p.descriptors fd)) named.1) in
+    (is_there EBADF (option_and_then (end_at itself s) (at p.descriptors fd)) came_by.1) in
     let description = came (λ (d : machine.Description ℕ). option_map
     (λ (pipe : machine.Pipe Segment). record { description = d; pipe = pipe }) (at s.pipes d.pipe))
     (at s.descriptions number.0) number.2 in
     let pipe = from_map (λ (pipe : machine.Pipe Segment). record { description = description.0; pipe = pipe })
-    (at s.pipes description.0.pipe) named.0 description.2 in
+    (at s.pipes description.0.pipe) came_by.0 description.2 in
     subst (Standing s) (pipe.2 ∙ same) pipe.1
 
 -- what a call asks for, as far as it hands anything out

@@ -62,6 +62,13 @@ pub record Agree {X : Type 0} (f : Sight X) (pipes : PipeRows) (tables : Result 
   pub refused : {e : Errno} → tables ≡ Err e → machine ≡ Err e
   pub found : {d : Description} → tables ≡ Ok d → Found f pipes d machine
 
+-- what the machine finds the tables name
+pub named : {X : Type 0} {f : Sight X} {pipes : PipeRows} {tables : Result Description Errno}
+    {machine : Result (End X ℕ) Errno} → Agree f pipes tables machine → {x : End X ℕ} → machine ≡ Ok x
+    → (d : Description) × (tables ≡ Ok d)
+named {tables = Ok d} a is = (d, refl)
+named {tables = Err e} a is = let refused = a.refused refl in absurd (cc)
+
 module _ {X : Type 0} {f : Sight X} {pipes : PipeRows} {tables : Result Description Errno}
     {machine : Result (End X ℕ) Errno} (a : Agree f pipes tables machine) {d : Description} (h : tables ≡ Ok d) where
   -- its pipe stands
@@ -155,8 +162,7 @@ module _ {X : Type 0} (f : Sight X) (side : Option Side) {ps : ProcessRows} {ds 
       let machine =
       by_side (process_of p) e.0.value r.0 (ap (option_and_then (end_at itself s)) (shown_key p (Some k) g)
       ∙ end_shown k e.0 r.0 e.1 r.1) in
-      subst (λ o. Agrees (or_refuse EBADF o >>= if_sided) (side_end side s (process_of p) fd)) (sym row)
-      (subst (Agrees (if_sided e.0.value)) (sym machine) (by_sides (has side e.0.value) e.0.value r.0 r.1))
+      rw (row, machine) (by_sides (has side e.0.value) e.0.value r.0 r.1)
 
   by_caller : (r : Result Process Errno) → ready_in ps pid ≡ r
       → Agrees (r >>= (λ p. of_key (at p.descriptors fd))) (shown_in r >>= (λ p. side_end side s p fd))
@@ -170,19 +176,16 @@ module _ {X : Type 0} (f : Sight X) (side : Option Side) {ps : ProcessRows} {ds 
 
   -- and of the one that has a pid and waits in no call
   pub ends : Agree f pipes (end_in side ps ds pid fd) (ready s pid >>= (λ p. side_end side s p fd))
-  ends =
-      agree _ _ (subst (λ x. Agrees (end_in side ps ds pid fd) (x >>= (λ p. side_end side s p fd)))
-      (sym (ready_shown ps pid)) (by_caller (ready_in ps pid) refl))
+  ends = agree _ _ (rw (ready_shown ps pid) (by_caller (ready_in ps pid) refl))
 
   -- the counts of a pipe are the machine's
   pub counted : (n place : ℕ) (r : Pipe) → at pipes n ≡ Some (place, r)
       → (readers itself s n ≡ r.readers) × (writers itself s n ≡ r.writers)
   counted n place r h =
-      let row = subst (UsedRow (read_by ds n + 0) (written_by ds n + 0)) h (t.uses n) in (
-        omega (arith, row.0, readers_shown ps ds pipes files files_made n),
-        omega
-            (arith, row.1, writers_shown ps ds pipes files files_made n),
-      )
+      let row = subst (UsedRow (read_by ds n + 0) (written_by ds n + 0)) h (t.uses n) in
+      let reading = readers_shown ps ds pipes files files_made n in
+      let writing = writers_shown ps ds pipes files files_made n in
+      (omega (arith, row.0, reading), omega (arith, row.1, writing))
 
   -- the end of an open that waits, and how often the other side of it was opened
   pub open_end : (j : Key) {p : Process} → at ps (pid - 1) ≡ Some p → {before : ℕ} → p.parked ≡ Some (Open j before)

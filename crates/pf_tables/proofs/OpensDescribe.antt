@@ -10,8 +10,8 @@ use Rattle.pf_tables.proofs.TablesShown.{shown_same, shown}
 use Rattle.pf_tables.proofs.Common.{option_map, Window, at, put_at, first_free, one_if, MAX_DESCRIPTORS, Reply}
 use Rattle.pf_tables.proofs.Common.{UserPages, AreCharged, counted, Describes, ProcessRows, DescriptionRows, PipeRows}
 use Rattle.pf_tables.proofs.Common.{Key, Process, Description, Pipe, ready_in, made_by, reads_it, writes_it, opens_at}
-use Rattle.pf_tables.proofs.Common.{opens_of, pipe_of}
-use Rattle.pf_tables.proofs.Common.{pipes_of, NoMore, AreFifos, TiedWith, Tied, map-set, at_within, at-first_free}
+use Rattle.pf_tables.proofs.Common.{opens_of, pipe_of, pipes_of, NoMore, AreFifos, TiedWith, Tied, map-set, at_within}
+use Rattle.pf_tables.proofs.Common.{at-first_free}
 use Rattle.pf_machine.specs.State as machine
 use Rattle.pf_limits.proofs.SumLaws.{kept}
 use Rattle.pf_tables.specs.declared.tables.opens.Access.{Access as Stored}

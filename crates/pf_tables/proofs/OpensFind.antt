@@ -1,11 +1,11 @@
 -- The pipe of a FIFO, as the tables find it by its key and as the machine does.
 
-use Rattle.std.proofs.Common.{◌≡◌, ℕ, zero, suc, Bool, true, false, List, [], ◌∷◌, Option, Some, None, IsSome, is_some}
+use Rattle.std.proofs.Common.{◌≡◌, ℕ, zero, suc, Bool, true, false, List, [], ◌∷◌, Option, Some, None}
 use Rattle.std.proofs.Common.{nat_eq, if◌then◌else◌, refl, sym, ap, ◌∙◌, arith}
 use Rattle.pf_tables.proofs.Fifos.{of_file}
 use Rattle.pf_tables.specs.Rows.{file_at, files_of}
 use Rattle.pf_tables.proofs.Refusals.{same_some}
-use Rattle.pf_tables.proofs.Common.{option_map, lookup, itself, Files, at, fifo_pipe, find, ProcessRows}
+use Rattle.pf_tables.proofs.Common.{option_map, lookup, itself, Files, at, fifo_pipe, ProcessRows}
 use Rattle.pf_tables.proofs.Common.{DescriptionRows, PipeRows, Key, Pipe, opens_at, opens_of, pipe_of, state_of, Tied}
 use Rattle.pf_tables.proofs.Common.{AreFifos, eq-eqb}
 use Rattle.pf_tables.specs.Opened.{readers_of, readers_at}
@@ -73,9 +73,6 @@ module _ (es : List (ℕ × Key)) {drawn : ℕ} (pipes : PipeRows) (a : AreFifos
       let r = was opens_at pipes k.serial o.0 o.1 in
       let is : (r.0.0, r.0.1.opens.file) ≡ (k.slot, Some file) = ap file_at r.2 ∙ o.2 in
       (r.0.1, r.1 ∙ ap (λ (y : ℕ × Option ℕ). Some (y.0, r.0.1)) is, ap (λ (y : ℕ × Option ℕ). y.1) is)
-
-  pub key_stands : (k : Key) → lookup (nat_eq file) es ≡ Some k → IsSome (find pipes k.slot k.serial)
-  key_stands k h = let w = key_finds k h in ap is_some (find_at pipes k.slot k.serial w.0 w.1)
 
   -- the machine finds it too
   pub fifo_is : (ps : ProcessRows) (ds : DescriptionRows) (files : Files) (files_made : ℕ) (found : Option Key)

@@ -1,20 +1,18 @@
 -- What an open of a FIFO leaves and tells, as the machine says it.
 
-use Rattle.std.proofs.Common.{◌≡◌, ℕ, zero, suc, ◌+◌, ◌-◌, ◌<◌, Bool, true, false, not, ◌&&◌, List, [], ◌∷◌, ◌++◌}
-use Rattle.std.proofs.Common.{length}
-use Rattle.std.proofs.Common.{map, Option, Some, None, Result, Ok, Err, IsOk, nat_eq, nat_le, nat_lt, if◌then◌else◌}
-use Rattle.std.proofs.Common.{refl}
-use Rattle.std.proofs.Common.{sym, ap, subst, ◌∙◌, arith}
+use Rattle.std.proofs.Common.{◌≡◌, ℕ, zero, suc, ◌+◌, ◌-◌, ◌^◌, ◌<◌, Bool, true, false, not, ◌&&◌, List, [], ◌∷◌, ◌++◌}
+use Rattle.std.proofs.Common.{length, map, Option, Some, None, IsSome, Result, Ok, Err, IsOk, nat_eq, nat_le, nat_lt}
+use Rattle.std.proofs.Common.{if◌then◌else◌, refl, sym, ap, subst, ◌∙◌, arith}
+use Rattle.std.proofs.lemmas.Bool.{le-ltb, lt-leb}
 use Rattle.pf_tables.proofs.TablesShown.{shown_change, shown}
 use Rattle.pf_tables.proofs.Common.{option_map, lookup, ◌>>=◌, ◌>>◌, refuse_if, Files, Limits, Live, Joined, Window}
 use Rattle.pf_tables.proofs.Common.{Opening, at, put_at, change_at, first_free, itself, State, Outcome, ready, of_ready}
 use Rattle.pf_tables.proofs.Common.{with_descriptor, waiting, told, is_spent, Access, fifo_pipe, MAX_DESCRIPTORS, Errno}
-use Rattle.pf_tables.proofs.Common.{readers, writers}
-use Rattle.pf_tables.proofs.Common.{EMFILE, ENFILE, Fault, Reply, Num, UserPages, Namespace, ring_or, access_seen}
-use Rattle.pf_tables.proofs.Common.{before, counted, other_opens, Describes, Owns, ProcessRows, DescriptionRows}
-use Rattle.pf_tables.proofs.Common.{PipeRows, Key, Process, Pipe, ready_in, process_of, description_of, pipe_of}
-use Rattle.pf_tables.proofs.Common.{processes_of, state_of, Tied, Whole, Makes, Says, map-set, map_push, length_push}
-use Rattle.pf_tables.proofs.Common.{length-map, first_free-map, one_if, Cred, EINVAL}
+use Rattle.pf_tables.proofs.Common.{readers, writers, find, EMFILE, ENFILE, Fault, Reply, Num, UserPages, Namespace}
+use Rattle.pf_tables.proofs.Common.{ring_or, access_seen, before, counted, other_opens, Describes, Owns, ProcessRows}
+use Rattle.pf_tables.proofs.Common.{DescriptionRows, PipeRows, Key, Process, Pipe, ready_in, process_of, description_of}
+use Rattle.pf_tables.proofs.Common.{pipe_of, processes_of, state_of, Tied, Whole, Makes, Says, map-set, map_push}
+use Rattle.pf_tables.proofs.Common.{length_push, length-map, first_free-map, one_if, Cred, EINVAL}
 use Rattle.pf_base.specs.declared.TheConstants.{MAX_MADE}
 use Rattle.pf_base.specs.declared.errno.Errno.TheVariants.{ENXIO}
 use Rattle.pf_base.specs.declared.fault.Fault.TheVariants as faults
@@ -25,14 +23,14 @@ use Rattle.pf_machine.specs.Attempts.{Waits, given, first}
 use Rattle.pf_machine.specs.Opens as opens
 use Rattle.pf_machine.specs.Opens.{is_waiting, openable, open_fifo, open_path}
 use Rattle.pf_tables.specs.declared.tables.opens.Access.{Access as Stored}
-use Rattle.pf_tables.specs.Opened.{end_of, taking, told_at, waits, lacks_readers, readers_at, HasFree}
-use Rattle.pf_tables.specs.Opened.{GetsPipe, fifo_capacity}
+use Rattle.pf_tables.specs.Opened.{end_of, taking, told_at, waits, lacks_readers, readers_at, HasFree, GetsPipe, IsFew}
+use Rattle.pf_tables.specs.Opened.{fifo_capacity}
 use Rattle.pf_tables.specs.Rows.{call_of}
 use Rattle.pf_tables.proofs.Refusals.{same_ok}
 use Rattle.pf_tables.proofs.ProcessTableReady.{readies, is_living}
-use Rattle.pf_tables.proofs.OpensDescribe.{admitted, opener, seated_is, entered-charged, entered-fifos}
+use Rattle.pf_tables.proofs.OpensDescribe.{IsSided, admitted, opener, seated_is, entered-charged, entered-fifos}
 use Rattle.pf_tables.proofs.OpensFind.{readers_are}
-use Rattle.pf_tables.proofs.OpensPipe.{Stands, piped_well, unpiped}
+use Rattle.pf_tables.proofs.OpensPipe.{Stands, is_there, piped_well, stands, unpiped}
 use Rattle.pf_tables.proofs.TablesSettled.{makes_over}
 use Rattle.pf_walk.specs.Told.{Told as Answered}
 
@@ -66,8 +64,9 @@ goes_well s pid q a found =
       descriptions = found.state.descriptions ++ Some (record
           { pipe = found.pipe; reads = a.reads; writes = a.writes; nonblocking = a.nonblock }) ∷ [];
     }) found.pipe in
-    elim (is_waiting a (readers itself found.state found.pipe) (writers itself found.state found.pipe)) as (λ b. IsOk (first pid false
-    (if b then Waits made (Opening (length s.descriptions) (opens.kept_by a (at found.state.pipes found.pipe)))
+    elim (is_waiting a (readers itself found.state found.pipe) (writers itself found.state found.pipe)) as (λ b.
+    IsOk (first pid false (if b then Waits made
+    (Opening (length s.descriptions) (opens.kept_by a (at found.state.pipes found.pipe)))
     else given made pid q (length s.descriptions)))) [
       | true ↦ refl
       | false ↦ refl
@@ -87,7 +86,7 @@ module _ {limits : Limits} {files : Files} {files_made : ℕ} {ps : ProcessRows}
   tied : Tied ps' ds' after
   tied = admitted after z is lowest within x.held
 
-  pub opened-whole : Whole charges' es' ps' ds' after
+  opened-whole : Whole charges' es' ps' ds' after
   opened-whole = record {
     kept = record { tied = tied; charged = entered-charged charges' a pipes' k q x.at_key x.charged };
     filed = entered-fifos es' a pipes' k q x.at_key (ap length z.described ∙ length_push ds _) x.filed;
@@ -181,8 +180,7 @@ module _ {files : Files} {files_made : ℕ} {charges : UserPages} {es : List (�
 
   pub has_free : {fd : ℕ} → fd ≡ first_free p.descriptors → fd < MAX_DESCRIPTORS → HasFree ps pid
   has_free lowest within q lives =
-      subst (λ (x : Process). first_free x.descriptors < MAX_DESCRIPTORS)
-      (same_ok (sym (is_living ps pid p is) ∙ lives)) (subst (λ m. m < MAX_DESCRIPTORS) lowest within)
+      rw (← same_ok (sym (is_living ps pid p is) ∙ lives), ← lowest) within
 
   module _ (path : List ℕ) {a : Stored} {b : Access} (asked : access_seen a ≡ b) where
     abbrev now : State Window ℕ
@@ -232,33 +230,58 @@ module _ {files : Files} {files_made : ℕ} {charges : UserPages} {es : List (�
           >> (refuse_if ((ap (λ m. nat_lt MAX_MADE (m + 1)) (length-map ds (option_map description_of)) ∙ z) i) ENFILE
           >> (piped i >>= go_on now pid (process_of p) (access_seen a)))))
 
+      -- it passes these tests
+      passed : fd < MAX_DESCRIPTORS → lacks_readers (access_seen a) (readers_at pipes key) ≡ false
+          → length ds < 2 ^ 64 - 1 → {r : Result (opens.Found Window ℕ) Errno}
+          → opens.pipe_of charges.limits now (process_of p) f.number (fifo_pipe now f.number) ≡ r
+          → calls b n ≡ (r >>= go_on now pid (process_of p) (access_seen a))
+      passed within read unspent piped =
+          by_tests (lt-leb _ _ within) read (le-ltb _ _ (omega (arith, unspent))) piped
+
       -- its pipe may be refused, or memory wanted
       pub not_piped : (m : Namespace) (charges' : UserPages) (es' : List (ℕ × Key)) (pipes' : PipeRows) (fault : Fault)
-          → GetsPipe charges charges' pipes pipes' es es' p.cred f.number (Err fault) key
-          → nat_le MAX_DESCRIPTORS fd ≡ false → lacks_readers (access_seen a) (readers_at pipes key) ≡ false
-          → is_spent ds 1 ≡ false → Says n m (Err fault) (calls b n)
-      not_piped m charges' es' pipes' (faults.Errno e) gets free read unspent =
-          by_tests free read unspent (unpiped w p f.number files files_made charges' es' pipes' key_is e gets)
-      not_piped m charges' es' pipes' faults.NoMemory gets free read unspent = tt
+          → GetsPipe charges charges' pipes pipes' es es' p.cred f.number (Err fault) key → fd < MAX_DESCRIPTORS
+          → lacks_readers (access_seen a) (readers_at pipes key) ≡ false → length ds < 2 ^ 64 - 1
+          → Says n m (Err fault) (calls b n)
+      not_piped m charges' es' pipes' (faults.Errno e) gets within read unspent =
+          passed within read unspent (unpiped w p f.number files files_made charges' es' pipes' key_is e gets)
+      not_piped m charges' es' pipes' faults.NoMemory gets within read unspent = tt
 
       -- where nothing stands against its pipe, nothing stands against the open
-      pub opens_well : (key ≡ None → IsOk (fifo_capacity charges pipes p.cred)) → nat_le MAX_DESCRIPTORS fd ≡ false
-          → lacks_readers (access_seen a) (readers_at pipes key) ≡ false → is_spent ds 1 ≡ false → IsOk (calls b n)
-      opens_well may free read unspent =
+      pub opens_well : (key ≡ None → IsOk (fifo_capacity charges pipes p.cred)) → fd < MAX_DESCRIPTORS
+          → lacks_readers (access_seen a) (readers_at pipes key) ≡ false → length ds < 2 ^ 64 - 1 → IsOk (calls b n)
+      opens_well may within read unspent =
           let x = piped_well w p f.number files files_made key_is may in
-          subst IsOk (sym (by_tests free read unspent x.1)) (goes_well now pid (process_of p) (access_seen a) x.0)
+          subst IsOk (sym (passed within read unspent x.1)) (goes_well now pid (process_of p) (access_seen a) x.0)
 
-      pub opened-makes : {pipes' : PipeRows} {charges' : UserPages} {es' : List (ℕ × Key)} {k : Key} {q : Pipe}
-          → Stands charges.limits files files_made ps ds pipes pipes' charges' es' p f.number a k q
-          → {ps' : ProcessRows} {ds' : DescriptionRows} {reply : Reply}
-          → Describes ps ps' ds ds' pid fd (end_of a k) (before a q) reply → fd < MAX_DESCRIPTORS
-          → nat_le MAX_DESCRIPTORS fd ≡ false → lacks_readers (access_seen a) (readers_at pipes key) ≡ false
-          → is_spent ds 1 ≡ false
-          → Makes n (record {
-            limits = charges'.limits;
-            state = state_of ps' ds' (put_at pipes' k.serial (k.slot, counted a q)) files files_made;
-          }) (calls b n) reply
-      opened-makes x {reply = reply} z within free read unspent =
-          makes_over (tied x z is lowest within) files files_made view x.limits_are (joined x z is lowest within)
-          (calls b) reply
-          (ap (calls b) view ∙ by_tests free read unspent x.found ∙ goes_on x z is lowest within)
+      -- Its pipe stands, or is made
+
+      module _ (charges' : UserPages) (es' : List (ℕ × Key)) (pipes' : PipeRows) (k : Key)
+          (gets : GetsPipe charges charges' pipes pipes' es es' p.cred f.number (Ok k) key) where
+        a_side : IsSided a
+        a_side = sided files p.cred path (access_seen a) found
+
+        pub has_pipe : IsSome (find pipes' k.slot k.serial)
+        has_pipe = is_there w p f.number files files_made a a_side charges' es' pipes' k key_is gets
+
+        module _ {q : Pipe} (handed : find pipes' k.slot k.serial ≡ Some q) where
+          x : Stands charges.limits files files_made ps ds pipes pipes' charges' es' p f.number a k q
+          x = stands w p f.number files files_made a a_side charges' es' pipes' k key_is gets handed
+
+          pub is_few : length ds < 2 ^ 64 - 1 → IsFew q
+          is_few = x.few
+
+          module _ {ps' : ProcessRows} {ds' : DescriptionRows} {reply : Reply}
+              (z : Describes ps ps' ds ds' pid fd (end_of a k) (before a q) reply) (within : fd < MAX_DESCRIPTORS) where
+            pub stands-whole : Whole charges' es' ps' ds' (put_at pipes' k.serial (k.slot, counted a q))
+            stands-whole = opened-whole x z is lowest within
+
+            pub opened-makes : lacks_readers (access_seen a) (readers_at pipes key) ≡ false → length ds < 2 ^ 64 - 1
+                → Makes n (record {
+                  limits = charges'.limits;
+                  state = state_of ps' ds' (put_at pipes' k.serial (k.slot, counted a q)) files files_made;
+                }) (calls b n) reply
+            opened-makes read unspent =
+                makes_over (tied x z is lowest within) files files_made view x.limits_are (joined x z is lowest within)
+                (calls b) reply
+                (ap (calls b) view ∙ passed within read unspent x.found ∙ goes_on x z is lowest within)

@@ -1,19 +1,18 @@
 -- The pipe of a FIFO that is opened: one that stands, or one that was made and has no end yet. Either way an open can
 -- be counted in, and the machine's pipe is this one.
 
-use Rattle.std.proofs.Common.{◌≡◌, ℕ, ◌+◌, ◌-◌, ◌^◌, ◌<◌, List, [], ◌∷◌, ◌++◌, length, map, Option, Some, None}
-use Rattle.std.proofs.Common.{IsSome}
-use Rattle.std.proofs.Common.{is_some, Result, Ok, Err, IsOk, nat_eq, nat_lt, if◌then◌else◌, refl, sym, ap, subst, ◌∙◌, arith}
+use Rattle.std.proofs.Common.{◌≡◌, ℕ, ◌+◌, ◌-◌, ◌^◌, ◌<◌, List, [], ◌∷◌, ◌++◌, length, map, Option, Some, None, IsSome}
+use Rattle.std.proofs.Common.{is_some, Result, Ok, Err, IsOk, nat_eq, nat_lt, if◌then◌else◌, refl, sym, ap, subst, ◌∙◌}
+use Rattle.std.proofs.Common.{arith}
 use Rattle.std.proofs.Math.Seq.{set-append_seam}
 use Rattle.pf_tables.proofs.Refusals.{same_some, then-bind}
 use Rattle.pf_tables.proofs.Common.{option_map, lookup, Window, Files, Limits, at, put_at, empty, ◌>>=◌, ◌>>◌, itself}
 use Rattle.pf_tables.proofs.Common.{refuse_if, told_as, capacity_for, is_spent, is_privileged, State, readers, writers}
-use Rattle.pf_tables.proofs.Common.{fifo_pipe, Errno, ENFILE, Fault, find, Live, UserPages, Joined}
-use Rattle.pf_tables.proofs.Common.{ring_or, rings_of, AreCharged, Owns, ProcessRows, DescriptionRows, PipeRows, Key}
-use Rattle.pf_tables.proofs.Common.{Process}
-use Rattle.pf_tables.proofs.Common.{Pipe, process_of, pipe_of, pipes_of, opens_at, opens_of, state_of, reads_it}
-use Rattle.pf_tables.proofs.Common.{writes_it, read_by, written_by, counted, UsedRow, AreFifos, Whole, TiedWith}
-use Rattle.pf_tables.proofs.Common.{map_push, length-map, at_past, at-push_new, unopened}
+use Rattle.pf_tables.proofs.Common.{fifo_pipe, Errno, ENFILE, Fault, find, Live, UserPages, Joined, ring_or, rings_of}
+use Rattle.pf_tables.proofs.Common.{AreCharged, Owns, ProcessRows, DescriptionRows, PipeRows, Key, Process, Pipe}
+use Rattle.pf_tables.proofs.Common.{process_of, pipe_of, pipes_of, opens_at, opens_of, state_of, reads_it, writes_it}
+use Rattle.pf_tables.proofs.Common.{counted, AreFifos, Whole, TiedWith, map_push}
+use Rattle.pf_tables.proofs.Common.{length-map, at_past, at-push_new, unopened}
 use Rattle.pf_base.specs.Capacities.{new_capacity}
 use Rattle.pf_base.specs.declared.TheConstants.{MAX_MADE}
 use Rattle.pf_base.specs.declared.errno.Errno.TheVariants.{ENOMEM}
@@ -28,6 +27,7 @@ use Rattle.pf_tables.specs.Opened.{GetsPipe}
 use Rattle.pf_tables.proofs.DescriptorsDup.{at_most_one, sum-le-length}
 use Rattle.pf_tables.proofs.Ends.{as_kept, counted as ends_counted}
 use Rattle.pf_tables.proofs.Fifos.{fifos-pushed}
+use Rattle.pf_tables.proofs.Files.{ok_is}
 use Rattle.pf_tables.proofs.OpensDescribe.{IsSided, entered, founded}
 use Rattle.pf_tables.proofs.OpensFind.{key_finds, fifo_is}
 use Rattle.pf_tables.proofs.OwnsLaws.{joined_opened}
@@ -115,24 +115,17 @@ module _ {charges : UserPages} {es : List (ℕ × Key)} {ps : ProcessRows} {ds :
     pub piped_well : {key : Option Key} → lookup (nat_eq file) es ≡ key
         → (key ≡ None → IsOk (fifo_capacity charges pipes p.cred))
         → (x : opens.Found Window ℕ) × (pipe_for (fifo_pipe s file) ≡ Ok x)
-    piped_well {key = None} key_is may = by_slots (fifo_capacity charges pipes p.cred) refl (may refl)
-      where
-        by_slots : (r : Result ℕ Errno) → fifo_capacity charges pipes p.cred ≡ r → IsOk r
-            → (x : opens.Found Window ℕ) × (pipe_for (fifo_pipe s file) ≡ Ok x)
-        by_slots (Ok slots) e ok = (_, named key_is ∙ made_for ∙ ap (λ r. r >>= with_slots) e)
-        by_slots (Err e) is ok = absurd (cc)
+    piped_well {key = None} key_is may =
+        let slots = ok_is (fifo_capacity charges pipes p.cred) (may refl) in
+        (_, named key_is ∙ made_for ∙ ap (λ r. r >>= with_slots) slots.1)
     piped_well {key = Some j} key_is may = (_, named key_is)
 
     -- it is refused as the machine's is
     pub unpiped : (charges' : UserPages) (es' : List (ℕ × Key)) (pipes' : PipeRows) {key : Option Key}
         → lookup (nat_eq file) es ≡ key → (e : Errno) → Gets charges' es' pipes' (Err (faults.Errno e)) key
         → pipe_for (fifo_pipe s file) ≡ Err e
-    unpiped charges' es' pipes' {key} key_is e z = named key_is ∙ by_key key z
-      where
-        by_key : (o : Option Key) → Gets charges' es' pipes' (Err (faults.Errno e)) o
-            → pipe_for (option_map (λ (k : Key). k.serial) o) ≡ Err e
-        by_key None z = made_for ∙ ap (λ r. r >>= with_slots) z.0
-        by_key (Some j) z = absurd z
+    unpiped charges' es' pipes' {key = None} key_is e z = named key_is ∙ made_for ∙ ap (λ r. r >>= with_slots) z.0
+    unpiped charges' es' pipes' {key = Some j} key_is e z = absurd z
 
     -- One that stands
 
@@ -143,12 +136,7 @@ module _ {charges : UserPages} {es : List (ℕ × Key)} {ps : ProcessRows} {ds :
           let opened = w.filed.few k.serial (k.slot, q.opens) (shown opens_at pipes k.serial (k.slot, q) there) in
           let reading = sum-le-length (λ e. reads_it k.serial e.1.value) ds (λ e. at_most_one _) in
           let writing = sum-le-length (λ e. writes_it k.serial e.1.value) ds (λ e. at_most_one _) in
-          record {
-            readers = omega (arith, row.0, reading, unspent);
-            writers = omega (arith, row.1, writing, unspent);
-            read_opens = omega (arith, opened.0, unspent);
-            write_opens = omega (arith, opened.1, unspent);
-          }
+          omega (arith, row.0, row.1, reading, writing, opened.0, opened.1, unspent)
 
       stood : (a : Stored) → IsSided a → lookup (nat_eq file) es ≡ Some k → {charges' : UserPages}
           → {es' : List (ℕ × Key)} → {pipes' : PipeRows}
@@ -186,9 +174,7 @@ module _ {charges : UserPages} {es : List (ℕ × Key)} {ps : ProcessRows} {ds :
       -- nothing is an end of it yet
       nobody : (readers itself (shows with_fresh) k.serial ≡ 0) × (writers itself (shows with_fresh) k.serial ≡ 0)
       nobody =
-          let row =
-          subst (UsedRow (read_by ds k.serial + 0) (written_by ds k.serial + 0))
-          (at_past pipes k.serial (omega (arith, z.k_is))) (w.kept.tied.uses k.serial) in
+          let row = rw (at_past pipes k.serial (omega (arith, z.k_is))) at (w.kept.tied.uses k.serial) in
           let reads = readers_shown ps ds with_fresh files files_made k.serial in
           let writes = writers_shown ps ds with_fresh files files_made k.serial in
           (omega (arith, row.0, reads), omega (arith, row.1, writes))
@@ -203,12 +189,7 @@ module _ {charges : UserPages} {es : List (ℕ × Key)} {ps : ProcessRows} {ds :
                 (sym (ap (λ m. put_at with_fresh m (k.slot, counted a fresh)) z.k_is
                 ∙ set-append_seam pipes (Some (k.slot, fresh)) [] (Some (k.slot, counted a fresh))))
                 (founded a sided k ps ds pipes w.kept.tied fresh z.k_is refl refl);
-            few = λ unspent. record {
-              readers = omega arith;
-              writers = omega arith;
-              read_opens = omega arith;
-              write_opens = omega arith;
-            };
+            few = λ unspent. omega arith;
             charged =
                 subst (AreCharged charges') (sym pushed)
                 (made (λ (x : machine.Pipe Window). x.owner) (λ (x : machine.Pipe Window). x.queue.capacity) charges

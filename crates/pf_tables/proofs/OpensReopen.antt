@@ -4,13 +4,10 @@ use Rattle.std.proofs.Common.{◌≡◌, ℕ, ◌-◌, Bool, true, false, Option
 use Rattle.std.proofs.Common.{sym, ap, subst, ◌∙◌}
 use Rattle.pf_tables.proofs.Refusals.{is_there}
 use Rattle.pf_tables.proofs.Common.{option_map, option_and_then, Opening, at, first_free, ◌>>=◌, or_refuse, itself}
-use Rattle.pf_tables.proofs.Common.{State}
-use Rattle.pf_tables.proofs.Common.{process, with_process, with_descriptor, waiting, told, sweep, EBADF, ESRCH, Num}
-use Rattle.pf_tables.proofs.Common.{Files}
-use Rattle.pf_tables.proofs.Common.{Limits, Window, Namespace, Owns, Open, over, woken, awoken, end_at, ProcessRows}
-use Rattle.pf_tables.proofs.Common.{Key}
-use Rattle.pf_tables.proofs.Common.{DescriptionRows, PipeRows, Process, process_in, process_of, state_of, Tied, set-set}
-use Rattle.pf_tables.proofs.Common.{at_within, at-put_same, first_free-map}
+use Rattle.pf_tables.proofs.Common.{State, process, with_process, with_descriptor, waiting, told, sweep, EBADF, ESRCH}
+use Rattle.pf_tables.proofs.Common.{Num, Files, Limits, Window, Namespace, Open, over, woken, awoken, end_at}
+use Rattle.pf_tables.proofs.Common.{ProcessRows, Key, DescriptionRows, PipeRows, Process, process_in, process_of}
+use Rattle.pf_tables.proofs.Common.{state_of, Tied, set-set, at_within, at-put_same, first_free-map}
 use Rattle.pf_machine.specs.Attempts.{Attempt, Waits, again, given, open_told, reopened}
 use Rattle.pf_machine.specs.Calls.{Call}
 use Rattle.pf_machine.specs.Machine.{call_of as machine_call_of}
@@ -57,8 +54,7 @@ module _ {files : Files} {files_made : ℕ} {limits : Limits} {ps : ProcessRows}
   over_is =
       let w = open_end as_kept None files files_made tied pid 0 d (place_of ps pid p here) waits in
       let kept = state_of ps ds pipes files files_made in
-      subst (λ (m : Namespace). reopened itself m.state pid q d.serial before
-      ≡ Ok (outcome m.state (nat_lt before (others_at ds pipes d)))) view
+      rw (← view)
       (ap (λ o. or_refuse EBADF o >>= (λ e. Ok (open_told kept pid q d.serial before e)))
       (subst (λ (u : State Window ℕ). end_at itself u d.serial ≡ Some (end_of_rows as_kept w.0 w.1))
       (seen_as_kept ps ds pipes files files_made) w.2)
@@ -87,7 +83,7 @@ module _ {files : Files} {files_made : ℕ} {limits : Limits} {ps : ProcessRows}
           is = tried_again false isnt ∙ ap (λ (z : State Window ℕ). Ok (told z Parked)) same;
           limits = refl;
           owned = λ f owns. owns;
-          swept = subst (λ (m : Namespace). m.state ≡ sweep itself m.state) view (settled files files_made tied);
+          swept = rw (← view) (settled files files_made tied);
         };
       }
 
@@ -115,7 +111,7 @@ module _ {files : Files} {files_made : ℕ} {limits : Limits} {ps : ProcessRows}
               ∙ (λ i. Ok (told ((same ∙ sym (ap (λ (n : Namespace). n.state) becomes)) i)
               (Num ((first_free-map (λ (x : Key). x.serial) p.descriptors ∙ sym lowest) i))));
           limits = ap (λ (n : Namespace). n.limits) becomes;
-          owned = λ f owns. subst (Owns f) (sym becomes) (record { joined = owns.joined; reserve = owns.reserve });
+          owned = λ f owns. rw becomes (record { joined = owns.joined; reserve = owns.reserve });
           swept = still;
         };
       }

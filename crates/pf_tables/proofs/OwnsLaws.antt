@@ -5,8 +5,8 @@ use Rattle.std.proofs.Common.{set, ◌-◌, nat_eq, if◌then◌else◌}
 use Rattle.std.specs.Prelude.{Option, Some, None}
 use Rattle.std.proofs.lemmas.List.{get_or-set_same, map_push}
 use Rattle.std.proofs.lemmas.List.Sums.{sum_by-cons}
-use Rattle.pf_tables.proofs.Common.{sum_by, option_map, Limits, empty, bytes_of, at, clear_at, sum_of, weight, State}
-use Rattle.pf_tables.proofs.Common.{with_queue, Live, IsSound, UserPages, charged_to, Ring, queue_of, reach, limit}
+use Rattle.pf_tables.proofs.Common.{sum_by, option_map, Limits, empty, at, clear_at, sum_of, weight, State}
+use Rattle.pf_tables.proofs.Common.{with_queue, Live, IsSound, UserPages, charged_to, Ring, reach, limit}
 use Rattle.pf_tables.proofs.Common.{Keeps, Stands, Window, Joined, ring_at, slots_of, slots_used, Namespace, ring_or}
 use Rattle.pf_tables.proofs.Common.{rings_of, pages, Charged, occupied, Owns, set-set, length-map, map-set, at_within}
 use Rattle.pf_tables.proofs.Common.{sum_of-set}
@@ -95,13 +95,12 @@ joined_opened f pipes p {slots} bare joined fits =
 pub stands_at : (f : Live) (s : State Window ℕ) (n : ℕ) (p : Pipe Window) → Joined f (rings_of s)
     → at s.pipes n ≡ Some p → Stands f p.queue.segments
 stands_at f s n p joined there =
-    subst (λ (r : Ring). Stands f r.segments) (ring_at-pipe s.pipes n p there) (ring_stands f (rings_of s) n joined)
+    rw (ring_at-pipe s.pipes n p there) at (ring_stands f (rings_of s) n joined)
 
 pub credits_at : (f : Live) (s : State Window ℕ) (n : ℕ) (p : Pipe Window) → IsSound f → Joined f (rings_of s)
     → at s.pipes n ≡ Some p → f.held + (p.queue.capacity - length p.queue.segments) ≤ f.reserved
 credits_at f s n p sound joined there =
-    subst (λ (r : Ring). f.held + (r.capacity - length r.segments) ≤ f.reserved) (ring_at-pipe s.pipes n p there)
-    (credits_for f (rings_of s) n sound joined)
+    rw (ring_at-pipe s.pipes n p there) at (credits_for f (rings_of s) n sound joined)
 
 -- the counters stay the sums where a pipe's owner is charged with what its ring has then
 pub recharged : (old new : UserPages) (s : State Window ℕ) (n : ℕ) (p : Pipe Window) (r : Ring) → at s.pipes n ≡ Some p
@@ -155,16 +154,13 @@ pub used-rings : (pipes : List (Option (Pipe Window)))
 used-rings = sum-rings slots_used refl
 
 pub held_occupied : (f : Live) (n : Namespace) → IsSound f → Owns f n → f.held ≤ occupied n.state
-held_occupied f n sound o =
-    subst (λ (k : ℕ). f.held ≤ k) (used-rings n.state.pipes) (held_le_used f (rings_of n.state) sound o.joined)
+held_occupied f n sound o = rw (used-rings n.state.pipes) at (held_le_used f (rings_of n.state) sound o.joined)
 
 pub none_empty : (f : Live) (n : Namespace) → IsSound f → Owns f n → f.held ≡ 0 → AreEmpty f n.state
 none_empty f n sound o none k p there =
-    subst (λ (r : Ring). bytes_of (queue_of f r) ≡ []) (ring_at-pipe n.state.pipes k p there)
-    (none_held_bytes f (rings_of n.state) sound o.joined none k)
+    rw (ring_at-pipe n.state.pipes k p there) at (none_held_bytes f (rings_of n.state) sound o.joined none k)
 
 -- no ring has more slots in use than it has slots, so the slots in use are within the pages
 pub occupied_pages : (f : Live) (n : Namespace) → Owns f n → occupied n.state ≤ pages n.state
 occupied_pages f n o = sum_of-le (λ p. length p.queue.segments) (λ p. p.queue.capacity) n.state.pipes
-    (λ k p there. subst (λ (r : Ring). slots_used r ≤ slots_of r) (ring_at-pipe n.state.pipes k p there)
-    (o.joined.fits k))
+    (λ k p there. rw (ring_at-pipe n.state.pipes k p there) at (o.joined.fits k))

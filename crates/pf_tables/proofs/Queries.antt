@@ -2,15 +2,15 @@
 
 use Rattle.std.proofs.Common.{◌≡◌, ℕ, zero, suc, ◌+◌, ◌-◌, ◌<◌, ◌≤◌, Bool, true, false, ◌||◌, length, drop, Option}
 use Rattle.std.proofs.Common.{Some, None, Result, Ok, Err, ◌≢◌, nat_eq, nat_lt, nat_le, length-drop, refl, sym, ap}
-use Rattle.std.proofs.Common.{subst, ◌∙◌, arith}
+use Rattle.std.proofs.Common.{◌∙◌, arith}
 use Rattle.pf_tables.proofs.Refusals.{is_there, is_none, bind-bind}
 use Rattle.pf_tables.proofs.Common.{option_map, option_and_then, Limits, MAX_PROCESSES, PIPE_BUF, MAX_WRITE, Errno}
 use Rattle.pf_tables.proofs.Common.{ESRCH, EBADF, EINVAL, Side, Files, ◌>>=◌, ◌>>◌, refuse_if, or_refuse, Segment}
-use Rattle.pf_tables.proofs.Common.{bytes_of, room_of, at, itself, State, End, process, readers, writers}
-use Rattle.pf_tables.proofs.Common.{find, Live, IsSound, UserPages, Open, Cross, queue_of, Stands, Namespace, meaning}
-use Rattle.pf_tables.proofs.Common.{pipe_meaning, Owns, GoesOn, ProcessRows, DescriptionRows, PipeRows}
-use Rattle.pf_tables.proofs.Common.{Key, Process, Description, Pipe, process_of, state_of, process_in, end_in, Kept}
-use Rattle.pf_tables.proofs.Common.{nat_tests, at_past, end_of_row}
+use Rattle.pf_tables.proofs.Common.{bytes_of, room_of, at, itself, State, End, process, readers, writers, find, Live}
+use Rattle.pf_tables.proofs.Common.{IsSound, UserPages, Open, Cross, queue_of, Stands, Namespace, meaning, pipe_meaning}
+use Rattle.pf_tables.proofs.Common.{Owns, GoesOn, ProcessRows, DescriptionRows, PipeRows, Key, Process, Description}
+use Rattle.pf_tables.proofs.Common.{Pipe, process_of, state_of, process_in, end_in, Kept, nat_tests, at_past}
+use Rattle.pf_tables.proofs.Common.{end_of_row}
 use Rattle.pf_base.specs.declared.progress.Crossing.{Crossing}
 use Rattle.pf_base.specs.declared.progress.Side.TheVariants as sides
 use Rattle.pf_machine.specs.Attempts as attempts
@@ -31,6 +31,12 @@ was_none : {A : Type 0} (e f : Errno) (o : Option A) → or_refuse e o ≡ Err f
 was_none e f None h = refl
 was_none e f (Some y) h = absurd (cc)
 
+-- who has a pid is in the place before it
+place_found : (ps : ProcessRows) (pid : ℕ) → 0 < pid → process_in ps pid ≡ or_refuse ESRCH (at ps (pid - 1))
+place_found ps zero above = absurd (omega arith)
+place_found ps (suc i) above =
+    let same : suc i - 1 ≡ i = omega arith in ap (λ j. or_refuse ESRCH (at ps j)) (sym same)
+
 module _ {files : Files} {files_made : ℕ} {limits : Limits} {charges : UserPages} {ps : ProcessRows}
     {ds : DescriptionRows} {pipes : PipeRows} (k : Kept charges ps ds pipes) {n : Namespace}
     (view : record { limits = limits; state = state_of ps ds pipes files files_made } ≡ n)
@@ -40,8 +46,7 @@ module _ {files : Files} {files_made : ℕ} {limits : Limits} {charges : UserPag
 
   -- it is enough to answer over the rows
   over_rows : (b : Bool) → ((f : Live) → IsSound f → Owns f n → b ≡ can_go_on limits (shows f) pid) → GoesOn n pid b
-  over_rows b h f sound owns =
-      subst (λ (m : Namespace). b ≡ can_go_on m.limits (meaning f m.state) pid) view (h f sound owns)
+  over_rows b h f sound owns = rw (← view) (h f sound owns)
 
   -- Nobody waits
   pub lives_not_on : (e : Errno) → process_in ps pid ≡ Err e → GoesOn n pid false
@@ -49,17 +54,9 @@ module _ {files : Files} {files_made : ℕ} {limits : Limits} {charges : UserPag
       sym (waits_in_none limits (shows f) pid (ap (option_and_then (λ (p : machine.Process ℕ). p.parked))
       (was_none ESRCH e (process (shows f) pid) (lives_not ps pid e h)))))
 
-  -- who has a pid is in the place before it
-  place_found : 0 < pid → process_in ps pid ≡ or_refuse ESRCH (at ps (pid - 1))
-  place_found above = by_pid pid above
-    where
-      by_pid : (m : ℕ) → 0 < m → process_in ps m ≡ or_refuse ESRCH (at ps (m - 1))
-      by_pid zero h = absurd (omega arith)
-      by_pid (suc i) h = let same : suc i - 1 ≡ i = omega arith in ap (λ j. or_refuse ESRCH (at ps j)) (sym same)
-
   pub above_all : MAX_PROCESSES < pid → GoesOn n pid false
   above_all past =
-      lives_not_on ESRCH (place_found (omega (arith, past)) ∙ ap (or_refuse ESRCH)
+      lives_not_on ESRCH (place_found ps pid (omega (arith, past)) ∙ ap (or_refuse ESRCH)
       (at_past ps (pid - 1) (omega (arith, past, k.tied.places))))
 
   module _ {p : Process} (here : process_in ps pid ≡ Ok p) where
@@ -101,13 +98,10 @@ module _ {files : Files} {files_made : ℕ} {limits : Limits} {charges : UserPag
 
     -- A read
     module _ {fd m : ℕ} (waits : Some (Read fd m) ≡ p.parked) where
-      abbrev read_test : (f : Live) → End Segment ℕ → Bool
-      read_test f e = read_goes_on e.pipe.queue (writers itself (shows f) e.description.pipe) m
-
       pub read_is_over : {e : Errno} → Err e ≡ end_of_row (Some sides.Read) p ds fd → GoesOn n pid true
       read_is_over {e} h =
           answers (Read fd m) waits tt true (λ f sound owns. sym
-          (ap (or_is_over (read_test f)) ((its f (Some sides.Read) fd).refused (sym h))))
+          (ap (or_is_over _) ((its f (Some sides.Read) fd).refused (sym h))))
 
       module _ {d : Description} (h : Ok d ≡ end_of_row (Some sides.Read) p ds fd) where
         pub reads_on : {r : Pipe} → Some r ≡ find pipes d.pipe.slot d.pipe.serial → (b : Bool)
@@ -117,21 +111,15 @@ module _ {files : Files} {files_made : ℕ} {limits : Limits} {charges : UserPag
             answers (Read fd m) waits tt b (λ f sound owns.
             told f sound (stands f owns d r handed)
             ∙ ap (λ w. read_goes_on (queue_of f r.ring) w m) (sym (counts f d r handed).1)
-            ∙ sym (ap (or_is_over (read_test f)) (reaches (its f (Some sides.Read) fd) (sym h) (sym handed))))
+            ∙ sym (ap (or_is_over _) (reaches (its f (Some sides.Read) fd) (sym h) (sym handed))))
 
     -- A write
     module _ {fd : ℕ} {write : UnfinishedWrite} (waits : Some (Write fd write) ≡ p.parked)
         (cut : write.written ≤ length write.bytes) where
-      abbrev write_test : (f : Live) → End Segment ℕ → Bool
-      write_test f e =
-          nat_lt MAX_WRITE (length write.bytes)
-          || write_goes_on e.pipe.queue (readers itself (shows f) e.description.pipe)
-          (nat_le (length write.bytes) PIPE_BUF) (length (drop write.written write.bytes))
-
       pub write_is_over : {e : Errno} → Err e ≡ end_of_row (Some sides.Write) p ds fd → GoesOn n pid true
       write_is_over {e} h =
           answers (Write fd write) waits cut true (λ f sound owns. sym
-          (ap (or_is_over (write_test f)) ((its f (Some sides.Write) fd).refused (sym h))))
+          (ap (or_is_over _) ((its f (Some sides.Write) fd).refused (sym h))))
 
       module _ {d : Description} (h : Ok d ≡ end_of_row (Some sides.Write) p ds fd) where
         pub writes_on : {r : Pipe} → Some r ≡ find pipes d.pipe.slot d.pipe.serial → (all left : ℕ)
@@ -146,7 +134,7 @@ module _ {files : Files} {files_made : ℕ} {limits : Limits} {charges : UserPag
             (nat_le (all_is i) PIPE_BUF) (rest i))
             ∙ ap (λ t. t || write_goes_on (queue_of f r.ring) (readers itself (shows f) d.pipe.serial)
             (nat_le (length write.bytes) PIPE_BUF) (length (drop write.written write.bytes))) (sym fits)
-            ∙ sym (ap (or_is_over (write_test f)) (reaches (its f (Some sides.Write) fd) (sym h) (sym handed))))
+            ∙ sym (ap (or_is_over _) (reaches (its f (Some sides.Write) fd) (sym h) (sym handed))))
 
     -- A tee or a splice
     module _ {c : Crossing} {source sink m : ℕ} (waits : Some (Cross c source sink m) ≡ p.parked) where
@@ -233,8 +221,8 @@ module _ {files : Files} {files_made : ℕ} {limits : Limits} {charges : UserPag
   waits_nowhere above idle = by_row (at ps (pid - 1)) refl idle
     where
       by_row : (o : Option Process) → at ps (pid - 1) ≡ o → waits o ≡ false → GoesOn n pid false
-      by_row None e h = lives_not_on ESRCH (place_found above ∙ ap (or_refuse ESRCH) e)
-      by_row (Some p) e h = waits_not (place_found above ∙ ap (or_refuse ESRCH) e) (sym (is_none p.parked h))
+      by_row None e h = lives_not_on ESRCH (place_found ps pid above ∙ ap (or_refuse ESRCH) e)
+      by_row (Some p) e h = waits_not (place_found ps pid above ∙ ap (or_refuse ESRCH) e) (sym (is_none p.parked h))
 
   -- What an end is ready for
 

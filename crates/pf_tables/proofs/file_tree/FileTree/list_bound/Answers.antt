@@ -1,11 +1,8 @@
-use Rattle.std.proofs.Common.{subst, arith, ◌≤◌, ◌-◌, ◌*◌, length}
-use Rattle.pf_tables.proofs.Common.{Files}
-use Rattle.pf_machine.specs.FileMap.{names_below, listed}
+use Rattle.std.proofs.Common.{arith}
 use Rattle.pf_machine.proofs.FileLimitLaws as lemmas
 use Rattle.pf_tables.proofs.file_tree.FileTree.list_bound.Goals as goal
 
 pub returns-clause-covers : goal.returns-clause-covers
 returns-clause-covers g c path =
     let few = lemmas.names_within c.self.inside.tree c.self.invariant c.root-root.ensures.map.root path in
-    subst (λ (fs : Files). length (listed (names_below path fs)) ≤ (c.count.result - 1) * 256) c.self.view_is
-    (omega (arith, few, c.count.ensures))
+    rw (← c.self.view_is) (omega (arith, few, c.count.ensures))

@@ -4,4 +4,5 @@ use Rattle.pf_tables.proofs.file_tree.FileTree.unlink.Goals as goal
 
 pub invariant_of-self : goal.invariant_of-self
 invariant_of-self g c =
-    within _ _ _ _ c.self.invariant c.unlink.ensures.changed (unlink-within _ c.args.cred.now c.args.path.now c.self.invariant)
+    within _ _ _ _ c.self.invariant c.unlink.ensures.changed
+    (unlink-within _ c.args.cred.now c.args.path.now c.self.invariant)

@@ -1,7 +1,7 @@
 -- One pid more is the one that is asked for, or can't go on; those in between wait in no call; and no process is above
 -- the last one.
-use Rattle.std.proofs.Common.{◌≡◌, ℕ, ◌+◌, ◌-◌, false, ⊎_elim, sym, subst, ◌∙◌, arith}
-use Rattle.pf_tables.proofs.Common.{GoesOn, cases_lt}
+use Rattle.std.proofs.Common.{◌≡◌, ◌+◌, ◌-◌, ⊎_elim, sym, ◌∙◌, arith}
+use Rattle.pf_tables.proofs.Common.{cases_lt}
 use Rattle.pf_tables.proofs.Queries.{above_all, waits_nowhere}
 use Rattle.pf_tables.proofs.tables.Tables.next_to_go_on.Goals as goal
 
@@ -29,7 +29,7 @@ loop-i-preserved g c = record {
       ⊎_elim
       (λ at_it.
       let same : c.loop-i.i + 1 ≡ q = omega (arith, past, at_it) in
-      subst (λ (m : ℕ). GoesOn c.args.self.now m false) same
+      rw (← same)
       (λ f sound owns. sym c.if-can_go_on.false ∙ c.can_go_on.ensures f sound owns))
       (λ after.
       waits_nowhere c.self.invariant.kept c.self.view_is q (omega (arith, above))

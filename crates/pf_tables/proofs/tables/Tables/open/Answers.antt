@@ -1,16 +1,15 @@
 use Rattle.std.proofs.Common.{◌≡◌, Err, false, true, length, refl, sym, ap, ◌∙◌, arith, rules}
-use Rattle.std.proofs.lemmas.Bool.{le-leb, lt-leb, lt-ltb, le-ltb}
+use Rattle.std.proofs.lemmas.Bool.{le-leb, lt-leb, lt-ltb}
 use Rattle.pf_base.specs.declared.fault.Fault.TheVariants.{NoMemory}
-use Rattle.pf_tables.proofs.Common.{access_seen}
-use Rattle.pf_tables.proofs.OpensOutcome.{sided, is_ready, has_free, not_named, by_tests, not_piped, opened-whole, opens_well}
-use Rattle.pf_tables.proofs.OpensOutcome.{opened-makes}
-use Rattle.pf_tables.proofs.OpensPipe.{still-whole, keeps, is_there, stands}
+use Rattle.pf_tables.proofs.OpensOutcome.{is_ready, has_free, not_named, by_tests, not_piped, opens_well, has_pipe}
+use Rattle.pf_tables.proofs.OpensOutcome.{is_few, stands-whole, opened-makes}
+use Rattle.pf_tables.proofs.OpensPipe.{still-whole, keeps}
 use Rattle.pf_tables.proofs.tables.Tables.open.Goals as goal
 
 pub returns-in_err-file-clause-says : goal.returns-in_err-file-clause-says
 returns-in_err-file-clause-says g c =
     let refused =
-    not_named c.self.invariant c.self.view_is c.args.pid c.in_ok-process.ensures c.args.path.now c.new-access.ensures
+    not_named c.self.invariant c.self.view_is _ c.in_ok-process.ensures c.args.path.now c.new-access.ensures
     c.args.self.now c.in_err-file.field-0.0 (rw c.tree.ensures at c.in_err-file.ensures.told) in
     search rules
 
@@ -21,7 +20,7 @@ returns-in_err-file-clause-ready g c =
 pub returns-then-fd-ge-MAX_DESCRIPTORS-clause-says : goal.returns-then-fd-ge-MAX_DESCRIPTORS-clause-says
 returns-then-fd-ge-MAX_DESCRIPTORS-clause-says g c =
     let refused =
-    by_tests c.self.invariant c.self.view_is c.args.pid c.in_ok-process.ensures c.args.path.now c.new-access.ensures
+    by_tests c.self.invariant c.self.view_is _ c.in_ok-process.ensures c.args.path.now c.new-access.ensures
     (rw c.tree.ensures at c.in_ok-file.ensures.told) c.lowest-fd.ensures.lowest refl
     (le-leb _ _ c.if-fd-ge-MAX_DESCRIPTORS.true) refl refl refl in
     search rules
@@ -29,7 +28,7 @@ returns-then-fd-ge-MAX_DESCRIPTORS-clause-says g c =
 pub returns-then-lacks_readers-clause-says : goal.returns-then-lacks_readers-clause-says
 returns-then-lacks_readers-clause-says g c =
     let refused =
-    by_tests c.self.invariant c.self.view_is c.args.pid c.in_ok-process.ensures c.args.path.now c.new-access.ensures
+    by_tests c.self.invariant c.self.view_is _ c.in_ok-process.ensures c.args.path.now c.new-access.ensures
     (rw c.tree.ensures at c.in_ok-file.ensures.told) c.lowest-fd.ensures.lowest
     (sym c.get.ensures.value ∙ sym c.copied-found.ensures) (lt-leb _ _ c.if-fd-ge-MAX_DESCRIPTORS.false)
     (sym c.lacks_readers.ensures ∙ c.if-lacks_readers.true) refl refl in
@@ -38,7 +37,7 @@ returns-then-lacks_readers-clause-says g c =
 pub returns-then-drawn-clause-says : goal.returns-then-drawn-clause-says
 returns-then-drawn-clause-says g c =
     let refused =
-    by_tests c.self.invariant c.self.view_is c.args.pid c.in_ok-process.ensures c.args.path.now c.new-access.ensures
+    by_tests c.self.invariant c.self.view_is _ c.in_ok-process.ensures c.args.path.now c.new-access.ensures
     (rw c.tree.ensures at c.in_ok-file.ensures.told) c.lowest-fd.ensures.lowest
     (sym c.get.ensures.value ∙ sym c.copied-found.ensures) (lt-leb _ _ c.if-fd-ge-MAX_DESCRIPTORS.false)
     (sym c.lacks_readers.ensures ∙ c.if-lacks_readers.false)
@@ -48,12 +47,11 @@ returns-then-drawn-clause-says g c =
 pub returns-in_err-key-clause-says : goal.returns-in_err-key-clause-says
 returns-in_err-key-clause-says g c =
     let refused =
-    not_piped c.self.invariant c.self.view_is c.args.pid c.in_ok-process.ensures c.args.path.now c.new-access.ensures
+    not_piped c.self.invariant c.self.view_is _ c.in_ok-process.ensures c.args.path.now c.new-access.ensures
     (rw c.tree.ensures at c.in_ok-file.ensures.told) c.lowest-fd.ensures.lowest
-    (sym c.get.ensures.value ∙ sym c.copied-found.ensures) c.args.self.now _ _ _
-    c.in_err-key.field-0.0 c.in_err-key.ensures.gets (lt-leb _ _ c.if-fd-ge-MAX_DESCRIPTORS.false)
-    (sym c.lacks_readers.ensures ∙ c.if-lacks_readers.false)
-    (le-ltb _ _ (omega (arith, c.drawn.ensures, c.if-drawn.false, c.drawn.type_inv))) in
+    (sym c.get.ensures.value ∙ sym c.copied-found.ensures) c.args.self.now _ _ _ c.in_err-key.field-0.0
+    c.in_err-key.ensures.gets c.if-fd-ge-MAX_DESCRIPTORS.false (sym c.lacks_readers.ensures ∙ c.if-lacks_readers.false)
+    (omega (arith, c.drawn.ensures, c.if-drawn.false, c.drawn.type_inv)) in
     search rules
 
 pub returns-in_err-key-clause-ready : goal.returns-in_err-key-clause-ready
@@ -71,12 +69,11 @@ pub returns-in_err-key-clause-wanted : goal.returns-in_err-key-clause-wanted
 returns-in_err-key-clause-wanted g c none plain =
     let gives : c.from_residual-in_err-key.result ≡ Err c.in_err-key.field-0.0 = search rules in
     let fault : c.in_err-key.field-0.0 ≡ NoMemory = cc (sym gives ∙ none) in
-    let key_is = sym c.get.ensures.value ∙ sym c.copied-found.ensures in
-    opens_well c.self.invariant c.self.view_is c.args.pid c.in_ok-process.ensures c.args.path.now c.new-access.ensures
-    (rw c.tree.ensures at c.in_ok-file.ensures.told) c.lowest-fd.ensures.lowest key_is
-    (c.in_err-key.ensures.wanted (ap Err fault)) (lt-leb _ _ c.if-fd-ge-MAX_DESCRIPTORS.false)
-    (sym c.lacks_readers.ensures ∙ c.if-lacks_readers.false)
-    (le-ltb _ _ (omega (arith, c.drawn.ensures, c.if-drawn.false, c.drawn.type_inv)))
+    opens_well c.self.invariant c.self.view_is _ c.in_ok-process.ensures c.args.path.now c.new-access.ensures
+    (rw c.tree.ensures at c.in_ok-file.ensures.told) c.lowest-fd.ensures.lowest
+    (sym c.get.ensures.value ∙ sym c.copied-found.ensures) (c.in_err-key.ensures.wanted (ap Err fault))
+    c.if-fd-ge-MAX_DESCRIPTORS.false (sym c.lacks_readers.ensures ∙ c.if-lacks_readers.false)
+    (omega (arith, c.drawn.ensures, c.if-drawn.false, c.drawn.type_inv))
 
 pub invariant_of-self : goal.invariant_of-self
 invariant_of-self g c =
@@ -87,22 +84,17 @@ invariant_of-self g c =
 pub value_mut-pipe-requires : goal.value_mut-pipe-requires
 value_mut-pipe-requires g c = record {
   stands =
-      is_there c.self.invariant c.in_ok-process.process.now c.in_ok-file.file.number c.self.inside.files
-      c.self.inside.files_made c.new-access.result
-      (sided c.tree.result.now c.in_ok-process.process.now.cred c.args.path.now (access_seen c.new-access.result)
-      c.in_ok-file.ensures.told) _ _ _ _
-      (sym c.get.ensures.value ∙ sym c.copied-found.ensures) c.in_ok-key.ensures.gets;
+      has_pipe c.self.invariant c.self.view_is _ c.in_ok-process.ensures c.args.path.now c.new-access.ensures
+      (rw c.tree.ensures at c.in_ok-file.ensures.told) c.lowest-fd.ensures.lowest
+      (sym c.get.ensures.value ∙ sym c.copied-found.ensures) _ _ _ _ c.in_ok-key.ensures.gets;
 }
 
 pub count-requires : goal.count-requires
 count-requires g c =
-    let x =
-    stands c.self.invariant c.in_ok-process.process.now c.in_ok-file.file.number c.self.inside.files
-    c.self.inside.files_made c.new-access.result
-    (sided c.tree.result.now c.in_ok-process.process.now.cred c.args.path.now (access_seen c.new-access.result)
-    c.in_ok-file.ensures.told) _ _ _ _
-    (sym c.get.ensures.value ∙ sym c.copied-found.ensures) c.in_ok-key.ensures.gets c.value_mut-pipe.ensures.value in
-    x.few (omega (arith, c.drawn.ensures, c.if-drawn.false, c.drawn.type_inv))
+    is_few c.self.invariant c.self.view_is _ c.in_ok-process.ensures c.args.path.now c.new-access.ensures
+    (rw c.tree.ensures at c.in_ok-file.ensures.told) c.lowest-fd.ensures.lowest
+    (sym c.get.ensures.value ∙ sym c.copied-found.ensures) _ _ _ _ c.in_ok-key.ensures.gets
+    c.value_mut-pipe.ensures.value (omega (arith, c.drawn.ensures, c.if-drawn.false, c.drawn.type_inv))
 
 pub describe-requires-clause-spare : goal.describe-requires-clause-spare
 describe-requires-clause-spare g c =
@@ -115,31 +107,22 @@ describe-requires-clause-unspent g c =
 
 pub invariant_of-self-2 : goal.invariant_of-self-2
 invariant_of-self-2 g c =
-    let x =
-    stands c.self.invariant c.in_ok-process.process.now c.in_ok-file.file.number c.self.inside.files
-    c.self.inside.files_made c.new-access.result
-    (sided c.tree.result.now c.in_ok-process.process.now.cred c.args.path.now (access_seen c.new-access.result)
-    c.in_ok-file.ensures.told) _ _ _ _
-    (sym c.get.ensures.value ∙ sym c.copied-found.ensures) c.in_ok-key.ensures.gets c.value_mut-pipe.ensures.value in
-    let z = rw (c.in_ok-key.ensures.drawn, c.end.ensures, c.before-kept.ensures) at c.describe.ensures in
-    rw c.count.ensures (opened-whole x z c.in_ok-process.ensures c.lowest-fd.ensures.lowest
+    rw c.count.ensures (stands-whole c.self.invariant c.self.view_is _ c.in_ok-process.ensures c.args.path.now
+    c.new-access.ensures (rw c.tree.ensures at c.in_ok-file.ensures.told) c.lowest-fd.ensures.lowest
+    (sym c.get.ensures.value ∙ sym c.copied-found.ensures) _ _ _ _ c.in_ok-key.ensures.gets
+    c.value_mut-pipe.ensures.value
+    (rw (c.in_ok-key.ensures.drawn, c.end.ensures, c.before-kept.ensures) at c.describe.ensures)
     c.if-fd-ge-MAX_DESCRIPTORS.false)
 
 pub returns-clause-says : goal.returns-clause-says
 returns-clause-says g c =
-    let found = rw c.tree.ensures at c.in_ok-file.ensures.told in
-    let key_is = sym c.get.ensures.value ∙ sym c.copied-found.ensures in
-    let x =
-    stands c.self.invariant c.in_ok-process.process.now c.in_ok-file.file.number c.self.inside.files
-    c.self.inside.files_made c.new-access.result
-    (sided c.tree.result.now c.in_ok-process.process.now.cred c.args.path.now (access_seen c.new-access.result)
-    c.in_ok-file.ensures.told) _ _ _ _ key_is c.in_ok-key.ensures.gets c.value_mut-pipe.ensures.value in
-    let z = rw (c.in_ok-key.ensures.drawn, c.end.ensures, c.before-kept.ensures) at c.describe.ensures in
-    rw c.count.ensures
-    (opened-makes c.self.invariant c.self.view_is c.args.pid c.in_ok-process.ensures c.args.path.now
-    c.new-access.ensures found c.lowest-fd.ensures.lowest key_is x z c.if-fd-ge-MAX_DESCRIPTORS.false
-    (lt-leb _ _ c.if-fd-ge-MAX_DESCRIPTORS.false) (sym c.lacks_readers.ensures ∙ c.if-lacks_readers.false)
-    (le-ltb _ _ (omega (arith, c.drawn.ensures, c.if-drawn.false, c.drawn.type_inv))))
+    rw c.count.ensures (opened-makes c.self.invariant c.self.view_is _ c.in_ok-process.ensures c.args.path.now
+    c.new-access.ensures (rw c.tree.ensures at c.in_ok-file.ensures.told) c.lowest-fd.ensures.lowest
+    (sym c.get.ensures.value ∙ sym c.copied-found.ensures) _ _ _ _ c.in_ok-key.ensures.gets
+    c.value_mut-pipe.ensures.value
+    (rw (c.in_ok-key.ensures.drawn, c.end.ensures, c.before-kept.ensures) at c.describe.ensures)
+    c.if-fd-ge-MAX_DESCRIPTORS.false (sym c.lacks_readers.ensures ∙ c.if-lacks_readers.false)
+    (omega (arith, c.drawn.ensures, c.if-drawn.false, c.drawn.type_inv)))
 
 pub returns-then-lacks_readers-clause-wanted : goal.returns-then-lacks_readers-clause-wanted
 returns-then-lacks_readers-clause-wanted g c = search rules steps 200000

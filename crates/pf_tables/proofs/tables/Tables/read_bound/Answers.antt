@@ -1,6 +1,4 @@
-use Rattle.std.proofs.Common.{rules, ℕ, sym, ◌∙◌, subst}
-use Rattle.pf_tables.proofs.Common.{Covers}
-use Rattle.pf_base.specs.declared.step.Step.TheVariants.{Read}
+use Rattle.std.proofs.Common.{rules, sym, ◌∙◌}
 use Rattle.pf_tables.proofs.Bounds as lemmas
 use Rattle.pf_tables.proofs.tables.Tables.read_bound.Goals as goal
 
@@ -16,7 +14,7 @@ returns-in_default-get-clause-covers g c =
 
 pub returns-clause-covers : goal.returns-clause-covers
 returns-clause-covers g c =
-    subst (λ (m : ℕ). Covers c.args.self.now (Read c.args.pid c.args.fd c.args.n) m) (sym c.min.ensures)
+    rw c.min.ensures
     (lemmas.reads c.self.invariant.kept c.self.view_is c.args.pid c.args.fd c.args.n c.in-Ok.end
     (sym c.in-Ok.ensures) c.in-Some.pipe.now (sym c.in-Some.ensures) _ c.len.ensures.bytes)
 

@@ -1,13 +1,12 @@
-use Rattle.std.proofs.Common.{ℕ, Some, sym, ap, ◌∙◌, subst, arith}
-use Rattle.pf_tables.proofs.Common.{Limits, Covers, Namespace}
-use Rattle.pf_base.specs.declared.step.Step.TheVariants.{Resume}
+use Rattle.std.proofs.Common.{Some, sym, ap, ◌∙◌, arith}
+use Rattle.pf_tables.proofs.Common.{Limits, Namespace}
 use Rattle.pf_tables.proofs.Bounds as lemmas
 use Rattle.pf_tables.proofs.Parked.{call-shown}
 use Rattle.pf_tables.proofs.tables.Tables.resume_bound.Goals as goal
 
 pub returns-in-Some-Read-clause-covers : goal.returns-in-Some-Read-clause-covers
 returns-in-Some-Read-clause-covers g c =
-    subst (λ (m : ℕ). Covers c.args.self.now (Resume c.args.pid) m) (sym c.min.ensures)
+    rw c.min.ensures
     (lemmas.resumes c.args.self.now (omega (
       arith,
       c.reserve-most.ensures.most,

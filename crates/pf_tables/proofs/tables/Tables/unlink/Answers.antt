@@ -1,19 +1,14 @@
 use Rattle.std.proofs.Common.{refl, sym, ◌∙◌}
-use Rattle.pf_machine.specs.FileCalls as calls
 use Rattle.pf_machine.specs.Files.{unlink}
 use Rattle.pf_tables.proofs.Files.{changed, changes_well, unmade}
 use Rattle.pf_tables.proofs.tables.Tables.unlink.Goals as goal
 
 pub returns-clause-says : goal.returns-clause-says
 returns-clause-says g c =
-    rw c.made_reply.ensures (changed c.self.invariant.kept.tied c.self.view_is c.args.pid c.in_ok-cred.ensures
-    (λ t q. unlink t q c.args.path.now)
-    (calls.unlink c.self.inside.files c.in_ok-cred.field-0.now.cred c.args.path.now) refl
-    c.unlink.new.self c.unlink.result c.unlink.ensures.changed)
+    rw c.made_reply.ensures (changed c.self.invariant.kept.tied c.self.view_is _ c.in_ok-cred.ensures _
+    (λ t q. unlink t q c.args.path.now) _ refl _ c.unlink.result c.unlink.ensures.changed)
 
 pub returns-clause-wanted : goal.returns-clause-wanted
 returns-clause-wanted g c none plain =
-    changes_well c.self.invariant.kept.tied c.self.view_is c.args.pid c.in_ok-cred.ensures
-    (λ t q. unlink t q c.args.path.now)
-    (calls.unlink c.self.inside.files c.in_ok-cred.field-0.now.cred c.args.path.now) refl
-    (c.unlink.ensures.wanted (unmade c.unlink.result (sym c.made_reply.ensures ∙ none)) plain)
+    changes_well c.self.invariant.kept.tied c.self.view_is _ c.in_ok-cred.ensures _ (λ t q. unlink t q c.args.path.now)
+    _ refl (c.unlink.ensures.wanted (unmade c.unlink.result (sym c.made_reply.ensures ∙ none)) plain)
