@@ -1,17 +1,30 @@
 -- What the tables say of a call at their own state, the lone machine says of what that state means: one lemma for all
 -- kinds of step that move no bytes and let nothing go.
 
-use Rattle.std.proofs.Common.{◌≡◌, ℕ, Option, Some, None, Result, Ok, Err, IsOk, OnErr, refl, sym, ap, subst, ◌∙◌}
+use Rattle.std.proofs.Common.{◌≡◌, ℕ, ◌+◌, length, Option, Some, None, Result, Ok, Err, IsOk, OnErr, refl, sym, ap}
+use Rattle.std.proofs.Common.{subst, ◌∙◌}
+use Rattle.std.specs.Prelude.{⊤}
 use Rattle.pf_tables.proofs.TablesShown.{each-same}
 use Rattle.pf_space.proofs.Common.{option_map, Limits, Errno, Fault, Reply, Step, Call, Moving, call, Segment, ◌>>=◌}
 use Rattle.pf_space.proofs.Common.{itself, State, Process, Outcome, ready, Live, Window, Namespace, meaning, Owns, Told}
 use Rattle.pf_space.proofs.Common.{settled}
+use Rattle.pf_base.specs.declared.errno.Errno.TheVariants.{EINVAL}
 use Rattle.pf_base.specs.declared.fault.Fault.TheVariants as faults
+use Rattle.pf_base.specs.declared.meta.Kind.TheVariants as kinds
+use Rattle.pf_base.specs.declared.step.Step.TheVariants as steps
 use Rattle.pf_machine.specs.Attempts.{has_nonblock, is_nonblocking}
 use Rattle.pf_machine.specs.Calls.{Opening}
+use Rattle.pf_machine.specs.Descriptors.{close, dup, set_nonblock}
+use Rattle.pf_machine.specs.Files.{chmod, list, make, rmdir, stat, unlink}
 use Rattle.pf_machine.specs.Maps.{if_ok, call_as, process_as, description_as, state_as, outcome_as}
-use Rattle.pf_machine.specs.State.{of_ready, told}
-use Rattle.pf_machine.proofs.Natural.{call-as}
+use Rattle.pf_machine.specs.Opens.{access_of, open_path}
+use Rattle.pf_machine.specs.Pipes.{get_size, pipe, set_size}
+use Rattle.pf_machine.specs.Processes.{exit, fork, spawn}
+use Rattle.pf_machine.specs.State.{of_living, of_ready, told}
+use Rattle.pf_machine.proofs.Natural.{born-as, call-as, dup-as, get_size-as, set_nonblock-as, spawn-as}
+use Rattle.pf_machine.proofs.NaturalCalls.{close-call, exit-call, open-call, pipe-call}
+use Rattle.pf_machine.proofs.NaturalFiles.{chmod-as, list-as, make-as, rmdir-as, stat-as, unlink-as}
+use Rattle.pf_machine.proofs.NaturalSizes.{set_size-as}
 use Rattle.pf_machine.proofs.NaturalWaits.{has_nonblock-as}
 use Rattle.pf_ring.specs.Ring.{segment_of}
 use Rattle.pf_tables.specs.Tables.{Says}
@@ -48,6 +61,10 @@ abbrev pub Natural : Limits → State Window ℕ → Step → Result (Outcome Wi
 Natural limits s step own =
     (shows : Window → Segment) → call limits (state_as shows itself s) step ≡ if_ok (outcome_as shows itself) own
 
+pub ok_is : {A : Type 0} (r : Result A Errno) → IsOk r → (x : A) × (r ≡ Ok x)
+ok_is (Ok x) ok = (x, refl)
+ok_is (Err e) ok = absurd (cc)
+
 -- What the machine's call is at the meaning of a state. step: the kind that it is of
 module _ (f : Live) (limits : Limits) (s : State Window ℕ) (step : Step) (own : Result (Outcome Window ℕ) Errno)
     (natural : Natural limits s step own) where
@@ -55,11 +72,8 @@ module _ (f : Live) (limits : Limits) (s : State Window ℕ) (step : Step) (own 
   machine = ap (λ x. call limits x step) (sym (meaning-as f s)) ∙ natural (segment_of f)
 
   pub ok-as : IsOk own → IsOk (call limits (meaning f s) step)
-  ok-as is = subst IsOk (sym machine) (by_own own is)
-    where
-      by_own : (r : Result (Outcome Window ℕ) Errno) → IsOk r → IsOk (if_ok (outcome_as (segment_of f) itself) r)
-      by_own (Ok o) h = refl
-      by_own (Err e) h = absurd (cc)
+  ok-as is =
+      subst IsOk (sym (machine ∙ ap (if_ok (outcome_as (segment_of f) itself)) (ok_is own is).1)) refl
 
   pub made-as : {t : State Window ℕ} {reply : Reply} → own ≡ Ok (told t reply)
       → call limits (meaning f s) step ≡ Ok (told (meaning f t) reply)
@@ -83,13 +97,10 @@ pub booked : {f : Live} {tables old new : Namespace} → tables ≡ old → Owns
     → Natural tables.limits tables.state step own
     → Told f f old new given (call old.limits (meaning f old.state) asked)
 booked {f} {tables} {old} {new} view owns {given} {result} moved {step} {asked} is own says refused natural =
-    subst (λ (n : Namespace). Told f f n new given (call n.limits (meaning f n.state) asked)) view
-    (subst (λ (x : Step). Told f f tables new given (call tables.limits (meaning f tables.state) x)) (sym is)
-    (subst (λ (r : Result Reply Fault). Told f f tables new r (call tables.limits (meaning f tables.state) step))
-    (sym moved) (by_result result says refused)))
+    rw (← view, is, moved) (by_result result says refused)
   where
     owned : Owns f tables
-    owned = subst (Owns f) (sym view) owns
+    owned = rw (← view) at owns
 
     by_result : (r : Result Reply Fault) → Says tables new r own → OnErr r (new ≡ tables)
         → Told f f tables new r (call tables.limits (meaning f tables.state) step)
@@ -100,36 +111,101 @@ booked {f} {tables} {old} {new} view owns {given} {result} moved {step} {asked} 
           ap settled (made-as f tables.limits tables.state step own natural made.is)
           ∙ (λ i. Ok (record { state = sym (settled-meaning f new.state made.swept) i; reply = reply }));
     }
-    by_result (Err (faults.Errno e)) refusal same = record {
-      owns = subst (Owns f) (sym same) owned;
-      limits = ap (λ (n : Namespace). n.limits) same;
-      says = (
-        refused-as f tables.limits tables.state step own natural refusal,
-        ap (λ (n : Namespace). meaning f n.state) same,
-      );
-    }
-    by_result (Err faults.NoMemory) wanted same = record {
-      owns = subst (Owns f) (sym same) owned;
-      limits = ap (λ (n : Namespace). n.limits) same;
-      says = (same, refl);
-    }
+    by_result (Err (faults.Errno e)) refusal same =
+        rw same (record {
+          owns = owned;
+          limits = refl;
+          says = (refused-as f tables.limits tables.state step own natural refusal, refl);
+        })
+    by_result (Err faults.NoMemory) wanted same = rw same (record { owns = owned; limits = refl; says = (refl, refl) })
 
--- a call that is refused
-pub booked_not : {f : Live} {tables old new : Namespace} → tables ≡ old → Owns f old → (step : Step)
-    (own : Result (Outcome Window ℕ) Errno) {e : Errno} → own ≡ Err e → new ≡ tables
-    → Natural tables.limits tables.state step own
+-- What the tables make of a step at their own state, of a kind that moves no bytes and tries no call again
+
+abbrev pub Stays : Step → Type 0
+Stays (steps.Read pid fd n) = ⊥
+Stays (steps.Write pid fd x) = ⊥
+Stays (steps.Tee pid source sink n nonblock) = ⊥
+Stays (steps.Splice pid source sink n nonblock) = ⊥
+Stays (steps.Resume pid) = ⊥
+Stays _ = ⊤
+
+abbrev pub own_of : Namespace → Step → Result (Outcome Window ℕ) Errno
+own_of n (steps.Spawn uid gid umask groups) =
+    spawn n.state (record { uid = uid; gid = gid; groups = groups; umask = umask })
+own_of n (steps.Exit pid) = of_living n.state pid (λ p. exit n.state pid)
+own_of n (steps.Fork pid) = of_ready n.state pid (λ p. fork n.state p)
+own_of n (steps.Pipe pid nonblock) =
+    of_ready n.state pid (λ p. pipe (length n.state.descriptions) (length n.state.descriptions + 1)
+    (length n.state.pipes) n.limits n.state pid p nonblock)
+own_of n (steps.Dup pid fd) = of_ready n.state pid (λ p. dup n.state pid p fd)
+own_of n (steps.Close pid fd) = of_ready n.state pid (λ p. close n.state pid p fd)
+own_of n (steps.SetNonblock pid fd on) = of_ready n.state pid (λ p. set_nonblock itself n.state p fd on)
+own_of n (steps.SetSize pid fd bytes) = of_ready n.state pid (λ p. set_size itself n.limits n.state p fd bytes)
+own_of n (steps.GetSize pid fd) = of_ready n.state pid (λ p. get_size itself n.state p fd)
+own_of n (steps.Mkdir pid path mode) = of_ready n.state pid (λ p. make kinds.Directory n.state p path mode)
+own_of n (steps.Mkfifo pid path mode) = of_ready n.state pid (λ p. make kinds.Fifo n.state p path mode)
+own_of n (steps.Unlink pid path) = of_ready n.state pid (λ p. unlink n.state p path)
+own_of n (steps.Rmdir pid path) = of_ready n.state pid (λ p. rmdir n.state p path)
+own_of n (steps.Chmod pid path mode) = of_ready n.state pid (λ p. chmod n.state p path mode)
+own_of n (steps.Stat pid path) = of_ready n.state pid (λ p. stat n.state p path)
+own_of n (steps.List pid path) = of_ready n.state pid (λ p. list n.state p path)
+own_of n (steps.Open pid path flags) =
+    of_ready n.state pid (λ p. open_path itself (length n.state.descriptions) itself n.limits n.state pid p path
+    (access_of flags.0))
+own_of n _ = Err EINVAL
+
+pub natural : (n : Namespace) (step : Step) → Stays step → Natural n.limits n.state step (own_of n step)
+natural n (steps.Spawn uid gid umask groups) stays shows =
+    spawn-as shows itself n.state (record { uid = uid; gid = gid; groups = groups; umask = umask })
+natural n (steps.Exit pid) stays shows = exit-call shows itself n.limits n.state pid
+natural n (steps.Fork pid) stays shows = as_ready shows n.state pid _ _ (λ p. born-as shows itself n.state p)
+natural n (steps.Pipe pid nonblock) stays shows =
+    pipe-call shows itself n.limits n.state pid (length n.state.descriptions) (length n.state.descriptions + 1)
+    (length n.state.pipes) refl refl refl nonblock
+natural n (steps.Dup pid fd) stays shows = as_ready shows n.state pid _ _ (λ p. dup-as shows itself n.state pid p fd)
+natural n (steps.Close pid fd) stays shows = close-call shows itself n.limits n.state pid fd
+natural n (steps.SetNonblock pid fd on) stays shows =
+    as_ready shows n.state pid _ _ (λ p. set_nonblock-as shows itself itself itself (λ m. refl) n.state p _ _)
+natural n (steps.SetSize pid fd bytes) stays shows =
+    as_ready shows n.state pid _ _ (λ p. set_size-as shows itself itself itself (λ m. refl) _ n.state p _ _)
+natural n (steps.GetSize pid fd) stays shows =
+    as_ready shows n.state pid _ _ (λ p. get_size-as shows itself itself itself (λ m. refl) n.state p _)
+natural n (steps.Mkdir pid path mode) stays shows =
+    as_ready shows n.state pid _ _ (λ p. make-as shows itself n.state p path kinds.Directory mode)
+natural n (steps.Mkfifo pid path mode) stays shows =
+    as_ready shows n.state pid _ _ (λ p. make-as shows itself n.state p path kinds.Fifo mode)
+natural n (steps.Unlink pid path) stays shows =
+    as_ready shows n.state pid _ _ (λ p. unlink-as shows itself n.state p path)
+natural n (steps.Rmdir pid path) stays shows =
+    as_ready shows n.state pid _ _ (λ p. rmdir-as shows itself n.state p path)
+natural n (steps.Chmod pid path mode) stays shows =
+    as_ready shows n.state pid _ _ (λ p. chmod-as shows itself n.state p path mode)
+natural n (steps.Stat pid path) stays shows = as_ready shows n.state pid _ _ (λ p. stat-as shows itself n.state p path)
+natural n (steps.List pid path) stays shows = as_ready shows n.state pid _ _ (λ p. list-as shows itself n.state p path)
+natural n (steps.Open pid path flags) stays shows =
+    open-call shows itself n.limits n.state pid path (length n.state.descriptions) itself refl (λ m. refl) flags
+natural n _ stays shows = absurd stays
+
+-- a step that the tables make, or refuse
+pub booked_step : {f : Live} {tables old new : Namespace} → tables ≡ old → Owns f old
+    → {given result : Result Reply Fault} → given ≡ result → {step asked : Step} → asked ≡ step → Stays step
+    → Says tables new result (own_of tables step) → OnErr result (new ≡ tables)
+    → Told f f old new given (call old.limits (meaning f old.state) asked)
+booked_step {tables = tables} view owns moved {step} is stays says refused =
+    booked view owns moved is (own_of tables step) says refused (natural tables step stays)
+
+pub booked_not : {f : Live} {tables old new : Namespace} → tables ≡ old → Owns f old → (step : Step) → Stays step
+    → {e : Errno} → own_of tables step ≡ Err e → new ≡ tables
     → Told f f old new (Err (faults.Errno e)) (call old.limits (meaning f old.state) step)
-booked_not view owns step own is same natural = booked view owns refl {step = step} refl own is same natural
+booked_not view owns step stays is same = booked_step view owns refl {step = step} refl stays is same
 
--- a call that only looks something up
+-- one that only looks something up
 pub looked_up : {f : Live} {tables old : Namespace} → tables ≡ old → Owns f old → {given result : Result Reply Fault}
-    → given ≡ result → {step asked : Step} → asked ≡ step → (own : Result (Outcome Window ℕ) Errno)
-    → Says tables tables result own
-    → Natural tables.limits tables.state step own
+    → given ≡ result → {step asked : Step} → asked ≡ step → Stays step
+    → Says tables tables result (own_of tables step)
     → Told f f old old given (call old.limits (meaning f old.state) asked)
-looked_up {f} {tables} {old} view owns {given} {result} moved {step} {asked} is own says natural =
-    subst (λ (n : Namespace). Told f f old n given (call old.limits (meaning f old.state) asked)) view
-    (booked view owns moved is own says (on_err result) natural)
+looked_up {tables = tables} view owns {result = result} moved is stays says =
+    rw (← view) (booked_step refl (rw (← view) at owns) moved is stays says (on_err result))
   where
     on_err : (r : Result Reply Fault) → OnErr r (tables ≡ tables)
     on_err (Ok reply) = tt

@@ -18,7 +18,6 @@ use Rattle.pf_machine.specs.Processes.{exit}
 use Rattle.pf_machine.specs.State.{of_ready, without_process, done}
 use Rattle.pf_machine.specs.State as machine
 use Rattle.pf_machine.proofs.ExitLaws.{sum_of-falls}
-use Rattle.pf_machine.proofs.NaturalCalls.{close-call}
 use Rattle.pf_machine.proofs.NumberedLaws.{at_past, at_within, at-put_same, at-put_other}
 use Rattle.pf_machine.proofs.SweepLaws.{with_processes, sweep-sweep}
 use Rattle.pf_ring.specs.Ring.{Ring}
@@ -31,7 +30,7 @@ use Rattle.pf_tables.specs.Tables.{descriptor, emptied, woken, Begun, Closes, Is
 use Rattle.pf_tables.specs.Told.{Becomes}
 use Rattle.pf_tables.proofs.MeaningLaws.{pipes-left, pipes-without, settled-meaning, sweep-meaning, woken-left}
 use Rattle.pf_tables.proofs.OwnsLaws.{joined_gone, others_written, stands_at}
-use Rattle.pf_space.proofs.Books.{made-as}
+use Rattle.pf_space.proofs.Books.{made-as, natural}
 
 -- What went
 
@@ -44,9 +43,7 @@ module _ {f : Live} {old new : Namespace} {s : State Window ℕ} (owns : Owns f 
   -- and when they are given back, the pipes that are left mean what they meant
   pub cleared : {g : Live} (gone : Option Pipe) → Leaves old new s gone
       → IfSome gone (λ p. Keeps [] p.ring.segments [] f g) → (gone ≡ None → g ≡ f) → Becomes f g old new (meaning f s)
-  cleared None l keeps same =
-      subst (λ (g : Live). Becomes f g old new (meaning f s)) (sym (same refl))
-      (pipes-left f old new s l.limits l.gone l.state owns)
+  cleared None l keeps same = rw (same refl) (pipes-left f old new s l.limits l.gone l.state owns)
   cleared {g} (Some p) l keeps same =
       let bare : Ring = record { capacity = p.ring.capacity; segments = [] } in
       let none = no_source (rings_of old.state) in
@@ -81,11 +78,9 @@ pub closed : {f g : Live} {tables old new : Namespace} → tables ≡ old → Ow
     → Closes tables new (Ok gone) (of_ready tables.state pid (λ p. close tables.state pid p fd))
     → IfSome gone (λ p. Keeps [] p.ring.segments [] f g) → (gone ≡ None → g ≡ f)
     → Told f g old new (Ok (Num 0)) (call old.limits (meaning f old.state) (steps.Close pid fd))
-closed {f} {g} {tables} {old} {new} view owns gone pid fd c keeps same =
-    subst (λ (n : Namespace). Told f g n new (Ok (Num 0)) (call n.limits (meaning f n.state) (steps.Close pid fd))) view
-    (leaves (cleared (subst (Owns f) (sym view) owns) gone c.2 keeps same)
-    (made-as f tables.limits tables.state (steps.Close pid fd) _
-    (λ shows. close-call shows itself tables.limits tables.state pid fd) c.1))
+closed {f} {tables = tables} view owns gone pid fd c keeps same =
+    rw (← view) (leaves (cleared (rw (← view) at owns) gone c.2 keeps same)
+    (made-as f tables.limits tables.state (steps.Close pid fd) _ (natural tables (steps.Close pid fd) tt) c.1))
 
 -- An exit on its way
 

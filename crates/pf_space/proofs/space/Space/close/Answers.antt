@@ -1,6 +1,4 @@
-use Rattle.std.proofs.Common.{sym, ap, subst, rules}
-use Rattle.pf_space.proofs.Common.{itself, Owns}
-use Rattle.pf_machine.proofs.NaturalCalls.{close-call}
+use Rattle.std.proofs.Common.{ap, rules}
 use Rattle.pf_base.specs.declared.step.Step.TheVariants.{Close}
 use Rattle.pf_space.proofs.Books.{booked_not}
 use Rattle.pf_space.proofs.Closes.{gone_stands, closed}
@@ -9,15 +7,13 @@ use Rattle.pf_space.proofs.space.Space.close.Goals as goal
 pub returns-in_err-gone-clause-told : goal.returns-in_err-gone-clause-told
 returns-in_err-gone-clause-told g c =
     let refused =
-    booked_not c.self.view_is c.requires.door.owns (Close c.args.pid c.args.fd) _ c.in_err-gone.ensures.closes
-    c.in_err-gone.ensures.refused
-    (λ shows. close-call shows itself c.self.inside.tables.limits c.self.inside.tables.state c.args.pid c.args.fd) in
+    booked_not c.self.view_is c.requires.door.owns (Close c.args.pid c.args.fd) tt c.in_err-gone.ensures.closes
+    c.in_err-gone.ensures.refused in
     search rules
 
 pub clear-requires-clause-stands : goal.clear-requires-clause-stands
 clear-requires-clause-stands g c =
-    gone_stands (subst (Owns (g.F.Frames.live c.args.door.now)) (sym c.self.view_is) c.requires.door.owns) _
-    c.in_ok-gone.ensures.closes.2
+    gone_stands (rw (← c.self.view_is) at c.requires.door.owns) _ c.in_ok-gone.ensures.closes.2
 
 pub returns-clause-told : goal.returns-clause-told
 returns-clause-told g c =

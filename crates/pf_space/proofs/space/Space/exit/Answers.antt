@@ -1,11 +1,7 @@
-use Rattle.std.proofs.Common.{◌-◌, refl, sym, ap, ◌∙◌, subst, rules}
-use Rattle.pf_space.proofs.Common.{itself, Namespace}
-use Rattle.pf_machine.specs.Processes.{exit}
-use Rattle.pf_machine.proofs.NaturalCalls.{exit-call}
-use Rattle.pf_base.specs.declared.TheConstants.{MAX_DESCRIPTORS}
-use Rattle.pf_base.specs.declared.step.Reply.TheVariants.{Num}
+use Rattle.std.proofs.Common.{◌-◌, refl, sym, ap, ◌∙◌, rules}
+use Rattle.pf_space.proofs.Common.{Namespace}
 use Rattle.pf_base.specs.declared.step.Step.TheVariants.{Exit}
-use Rattle.pf_tables.specs.Tables.{descriptor, Begun, IsBare, Makes}
+use Rattle.pf_tables.specs.Tables.{descriptor}
 use Rattle.pf_space.proofs.Books.{booked_not}
 use Rattle.pf_space.proofs.Closes as lemmas
 use Rattle.pf_space.proofs.space.Space.exit.Goals as goal
@@ -14,9 +10,8 @@ pub loop-fd-init : goal.loop-fd-init
 loop-fd-init g c = record {
   door = record { fact = c.requires.door.fact; rest = refl };
   exits =
-      lemmas.begun
-      (subst (λ (n : Namespace). Begun n c.begin_exit.new.self c.args.pid) c.self.view_is
-      c.in_ok-begin_exit.ensures.begins) c.requires.door.owns _ c.next_descriptor-fd.ensures.between;
+      lemmas.begun (rw c.self.view_is at c.in_ok-begin_exit.ensures.begins) c.requires.door.owns _
+      c.next_descriptor-fd.ensures.between;
 }
 
 pub loop-fd-preserved-then-empty : goal.loop-fd-preserved-then-empty
@@ -37,21 +32,16 @@ loop-fd-preserved g c = record {
 
 pub end_exit-requires-clause-bare : goal.end_exit-requires-clause-bare
 end_exit-requires-clause-bare g c =
-    subst (λ (n : Namespace). IsBare n.state (c.args.pid - 1) MAX_DESCRIPTORS) (sym c.self-2.view_is)
-    (lemmas.all_bare c.loop-fd.invariant.exits c.loop-fd-test.false)
+    rw c.self-2.view_is (lemmas.all_bare c.loop-fd.invariant.exits c.loop-fd-test.false)
 
 pub returns-in_err-begin_exit-clause-told : goal.returns-in_err-begin_exit-clause-told
 returns-in_err-begin_exit-clause-told g c =
     let refused =
-    booked_not c.self.view_is c.requires.door.owns (Exit c.args.pid) _ c.in_err-begin_exit.ensures.begins
-    c.in_err-begin_exit.ensures.refused
-    (λ shows. exit-call shows itself c.self.inside.tables.limits c.self.inside.tables.state c.args.pid) in
+    booked_not c.self.view_is c.requires.door.owns (Exit c.args.pid) tt c.in_err-begin_exit.ensures.begins
+    c.in_err-begin_exit.ensures.refused in
     search rules
 
 pub returns-clause-told : goal.returns-clause-told
 returns-clause-told g c =
-    lemmas.exited c.loop-fd.invariant.exits
-    (subst (λ (n : Namespace). Begun n c.begin_exit.new.self c.args.pid) c.self.view_is
-    c.in_ok-begin_exit.ensures.begins)
-    (subst (λ (n : Namespace). Makes n c.end_exit.new.self (exit n.state c.args.pid) (Num 0)) c.self-2.view_is
-    c.end_exit.ensures)
+    lemmas.exited c.loop-fd.invariant.exits (rw c.self.view_is at c.in_ok-begin_exit.ensures.begins)
+    (rw c.self-2.view_is at c.end_exit.ensures)

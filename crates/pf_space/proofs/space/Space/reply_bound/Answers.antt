@@ -1,17 +1,12 @@
 -- It is no step. The last arm stands for all kinds that hand out nothing, and the numbers are of the tables inside.
 
-use Rattle.std.proofs.Common.{sym, subst, arith}
-use Rattle.pf_space.proofs.Common.{Step, Namespace}
-use Rattle.pf_base.specs.declared.step.Step.TheVariants.{List}
-use Rattle.pf_tables.specs.Bounds.{Covers}
+use Rattle.std.proofs.Common.{arith}
 use Rattle.pf_tables.proofs.Bounds as lemmas
 use Rattle.pf_space.proofs.space.Space.reply_bound.Goals as goal
 
 pub returns-in-List-clause-covers : goal.returns-in-List-clause-covers
 returns-in-List-clause-covers g c =
-    subst (λ (s : Step). Covers c.args.self.now s c.list_bound.result) (sym c.in-List.is)
-    (subst (λ (n : Namespace). Covers n (List c.in-List.pid c.in-List.path) c.list_bound.result) c.self.view_is
-    (c.list_bound.ensures.covers c.in-List.pid c.in-List.path))
+    rw (c.in-List.is, ← c.self.view_is) (c.list_bound.ensures.covers c.in-List.pid c.in-List.path)
 
 pub returns-in_default : goal.returns-in_default
 returns-in_default g c = record {
