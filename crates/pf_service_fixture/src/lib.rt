@@ -163,6 +163,19 @@ pub fn makes_all<R: Wait, G: Gate, C: Ledger, H: Ledger>(
     true
 }
 
+/// Whether the next namespace that comes has this number, so nobody has used it up before. It reserves no frame.
+pub fn is_next<R: Wait, G: Gate, C: Ledger, H: Ledger>(
+    rt: &R,
+    alloc: Global,
+    service: &Service<Global, G, C, H>,
+    ns: u32,
+) -> bool {
+    match config_of(0) {
+        Some(config) => matches!(service.admit(rt, config, alloc), Ok(number) if number == ns),
+        None => false,
+    }
+}
+
 /// The seat, where something holds.
 pub fn seat_if(holds: bool, seat: Seat) -> Option<Seat> {
     if holds { Some(seat) } else { None }

@@ -10,7 +10,8 @@ use crate::services::{Callers, place_of, serve, steps_of_blue, steps_of_red};
 use pf_base::Step;
 use pf_service::{Gate, Seat, Service};
 use pf_service_fixture::{
-    BLUE, Closed, RED, Size, blank, both, closed, config_of, namespaces, seat_if, service_of,
+    BLUE, Closed, RED, Size, blank, both, closed, config_of, is_next, namespaces, seat_if,
+    service_of,
 };
 use std::alloc::Global;
 use std::marker::Brand;
@@ -166,8 +167,22 @@ fn make_told<R: Wait, C: Ledger, H: Ledger>(
     seat_if(all, seat)
 }
 
+// Whether both go, neither of whom goes twice, and one comes behind them whose number nobody has used up.
+fn both_go<R: Wait, C: Ledger, H: Ledger>(
+    rt: &R,
+    alloc: Global,
+    service: &Service<Global, Recorder<'_>, C, H>,
+) -> bool {
+    service.retire(rt, RED).is_ok()
+        && service.retire(rt, BLUE).is_ok()
+        && service.retire(rt, RED).is_err()
+        && service.retire(rt, BLUE).is_err()
+        && is_next(rt, alloc, service, 2)
+}
+
 // Two tenants in turn, the second of which is admitted. The gate is told of their events, by calls or by calls that may
-// wait, and of their frames, of which each takes 16 at once.
+// wait, and of their frames, of which each takes 16 at once. It isn't told of their going, nor of who comes behind
+// them.
 #[derive(Drop)]
 struct ToldOnce<'a> {
     red: &'a Told,
@@ -192,11 +207,13 @@ impl<'a> Callers<Recorder<'a>> for ToldOnce<'_> {
         let told = Some(self.blue);
         let theirs = make_told(rt, alloc, service, theirs, &steps, self.may_wait, told);
         assert!(rt; self.red.is_of(4, 16) && self.blue.is_of(4, 16));
+        assert!(rt; both_go(rt, alloc, service));
+        assert!(rt; self.red.is_of(4, 16) && self.blue.is_of(4, 16));
         both(alloc, ours, theirs)
     }
 }
 
-// Two tenants are served so, of whom the second comes.
+// Two tenants are served so, of whom the second comes. At the end the gate isn't told of anything.
 fn told_once<R: Wait + Abort>(rt: &R, alloc: Global, may_wait: bool) -> Closed {
     let (red, blue) = (Told::new(), Told::new());
     let (inside, coming) = (AtomicU64::new(0), AtomicU64::new(1));
@@ -215,20 +232,22 @@ fn told_once<R: Wait + Abort>(rt: &R, alloc: Global, may_wait: bool) -> Closed {
         namespaces: 1,
         slack: 16,
     };
-    serve(rt, alloc, size, gate, &callers)
+    let closed = serve(rt, alloc, size, gate, &callers);
+    assert!(rt; red.is_of(4, 16) && blue.is_of(4, 16));
+    closed
 }
 
 #[test]
 fn a_gate_is_told_of_each_event_and_frame_once(rt: HostRuntime) -> Result<(), Fail> {
     let transcripts = told_once(&rt, rt.alloc(), false)??;
-    assert_eq!(rt; transcripts.as_slice().len(), 2);
+    assert_eq!(rt; transcripts.as_slice().len(), 3);
     Ok(())
 }
 
 #[test]
 fn a_call_that_may_wait_tells_a_gate_of_them_too(rt: HostRuntime) -> Result<(), Fail> {
     let transcripts = told_once(&rt, rt.alloc(), true)??;
-    assert_eq!(rt; transcripts.as_slice().len(), 2);
+    assert_eq!(rt; transcripts.as_slice().len(), 3);
     Ok(())
 }
 

@@ -1,12 +1,13 @@
-//! A call that waits, and what wakes it: what another one writes that may wait too, and what ends its process, resumes
-//! it first, or lets it wait for something else.
+//! A call that waits, and what wakes it: what another one writes that may wait too, what ends its process, resumes it
+//! first, or lets it wait for something else, and many events that are of no use to it.
 
 ghost use Rattle.pf_depot.specs.Blanks.{IsBlankOf};
 
 use pf_base::{ByteString, Errno, Reply, RetireFault, Step};
 use pf_service::{Gate, Seat, Service, Transcripts};
 use pf_service_fixture::{
-    RED, blank, both, closed, make, namespaces, service_of, spawn, with, write_by,
+    RED, blank, both, closed, is_next, make, makes, namespaces, seat_if, service_of, spawn, with,
+    write_by,
 };
 use std::alloc::{AllocError, Global};
 use std::marker::Brand;
@@ -20,6 +21,12 @@ use std::thread::{Threads, join};
 
 // The most turns that a caller waits for another.
 const TURNS: u64 = 10_000_000;
+
+// How often a host asks while somebody waits, who has a turn between two questions.
+const ASKED: u64 = 1_000;
+
+// The most Resumes of those who wait beyond the fewest that there may be.
+const MORE: u64 = 10;
 
 // What a gate was told of a namespace.
 #[derive(Drop)]
@@ -51,12 +58,14 @@ impl Count {
         self.events.load(Ordering::SeqCst) >= number
     }
 
-    // Whether it was each event of the namespace once, and so many frames.
-    fn is_of(&self, transcripts: &Transcripts, frames: u64) -> bool {
+    // Whether it was each event of the namespace once, not many more than so many, and so many frames.
+    fn is_of(&self, transcripts: &Transcripts, fewest: u64, frames: u64) -> bool {
         let events = self.events.load(Ordering::SeqCst);
         match transcripts.as_slice() {
-            [one] => {
-                one.entries().len() as u64 == events && self.frames.load(Ordering::SeqCst) == frames
+            [one, _guest] => {
+                one.entries().len() as u64 == events
+                    && events <= fewest.saturating_add(MORE)
+                    && self.frames.load(Ordering::SeqCst) == frames
             }
             _ => false,
         }
@@ -114,11 +123,13 @@ fn opening(alloc: Global) -> Result<Vec<Step>, AllocError> {
     Ok(steps)
 }
 
-// What a thread brings: its steps, and how many events are told before these. Only the last of them may wait.
+// What a thread brings: its steps, and how many events are told before these. Only the last of them may wait. In turn:
+// between each two of its steps who waits is woken, and waits again; and a host asks often before the last.
 #[derive(Clone, Copy)]
 struct Caller<'a> {
     alloc: Global,
     steps: &'a [Step],
+    in_turn: bool,
     last: &'a Step,
     count: &'a Count,
     number: u64,
@@ -135,7 +146,7 @@ fn is_told<R: Wait, C: Ledger, H: Ledger>(
         && matches!(service.retire(rt, RED), Err(RetireFault::Alive { .. }))
 }
 
-// The last reply to a step that may wait.
+// The last reply to a step that may wait, where there is a receipt for each event.
 fn last_reply<R: Wait, C: Ledger, H: Ledger>(
     rt: &R,
     alloc: Global,
@@ -143,9 +154,59 @@ fn last_reply<R: Wait, C: Ledger, H: Ledger>(
     seat: &mut Seat,
     last: &Step,
 ) -> Option<Reply> {
+    let kept = seat.events().len();
     let mut receipts = Vec::new(alloc);
     service.call_waiting(rt, seat, last, &mut receipts).ok()?;
+    if seat.events().len().checked_sub(kept) != Some(receipts.len()) {
+        return None;
+    }
     Some(receipts.pop()?.reply)
+}
+
+// Makes the steps in turn, until one is refused, or who waits isn't woken by it; whether each is, and does.
+fn makes_in_turn<R: Wait, C: Ledger, H: Ledger>(
+    rt: &R,
+    service: &Service<Global, Counter<'_>, C, H>,
+    seat: &mut Seat,
+    caller: Caller<'_>,
+) -> bool {
+    let mut told = caller.number;
+    for step in caller.steps {
+        // its own event, and the Resume of who waits
+        told = told.saturating_add(2);
+        if !makes(rt, service, seat, step) || !wait_for(caller.count, told, TURNS) {
+            return false;
+        }
+    }
+    true
+}
+
+// Whether a host is told all that often. It wakes nobody: who waits would make a Resume each time.
+fn is_told_often<R: Wait, C: Ledger, H: Ledger>(
+    rt: &R,
+    service: &Service<Global, Counter<'_>, C, H>,
+) -> bool {
+    for _ in 0..ASKED {
+        if !is_told(rt, service) {
+            return false;
+        }
+        thread::yield_now();
+    }
+    true
+}
+
+// Makes a thread's steps but for the last. No seat comes back where one was refused.
+fn make_first<R: Wait, C: Ledger, H: Ledger>(
+    rt: &R,
+    service: &Service<Global, Counter<'_>, C, H>,
+    mut seat: Seat,
+    caller: Caller<'_>,
+) -> Option<Seat> {
+    if !caller.in_turn {
+        return make(rt, service, seat, caller.steps);
+    }
+    let all = makes_in_turn(rt, service, &mut seat, caller) && is_told_often(rt, service);
+    seat_if(all, seat)
 }
 
 // A thread's part: its steps, once so many events were told, by a seat that it is given then. The seat comes back with
@@ -161,17 +222,18 @@ fn call_last<R: Wait, C: Ledger, H: Ledger>(
         return None;
     }
     let seat = service.seat(rt, RED).ok()?;
-    let mut seat = make(rt, service, seat, caller.steps)?;
+    let mut seat = make_first(rt, service, seat, caller)?;
     let reply = last_reply(rt, caller.alloc, service, &mut seat, caller.last)?;
     Some((seat, reply))
 }
 
-// What two threads do. The first makes a step that waits; the second, once that waits, steps that don't, and one that
-// may. So many events are told until both are done, and no fewer; and so many frames, and no more.
+// What two threads do. The first makes a step that waits; the second, once that waits, steps that don't, in turn or
+// not, and one that may. So many events are told until both are done, and no fewer; and so many frames, and no more.
 #[derive(Clone, Copy)]
 struct Steps<'a> {
     first: &'a Step,
     then: &'a [Step],
+    in_turn: bool,
     last: &'a Step,
     events: u64,
     frames: u64,
@@ -235,6 +297,7 @@ fn played<C: Ledger + Send + Sync, H: Ledger + Send + Sync, R: Threads + Wait + 
     let ours = Caller {
         alloc,
         steps: &[],
+        in_turn: false,
         last: steps.first,
         count,
         number: 3,
@@ -242,6 +305,7 @@ fn played<C: Ledger + Send + Sync, H: Ledger + Send + Sync, R: Threads + Wait + 
     let theirs = Caller {
         alloc,
         steps: steps.then,
+        in_turn: steps.in_turn,
         last: steps.last,
         count,
         number: 4,
@@ -250,7 +314,8 @@ fn played<C: Ledger + Send + Sync, H: Ledger + Send + Sync, R: Threads + Wait + 
     Ok((with(seats, opened)?, first, last))
 }
 
-// The last replies, where the gate was told of each event once, and of no other frames. The transcripts are let go.
+// The last replies, where the gate was told of each event once, and of no other frames, and nobody has used up a
+// number. The transcripts are let go.
 fn replies_if(
     holds: bool,
     transcripts: Transcripts,
@@ -283,9 +348,10 @@ fn last_replies_named<
         Ok((seats, first, last)) => (Ok(seats), Some((first, last))),
         Err(fail) => (Err(fail), None),
     };
+    let next = is_next(rt, alloc, &service, 1);
     let transcripts = closed(service, seats)??;
     replies_if(
-        count.is_of(&transcripts, steps.frames),
+        next && count.is_of(&transcripts, steps.events, steps.frames),
         transcripts,
         replies,
     )
@@ -322,6 +388,7 @@ fn each_wakes_the_other(rt: HostRuntime) -> Result<(), Fail> {
     let steps = Steps {
         first: &reading(4_096),
         then: &[],
+        in_turn: false,
         last: &write_by(alloc, 2, 0x61, 65_541)?,
         events: 7,
         frames: 17,
@@ -338,6 +405,7 @@ fn who_waits_is_told_that_its_process_is_gone(rt: HostRuntime) -> Result<(), Fai
     let steps = Steps {
         first: &reading(1),
         then: &[],
+        in_turn: false,
         last: &Step::Exit { pid: 1 },
         events: 6,
         frames: 0,
@@ -355,6 +423,7 @@ fn one_of_two_resumes_a_process_that_waits_no_more(rt: HostRuntime) -> Result<()
     let steps = Steps {
         first: &reading(1),
         then: &[write_by(alloc, 2, 0x61, 1)?],
+        in_turn: false,
         last: &RESUME,
         events: 7,
         frames: 1,
@@ -374,6 +443,7 @@ fn a_process_may_wait_in_another_call_since(rt: HostRuntime) -> Result<(), Fail>
     let steps = Steps {
         first: &reading(1),
         then: &[write_by(alloc, 2, 0x61, 1)?, RESUME, reading(1)],
+        in_turn: false,
         last: &write_by(alloc, 2, 0x62, 1)?,
         events: 9,
         frames: 2,
@@ -392,8 +462,39 @@ fn who_waits_is_woken_after_a_resume_that_moved_nothing(rt: HostRuntime) -> Resu
     let steps = Steps {
         first: &reading(1),
         then: &[RESUME],
+        in_turn: false,
         last: &write_by(alloc, 2, 0x61, 1)?,
         events: 7,
+        frames: 1,
+    };
+    let (ours, theirs) = last_replies(&rt, alloc, steps)?;
+    assert_eq!(rt; ours, bytes(alloc, b"a")?);
+    assert_eq!(rt; theirs, Reply::Num(1));
+    Ok(())
+}
+
+// A descriptor is made and closed, so many times.
+fn dups_and_closes(alloc: Global, times: usize) -> Result<Vec<Step>, AllocError> {
+    let mut steps = Vec::new(alloc);
+    for _ in 0..times {
+        steps.push(Step::Dup { pid: 2, fd: 0 })?;
+        steps.push(Step::Close { pid: 2, fd: 2 })?;
+    }
+    Ok(steps)
+}
+
+// Two hundred events come that are of no use to who waits, each of which wakes it: it waits again, is left alone while
+// a host asks, and is told of what comes then.
+#[test]
+fn who_is_woken_for_nothing_waits_on(rt: HostRuntime) -> Result<(), Fail> {
+    let alloc = rt.alloc();
+    let then = dups_and_closes(alloc, 100)?;
+    let steps = Steps {
+        first: &reading(1),
+        then: &then,
+        in_turn: true,
+        last: &write_by(alloc, 2, 0x61, 1)?,
+        events: 406,
         frames: 1,
     };
     let (ours, theirs) = last_replies(&rt, alloc, steps)?;
