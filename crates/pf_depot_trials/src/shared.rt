@@ -42,14 +42,26 @@ pub(crate) fn opened<C: Ledger, H: Ledger>(
     DepotBook::open(alloc, frames, reserves, credits, held)
 }
 
+// The number of the next one that comes, which reserves no frame; or none that there is.
+fn next_of<C: Ledger, H: Ledger, R: Wait>(rt: &R, book: &Mutex<DepotBook<C, H>>) -> u32 {
+    match book.lock(rt).admit(0) {
+        Ok((number, allotment)) => {
+            drop(allotment);
+            number
+        }
+        Err(_) => u32::MAX,
+    }
+}
+
 // How many frames of a shared depot of five are free once it is open, once the first of its two namespaces has given
-// back two, once it keeps two, once it was refused two more, and once the other keeps two.
+// back two, once it keeps two, once it was refused two more, and once the other keeps two; and the number of the next
+// one that comes then.
 fn free_of_five<C: Ledger, H: Ledger, R: Wait>(
     rt: &R,
     alloc: Global,
     credits: Blank,
     held: Blank,
-) -> Result<Option<[u32; 5]>, PoolFault>
+) -> Result<Option<[u32; 6]>, PoolFault>
     requires blanks { IsBlankOf C.name C.parts credits × IsBlankOf H.name H.parts held }
 {
     let (book, mut allotments) = opened::<C, H>(alloc, 5, &[2, 2], credits, held)?;
@@ -69,14 +81,15 @@ fn free_of_five<C: Ledger, H: Ledger, R: Wait>(
     let still = book.lock(rt).free();
     let kept = kept && second.borrow(rt, &book, 4, true);
     let both_keep = book.lock(rt).free();
+    let next = next_of(rt, &book);
     if given_back && kept && refused {
-        Ok(Some([all, after, one_keeps, still, both_keep]))
+        Ok(Some([all, after, one_keeps, still, both_keep, next]))
     } else {
         Ok(None)
     }
 }
 
-fn free_of_five_by_name<R: Wait>(rt: &R, alloc: Global) -> Result<Option<[u32; 5]>, PoolFault> {
+fn free_of_five_by_name<R: Wait>(rt: &R, alloc: Global) -> Result<Option<[u32; 6]>, PoolFault> {
     free_of_five::<Brand, Brand, R>(rt, alloc, blank(), blank())
 }
 
@@ -88,6 +101,6 @@ fn what_is_free_goes_down_and_up(rt: HostRuntime) -> Result<(), Fail> {
         Err(PoolFault::NoMemory) => free_of_five_by_name(&rt, alloc),
         told => told,
     };
-    assert_eq!(rt; told?, Some([5, 5, 3, 3, 1]));
+    assert_eq!(rt; told?, Some([5, 5, 3, 3, 1, 2]));
     Ok(())
 }

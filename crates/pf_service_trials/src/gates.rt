@@ -8,10 +8,10 @@ ghost use Rattle.pf_depot.specs.Blanks.{IsBlankOf};
 
 use crate::services::{Callers, place_of, serve, steps_of_blue, steps_of_red};
 use pf_base::Step;
-use pf_service::{Gate, Seat, Service};
+use pf_service::{Gate, Seat, Service, ServiceFault};
 use pf_service_fixture::{
     BLUE, Closed, RED, Size, blank, both, closed, config_of, is_next, namespaces, seat_if,
-    service_of,
+    service_of, spawn,
 };
 use std::alloc::Global;
 use std::marker::Brand;
@@ -31,7 +31,7 @@ const GIVEN: u64 = 1_000;
 
 // What a gate was told of a namespace.
 #[derive(Drop)]
-struct Told {
+pub(crate) struct Told {
     // The place after the last one.
     next: AtomicU64,
     // How many events it is just told of.
@@ -43,7 +43,7 @@ struct Told {
 }
 
 impl Told {
-    fn new() -> Told {
+    pub(crate) fn new() -> Told {
         Told {
             next: AtomicU64::new(0),
             inside: AtomicU64::new(0),
@@ -58,7 +58,7 @@ impl Told {
     }
 
     // Whether it was so many events, and so many frames.
-    fn is_of(&self, events: u64, frames: u64) -> bool {
+    pub(crate) fn is_of(&self, events: u64, frames: u64) -> bool {
         self.is(events) && self.frames.load(Ordering::SeqCst) == frames
     }
 
@@ -78,11 +78,11 @@ impl Told {
 
 // Remembers what it is told. Told of the first event, it waits until another caller is on its way.
 #[derive(Drop)]
-struct Recorder<'a> {
-    red: &'a Told,
-    blue: &'a Told,
-    held: &'a AtomicU64,
-    coming: &'a AtomicU64,
+pub(crate) struct Recorder<'a> {
+    pub(crate) red: &'a Told,
+    pub(crate) blue: &'a Told,
+    pub(crate) held: &'a AtomicU64,
+    pub(crate) coming: &'a AtomicU64,
 }
 
 impl Recorder<'_> {
@@ -180,9 +180,40 @@ fn both_go<R: Wait, C: Ledger, H: Ledger>(
         && is_next(rt, alloc, service, 2)
 }
 
+// Whether an event is refused at a namespace that is retired, by a call and by one that may wait.
+fn is_gone<R: Wait, C: Ledger, H: Ledger>(
+    rt: &R,
+    alloc: Global,
+    service: &Service<Global, Recorder<'_>, C, H>,
+    seat: &mut Seat,
+) -> bool {
+    let mut receipts = Vec::new(alloc);
+    let called = service.call(rt, seat, &spawn()).err();
+    let waited = service
+        .call_waiting(rt, seat, &spawn(), &mut receipts)
+        .err();
+    drop(receipts);
+    called == Some(ServiceFault::Gone) && waited == called
+}
+
+// Whether it is by each of these seats.
+fn are_gone<R: Wait, C: Ledger, H: Ledger>(
+    rt: &R,
+    alloc: Global,
+    service: &Service<Global, Recorder<'_>, C, H>,
+    seats: &mut [Seat],
+) -> bool {
+    for seat in seats {
+        if !is_gone(rt, alloc, service, seat) {
+            return false;
+        }
+    }
+    true
+}
+
 // Two tenants in turn, the second of which is admitted. The gate is told of their events, by calls or by calls that may
 // wait, and of their frames, of which each takes 16 at once. It isn't told of their going, nor of who comes behind
-// them.
+// them, nor of an event that is refused since they are gone.
 #[derive(Drop)]
 struct ToldOnce<'a> {
     red: &'a Told,
@@ -209,7 +240,9 @@ impl<'a> Callers<Recorder<'a>> for ToldOnce<'_> {
         assert!(rt; self.red.is_of(4, 16) && self.blue.is_of(4, 16));
         assert!(rt; both_go(rt, alloc, service));
         assert!(rt; self.red.is_of(4, 16) && self.blue.is_of(4, 16));
-        both(alloc, ours, theirs)
+        let mut seats = both(alloc, ours, theirs)?;
+        assert!(rt; are_gone(rt, alloc, service, &mut seats));
+        Ok(seats)
     }
 }
 

@@ -6,6 +6,8 @@
 #[cfg(test)]
 mod overlap;
 #[cfg(test)]
+mod polls;
+#[cfg(test)]
 mod waiting;
 #[cfg(test)]
 mod woken;

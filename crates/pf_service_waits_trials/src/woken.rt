@@ -20,7 +20,7 @@ use std::thread;
 use std::thread::{Threads, join};
 
 // The most turns that a caller waits for another.
-const TURNS: u64 = 10_000_000;
+pub(crate) const TURNS: u64 = 10_000_000;
 
 // How often a host asks while somebody waits, who has a turn between two questions.
 const ASKED: u64 = 1_000;
@@ -30,14 +30,14 @@ const MORE: u64 = 10;
 
 // What a gate was told of a namespace.
 #[derive(Drop)]
-struct Count {
+pub(crate) struct Count {
     // How many events, or the largest number where one was told that wasn't the next.
     events: AtomicU64,
     frames: AtomicU64,
 }
 
 impl Count {
-    fn new() -> Count {
+    pub(crate) fn new() -> Count {
         Count {
             events: AtomicU64::new(0),
             frames: AtomicU64::new(0),
@@ -74,8 +74,8 @@ impl Count {
 
 // Counts what it is told.
 #[derive(Drop)]
-struct Counter<'a> {
-    count: &'a Count,
+pub(crate) struct Counter<'a> {
+    pub(crate) count: &'a Count,
 }
 
 impl Gate for Counter<'_> {
@@ -96,7 +96,7 @@ impl Gate for Counter<'_> {
 
 // Yields until so many events were told, or all these turns are used up; whether they were told. The last of the events
 // holds its namespace's lock until it waits.
-fn wait_for(count: &Count, number: u64, turns: u64) -> bool {
+pub(crate) fn wait_for(count: &Count, number: u64, turns: u64) -> bool {
     for _ in 0..turns {
         if count.is_at_least(number) {
             return true;
@@ -276,7 +276,7 @@ fn two_threads<C: Ledger + Send + Sync, H: Ledger + Send + Sync, R: Threads + Wa
 }
 
 // The seat of who makes a process with a pipe, and one that shares it.
-fn opened<R: Wait, C: Ledger, H: Ledger>(
+pub(crate) fn opened<R: Wait, C: Ledger, H: Ledger>(
     rt: &R,
     alloc: Global,
     service: &Service<Global, Counter<'_>, C, H>,
@@ -368,11 +368,11 @@ fn last_replies<R: Threads + Wait + Abort + Sync>(
 }
 
 // Process 1 reads so many bytes.
-fn reading(n: u64) -> Step {
+pub(crate) fn reading(n: u64) -> Step {
     Step::Read { pid: 1, fd: 0, n }
 }
 
-const RESUME: Step = Step::Resume { pid: 1 };
+pub(crate) const RESUME: Step = Step::Resume { pid: 1 };
 
 const WAITS_NO_MORE: Reply = Reply::Err(Errno::EINVAL);
 

@@ -49,6 +49,16 @@ fn step_in_slice<R: Wait, G: Gate, C: Ledger, H: Ledger>(
     }
 }
 
+// Whether an answer is what is wanted of a row whose bytes stand in a slice: of bytes that go there the number is told.
+fn is_right(answer: Answer, row: &Row) -> bool {
+    match (&row.step, &row.told) {
+        (Step::Resume { .. }, Reply::Bytes(bytes)) => {
+            is(answer, &Reply::Num(bytes.as_slice().len() as u64))
+        }
+        _ => is(answer, &row.told),
+    }
+}
+
 // Whether a step with its bytes in a slice is told what is wanted. Where a growth is refused it is made once more.
 pub(crate) fn is_told_in_slice<R: Wait, G: Gate, C: Ledger, H: Ledger>(
     rt: &R,
@@ -62,7 +72,7 @@ pub(crate) fn is_told_in_slice<R: Wait, G: Gate, C: Ledger, H: Ledger>(
         drop(answer);
         answer = step_in_slice(rt, book, gate, worker, &row.step);
     }
-    is(answer, &row.told)
+    is_right(answer, row)
 }
 
 // Whether a read that waits has its first bytes in a slice, once they are there, and another one all that are left. One

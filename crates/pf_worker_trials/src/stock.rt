@@ -6,7 +6,7 @@ ghost use Rattle.pf_depot.specs.Blanks.{IsBlankOf};
 use crate::beside::{Tenant, blank, does};
 use crate::jobs::{admit, bare};
 use crate::slices::{are_refused, passes};
-use crate::tenants::{Row, asks, begins, begins_two, each_kind};
+use crate::tenants::{Row, asks, begins, begins_two, each_kind, put_in_slices};
 use crate::watch::Watch;
 use pf_depot::DepotBook;
 use std::alloc::Global;
@@ -136,14 +136,28 @@ fn a_frame_in_stock_is_had_while_the_depots_lock_is_held(rt: HostRuntime) -> Res
     Ok(())
 }
 
-// Each kind of step. Two frames are taken in front of it, two while the lock is held, and one by a write from a slice.
+// Each kind of step. Six frames are taken in front of it, six while the lock is held, and one by a write from a slice.
+// Two of them are in stock in the end.
 #[test]
 fn no_kind_of_step_takes_the_depots_lock_for_nothing(rt: HostRuntime) -> Result<(), Fail> {
     let alloc = rt.alloc();
     let (begins, asks) = (begins_two(), each_kind(alloc)?);
     let meeting = Meeting::new();
     let told = while_held_by_name(&rt, alloc, &meeting, [35, 34], &begins, asks.as_slice());
-    assert_eq!(rt; told, Some((true, 34)));
-    assert!(rt; meeting.watch.is_told(5, 0));
+    assert_eq!(rt; told, Some((true, 33)));
+    assert!(rt; meeting.watch.is_told(13, 0));
+    Ok(())
+}
+
+// The same, where what is written and what a Resume is told stand in slices.
+#[test]
+fn no_call_on_a_slice_takes_the_depots_lock_for_nothing(rt: HostRuntime) -> Result<(), Fail> {
+    let alloc = rt.alloc();
+    let (begins, mut asks) = (begins_two(), each_kind(alloc)?);
+    put_in_slices(&mut asks);
+    let meeting = Meeting::new();
+    let told = while_held_by_name(&rt, alloc, &meeting, [35, 34], &begins, asks.as_slice());
+    assert_eq!(rt; told, Some((true, 33)));
+    assert!(rt; meeting.watch.is_told(13, 0));
     Ok(())
 }

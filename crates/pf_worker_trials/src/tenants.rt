@@ -307,12 +307,135 @@ fn makes_files_and_goes() -> [Row; 10] {
     ]
 }
 
-/// Steps of each kind, by the processes of `begins_two` and others that come and go: they leave all as it was. Two of
-/// them take a frame each.
+// The child writes a byte.
+fn child_writes() -> Row {
+    let step = Step::Write {
+        pid: 2,
+        fd: 1,
+        payload: one(),
+    };
+    Row::new(step, Reply::Num(1))
+}
+
+// The first process goes on, and is told this.
+fn goes_on(told: u64) -> Row {
+    Row::new(Step::Resume { pid: 1 }, Reply::Num(told))
+}
+
+// A tee waits and goes on, and so does a splice; and what they passed on is read.
+fn passes_on_later() -> [Row; 8] {
+    let tee = Step::Tee {
+        pid: 1,
+        source: 0,
+        sink: 3,
+        n: 9,
+        nonblock: false,
+    };
+    let splice = Step::Splice {
+        pid: 1,
+        source: 0,
+        sink: 3,
+        n: 9,
+        nonblock: false,
+    };
+    let both = Step::Read {
+        pid: 1,
+        fd: 2,
+        n: 100,
+    };
+    let bytes = ByteString::in_place([0x7A; BYTES_IN_PLACE], 2);
+    [
+        Row::new(tee, Reply::Parked),
+        child_writes(),
+        goes_on(1),
+        read(100, one()),
+        Row::new(splice, Reply::Parked),
+        child_writes(),
+        goes_on(1),
+        Row::new(both, Reply::Bytes(bytes)),
+    ]
+}
+
+fn at_top() -> ByteString {
+    ByteString::in_place(*b"/f            ", 2)
+}
+
+// An open waits and goes on.
+fn opens_later() -> [Row; 7] {
+    let mkfifo = Step::Mkfifo {
+        pid: 1,
+        path: at_top(),
+        mode: 0o644,
+    };
+    let reads = Step::Open {
+        pid: 1,
+        path: at_top(),
+        flags: OpenFlags::from_bits_retain(1),
+    };
+    let writes = Step::Open {
+        pid: 2,
+        path: at_top(),
+        flags: OpenFlags::from_bits_retain(2),
+    };
+    let unlink = Step::Unlink {
+        pid: 1,
+        path: at_top(),
+    };
+    [
+        Row::new(mkfifo, Reply::Num(0)),
+        Row::new(reads, Reply::Parked),
+        Row::new(writes, Reply::Num(4)),
+        goes_on(4),
+        Row::new(Step::Close { pid: 1, fd: 4 }, Reply::Num(0)),
+        Row::new(Step::Close { pid: 2, fd: 4 }, Reply::Num(0)),
+        Row::new(unlink, Reply::Num(0)),
+    ]
+}
+
+// Process 3 comes, fills a pipe of one page, waits to write a byte more, and goes on once its child has given the pipe
+// another page. Both exit.
+fn writes_later(alloc: Global) -> Result<[Row; 9], AllocError> {
+    let pipe = Step::Pipe {
+        pid: 3,
+        nonblock: false,
+    };
+    let page = Step::Write {
+        pid: 3,
+        fd: 1,
+        payload: ByteString::new(alloc, Vec::from_elem(alloc, 0x61, 4096)?)?,
+    };
+    let byte = Step::Write {
+        pid: 3,
+        fd: 1,
+        payload: one(),
+    };
+    let grow = Step::SetSize {
+        pid: 4,
+        fd: 1,
+        bytes: 8192,
+    };
+    Ok([
+        spawn_of(3),
+        Row::new(pipe, Reply::Fds(0, 1)),
+        Row::new(Step::Fork { pid: 3 }, Reply::Pid(4)),
+        Row::new(page, Reply::Num(4096)),
+        Row::new(byte, Reply::Parked),
+        Row::new(grow, Reply::Num(8192)),
+        Row::new(Step::Resume { pid: 3 }, Reply::Num(1)),
+        Row::new(Step::Exit { pid: 4 }, Reply::Num(0)),
+        Row::new(Step::Exit { pid: 3 }, Reply::Num(0)),
+    ])
+}
+
+/// Steps of each kind, by the processes of `begins_two` and others that come and go; each call that may wait does so, and
+/// is resumed. They leave all as it was. Six of them take a frame each, and two of these are held at once.
 pub(crate) fn each_kind(alloc: Global) -> Result<Vec<Row>, AllocError> {
-    let mut rows = Vec::with_capacity(alloc, 29)?;
+    let mut rows = Vec::with_capacity(alloc, 53)?;
     rows.extend(passes_on())?;
     rows.extend(comes())?;
     rows.extend(makes_files_and_goes())?;
+    rows.extend(passes_on_later())?;
+    rows.extend(opens_later())?;
+    rows.extend(writes_later(alloc)?)?;
     Ok(rows)
 }
