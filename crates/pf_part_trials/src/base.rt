@@ -1,7 +1,8 @@
 use bitflags::Flags;
 use pf_base::{
-    Answer, BYTES_IN_PLACE, ByteRoom, ByteString, Config, ConfigFault, Cred, Errno, Fault, Groups,
-    LimitFault, OpenFlags, Progress, Reply, Side, Step, pages_for,
+    AdmitFault, Answer, BYTES_IN_PLACE, ByteRoom, ByteString, Config, ConfigFault, Cred, Errno,
+    Fault, Groups, Kind, LimitFault, Meta, Mode, OpenFlags, Progress, Reply, RetireFault, Side,
+    Step, pages_for,
 };
 use std::alloc::{AllocError, Global};
 use std::fmt::Display;
@@ -89,8 +90,25 @@ fn errors_have_their_numbers_and_texts(rt: HostRuntime) -> Result<(), Fail> {
     for row in &ERRORS {
         assert!(rt; is_row(rt.alloc(), row)?, "{}", row.2);
     }
+    Ok(())
+}
+
+#[test]
+fn refusals_have_their_texts(rt: HostRuntime) -> Result<(), Fail> {
+    let alloc = rt.alloc();
     let text = "the reservation is above 65536 frames";
-    assert!(rt; reads(rt.alloc(), &ConfigFault::ReserveTooLarge, text)?);
+    assert!(rt; reads(alloc, &ConfigFault::ReserveTooLarge, text)?);
+    let text = "pipe-max-size is no power of two from 65536 to 268435456";
+    assert!(rt; reads(alloc, &ConfigFault::BadMax, text)?);
+    let text = "the reservation is above the 7 frames that nobody has reserved";
+    assert!(rt; reads(alloc, &AdmitFault::NoRoom { slack: 7 }, text)?);
+    let text = "there are 64 namespaces, or 1024 numbers are given";
+    assert!(rt; reads(alloc, &AdmitFault::TooManyNamespaces, text)?);
+    assert!(rt; reads(alloc, &AdmitFault::NoMemory, "out of memory")?);
+    let text = "no namespace lives under this number";
+    assert!(rt; reads(alloc, &RetireFault::NoSuchNamespace, text)?);
+    let text = "the namespace has 2 processes";
+    assert!(rt; reads(alloc, &RetireFault::Alive { processes: 2 }, text)?);
     Ok(())
 }
 
@@ -313,6 +331,10 @@ fn limits_are_told_by_their_call(rt: HostRuntime) -> Result<(), Fail> {
     for (fault, of_call, told) in LIMITS {
         assert!(rt; fault.errno(of_call) == told, "{fault}");
     }
+    let text = "the pages of the user would pass its soft limit";
+    assert!(rt; reads(rt.alloc(), &LimitFault::Soft, text)?);
+    let text = "the pages of the user would pass its hard limit";
+    assert!(rt; reads(rt.alloc(), &LimitFault::Hard, text)?);
     let text = "the pages of all pipes would pass the reservation";
     assert!(rt; reads(rt.alloc(), &LimitFault::Reserve, text)?);
     Ok(())
@@ -345,22 +367,109 @@ fn is_copied(alloc: Global, step: Step) -> Result<bool, AllocError> {
     Ok(copy == step)
 }
 
+// Whether the copies of steps on what a process has are these steps.
+fn are_calls_copied(alloc: Global) -> Result<bool, AllocError> {
+    let (pid, fd, nonblock) = (3, 1, true);
+    let (source, sink, n) = (4, 5, 6);
+    let bytes = 8_192;
+    Ok(
+        is_copied(alloc, Step::Exit { pid })?
+            && is_copied(alloc, Step::Pipe { pid, nonblock })?
+            && is_copied(alloc, Step::Close { pid, fd })?
+            && is_copied(alloc, Step::Read { pid, fd, n })?
+            && is_copied(
+                alloc,
+                Step::Tee {
+                    pid,
+                    source,
+                    sink,
+                    n,
+                    nonblock,
+                },
+            )?
+            && is_copied(alloc, Step::SetSize { pid, fd, bytes })?
+            && is_copied(alloc, Step::GetSize { pid, fd })?
+            && is_copied(alloc, Step::Fork { pid })?
+            && is_copied(alloc, Step::Dup { pid, fd })?
+            && is_copied(alloc, Step::SetNonblock { pid, fd, on: true })?
+            && is_copied(
+                alloc,
+                Step::Splice {
+                    pid,
+                    source,
+                    sink,
+                    n,
+                    nonblock,
+                },
+            )?
+            && is_copied(alloc, Step::Resume { pid })?,
+    )
+}
+
+// Whether the copies of steps on a file of this name are these steps.
+fn are_calls_on_files_copied(alloc: Global, name: &[u8]) -> Result<bool, AllocError> {
+    let (pid, mode) = (3, 0o755);
+    let flags = OpenFlags::from_bits_retain(6);
+    let path = || bytes(alloc, name);
+    Ok(
+        is_copied(
+            alloc,
+            Step::Mkdir {
+                pid,
+                path: path()?,
+                mode,
+            },
+        )? && is_copied(
+            alloc,
+            Step::Mkfifo {
+                pid,
+                path: path()?,
+                mode,
+            },
+        )? && is_copied(
+            alloc,
+            Step::Open {
+                pid,
+                path: path()?,
+                flags,
+            },
+        )? && is_copied(alloc, Step::Unlink { pid, path: path()? })?
+            && is_copied(alloc, Step::Rmdir { pid, path: path()? })?
+            && is_copied(
+                alloc,
+                Step::Chmod {
+                    pid,
+                    path: path()?,
+                    mode,
+                },
+            )?
+            && is_copied(alloc, Step::Stat { pid, path: path()? })?
+            && is_copied(alloc, Step::List { pid, path: path()? })?,
+    )
+}
+
+// Each kind of step, with bytes that are kept in place and with others.
 #[test]
 fn copied_steps_are_the_same(rt: HostRuntime) -> Result<(), Fail> {
-    assert!(rt; is_copied(rt.alloc(), Step::Fork { pid: 3 })?);
-    let write = Step::Write {
-        pid: 2,
-        fd: 1,
-        payload: bytes(rt.alloc(), b"he")?,
-    };
-    assert!(rt; is_copied(rt.alloc(), write)?);
-    let open = Step::Open {
-        pid: 1,
-        path: bytes(rt.alloc(), b"/f")?,
-        flags: OpenFlags::from_bits_retain(6),
-    };
-    assert!(rt; is_copied(rt.alloc(), open)?);
-    assert!(rt; is_copied(rt.alloc(), Step::Resume { pid: 1 })?);
+    assert!(rt; are_calls_copied(rt.alloc())?);
+    for name in [EDGE, BEYOND] {
+        assert!(rt; are_calls_on_files_copied(rt.alloc(), name)?);
+        let write = Step::Write {
+            pid: 2,
+            fd: 1,
+            payload: bytes(rt.alloc(), name)?,
+        };
+        assert!(rt; is_copied(rt.alloc(), write)?);
+    }
+    for groups in [0, 3] {
+        let spawn = Step::Spawn {
+            uid: 5,
+            gid: 6,
+            umask: 0o022,
+            groups: Groups::new(rt.alloc(), vec![in rt.alloc(); 7; groups]?)?,
+        };
+        assert!(rt; is_copied(rt.alloc(), spawn)?);
+    }
     Ok(())
 }
 
@@ -370,12 +479,25 @@ fn is_reply_copied(alloc: Global, reply: Reply) -> Result<bool, AllocError> {
     Ok(copy == reply)
 }
 
+// Each kind of reply, with bytes that are kept in place and with others.
 #[test]
 fn copied_replies_are_the_same(rt: HostRuntime) -> Result<(), Fail> {
-    let he = Reply::Bytes(bytes(rt.alloc(), b"he")?);
-    assert!(rt; is_reply_copied(rt.alloc(), he)?);
-    assert!(rt; is_reply_copied(rt.alloc(), Reply::Fds(3, 4))?);
-    assert!(rt; is_reply_copied(rt.alloc(), Reply::Parked)?);
-    assert!(rt; is_reply_copied(rt.alloc(), Reply::Err(Errno::ENXIO))?);
+    let alloc = rt.alloc();
+    for text in [EDGE, BEYOND] {
+        assert!(rt; is_reply_copied(alloc, Reply::Bytes(bytes(alloc, text)?))?);
+        assert!(rt; is_reply_copied(alloc, Reply::Names(bytes(alloc, text)?))?);
+    }
+    let meta = Meta {
+        kind: Kind::Fifo,
+        mode: Mode::new(0o640)?,
+        uid: 5,
+        gid: 6,
+    };
+    assert!(rt; is_reply_copied(alloc, Reply::Meta(meta))?);
+    assert!(rt; is_reply_copied(alloc, Reply::Num(7))?);
+    assert!(rt; is_reply_copied(alloc, Reply::Pid(2))?);
+    assert!(rt; is_reply_copied(alloc, Reply::Fds(3, 4))?);
+    assert!(rt; is_reply_copied(alloc, Reply::Parked)?);
+    assert!(rt; is_reply_copied(alloc, Reply::Err(Errno::ENXIO))?);
     Ok(())
 }

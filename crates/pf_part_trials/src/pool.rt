@@ -52,6 +52,31 @@ fn pool_faults_come_in_order(rt: HostRuntime) {
     }
 }
 
+// What is said of a refusal.
+const TEXTS: [(PoolFault, &str); 4] = [
+    (
+        PoolFault::TooManyNamespaces,
+        "there are more than 64 reservations",
+    ),
+    (PoolFault::TooManyFrames, "there are more than 65536 frames"),
+    (
+        PoolFault::ReservesExceed {
+            sum: 33,
+            frames: 32,
+        },
+        "33 frames are reserved, of 32",
+    ),
+    (PoolFault::NoMemory, "out of memory"),
+];
+
+#[test]
+fn pool_faults_have_their_texts(rt: HostRuntime) -> Result<(), Fail> {
+    for (fault, text) in TEXTS {
+        assert!(rt; format!(in rt.alloc(); "{fault}")?.as_str() == text);
+    }
+    Ok(())
+}
+
 // Takes two frames, if there are credits for them, writes to both, and gives them back. Says whether they showed
 // what was written.
 fn borrow_two<F: Frames>(frames: &mut F, byte: u8) -> bool

@@ -32,6 +32,21 @@ fn walked<A: Allocator>(tree: &Tree<A>, alloc: Global) -> Result<Vec<u8>, AllocE
     if refused { Err(AllocError) } else { Ok(lines) }
 }
 
+// The names in a directory, as the tree itself tells them; none where there is no directory.
+fn names_told<A: Allocator>(
+    tree: &Tree<A>,
+    alloc: Global,
+    path: &[&[u8]],
+) -> Result<Vec<u8>, AllocError> {
+    let Some(file) = tree.find(path) else {
+        return Ok(Vec::new(alloc));
+    };
+    match file.meta.kind {
+        Kind::Directory => tree.names(alloc, path),
+        Kind::Fifo => Ok(Vec::new(alloc)),
+    }
+}
+
 // Three directories, of which one is in another, and three FIFOs.
 const BUILT: [(Call, &[u8]); 6] = [
     (Call::Mkdir, b"b"),
@@ -62,6 +77,11 @@ fn told_at<A: Allocator + Clone>(
     }
     let mut lines = desk.list(b"/")?;
     lines.extend_from_slice(desk.list(b"b")?.as_slice())?;
+    lines.extend_from_slice(names_told(
+        &desk.tree,
+        text,
+        &[b"b".as_slice(), b"x".as_slice()],
+    )?.as_slice())?;
     for (call, path) in CHANGED {
         desk.call(call, path, shut);
     }
@@ -76,7 +96,7 @@ fn told<A: Allocator + Clone>(alloc: A, text: Global) -> Result<Vec<u8>, Fail> {
     told_at(&mut desk, text, open, shut)
 }
 
-const TOLD: &[u8] = b"a/ab/b/x/y/0 /r\n1 a/r\n1 ab|-\n1 b/r\n2 x/-\n3 z|-\n";
+const TOLD: &[u8] = b"a/ab/b/x/y/z/0 /r\n1 a/r\n1 ab|-\n1 b/r\n2 x/-\n3 z|-\n";
 
 #[test]
 fn a_tree_under_global(rt: HostRuntime) -> Result<(), Fail> {

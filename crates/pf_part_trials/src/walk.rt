@@ -3,7 +3,7 @@
 use bumpalo::Bump;
 use pf_base::{Cred, Errno, Fault, File, Groups, Kind, Meta, Mode};
 use pf_tree::Tree;
-use pf_walk::{Purpose, chmod, list, make, resolve, rmdir, split, stat, unlink};
+use pf_walk::{Last, Purpose, chmod, list, make, resolve, rmdir, split, stat, unlink};
 use std::alloc::{Allocator, Global};
 use std::process::Abort;
 use std::test::Fail;
@@ -319,6 +319,24 @@ fn a_file_is_its_makers_with_the_mode_that_the_umask_leaves(rt: HostRuntime) -> 
     let (open, shut) = (Mode::new(0o777)?, Mode::new(0o700)?);
     let mut desk = filled(rt.alloc(), rt.alloc(), open, shut);
     assert_makers(&rt, &mut desk, open)
+}
+
+// Where the entry that a path names is sought: the number of its directory, and how many names lead there; what the path
+// names in it, and whether a slash stands behind that.
+fn entry<'a>(desk: &Desk<Global>, path: &'a [u8]) -> Result<(u64, usize, Last<'a>, bool), Fault> {
+    let told = resolve(desk.text, &desk.tree, &desk.cred, path, Purpose::Entry)?;
+    Ok((told.file.number, told.path.len(), told.last, told.slash))
+}
+
+#[test]
+fn an_entry_is_sought_in_its_directory(rt: HostRuntime) -> Result<(), Fail> {
+    let (open, shut) = (Mode::new(0o777)?, Mode::new(0o700)?);
+    let desk = filled(rt.alloc(), rt.alloc(), open, shut);
+    assert!(rt; entry(&desk, b"/w/../d/n/")? == (2, 1, Last::Name(b"n"), true));
+    assert!(rt; entry(&desk, b"/d/e/..")? == (3, 2, Last::DotDot, false));
+    assert!(rt; entry(&desk, b"/d/.")? == (2, 1, Last::Dot, false));
+    assert!(rt; entry(&desk, b"/")? == (0, 0, Last::Nothing, false));
+    Ok(())
 }
 
 // A path's components, counted, and whether a slash stands behind them.

@@ -9,7 +9,7 @@ use std::io::{self, ErrorKind, Write};
 use std::test::Fail;
 
 /// Takes so many bytes, a few at a time, and then stops once: it is interrupted, or takes none. It counts the strays:
-/// bytes that it takes and the text doesn't have at their place.
+/// bytes that it takes and the text doesn't have at their place, and calls that give it none.
 #[derive(Debug, Drop)]
 struct Stopping {
     room: usize,
@@ -34,6 +34,7 @@ impl Stopping {
 impl Write for Stopping {
     fn write(&mut self, bytes: &[u8]) -> io::Result<usize> {
         if bytes.is_empty() {
+            self.strays = self.strays.saturating_add(1);
             return Ok(0);
         }
         self.asked_again = self.room == usize::MAX;
@@ -52,6 +53,7 @@ impl Write for Stopping {
     }
 
     fn flush(&mut self) -> io::Result<()> {
+        self.strays = self.strays.saturating_add(1);
         Ok(())
     }
 }

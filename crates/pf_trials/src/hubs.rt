@@ -1,7 +1,7 @@
 //! How a hub is opened, how it runs events, and which bounds of replies it tells.
 
 use crate::scripts::{has_text, script_of, spawn};
-use pf_base::{Answer, Config, EventAnswer, Step};
+use pf_base::{Answer, ByteString, Config, EventAnswer, Reply, Step};
 use pf_frame::{Frame, PoolFault};
 use pf_hub::{Hub, RunFault};
 use pf_script::{Line, Script};
@@ -261,6 +261,79 @@ fn bounds_of_replies(rt: HostRuntime) -> Result<(), Fail> {
     let tells = tells_bounds(alloc, &mut hub);
     drop(hub);
     assert!(rt; tells?);
+    Ok(())
+}
+
+// Writes of 15 bytes, of a page, of many, and of more than one block of digits; behind each a read of as many or of more.
+const READS: &str = "pool 64
+space red 64
+red spawn 5 5 022
+red pipe 1
+red setsize 1 0 262144
+red write 1 1 616161616161616161616161616161
+red read 1 0 15
+red write 1 1 4096*61
+red read 1 0 5000
+red write 1 1 200000*61
+red read 1 0 1000000
+red write 1 1 6161616161616161616161616161616161616161
+red read 1 0 20
+";
+
+// How many bytes there are, if they stand in memory of their own that has room for just these.
+fn exact(bytes: &ByteString) -> usize {
+    match bytes.share() {
+        Some(_) => bytes.as_slice().len(),
+        None => 0,
+    }
+}
+
+// So many are those of a script's writes.
+fn written_exactly(script: &Script) -> usize {
+    let mut sum: usize = 0;
+    for (_, line) in script.steps() {
+        if let Line::Step(Step::Write { payload, .. }) = line {
+            sum = sum.saturating_add(exact(payload));
+        }
+    }
+    sum
+}
+
+// So many are those of the replies to its steps.
+fn read_exactly(hub: &mut Hub<Global>, script: &Script) -> usize {
+    let mut sum: usize = 0;
+    for (ns, line) in script.steps() {
+        if let Line::Step(step) = line {
+            if hub.lives(*ns) {
+                let answer = hub.step(*ns, step);
+                if let Answer::Done(Reply::Bytes(bytes)) = &answer {
+                    sum = sum.saturating_add(exact(bytes));
+                }
+                drop(answer);
+            }
+        }
+    }
+    sum
+}
+
+const READ: usize = 15 + 4_096 + 200_000 + 20;
+
+#[test]
+fn data_has_memory_for_just_its_bytes(rt: HostRuntime) -> Result<(), Fail> {
+    let script = script_of(rt.alloc(), READS)?;
+    let sum = written_exactly(&script);
+    drop(script);
+    assert_eq!(rt; sum, READ);
+    Ok(())
+}
+
+#[test]
+fn a_reply_has_memory_for_just_its_bytes(rt: HostRuntime) -> Result<(), Fail> {
+    let script = script_of(rt.alloc(), READS)?;
+    let mut hub = open(rt.alloc(), frames(rt.alloc(), 64)?, &[64])?;
+    let sum = read_exactly(&mut hub, &script);
+    drop((hub, script));
+    assert_eq!(rt; sum, READ);
     Ok(())
 }
 

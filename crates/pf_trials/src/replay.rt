@@ -406,3 +406,19 @@ fn frames_hold_the_fill(rt: HostRuntime) -> Result<(), Fail> {
     }
     Ok(())
 }
+
+#[test]
+fn memory_gives_all_at_once(rt: HostRuntime) {
+    let mut reader = MemoryBytes::new(b"abc");
+    let mut buffer = [0; 8];
+    assert!(rt; matches!(reader.read(&mut buffer), Ok(3)));
+    assert!(rt; buffer.starts_with(b"abc"));
+    assert!(rt; matches!(reader.read(&mut buffer), Ok(0)));
+}
+
+#[test]
+fn memory_takes_all_at_once(rt: HostRuntime) {
+    let mut writer = Collected::new(rt.alloc());
+    assert!(rt; matches!(writer.write(b"abc"), Ok(3)));
+    assert!(rt; writer.as_slice() == b"abc".as_slice());
+}
