@@ -5,3 +5,4 @@ pub mod Root
 pub mod Limits
 pub mod Capacities
 pub mod Kept
+pub mod Copies

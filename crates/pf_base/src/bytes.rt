@@ -186,9 +186,10 @@ impl Model for ByteRoom {
 }
 
 impl ByteRoom {
-    /// Memory for at most this many bytes.
+    /// Memory for at most this many bytes. None is wanted for up to `BYTES_IN_PLACE` of them.
     pub fn new(alloc: Global, most: usize) -> Result<Self, AllocError>
-        ensures { IfOk result (λ room. room ≡ most) }
+        ensures room { IfOk result (λ room. room ≡ most) }
+        ensures in_place { most ≤ BYTES_IN_PLACE → IsOk result }
     {
         if most <= BYTES_IN_PLACE {
             return Ok(ByteRoom { most, memory: None });

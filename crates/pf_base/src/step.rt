@@ -143,7 +143,8 @@ pub enum Step {
 }
 
 impl Step {
-    ghost use Rattle.std.specs.Prelude.{◌≡◌, ◌↔◌, IfOk, IsTrue};
+    ghost use Rattle.std.specs.Prelude.{◌≡◌, ◌↔◌, IfOk, IsOk, IsTrue};
+    ghost use Rattle.pf_base.specs.Copies.{is_bare};
 
     /// Whether it is the same step.
     pub fn is_same(&self, other: &Step) -> bool
@@ -152,9 +153,10 @@ impl Step {
         self == other
     }
 
-    /// The same step again.
+    /// The same step again. Memory is wanted only by a kind that has bytes, a path or groups.
     pub fn copy(&self, alloc: Global) -> Result<Step, AllocError>
-        ensures { IfOk result (λ step. step ≡ self.now) }
+        ensures same { IfOk result (λ step. step ≡ self.now) }
+        ensures bare { IsTrue (is_bare self.now) → IsOk result }
     {
         match self {
             Step::Spawn {
@@ -286,7 +288,8 @@ pub enum Reply {
 }
 
 impl Reply {
-    ghost use Rattle.std.specs.Prelude.{◌≡◌, ◌↔◌, IfOk, IsTrue};
+    ghost use Rattle.std.specs.Prelude.{◌≡◌, ◌↔◌, IfOk, IsOk, IsTrue};
+    ghost use Rattle.pf_base.specs.Copies.{is_bare_reply};
 
     /// Whether it is the same reply.
     pub fn is_same(&self, other: &Reply) -> bool
@@ -295,9 +298,10 @@ impl Reply {
         *self == *other
     }
 
-    /// The same reply again.
+    /// The same reply again. Memory is wanted only by a kind that has bytes or names.
     pub fn copy(&self, alloc: Global) -> Result<Reply, AllocError>
-        ensures { IfOk result (λ reply. reply ≡ self.now) }
+        ensures same { IfOk result (λ reply. reply ≡ self.now) }
+        ensures bare { IsTrue (is_bare_reply self.now) → IsOk result }
     {
         match self {
             Reply::Num(number) => Ok(Reply::Num(*number)),

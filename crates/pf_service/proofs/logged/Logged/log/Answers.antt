@@ -50,7 +50,7 @@ invariant_of-self-2 g c =
     let more =
     c.push_reserved.ensures.items
     ∙ ap (λ (es : List (Step × Reply)). es ++ (c.in_ok-asked.asked, c.copy-told.result) ∷ []) c.reserve.ensures.items
-    ∙ ap (λ (s : Step). c.self-inside.inside.0.1.1.1.0.entries.items ++ (s, c.copy-told.result) ∷ []) c.in_ok-asked.ensures
+    ∙ ap (λ (s : Step). c.self-inside.inside.0.1.1.1.0.entries.items ++ (s, c.copy-told.result) ∷ []) c.in_ok-asked.ensures.same
     ∙ ap (λ (r : Reply). c.self-inside.inside.0.1.1.1.0.entries.items ++ (step, r) ∷ []) c.copy-told.ensures.same in
     next c.self-inside.inside.0.1.0.space c.step_over.new.placed.space c.self-inside.inside.0.1.1.0 c.step_over.new.loans (record { limits = c.self-inside.inside.0.1.1.1.0.config; entries = c.self-inside.inside.0.1.1.1.0.entries.items }) c.push_reserved.new.self.items step reply log c.in-Done.ensures.moved.owns c.in-Done.ensures.moved.limits c.in-Done.ensures.moved.answers more
 
@@ -67,7 +67,7 @@ returns-clause-logged g c =
       transcript =
           c.push_reserved.ensures.items
           ∙ ap (λ (es : List (Step × Reply)). es ++ (c.in_ok-asked.asked, c.copy-told.result) ∷ []) c.reserve.ensures.items
-          ∙ ap (λ (s : Step). c.self-inside.inside.0.1.1.1.0.entries.items ++ (s, c.copy-told.result) ∷ []) c.in_ok-asked.ensures
+          ∙ ap (λ (s : Step). c.self-inside.inside.0.1.1.1.0.entries.items ++ (s, c.copy-told.result) ∷ []) c.in_ok-asked.ensures.same
           ∙ ap (λ (r : Reply). c.self-inside.inside.0.1.1.1.0.entries.items ++ (step, r) ∷ []) c.copy-told.ensures.same
           ∙ ap (λ (l : Log g.row.A.Denot). l.transcript ++ (step, reply) ∷ []) was;
       told = answers ∙ ap (λ (l : Log g.row.A.Denot). step_of l.limits l.state step) was;
