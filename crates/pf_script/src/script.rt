@@ -1,10 +1,11 @@
-ghost use Rattle.std.specs.Prelude.{◌≡◌, ◌≤◌, ◌<◌, map, take, length, slice_get, IfOk, OnOk, IfSome, Some, None, Ok, true, option_copied};
+ghost use Rattle.std.specs.Prelude.{◌≡◌, ◌≢◌, ◌≤◌, ◌<◌, map, take, length, slice_get, IfOk, OnOk, IfSome, Some, None, Ok, Err, true, option_copied};
 ghost use Rattle.pf_base.specs.declared.TheConstants.{MAX_FRAMES};
 ghost use Rattle.pf_script.specs.Script as grammar;
 ghost use Rattle.pf_script.specs.Script.{blank, place_of, reserved, number_or};
 ghost use Rattle.pf_script.specs.Places.{places_of};
 ghost use Rattle.pf_script.specs.Sound.{first_stray, AreGiven};
 ghost use Rattle.pf_words.specs.Faults.{Gives, Moves};
+ghost use Rattle.pf_words.specs.declared.fault.LineFault.TheVariants as faults;
 
 use crate::line::Line;
 use crate::steps::Steps;
@@ -64,7 +65,8 @@ fn is_skipped(text: &[u8]) -> bool
 
 /// A number of 32 bits, or this one where the word is left out.
 fn number_or(n: u32, word: Option<&[u8]>) -> Result<u32, LineFault>
-    ensures { Gives result (number_or n (option_copied word.entry)) }
+    ensures read { Gives result (number_or n (option_copied word.entry)) }
+    ensures none { result ≢ Err faults.NoMemory }
 {
     match word {
         None => Ok(n),
@@ -79,8 +81,9 @@ fn limits_with(
     hard: Option<&[u8]>,
     max: Option<&[u8]>,
 ) -> Result<Config, LineFault>
-    ensures { Gives result (grammar.limits_with reserve.now
+    ensures limits { Gives result (grammar.limits_with reserve.now
         (option_copied soft.entry) (option_copied hard.entry) (option_copied max.entry)) }
+    ensures none { result ≢ Err faults.NoMemory }
 {
     let reserve = small_number(MAX_RESERVE, reserve)?;
     let soft = number_or(Config::DEFAULT_SOFT, soft)?;
@@ -247,7 +250,8 @@ impl Script {
     #[tactic(auto, unfolding(crate::specs::Script::pool_with))]
     fn pool_with(&mut self, frames: &[u8]) -> Result<(), LineFault>
         requires { self.old.frames ≡ 0 }
-        ensures { Moves result self.new (grammar.pool_with self.old frames.now) }
+        ensures moves { Moves result self.new (grammar.pool_with self.old frames.now) }
+        ensures none { result ≢ Err faults.NoMemory }
     {
         let frames = small_number(MAX_FRAMES as u32, frames)?;
         if frames == 0 {
@@ -260,7 +264,8 @@ impl Script {
     #[tactic(auto, unfolding(crate::specs::Script::pool_line))]
     fn pool_line(&mut self, words: &[&[u8]]) -> Result<(), LineFault>
         requires { self.old.frames ≡ 0 }
-        ensures { Moves result self.new (grammar.pool_line self.old (map (λ w. w.now) words.now)) }
+        ensures moves { Moves result self.new (grammar.pool_line self.old (map (λ w. w.now) words.now)) }
+        ensures none { result ≢ Err faults.NoMemory }
     {
         match words {
             [frames] => self.pool_with(frames),
@@ -303,6 +308,7 @@ impl Script {
             (option_copied soft.entry) (option_copied hard.entry) (option_copied max.entry)) }
         ensures few { OnOk result (length self.now.spaces < 64) }
         ensures fresh { OnOk result (place_of name.now self.now.spaces ≡ None) }
+        ensures none { result ≢ Err faults.NoMemory }
     {
         if !is_name_word(name) {
             return Err(LineFault::Refused(Cause::BadName));
@@ -510,7 +516,8 @@ impl Script {
     /// Judges what stands behind the last line feed.
     #[tactic(auto, unfolding(crate::specs::Script::rest_of))]
     pub fn rest(&self, text: &[u8]) -> Result<(), LineFault>
-        ensures { Moves result self.now (grammar.rest_of self.now text.now) }
+        ensures moves { Moves result self.now (grammar.rest_of self.now text.now) }
+        ensures none { result ≢ Err faults.NoMemory }
     {
         if text.is_empty() {
             Ok(())
