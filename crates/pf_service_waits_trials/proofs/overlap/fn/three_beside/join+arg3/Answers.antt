@@ -1,7 +1,7 @@
 use denote.Param.Send.{sendable}
 use denote.RattleType.{RattleType}
 use denote.Ref.{NamedLft}
-use Rattle.std.proofs.Crossing.{crosses, send}
+use Rattle.std.proofs.Crossing.{crosses}
 use Rattle.std.specs.declared.sync.ledger.Ledger as Ledger
 use Rattle.pf_base.proofs.step.Step.TheSendSync as step
 use Rattle.pf_service.proofs.Sendable.{gated_sync}
@@ -14,4 +14,4 @@ use Rattle.pf_service_waits_trials.proofs.overlap.fn.three_beside.join+arg3.Goal
 pub join-requires-send-F : goal.join-requires-send-F
 join-requires-send-F g c κs within =
     let served = λ (κ : NamedLft) (C H : RattleType) (l : Ledger.Ghosts C.Denot) (m : Ledger.Ghosts H.Denot). gated_sync (Holder.the_row κ) C H told l m (its_gate.the_sync κ) in
-    search (served, step.the_sync, signals.the_sync, sendable, send, crosses) depth 60 fits 200000
+    search (served, step.the_sync, signals.the_sync, sendable, crosses) depth 60 fits 200000
