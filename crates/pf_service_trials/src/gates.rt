@@ -8,9 +8,10 @@ ghost use Rattle.pf_depot.specs.Blanks.{IsBlankOf};
 
 use crate::services::{Callers, place_of, serve, steps_of_blue, steps_of_red};
 use pf_base::Step;
-use pf_service::{Gate, Seat, Service};
+use pf_service::{Gate, Seat, Service, ServiceFault};
 use pf_service_fixture::{
-    BLUE, Closed, RED, Size, blank, both, closed, config_of, namespaces, seat_if, service_of,
+    BLUE, Closed, RED, Size, blank, both, closed, config_of, is_next, namespaces, seat_if,
+    service_of, spawn,
 };
 use std::alloc::Global;
 use std::marker::Brand;
@@ -30,7 +31,7 @@ const GIVEN: u64 = 1_000;
 
 // What a gate was told of a namespace.
 #[derive(Drop)]
-struct Told {
+pub(crate) struct Told {
     // The place after the last one.
     next: AtomicU64,
     // How many events it is just told of.
@@ -42,7 +43,7 @@ struct Told {
 }
 
 impl Told {
-    fn new() -> Told {
+    pub(crate) fn new() -> Told {
         Told {
             next: AtomicU64::new(0),
             inside: AtomicU64::new(0),
@@ -57,7 +58,7 @@ impl Told {
     }
 
     // Whether it was so many events, and so many frames.
-    fn is_of(&self, events: u64, frames: u64) -> bool {
+    pub(crate) fn is_of(&self, events: u64, frames: u64) -> bool {
         self.is(events) && self.frames.load(Ordering::SeqCst) == frames
     }
 
@@ -77,11 +78,11 @@ impl Told {
 
 // Remembers what it is told. Told of the first event, it waits until another caller is on its way.
 #[derive(Drop)]
-struct Recorder<'a> {
-    red: &'a Told,
-    blue: &'a Told,
-    held: &'a AtomicU64,
-    coming: &'a AtomicU64,
+pub(crate) struct Recorder<'a> {
+    pub(crate) red: &'a Told,
+    pub(crate) blue: &'a Told,
+    pub(crate) held: &'a AtomicU64,
+    pub(crate) coming: &'a AtomicU64,
 }
 
 impl Recorder<'_> {
@@ -166,8 +167,53 @@ fn make_told<R: Wait, C: Ledger, H: Ledger>(
     seat_if(all, seat)
 }
 
+// Whether both go, neither of whom goes twice, and one comes behind them whose number nobody has used up.
+fn both_go<R: Wait, C: Ledger, H: Ledger>(
+    rt: &R,
+    alloc: Global,
+    service: &Service<Global, Recorder<'_>, C, H>,
+) -> bool {
+    service.retire(rt, RED).is_ok()
+        && service.retire(rt, BLUE).is_ok()
+        && service.retire(rt, RED).is_err()
+        && service.retire(rt, BLUE).is_err()
+        && is_next(rt, alloc, service, 2)
+}
+
+// Whether an event is refused at a namespace that is retired, by a call and by one that may wait.
+fn is_gone<R: Wait, C: Ledger, H: Ledger>(
+    rt: &R,
+    alloc: Global,
+    service: &Service<Global, Recorder<'_>, C, H>,
+    seat: &mut Seat,
+) -> bool {
+    let mut receipts = Vec::new(alloc);
+    let called = service.call(rt, seat, &spawn()).err();
+    let waited = service
+        .call_waiting(rt, seat, &spawn(), &mut receipts)
+        .err();
+    drop(receipts);
+    called == Some(ServiceFault::Gone) && waited == called
+}
+
+// Whether it is by each of these seats.
+fn are_gone<R: Wait, C: Ledger, H: Ledger>(
+    rt: &R,
+    alloc: Global,
+    service: &Service<Global, Recorder<'_>, C, H>,
+    seats: &mut [Seat],
+) -> bool {
+    for seat in seats {
+        if !is_gone(rt, alloc, service, seat) {
+            return false;
+        }
+    }
+    true
+}
+
 // Two tenants in turn, the second of which is admitted. The gate is told of their events, by calls or by calls that may
-// wait, and of their frames, of which each takes 16 at once.
+// wait, and of their frames, of which each takes 16 at once. It isn't told of their going, nor of who comes behind
+// them, nor of an event that is refused since they are gone.
 #[derive(Drop)]
 struct ToldOnce<'a> {
     red: &'a Told,
@@ -192,11 +238,15 @@ impl<'a> Callers<Recorder<'a>> for ToldOnce<'_> {
         let told = Some(self.blue);
         let theirs = make_told(rt, alloc, service, theirs, &steps, self.may_wait, told);
         assert!(rt; self.red.is_of(4, 16) && self.blue.is_of(4, 16));
-        both(alloc, ours, theirs)
+        assert!(rt; both_go(rt, alloc, service));
+        assert!(rt; self.red.is_of(4, 16) && self.blue.is_of(4, 16));
+        let mut seats = both(alloc, ours, theirs)?;
+        assert!(rt; are_gone(rt, alloc, service, &mut seats));
+        Ok(seats)
     }
 }
 
-// Two tenants are served so, of whom the second comes.
+// Two tenants are served so, of whom the second comes. At the end the gate isn't told of anything.
 fn told_once<R: Wait + Abort>(rt: &R, alloc: Global, may_wait: bool) -> Closed {
     let (red, blue) = (Told::new(), Told::new());
     let (inside, coming) = (AtomicU64::new(0), AtomicU64::new(1));
@@ -215,20 +265,22 @@ fn told_once<R: Wait + Abort>(rt: &R, alloc: Global, may_wait: bool) -> Closed {
         namespaces: 1,
         slack: 16,
     };
-    serve(rt, alloc, size, gate, &callers)
+    let closed = serve(rt, alloc, size, gate, &callers);
+    assert!(rt; red.is_of(4, 16) && blue.is_of(4, 16));
+    closed
 }
 
 #[test]
 fn a_gate_is_told_of_each_event_and_frame_once(rt: HostRuntime) -> Result<(), Fail> {
     let transcripts = told_once(&rt, rt.alloc(), false)??;
-    assert_eq!(rt; transcripts.as_slice().len(), 2);
+    assert_eq!(rt; transcripts.as_slice().len(), 3);
     Ok(())
 }
 
 #[test]
 fn a_call_that_may_wait_tells_a_gate_of_them_too(rt: HostRuntime) -> Result<(), Fail> {
     let transcripts = told_once(&rt, rt.alloc(), true)??;
-    assert_eq!(rt; transcripts.as_slice().len(), 2);
+    assert_eq!(rt; transcripts.as_slice().len(), 3);
     Ok(())
 }
 

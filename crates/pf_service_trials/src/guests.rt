@@ -163,6 +163,45 @@ fn sixty_four_live_at_once(rt: HostRuntime) -> Result<(), Fail> {
     Ok(())
 }
 
+// The number of one that is to come with so many frames, or why it doesn't.
+fn ask_for<C: Ledger, H: Ledger, R: Wait>(
+    rt: &R,
+    alloc: Global,
+    service: &Plain<C, H>,
+    reserve: u32,
+) -> Result<u32, AdmitFault> {
+    let Some(config) = config_of(reserve) else {
+        return Err(AdmitFault::NoMemory);
+    };
+    service.admit(rt, config, alloc)
+}
+
+// Two that ask for more of 200 frames than is left, one comes behind each, and then all are reserved.
+struct LargeOnes;
+
+impl Callers<NoGate> for LargeOnes {
+    fn work<C: Ledger, H: Ledger, R: Wait + Abort>(
+        &self,
+        rt: &R,
+        alloc: Global,
+        service: &Plain<C, H>,
+    ) -> Result<Vec<Seat>, Fail> {
+        assert_eq!(rt; ask_for(rt, alloc, service, 201).err(), no_room(200));
+        assert_eq!(rt; ask_for(rt, alloc, service, 150)?, 0);
+        assert_eq!(rt; ask_for(rt, alloc, service, 51).err(), no_room(50));
+        assert_eq!(rt; ask_for(rt, alloc, service, 50)?, 1);
+        assert_eq!(rt; ask_for(rt, alloc, service, 1).err(), no_room(0));
+        Ok(Vec::new(alloc))
+    }
+}
+
+#[test]
+fn large_ones_have_room_as_far_as_there_is(rt: HostRuntime) -> Result<(), Fail> {
+    let transcripts = serve(&rt, rt.alloc(), roomy(0, 200), NoGate, &LargeOnes)??;
+    assert_eq!(rt; transcripts.as_slice().len(), 2);
+    Ok(())
+}
+
 // A namespace of these limits comes, makes these steps, and leaves its seat. Nobody comes where one was refused.
 fn come<C: Ledger, H: Ledger, R: Wait>(
     rt: &R,

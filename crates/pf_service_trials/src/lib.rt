@@ -12,6 +12,8 @@ mod gates;
 #[cfg(test)]
 mod guests;
 #[cfg(test)]
+mod kinds;
+#[cfg(test)]
 mod limits;
 #[cfg(test)]
 mod logged;

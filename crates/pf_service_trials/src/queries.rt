@@ -3,7 +3,7 @@
 use crate::services::{Callers, Plain, serve};
 use pf_base::{Errno, Readiness, Step};
 use pf_service::{NoGate, Seat, ServiceFault};
-use pf_service_fixture::{BLUE, RED, Size, config_of, make, makes, spawn, with, write_by};
+use pf_service_fixture::{BLUE, RED, Size, config_of, is_next, make, makes, spawn, with, write_by};
 use std::alloc::{AllocError, Global};
 use std::process::Abort;
 use std::sync::Wait;
@@ -125,6 +125,8 @@ impl Callers<NoGate> for OneWaits {
         assert!(rt; makes(rt, service, seat, &byte));
         assert!(rt; goes_on(rt, service, RED)? && is_empty(rt, service, BLUE)?);
         assert!(rt; is_refused(rt, service, 3, ServiceFault::NoSuchNamespace));
+        // no question has used up a number
+        assert!(rt; is_next(rt, alloc, service, 3));
         Ok(seats)
     }
 }
@@ -154,6 +156,7 @@ impl Callers<NoGate> for BothWent {
         service.retire(rt, guest)?;
         assert!(rt; is_refused(rt, service, RED, ServiceFault::Gone));
         assert!(rt; is_refused(rt, service, guest, ServiceFault::Gone));
+        assert!(rt; is_next(rt, alloc, service, 2));
         Ok(Vec::new(alloc))
     }
 }

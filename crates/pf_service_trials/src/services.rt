@@ -87,31 +87,33 @@ fn serve_named<C: Ledger, H: Ledger, G: Gate + Drop, V: Callers<G>, R: Wait + Ab
     closed(service, seats)
 }
 
-// What callers do at two services, which they are lent.
-pub(crate) trait CallersOfTwo {
+// What callers do at two services, which they are lent. The second has a gate.
+pub(crate) trait CallersOfTwo<G: Gate> {
     // What they do, and the seats that the first service is closed with.
     fn work<C: Ledger, H: Ledger, D: Ledger, L: Ledger, R: Wait + Abort>(
         &self,
         rt: &R,
         alloc: Global,
         first: &Plain<C, H>,
-        second: &Plain<D, L>,
+        second: &Service<Global, G, D, L>,
     ) -> Result<Vec<Seat>, Fail>;
 }
 
 // Opens two services, which the callers are lent, and closes the first with the seats that they leave.
-pub(crate) fn serve_two<V: CallersOfTwo, R: Wait + Abort>(
+pub(crate) fn serve_two<G: Gate + Drop, V: CallersOfTwo<G>, R: Wait + Abort>(
     rt: &R,
     alloc: Global,
     first: Size,
     second: Size,
+    gate: G,
     callers: &V,
 ) -> Closed {
-    serve_two_named::<Brand, Brand, Brand, Brand, V, R>(
+    serve_two_named::<Brand, Brand, Brand, Brand, G, V, R>(
         rt,
         alloc,
         first,
         second,
+        gate,
         callers,
         blank(),
         blank(),
@@ -120,11 +122,20 @@ pub(crate) fn serve_two<V: CallersOfTwo, R: Wait + Abort>(
     )
 }
 
-fn serve_two_named<C: Ledger, H: Ledger, D: Ledger, L: Ledger, V: CallersOfTwo, R: Wait + Abort>(
+fn serve_two_named<
+    C: Ledger,
+    H: Ledger,
+    D: Ledger,
+    L: Ledger,
+    G: Gate + Drop,
+    V: CallersOfTwo<G>,
+    R: Wait + Abort,
+>(
     rt: &R,
     alloc: Global,
     first: Size,
     second: Size,
+    gate: G,
     callers: &V,
     credits: Blank,
     held: Blank,
@@ -134,10 +145,10 @@ fn serve_two_named<C: Ledger, H: Ledger, D: Ledger, L: Ledger, V: CallersOfTwo, 
     requires blanks { IsBlankOf C.name C.parts credits × IsBlankOf H.name H.parts held }
     requires their_blanks { IsBlankOf D.name D.parts spare × IsBlankOf L.name L.parts lent }
 {
-    let service = service_of::<NoGate, C, H>(alloc, first, NoGate, credits, held)?;
-    let other = match service_of::<NoGate, D, L>(alloc, second, NoGate, spare, lent) {
-        Ok(other) => other,
-        Err(fail) => return closed(service, Err(fail)),
+    let other = service_of::<G, D, L>(alloc, second, gate, spare, lent)?;
+    let service = match service_of::<NoGate, C, H>(alloc, first, NoGate, credits, held) {
+        Ok(service) => service,
+        Err(fail) => return closed(other, Err(fail)),
     };
     let seats = callers.work(rt, alloc, &service, &other);
     drop(other.close(Vec::new(alloc)));
