@@ -59,7 +59,9 @@ fn play<R: Threads + Wait + Sync>(
         | Way::Run
         | Way::GuestSteps
         | Way::GuestEvents => hubs::play(alloc, row, script, told),
-        Way::Workers | Way::GuestWorkers => workers::play(rt, alloc, row, script, told),
+        Way::Workers | Way::WorkerSlices | Way::GuestWorkers => {
+            workers::play(rt, alloc, row, script, told)
+        }
         Way::Calls | Way::Event | Way::Waits | Way::GuestCalls => served::play(
             rt, alloc, row, script, told,
         ),

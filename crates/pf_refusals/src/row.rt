@@ -28,6 +28,8 @@ pub(crate) enum Way {
     Run,
     /// By a worker for each namespace, one by one.
     Workers,
+    /// So too, but each write is of the bytes of a slice, and each read into one.
+    WorkerSlices,
     /// By a service, one by one.
     Calls,
     /// So too, but the requests of one step are counted, and not those of all.
@@ -57,6 +59,7 @@ impl Way {
             "slices" => Some(Way::Slices),
             "run" => Some(Way::Run),
             "workers" => Some(Way::Workers),
+            "worker_slices" => Some(Way::WorkerSlices),
             "calls" => Some(Way::Calls),
             "event" => Some(Way::Event),
             "waits" => Some(Way::Waits),
@@ -75,6 +78,11 @@ impl Way {
             self,
             Way::Space | Way::Steps | Way::Spare | Way::Owned | Way::Workers | Way::Event
         )
+    }
+
+    /// Whether the bytes that steps move to and from the host stand in slices.
+    pub(crate) fn has_slices(self) -> bool {
+        matches!(self, Way::Slices | Way::WorkerSlices)
     }
 
     fn has_guest(self) -> bool {
@@ -133,10 +141,10 @@ impl Row<'_> {
         Ok(())
     }
 
-    /// The same where a slice serves the step: the sign is beside what the hub makes of it, and neither the slice nor
+    /// The same where a slice serves the step: the sign is beside what the host makes of it, and neither the slice nor
     /// the reply that is made of it is counted.
     pub(crate) fn give_sign_within(&self, alloc: Global, place: usize) -> Result<(), End> {
-        if place == self.at && self.way == Way::Slices {
+        if place == self.at && self.way.has_slices() {
             self.give_sign(alloc)?;
         }
         Ok(())

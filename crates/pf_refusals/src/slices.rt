@@ -1,4 +1,5 @@
-//! Steps that a hub makes by slices: each write is of bytes where they stand, and each read into memory of the host's.
+//! Steps that a hub or workers make by slices: each write is of bytes where they stand, and each read into memory of
+//! the host's.
 
 use crate::end::End;
 use crate::host::Host;
@@ -16,24 +17,38 @@ struct Read {
     room: usize,
 }
 
-/// A hub that makes steps one by one, by slices where they move bytes to or from the host. No namespace comes or goes.
+/// What is told of a step.
 #[derive(Drop)]
-pub(crate) struct BySlices<'a> {
+pub(crate) enum Made {
+    Answer(Answer),
+    Read(Result<Option<usize>, Errno>),
+}
+
+/// Who makes steps by slices, where they move bytes to or from the host.
+pub(crate) trait Slicing {
+    /// Makes a step of a namespace, if it lives: a read, also one that is tried again, into the buffer that there is
+    /// for it.
+    fn make_by_slices(&mut self, ns: u32, step: &Step, buffer: Option<&mut [u8]>) -> Option<Made>;
+}
+
+/// Has it make steps one by one. No namespace comes or goes.
+#[derive(Drop)]
+pub(crate) struct BySlices<'a, S: Slicing> {
     alloc: Global,
     row: &'a Row<'a>,
-    hub: &'a mut Hub<Global>,
+    host: &'a mut S,
     made: usize,
     /// The last read that waits.
     waiting: Option<Read>,
 }
 
-impl<'a> BySlices<'a> {
+impl<'a, S: Slicing> BySlices<'a, S> {
     /// It has made no step yet.
-    pub(crate) fn new(alloc: Global, row: &'a Row<'a>, hub: &'a mut Hub<Global>) -> Self {
+    pub(crate) fn new(alloc: Global, row: &'a Row<'a>, host: &'a mut S) -> Self {
         BySlices {
             alloc,
             row,
-            hub,
+            host,
             made: 0,
             waiting: None,
         }
@@ -59,37 +74,25 @@ impl<'a> BySlices<'a> {
     }
 }
 
-/// What a hub tells of a step.
-#[derive(Drop)]
-enum Made {
-    Answer(Answer),
-    Read(Result<Option<usize>, Errno>),
-}
-
-/// Has a hub make a step of a namespace, if it lives: a read, also one that is tried again, into the buffer that there
-/// is for it.
-fn make_by_slices(
-    hub: &mut Hub<Global>,
-    ns: u32,
-    step: &Step,
-    buffer: Option<&mut [u8]>,
-) -> Option<Made> {
-    if !hub.lives(ns) {
-        return None;
-    }
-    Some(match (step, buffer) {
-        (Step::Write { pid, fd, payload }, _) => Made::Answer(hub.write_from(
-            ns,
-            *pid,
-            *fd,
-            payload.as_slice(),
-        )),
-        (Step::Read { pid, fd, n: _ }, Some(buffer)) => {
-            Made::Read(hub.read_into(ns, *pid, *fd, buffer))
+impl Slicing for Hub<Global> {
+    fn make_by_slices(&mut self, ns: u32, step: &Step, buffer: Option<&mut [u8]>) -> Option<Made> {
+        if !self.lives(ns) {
+            return None;
         }
-        (Step::Resume { pid }, Some(buffer)) => Made::Read(hub.resume_into(ns, *pid, buffer)),
-        _ => Made::Answer(hub.step(ns, step)),
-    })
+        Some(match (step, buffer) {
+            (Step::Write { pid, fd, payload }, _) => Made::Answer(self.write_from(
+                ns,
+                *pid,
+                *fd,
+                payload.as_slice(),
+            )),
+            (Step::Read { pid, fd, n: _ }, Some(buffer)) => {
+                Made::Read(self.read_into(ns, *pid, *fd, buffer))
+            }
+            (Step::Resume { pid }, Some(buffer)) => Made::Read(self.resume_into(ns, *pid, buffer)),
+            _ => Made::Answer(self.step(ns, step)),
+        })
+    }
 }
 
 /// The buffer of a read, if a step is one: it has room for all that it asks for.
@@ -117,7 +120,7 @@ fn reply_of(
     })
 }
 
-impl Host for BySlices<'_> {
+impl<S: Slicing> Host for BySlices<'_, S> {
     fn make(&mut self, ns: u32, step: &Step) -> Result<EventAnswer, End> {
         let place = self.made;
         self.made = place.saturating_add(1);
@@ -129,7 +132,7 @@ impl Host for BySlices<'_> {
             None
         };
         self.row.give_sign_within(self.alloc, place)?;
-        let made = make_by_slices(self.hub, ns, step, into);
+        let made = self.host.make_by_slices(ns, step, into);
         self.row.give_sign_within(self.alloc, place)?;
         Ok(match made {
             Some(Made::Answer(answer)) => EventAnswer::Answer(answer),

@@ -6,6 +6,7 @@ use crate::end::End;
 use crate::host::{Host, make_all};
 use crate::row::Row;
 use crate::scripts::{blank, configs_of, frames_of};
+use crate::slices::{BySlices, Made, Slicing};
 use crate::told::Told;
 use pf_base::{Config, EventAnswer, Step};
 use pf_depot::DepotBook;
@@ -61,6 +62,30 @@ impl<R: Wait, C: Ledger, H: Ledger> Host for Shift<'_, R, C, H> {
     }
 }
 
+impl<R: Wait, C: Ledger, H: Ledger> Slicing for Shift<'_, R, C, H> {
+    fn make_by_slices(&mut self, ns: u32, step: &Step, buffer: Option<&mut [u8]>) -> Option<Made> {
+        let (rt, book) = (self.rt, self.book);
+        let worker = self.team.get_mut(ns as usize)?;
+        Some(match (step, buffer) {
+            (Step::Write { pid, fd, payload }, _) => Made::Answer(worker.write_from(
+                rt,
+                book,
+                &NoGate,
+                *pid,
+                *fd,
+                payload.as_slice(),
+            )),
+            (Step::Read { pid, fd, n: _ }, Some(buffer)) => {
+                Made::Read(worker.read_into(rt, book, &NoGate, *pid, *fd, buffer))
+            }
+            (Step::Resume { pid }, Some(buffer)) => {
+                Made::Read(worker.resume_into(rt, book, &NoGate, *pid, buffer))
+            }
+            _ => Made::Answer(worker.step(rt, book, &NoGate, step)),
+        })
+    }
+}
+
 /// Has workers make a row's steps. There is room for those that come.
 fn make<R: Wait, C: Ledger, H: Ledger>(
     rt: &R,
@@ -78,6 +103,10 @@ fn make<R: Wait, C: Ledger, H: Ledger>(
         book,
         team,
     };
+    if row.way.has_slices() {
+        let mut shift = BySlices::new(alloc, row, &mut shift);
+        return make_all(alloc, row, script, &mut shift, told);
+    }
     make_all(alloc, row, script, &mut shift, told)
 }
 
