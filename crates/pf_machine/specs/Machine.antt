@@ -21,7 +21,7 @@ use Rattle.pf_machine.specs.State.{itself, State, Process, Outcome, settle, proc
 use Rattle.pf_machine.specs.Processes.{spawn, fork, exit}
 use Rattle.pf_machine.specs.Descriptors.{dup, close, set_nonblock}
 use Rattle.pf_machine.specs.Pipes.{pipe, set_size, get_size}
-use Rattle.pf_machine.specs.Calls.{Call, Moving, Reading, Writing, Bringing}
+use Rattle.pf_machine.specs.Calls.{Call, Moving, Transfer, Reading, Writing, Bringing}
 use Rattle.pf_machine.specs.Attempts.{transfer, resume}
 use Rattle.pf_machine.specs.Opens.{open_path, access_of}
 use Rattle.pf_machine.specs.Paths.{has_dots}
@@ -30,46 +30,55 @@ use Rattle.pf_machine.specs.Sweep.{sweep}
 
 -- Steps
 
--- whose a step is, and what it does then: nobody's; one of a process that is to live; one of a process that is to wait
--- in no call either
-pub data Deed : Type 0 where
-  OfNobody : (Limits → State Segment ℕ → Result (Outcome Segment ℕ) Errno) → Deed
-  OfLiving : ℕ → (Limits → State Segment ℕ → Process ℕ → Result (Outcome Segment ℕ) Errno) → Deed
-  OfReady : ℕ → (Limits → State Segment ℕ → Process ℕ → Result (Outcome Segment ℕ) Errno) → Deed
+-- whose a step is, and what it does then, whatever slots hold: nobody's; one of a process that is to live; one of a
+-- process that is to wait in no call either
+pub data Deed (X : Type 0) : Type 0 where
+  OfNobody : (Limits → State X ℕ → Result (Outcome X ℕ) Errno) → Deed X
+  OfLiving : ℕ → (Limits → State X ℕ → Process ℕ → Result (Outcome X ℕ) Errno) → Deed X
+  OfReady : ℕ → (Limits → State X ℕ → Process ℕ → Result (Outcome X ℕ) Errno) → Deed X
 
-abbrev pub deed : Step → Deed
-deed (steps.Spawn uid gid umask groups) =
+-- what alone looks into slots: a transfer, tried for the first time, and the call in which a process waits, tried again
+pub record Tries (X : Type 0) : Type 0 where
+  pub moves : State X ℕ → ℕ → Process ℕ → Bool → Transfer → Result (Outcome X ℕ) Errno
+  pub resumes : State X ℕ → ℕ → Process ℕ → Result (Outcome X ℕ) Errno
+
+abbrev pub deed_by : {X : Type 0} → Tries X → Step → Deed X
+deed_by t (steps.Spawn uid gid umask groups) =
     OfNobody (λ c s. spawn s (record { uid = uid; gid = gid; groups = groups; umask = umask }))
-deed (steps.Exit pid) = OfLiving pid (λ c s p. exit s pid)
-deed (steps.Resume pid) = OfLiving pid (λ c s p. resume s pid p)
-deed (steps.Fork pid) = OfReady pid (λ c s p. fork s p)
-deed (steps.Mkdir pid path mode) = OfReady pid (λ c s p. make kinds.Directory s p path mode)
-deed (steps.Mkfifo pid path mode) = OfReady pid (λ c s p. make kinds.Fifo s p path mode)
-deed (steps.Unlink pid path) = OfReady pid (λ c s p. unlink s p path)
-deed (steps.Rmdir pid path) = OfReady pid (λ c s p. rmdir s p path)
-deed (steps.Chmod pid path mode) = OfReady pid (λ c s p. chmod s p path mode)
-deed (steps.Stat pid path) = OfReady pid (λ c s p. stat s p path)
-deed (steps.List pid path) = OfReady pid (λ c s p. list s p path)
-deed (steps.Open pid path flags) =
+deed_by t (steps.Exit pid) = OfLiving pid (λ c s p. exit s pid)
+deed_by t (steps.Resume pid) = OfLiving pid (λ c s p. t.resumes s pid p)
+deed_by t (steps.Fork pid) = OfReady pid (λ c s p. fork s p)
+deed_by t (steps.Mkdir pid path mode) = OfReady pid (λ c s p. make kinds.Directory s p path mode)
+deed_by t (steps.Mkfifo pid path mode) = OfReady pid (λ c s p. make kinds.Fifo s p path mode)
+deed_by t (steps.Unlink pid path) = OfReady pid (λ c s p. unlink s p path)
+deed_by t (steps.Rmdir pid path) = OfReady pid (λ c s p. rmdir s p path)
+deed_by t (steps.Chmod pid path mode) = OfReady pid (λ c s p. chmod s p path mode)
+deed_by t (steps.Stat pid path) = OfReady pid (λ c s p. stat s p path)
+deed_by t (steps.List pid path) = OfReady pid (λ c s p. list s p path)
+deed_by t (steps.Open pid path flags) =
     OfReady pid (λ c s p. open_path itself (length s.descriptions) itself c s pid p path (access_of flags.0))
-deed (steps.Pipe pid nonblock) =
+deed_by t (steps.Pipe pid nonblock) =
     OfReady pid
     (λ c s p. pipe (length s.descriptions) (length s.descriptions + 1) (length s.pipes) c s pid p nonblock)
-deed (steps.Dup pid fd) = OfReady pid (λ c s p. dup s pid p fd)
-deed (steps.Close pid fd) = OfReady pid (λ c s p. close s pid p fd)
-deed (steps.Read pid fd n) = OfReady pid (λ c s p. transfer s pid p false (Reading fd n))
-deed (steps.Write pid fd payload) = OfReady pid (λ c s p. transfer s pid p false (Writing fd payload 0))
-deed (steps.Tee pid source sink n nonblock) =
-    OfReady pid (λ c s p. transfer s pid p nonblock (Bringing crossings.Tee source sink n))
-deed (steps.Splice pid source sink n nonblock) =
-    OfReady pid (λ c s p. transfer s pid p nonblock (Bringing crossings.Splice source sink n))
-deed (steps.SetSize pid fd bytes) = OfReady pid (λ c s p. set_size itself c s p fd bytes)
-deed (steps.GetSize pid fd) = OfReady pid (λ c s p. get_size itself s p fd)
-deed (steps.SetNonblock pid fd on) = OfReady pid (λ c s p. set_nonblock itself s p fd on)
+deed_by t (steps.Dup pid fd) = OfReady pid (λ c s p. dup s pid p fd)
+deed_by t (steps.Close pid fd) = OfReady pid (λ c s p. close s pid p fd)
+deed_by t (steps.Read pid fd n) = OfReady pid (λ c s p. t.moves s pid p false (Reading fd n))
+deed_by t (steps.Write pid fd payload) = OfReady pid (λ c s p. t.moves s pid p false (Writing fd payload 0))
+deed_by t (steps.Tee pid source sink n nonblock) =
+    OfReady pid (λ c s p. t.moves s pid p nonblock (Bringing crossings.Tee source sink n))
+deed_by t (steps.Splice pid source sink n nonblock) =
+    OfReady pid (λ c s p. t.moves s pid p nonblock (Bringing crossings.Splice source sink n))
+deed_by t (steps.SetSize pid fd bytes) = OfReady pid (λ c s p. set_size itself c s p fd bytes)
+deed_by t (steps.GetSize pid fd) = OfReady pid (λ c s p. get_size itself s p fd)
+deed_by t (steps.SetNonblock pid fd on) = OfReady pid (λ c s p. set_nonblock itself s p fd on)
+
+-- a step's own, where slots hold segments
+abbrev pub deed : Step → Deed Segment
+deed step = deed_by (record { moves = transfer; resumes = resume }) step
 
 -- what a deed does, or the first error: ESRCH where no such process lives, then EBUSY where it waits in a call, but of
 -- one that is only to live
-abbrev pub done_at : Limits → State Segment ℕ → Deed → Result (Outcome Segment ℕ) Errno
+abbrev pub done_at : {X : Type 0} → Limits → State X ℕ → Deed X → Result (Outcome X ℕ) Errno
 done_at c s (OfNobody does) = does c s
 done_at c s (OfLiving pid does) = living s pid >>= does c s
 done_at c s (OfReady pid does) = ready s pid >>= does c s
@@ -100,7 +109,7 @@ Answers c NoMemory old step new = new ≡ old
 -- Want of memory
 
 -- the process that does a deed
-abbrev pub doer : Deed → Option ℕ
+abbrev pub doer : {X : Type 0} → Deed X → Option ℕ
 doer (OfNobody does) = None
 doer (OfLiving pid does) = Some pid
 doer (OfReady pid does) = Some pid
@@ -110,7 +119,7 @@ abbrev pub pid_of : Step → Option ℕ
 pid_of step = doer (deed step)
 
 -- whether it is one of a process that may wait in a call
-abbrev pub is_of_living : Deed → Bool
+abbrev pub is_of_living : {X : Type 0} → Deed X → Bool
 is_of_living (OfLiving pid does) = true
 is_of_living _ = false
 

@@ -14,13 +14,9 @@ use Rattle.pf_base.specs.declared.meta.Kind.TheVariants as kinds
 use Rattle.pf_base.specs.declared.step.Step.TheVariants as steps
 use Rattle.pf_machine.specs.Attempts.{has_nonblock, is_nonblocking}
 use Rattle.pf_machine.specs.Calls.{Opening}
-use Rattle.pf_machine.specs.Descriptors.{close, dup, set_nonblock}
-use Rattle.pf_machine.specs.Files.{chmod, list, make, rmdir, stat, unlink}
+use Rattle.pf_machine.specs.Machine.{Tries, deed_by, done_at}
 use Rattle.pf_machine.specs.Maps.{if_ok, call_as, process_as, description_as, state_as, outcome_as}
-use Rattle.pf_machine.specs.Opens.{access_of, open_path}
-use Rattle.pf_machine.specs.Pipes.{get_size, pipe, set_size}
-use Rattle.pf_machine.specs.Processes.{exit, fork, spawn}
-use Rattle.pf_machine.specs.State.{of_living, of_ready, told}
+use Rattle.pf_machine.specs.State.{of_ready, told}
 use Rattle.pf_machine.proofs.Natural.{born-as, call-as, dup-as, get_size-as, set_nonblock-as, spawn-as}
 use Rattle.pf_machine.proofs.NaturalCalls.{close-call, exit-call, open-call, pipe-call}
 use Rattle.pf_machine.proofs.NaturalFiles.{chmod-as, list-as, make-as, rmdir-as, stat-as, unlink-as}
@@ -129,30 +125,12 @@ Stays (steps.Splice pid source sink n nonblock) = ⊥
 Stays (steps.Resume pid) = ⊥
 Stays _ = ⊤
 
+-- what would look into slots is no part of it
+abbrev untried : Tries Window
+untried = record { moves = λ s pid p nonblock transfer. Err EINVAL; resumes = λ s pid p. Err EINVAL }
+
 abbrev pub own_of : Namespace → Step → Result (Outcome Window ℕ) Errno
-own_of n (steps.Spawn uid gid umask groups) =
-    spawn n.state (record { uid = uid; gid = gid; groups = groups; umask = umask })
-own_of n (steps.Exit pid) = of_living n.state pid (λ p. exit n.state pid)
-own_of n (steps.Fork pid) = of_ready n.state pid (λ p. fork n.state p)
-own_of n (steps.Pipe pid nonblock) =
-    of_ready n.state pid (λ p. pipe (length n.state.descriptions) (length n.state.descriptions + 1)
-    (length n.state.pipes) n.limits n.state pid p nonblock)
-own_of n (steps.Dup pid fd) = of_ready n.state pid (λ p. dup n.state pid p fd)
-own_of n (steps.Close pid fd) = of_ready n.state pid (λ p. close n.state pid p fd)
-own_of n (steps.SetNonblock pid fd on) = of_ready n.state pid (λ p. set_nonblock itself n.state p fd on)
-own_of n (steps.SetSize pid fd bytes) = of_ready n.state pid (λ p. set_size itself n.limits n.state p fd bytes)
-own_of n (steps.GetSize pid fd) = of_ready n.state pid (λ p. get_size itself n.state p fd)
-own_of n (steps.Mkdir pid path mode) = of_ready n.state pid (λ p. make kinds.Directory n.state p path mode)
-own_of n (steps.Mkfifo pid path mode) = of_ready n.state pid (λ p. make kinds.Fifo n.state p path mode)
-own_of n (steps.Unlink pid path) = of_ready n.state pid (λ p. unlink n.state p path)
-own_of n (steps.Rmdir pid path) = of_ready n.state pid (λ p. rmdir n.state p path)
-own_of n (steps.Chmod pid path mode) = of_ready n.state pid (λ p. chmod n.state p path mode)
-own_of n (steps.Stat pid path) = of_ready n.state pid (λ p. stat n.state p path)
-own_of n (steps.List pid path) = of_ready n.state pid (λ p. list n.state p path)
-own_of n (steps.Open pid path flags) =
-    of_ready n.state pid (λ p. open_path itself (length n.state.descriptions) itself n.limits n.state pid p path
-    (access_of flags.0))
-own_of n _ = Err EINVAL
+own_of n step = done_at n.limits n.state (deed_by untried step)
 
 pub natural : (n : Namespace) (step : Step) → Stays step → Natural n.limits n.state step (own_of n step)
 natural n (steps.Spawn uid gid umask groups) stays shows =

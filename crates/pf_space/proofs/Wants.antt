@@ -89,7 +89,7 @@ first_ok : {A B : Type 0} (m : Result A Errno) (k : A → Result B Errno) → Is
 first_ok (Ok x) k ok = (x, refl)
 first_ok (Err e) k ok = absurd (cc)
 
-made_in : (c : Limits) (s : State Segment ℕ) (d : Deed) → IsOk (done_at c s d)
+made_in : (c : Limits) (s : State Segment ℕ) (d : Deed Segment) → IsOk (done_at c s d)
     → (lives s (doer d) && (is_of_living d || not (waits s (doer d)))) ≡ true
 made_in c s (OfNobody does) ok = refl
 made_in c s (OfLiving pid does) ok =
