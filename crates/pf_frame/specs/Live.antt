@@ -74,14 +74,6 @@ pub record IsIdle (n : ℕ) (f : Live) : Type 0 where
   pub shares : f.shares ≡ 0
   pub counts : (q : ℕ) → f.count q ≡ 0
 
--- nothing has happened to the live frames
-pub record SameLive (old new : Live) : Type 0 where
-  pub reserved : new.reserved ≡ old.reserved
-  pub held : new.held ≡ old.held
-  pub shares : new.shares ≡ old.shares
-  pub counts : (q : ℕ) → new.count q ≡ old.count q
-  pub bytes : (q : ℕ) → 0 < old.count q → new.bytes q ≡ old.bytes q
-
 -- the live frames of a namespace that isn't there
 abbrev pub nobody : Live
 nobody = record { reserved = 0; held = 0; shares = 0; count = λ q. 0; bytes = λ q. [] }

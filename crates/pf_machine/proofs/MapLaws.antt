@@ -47,12 +47,6 @@ module _ {X Y : Type 0} (f : X → Y) where
   first_where-map test (Some x ∷ xs) =
       ap (λ o. cond (test (f x)) (Some 0) (option_map (λ m. suc m) o)) (first_where-map test xs)
 
--- a test that is the same everywhere keeps the same
-pub keep_from-same : {X : Type 0} (t u : ℕ → Bool) → ((n : ℕ) → t n ≡ u n) → (n : ℕ) (xs : List (Option X))
-    → keep_from t n xs ≡ keep_from u n xs
-keep_from-same t u same n [] = refl
-keep_from-same t u same n (x ∷ xs) = λ i. cond (same n i) x None ∷ keep_from-same t u same (suc n) xs i
-
 -- Two maps that agree on what stands, but at one number
 
 module _ {X Y : Type 0} (f g : X → Y) where

@@ -9,7 +9,7 @@ use Rattle.pf_base.specs.Credentials.{is_valid}
 use Rattle.pf_base.specs.Limits.{Limits}
 use Rattle.pf_base.specs.Permissions.{is_privileged}
 use Rattle.pf_machine.specs.Refusals.{◌>>=◌, ◌>>◌, refuse_if, or_refuse}
-use Rattle.pf_machine.specs.Numbered.{at, put_at, first_free, one_if}
+use Rattle.pf_machine.specs.Numbered.{at, put_at, first_free}
 use Rattle.pf_machine.proofs.NumberedLaws.{at-map, first_free-map, sum_of-map}
 use Rattle.pf_base.specs.declared.TheConstants.{PAGE_SIZE, MAX_MADE, MAX_DESCRIPTORS, MAX_PROCESSES}
 use Rattle.pf_base.specs.declared.cred.Cred.{Cred}
@@ -17,15 +17,14 @@ use Rattle.pf_base.specs.declared.errno.Errno.{Errno}
 use Rattle.pf_base.specs.declared.errno.Errno.TheVariants.{ESRCH, EBUSY, EBADF, EINVAL, EMFILE, EAGAIN, ENFILE}
 use Rattle.pf_base.specs.declared.step.Reply.TheVariants.{Pid, Fds}
 use Rattle.pf_machine.specs.Queue.{empty}
-use Rattle.pf_machine.specs.Calls.{Call, Opening, Moving, made_by}
+use Rattle.pf_machine.specs.Calls.{Call}
 use Rattle.pf_machine.specs.State.{Process, Description, Pipe, State, Outcome, End, vacant, process, living, ready, end_at, end_of, with_process, with_descriptor, told, done}
-use Rattle.pf_machine.specs.Counts.{charged, total, named_in, names_of, names, ends}
-use Rattle.pf_machine.specs.Sweep.{live_descriptions, live_pipes, sweep}
+use Rattle.pf_machine.specs.Counts.{charged, total, names}
 use Rattle.pf_machine.specs.Processes.{born, spawn, exit}
 use Rattle.pf_machine.specs.Descriptors.{named, dup, close, without_descriptor, with_nonblocking, with_flag, set_nonblock}
 use Rattle.pf_machine.specs.Pipes.{get_size, pipe, opened, new_pipe, reading, writing, with_two, first_descriptor, second_descriptor}
 use Rattle.pf_machine.specs.Maps.{if_ok, each, pipe_as, call_as, process_as, description_as, state_as, outcome_as, end_as}
-use Rattle.pf_machine.proofs.MapLaws.{vacant-map, second_free-map, bind-same, change_at-map, keep_from-map, keep_from-same, or_refuse-as, then-as, bind-as}
+use Rattle.pf_machine.proofs.MapLaws.{vacant-map, second_free-map, bind-same, change_at-map, or_refuse-as, then-as, bind-as}
 
 -- Names alone
 
@@ -148,12 +147,6 @@ module _ {X Y : Type 0} (f : X → Y) {N M : Type 0} (g : N → M) where
       ap (λ xs. Ok (done (record (S s) { processes = xs }) 0))
       (sym (map-set (option_map (process_as g)) s.processes (pid - 1) None))
 
-  -- what a parked open has made
-  made_by-as : (o : Option (Call N)) → made_by (option_map (call_as g) o) ≡ option_map g (made_by o)
-  made_by-as None = refl
-  made_by-as (Some (Opening n kept)) = refl
-  made_by-as (Some (Moving transfer)) = refl
-
   -- What follows names: a name and its image stand for one number
 
   module _ (v : N → ℕ) (w : M → ℕ) (same : (n : N) → w (g n) ≡ v n) where
@@ -214,44 +207,6 @@ module _ {X Y : Type 0} (f : X → Y) {N M : Type 0} (g : N → M) where
     get_size-as s p fd =
         ap (λ e. e >>= (λ (e : End Y M). Ok (done (S s) (PAGE_SIZE * e.pipe.queue.capacity)))) (end_of-as s p fd)
         ∙ bind-as (end_as f g) O (end_of v s p fd) _ _ (λ e. refl)
-
-    -- The sweep
-
-    named_in-as : (n : ℕ) (xs : List (Option N)) → named_in w n (each g xs) ≡ named_in v n xs
-    named_in-as n [] = refl
-    named_in-as n (None ∷ xs) = ap (λ m. 0 + m) (named_in-as n xs)
-    named_in-as n (Some x ∷ xs) = λ i. one_if (nat_eq (same x i) n) + named_in-as n xs i
-
-    pub names-as : (ps : List (Option (Process N))) (n : ℕ) → names w (each (process_as g) ps) n ≡ names v ps n
-    names-as [] n = refl
-    names-as (None ∷ ps) n = ap (λ m. 0 + m) (names-as ps n)
-    names-as (Some p ∷ ps) n = λ i. (
-        ap (λ o. named_in w n (o ∷ each g p.descriptors)) (made_by-as p.parked) ∙ named_in-as n (names_of p)
-        ) i + names-as ps n i
-
-    pub ends-as : (ds : List (Option (Description N))) (n : ℕ) → ends w (each (description_as g) ds) n ≡ ends v ds n
-    ends-as [] n = refl
-    ends-as (None ∷ ds) n = ap (λ m. 0 + m) (ends-as ds n)
-    ends-as (Some d ∷ ds) n = λ i. one_if (nat_eq (same d.pipe i) n) + ends-as ds n i
-
-    live_descriptions-as : (ps : List (Option (Process N))) (ds : List (Option (Description N)))
-        → live_descriptions w (each (process_as g) ps) (each (description_as g) ds)
-        ≡ each (description_as g) (live_descriptions v ps ds)
-    live_descriptions-as ps ds =
-        keep_from-same _ _ (λ n. ap (nat_lt 0) (names-as ps n)) 0 _ ∙ keep_from-map (description_as g) _ 0 ds
-
-    live_pipes-as : (ds : List (Option (Description N))) (pipes : List (Option (Pipe X)))
-        → live_pipes w (each (description_as g) ds) (each (pipe_as f) pipes)
-        ≡ each (pipe_as f) (live_pipes v ds pipes)
-    live_pipes-as ds pipes =
-        keep_from-same _ _ (λ n. ap (nat_lt 0) (ends-as ds n)) 0 _ ∙ keep_from-map (pipe_as f) _ 0 pipes
-
-    pub sweep-as : (s : State X N) → sweep w (S s) ≡ S (sweep v s)
-    sweep-as s =
-        let first = live_descriptions-as s.processes s.descriptions in
-        (λ i. record (S s) { descriptions = first i; pipes = live_pipes w (first i) (S s).pipes })
-        ∙ ap (λ xs. record (S (sweep v s)) { pipes = xs })
-        (live_pipes-as (live_descriptions v s.processes s.descriptions) s.pipes)
 
   -- Pipe, with the names that it draws
 

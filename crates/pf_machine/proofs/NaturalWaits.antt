@@ -1,18 +1,18 @@
--- The same of calls that wait: parking, who waits, and an open that is tried again. Of transfers, the ends that they
--- ask for.
+-- The same of calls that wait: parking, who waits, and an open that is tried again; and of O_NONBLOCK, which a transfer
+-- asks for.
 
-use Rattle.std.proofs.Common.{◌≡◌, ℕ, ◌-◌, Bool, true, false, not, nat_lt, is_some, if◌then◌else◌, Option, Some, None, Result, Ok, Err, refl, sym, ap, ◌∙◌}
+use Rattle.std.proofs.Common.{◌≡◌, ℕ, ◌-◌, Bool, true, false, nat_lt, is_some, if◌then◌else◌, Option, Some, None, Result, Ok, Err, refl, sym, ap, ◌∙◌}
 use Rattle.std.specs.Option.{option_map, option_and_then}
 use Rattle.pf_base.specs.declared.errno.Errno.{Errno}
 use Rattle.pf_base.specs.declared.errno.Errno.TheVariants.{EBADF}
 use Rattle.pf_base.specs.declared.step.Reply.TheVariants.{Parked, Err as Refused}
-use Rattle.pf_machine.specs.Refusals.{◌>>=◌, ◌>>◌, refuse_if, or_refuse}
+use Rattle.pf_machine.specs.Refusals.{◌>>=◌, or_refuse}
 use Rattle.pf_machine.specs.Calls.{Call, Opening}
-use Rattle.pf_machine.specs.State.{Process, State, Outcome, End, process, end_at, end_of, reading_end, writing_end, change_process, waiting, told}
+use Rattle.pf_machine.specs.State.{Process, State, Outcome, End, process, end_at, end_of, change_process, waiting, told}
 use Rattle.pf_machine.specs.Attempts.{Attempt, Finished, Waits, other_opens, given, open_told, reopened, parked, again, has_nonblock}
 use Rattle.pf_machine.specs.Machine.{call_of, waits}
 use Rattle.pf_machine.specs.Maps.{if_ok, call_as, process_as, state_as, outcome_as, end_as, attempt_as}
-use Rattle.pf_machine.proofs.MapLaws.{change_at-map, or_refuse-as, then-as, bind-as}
+use Rattle.pf_machine.proofs.MapLaws.{change_at-map, or_refuse-as, bind-as}
 use Rattle.pf_machine.proofs.Natural.{process-as, end_at-as, end_of-as}
 use Rattle.pf_machine.proofs.NaturalOpens.{given-as}
 
@@ -94,22 +94,6 @@ module _ {X Y : Type 0} (f : X → Y) {N M : Type 0} (g : N → M) where
         ∙ ap (λ r. r >>= (λ e. Ok (open_told (S s) pid (process_as g p) (g n) kept e)))
         (or_refuse-as E EBADF (end_at v s (v n)))
         ∙ bind-as E A (or_refuse EBADF (end_at v s (v n))) _ _ (λ e. ap Ok (open_told-as s pid p n kept e))
-
-    -- Ends
-
-    pub reading_end-as : (s : State X N) (p : Process N) (fd : ℕ)
-        → reading_end w (S s) (process_as g p) fd ≡ if_ok E (reading_end v s p fd)
-    reading_end-as s p fd =
-        ap (λ r. r >>= (λ (e : End Y M). refuse_if (not e.description.reads) EBADF >> Ok e))
-        (end_of-as f g v w same s p fd)
-        ∙ bind-as E E (end_of v s p fd) _ _ (λ e. then-as E (refuse_if (not e.description.reads) EBADF) (Ok e) _ refl)
-
-    pub writing_end-as : (s : State X N) (p : Process N) (fd : ℕ)
-        → writing_end w (S s) (process_as g p) fd ≡ if_ok E (writing_end v s p fd)
-    writing_end-as s p fd =
-        ap (λ r. r >>= (λ (e : End Y M). refuse_if (not e.description.writes) EBADF >> Ok e))
-        (end_of-as f g v w same s p fd)
-        ∙ bind-as E E (end_of v s p fd) _ _ (λ e. then-as E (refuse_if (not e.description.writes) EBADF) (Ok e) _ refl)
 
     pub has_nonblock-as : (s : State X N) (p : Process N) (fd : ℕ)
         → has_nonblock w (S s) (process_as g p) fd ≡ has_nonblock v s p fd

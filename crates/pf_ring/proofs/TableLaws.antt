@@ -3,7 +3,6 @@
 use Rattle.std.proofs.Common.{◌≡◌, ◌≢◌, ℕ, zero, suc, ◌+◌, ◌-◌, ◌<◌, ◌≤◌, List, ◌∷◌, ◌++◌, length, map, set, refl, sym, ◌∙◌, ap, subst, inl, inr, arith, []}
 use Rattle.std.proofs.lemmas.Bool.{cases_lt, cases_eq}
 use Rattle.std.proofs.lemmas.Bool.Decides.{nat_tests}
-use denote.Struct.Props.{props}
 use Rattle.std.proofs.lemmas.List.{get_or_past, get_or-set_same, get_or-set_other, set_past, nil_from_length, length-map}
 use Rattle.std.proofs.lemmas.List.Sums.{sum_by-cons, sum_by-set, sum_by_push, get_or-le-sum_by, sum_by-le-sum_by}
 use Rattle.std.specs.Prelude.{slice_index_or}
@@ -11,11 +10,10 @@ use Rattle.std.specs.List.{sum_by}
 use Rattle.pf_base.specs.declared.TheConstants.{PAGE_SIZE}
 use Rattle.pf_machine.specs.Queue.{Segment, Queue, IsSegment, IsQueue, joined, bytes_of}
 use Rattle.pf_frame.specs.Live.{Live, IsSound}
-pub use Rattle.pf_frame.specs.Live.{SameLive}
 use Rattle.pf_ring.specs.declared.ring.Window.{Window}
 use Rattle.pf_ring.specs.Ring.{Ring, segment_of, queue_of, no_ring}
 use Rattle.pf_ring.specs.Windows.{named, reach, opens, limit, NoEmpty, bytes_in, Stands, Keeps}
-use Rattle.pf_ring.proofs.WindowLaws.{NoEmpty-prop, NoEmpty-append, named-append, opens-append, reach-append, limit-append, opens_le_named, reach_unnamed, limit_closed, reach_here, take_less, segments_stay, window_whole, stands_rest, segments_length}
+use Rattle.pf_ring.proofs.WindowLaws.{NoEmpty-append, named-append, opens-append, reach-append, limit-append, opens_le_named, reach_unnamed, limit_closed, reach_here, take_less, segments_stay, window_whole, stands_rest, segments_length}
 use Rattle.pf_ring.specs.Table.{ring_at, named_by, opens_by, slots_of, slots_used, Joined}
 
 -- what is 0 at no ring is, at one ring or at two, at most its sum
@@ -264,7 +262,3 @@ ring_queue f r s t u = record { each = each_segment f r.segments s t; slots = om
 
 pub bytes_number : (f : Live) (r : Ring) → IsSound f → Stands f r.segments → length (bytes_of (queue_of f r)) ≡ bytes_in r.segments
 bytes_number f r s t = segments_length f r.segments s t
-
--- Joined is a fact, with one proof at most
-pub Joined-prop : (f : Live) (rings : List Ring) → IsProp (Joined f rings)
-Joined-prop f rings = hlevel (props, NoEmpty-prop)

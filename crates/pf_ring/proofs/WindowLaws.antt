@@ -4,7 +4,6 @@ use Rattle.std.proofs.Common.{◌≡◌, ℕ, ◌+◌, ◌-◌, ◌*◌, ◌<◌
 use Rattle.std.proofs.lemmas.List.{take-take, drop-drop, drop-take, length-take, length-drop, length-append}
 use Rattle.std.proofs.lemmas.Bool.{cases_lt}
 use Rattle.std.proofs.lemmas.Bool.Decides.{nat_tests}
-use denote.Struct.Props.{props}
 use Rattle.pf_base.specs.declared.TheConstants.{PAGE_SIZE}
 use Rattle.pf_machine.specs.Queue.{Segment, joined}
 use Rattle.pf_frame.specs.Live.{Live, IsSound}
@@ -219,11 +218,6 @@ bytes_in_le [] h = omega arith
 bytes_in_le (w ∷ ws) h =
     let at : (0 < named w.frame (w ∷ ws)) × (w.from + w.len ≤ reach w.frame (w ∷ ws)) = reach_here w ws in
     omega (arith, at.1, h w.frame, bytes_in_le ws (λ q. omega (arith, reach_tail q w ws, h q)))
-
--- NoEmpty is a fact, with one proof at most
-pub NoEmpty-prop : (ws : List Window) → IsProp (NoEmpty ws)
-NoEmpty-prop [] = hlevel props
-NoEmpty-prop (w ∷ ws) = hlevel (props, NoEmpty-prop ws)
 
 -- two rings whose windows stand in the frames together
 

@@ -5,7 +5,6 @@ use Rattle.std.specs.Prelude.{slice_index_or}
 use Rattle.std.specs.List.{sum_by}
 use Rattle.pf_base.specs.declared.TheConstants.{PAGE_SIZE}
 use Rattle.pf_frame.specs.Live.{Live}
-pub use Rattle.pf_frame.specs.Live.{SameLive}
 use Rattle.pf_ring.specs.Ring.{Ring, no_ring}
 use Rattle.pf_ring.specs.Windows.{named, reach, opens, limit, NoEmpty}
 

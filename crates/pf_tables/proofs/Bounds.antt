@@ -18,24 +18,19 @@ use Rattle.pf_machine.proofs.HoldsLaws.{carries, passes}
 use Rattle.pf_machine.specs.Calls as calls
 use Rattle.pf_machine.specs.State as machine
 use Rattle.pf_machine.specs.State.{end_of}
-use Rattle.pf_machine.specs.Machine.{step_of, call, call_of as machine_call_of}
+use Rattle.pf_machine.specs.Machine.{call, call_of as machine_call_of}
 use Rattle.pf_base.specs.declared.TheConstants.{MAX_RESERVE}
 use Rattle.pf_base.specs.declared.errno.Errno.TheVariants.{ENOTDIR, EACCES}
 use Rattle.pf_base.specs.declared.progress.Side.TheVariants as sides
 use Rattle.pf_base.specs.declared.step.Step.{Step}
 use Rattle.pf_base.specs.declared.step.Step.TheVariants as steps
 use Rattle.pf_ring.proofs.TableLaws.{ring_queue}
-use Rattle.pf_machine.specs.Replies.{reply_length}
 use Rattle.pf_tables.proofs.OwnsLaws.{ring_at-pipe, stands_at, pages_within}
 use Rattle.pf_machine.proofs.ReplyLaws.{read_bytes, read-few, resume-few, list-few, quiet, few}
 use Rattle.pf_tables.proofs.Ends.{end_of_rows, Agree, ends, named, not_lost, reaches}
 use Rattle.pf_tables.proofs.Refusals.{both_came, not_refused, is_there, same_ok}
 use Rattle.pf_tables.proofs.TablesShown.{from_map, was}
 use Rattle.pf_tables.proofs.Transfers as transfers
-
--- the reply to a step hands out no more, over these frames
-abbrev AtMost : Live → Step → ℕ → Namespace → Type 0
-AtMost f step bound n = reply_length (step_of n.limits (meaning f n.state) step).reply ≤ bound
 
 -- No pipe has more bytes than all frames
 

@@ -1,6 +1,6 @@
 -- What a call of a namespace does over the frames of its door, and what it is told.
 
-use Rattle.std.specs.Prelude.{◌≡◌, ℕ, ◌<◌, ◌⊎◌, Bool, true, false, List, length, Option, Some, None, take, ⊤, Result}
+use Rattle.std.specs.Prelude.{◌≡◌, ℕ, ◌<◌, ◌⊎◌, Bool, true, false, List, length, Option, take, ⊤, Result}
 use Rattle.std.specs.Prelude.{Ok, Err, nat_le}
 use Rattle.pf_base.specs.declared.TheConstants.{BYTES_IN_PLACE, PIPE_BUF}
 use Rattle.pf_machine.specs.Refusals.{◌>>=◌}
@@ -59,7 +59,7 @@ is_nonblocking_at s pid fd = flag_of s fd (ready s pid)
 abbrev pub transferred : State Segment ℕ → ℕ → Bool → Transfer → Result (Outcome Segment ℕ) Errno
 transferred s pid flag call = ready s pid >>= (λ p. transfer s pid p flag call)
 
--- a write that was done at once came to its end; where it would wait, nothing was done
+-- how a first try of a write ends: all its bytes went in, or nobody reads them; or it stops short of its end
 abbrev pub IsDone : Progress → ℕ → Type 0
 IsDone progress number = (progress ≡ Moved number) ⊎ (progress ≡ NoReader)
 

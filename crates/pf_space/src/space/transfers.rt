@@ -1,8 +1,7 @@
 //! Bytes into pipes, out of them and between them: write(2), read(2), tee(2) and splice(2), as pipe(7) says of
 //! O_NONBLOCK. A call that would wait parks, or is told EAGAIN where the step or a description says nonblocking.
 
-ghost use Rattle.std.specs.Prelude.{◌≡◌, ◌≢◌, ◌≤◌, length, Err, IsOk, IfOk, IfSome, not, ◌&&◌, ◌||◌, false, true};
-ghost use Rattle.pf_base.specs.declared.TheConstants.{BYTES_IN_PLACE};
+ghost use Rattle.std.specs.Prelude.{◌≡◌, ◌≢◌, ◌≤◌, length, Err, IfSome, not, ◌&&◌, ◌||◌, false, true};
 ghost use Rattle.pf_machine.specs.Calls.{Reading, Writing, Bringing};
 ghost use Rattle.pf_machine.specs.Machine.{Answers, call, may_want_memory};
 ghost use Rattle.pf_machine.specs.Events.{IsDone};
@@ -29,8 +28,8 @@ fn write_ended(progress: Progress) -> Result<Reply, Fault>
     }
 }
 
-// A step and its resume share `read_on` and `cross`. They are inlined in both, or a reply goes through
-// memory at each call above them: a write and a read of a byte through a hub then take 1.7 times as long.
+// A step and its resume share `read_on` and `cross`. They are inlined in both, or a reply goes through memory at each
+// call above them: a write and a read of a byte through a hub then take 1.7 times as long.
 impl<A: Allocator + Clone> Space<A> {
     /// The step that writes these bytes into the pipe that a process's descriptor names (write(2)): its answer and what
     /// it leaves are those of `step` with a `Step::Write` of them. A copy of them is made only where the write waits.

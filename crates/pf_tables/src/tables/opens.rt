@@ -222,8 +222,8 @@ fn describe(
 
 impl<A: Allocator> Tables<A> {
     /// Opens the FIFO at a path for a process (open(2), fifo(7)): its lowest free descriptor names the description, or
-    /// the process waits for the other side. A FIFO that nobody has open gets its pipe. One look-up finds the process,
-    /// and one the FIFO's key.
+    /// the process waits for the other side. A FIFO that nobody has open gets its pipe. The process is looked up
+    /// once, and its place is found again where its descriptor is given; the FIFO's key is looked up once.
     pub fn open(
         &mut self,
         alloc: Global,
