@@ -1,15 +1,16 @@
 //! Two namespaces' events overlap: a gate holds one of the first namespace, before its step, before a frame that it
-//! takes, or behind that and before the next, until the second namespace has taken a frame too. Which of the two is the
-//! first one the test says. With one lock around both, or with the depot's kept behind a frame, or held by who asks
-//! something of the first namespace meanwhile, the turns would be used up.
+//! takes, or behind that and before the next, until the second namespace has taken a frame too, and a third has come and
+//! gone. Which of the two is the first one the test says, and whether the events are made by calls or by calls that may
+//! wait. With one lock around both, or with the depot's kept behind a frame, or held by who asks something of the first
+//! namespace meanwhile, the turns would be used up.
 
 ghost use Rattle.pf_depot.specs.Blanks.{IsBlankOf};
 
 use pf_base::{ByteString, Reply, Step};
 use pf_service::{Gate, Seat, Service};
 use pf_service_fixture::{
-    BLUE, Closed, RED, blank, both, closed, make, namespaces, seat_if, service_of, spawn, with,
-    write,
+    BLUE, Closed, RED, blank, both, closed, config_of, make, makes, namespaces, seat_if,
+    service_of, spawn, with, write,
 };
 use std::alloc::{AllocError, Global};
 use std::marker::Brand;
@@ -32,6 +33,9 @@ struct Signals {
     // The first namespace, which is held, and the second.
     first: u32,
     second: u32,
+    // Whether their events are made by calls that may wait, and where these put their receipts.
+    may_wait: bool,
+    alloc: Global,
     // Not 0: an event of the first namespace is held.
     held: AtomicU64,
     // Not 0: somebody is about to ask of the first namespace.
@@ -45,10 +49,12 @@ struct Signals {
 }
 
 impl Signals {
-    fn new(first: u32) -> Signals {
+    fn new(alloc: Global, first: u32, may_wait: bool) -> Signals {
         Signals {
             first,
             second: if first == RED { BLUE } else { RED },
+            may_wait,
+            alloc,
             held: AtomicU64::new(0),
             asked: AtomicU64::new(0),
             frames: AtomicU64::new(0),
@@ -167,6 +173,68 @@ fn are_answered<R: Wait, C: Ledger, H: Ledger>(
         && is_answered(rt, service, ns, Asked::Readiness)
 }
 
+// Whether a step isn't refused, by a call that may wait. It doesn't.
+fn makes_waiting<R: Wait, C: Ledger, H: Ledger>(
+    rt: &R,
+    alloc: Global,
+    service: &Service<Global, Holder<'_>, C, H>,
+    seat: &mut Seat,
+    step: &Step,
+) -> bool {
+    let mut receipts = Vec::new(alloc);
+    let is_made = service.call_waiting(rt, seat, step, &mut receipts).is_ok();
+    drop(receipts);
+    is_made
+}
+
+// Makes the steps in turn, by calls or by calls that may wait, until one is refused; whether none is.
+fn makes_each<R: Wait, C: Ledger, H: Ledger>(
+    rt: &R,
+    service: &Service<Global, Holder<'_>, C, H>,
+    seat: &mut Seat,
+    steps: &[Step],
+    signals: &Signals,
+) -> bool {
+    for step in steps {
+        let is_made = if signals.may_wait {
+            makes_waiting(rt, signals.alloc, service, seat, step)
+        } else {
+            makes(rt, service, seat, step)
+        };
+        if !is_made {
+            return false;
+        }
+    }
+    true
+}
+
+// The same with a seat that comes back where none is.
+fn make_each<R: Wait, C: Ledger, H: Ledger>(
+    rt: &R,
+    service: &Service<Global, Holder<'_>, C, H>,
+    mut seat: Seat,
+    steps: &[Step],
+    signals: &Signals,
+) -> Option<Seat> {
+    let all = makes_each(rt, service, &mut seat, steps, signals);
+    seat_if(all, seat)
+}
+
+// Whether a namespace comes that reserves no frame, and goes.
+fn comes_and_goes<R: Wait, C: Ledger, H: Ledger>(
+    rt: &R,
+    alloc: Global,
+    service: &Service<Global, Holder<'_>, C, H>,
+) -> bool {
+    let Some(config) = config_of(0) else {
+        return false;
+    };
+    match service.admit(rt, config, alloc) {
+        Ok(ns) => service.retire(rt, ns).is_ok(),
+        Err(_) => false,
+    }
+}
+
 // The first namespace. Behind the step at which it may be held, whoever waits for its lock has some turns.
 fn make_held<R: Wait, C: Ledger, H: Ledger>(
     rt: &R,
@@ -176,13 +244,13 @@ fn make_held<R: Wait, C: Ledger, H: Ledger>(
     signals: &Signals,
 ) -> Option<Seat> {
     let (first, others) = steps.split_at(steps.len().min(1));
-    let seat = make(rt, service, seat, first)?;
+    let seat = make_each(rt, service, seat, first, signals)?;
     signals.give();
-    make(rt, service, seat, others)
+    make_each(rt, service, seat, others, signals)
 }
 
 // The second namespace: it begins once the first is held, and who asks of that has had some turns. It asks of itself
-// too.
+// too, and a third one comes and goes.
 fn make_beside<R: Wait, C: Ledger, H: Ledger>(
     rt: &R,
     service: &Service<Global, Holder<'_>, C, H>,
@@ -192,8 +260,9 @@ fn make_beside<R: Wait, C: Ledger, H: Ledger>(
     signals.wait_for(&signals.asked);
     signals.give();
     let seat = service.seat(rt, signals.second).ok()?;
-    let seat = make(rt, service, seat, steps)?;
-    let all = are_answered(rt, service, signals.second);
+    let seat = make_each(rt, service, seat, steps, signals)?;
+    let all =
+        are_answered(rt, service, signals.second) && comes_and_goes(rt, signals.alloc, service);
     signals.done.store(1, Ordering::SeqCst);
     seat_if(all, seat)
 }
@@ -324,45 +393,46 @@ fn is_beside<R: Threads + Wait + Sync>(
     rt: &R,
     alloc: Global,
     first: u32,
+    may_wait: bool,
     held: Held,
     asked: Asked,
     count: usize,
 ) -> Result<bool, Fail> {
-    let signals = Signals::new(first);
+    let signals = Signals::new(alloc, first, may_wait);
     let transcripts = both_beside(rt, alloc, held, &signals, asked, count)??;
     let each = transcripts.as_slice();
     let own = each.get(first as usize).ok_or("none")?.entries();
     let last = own.last().ok_or("none")?;
     let told = Reply::Bytes(ByteString::new(alloc, Vec::from_elem(alloc, 0x61, count.min(9))?)?);
     let waited = signals.used_up.load(Ordering::SeqCst) != 0;
-    Ok(!waited && each.len() == 2 && own.len() == 4 && last.1 == told)
+    Ok(!waited && each.len() == 3 && own.len() == 4 && last.1 == told)
 }
 
 #[test]
 fn an_event_held_before_its_step_holds_nobody_else(rt: HostRuntime) -> Result<(), Fail> {
-    assert!(rt; is_beside(&rt, rt.alloc(), RED, Held::AtItsStep, Asked::Nothing, 5)?);
+    let (held, asked) = (Held::AtItsStep, Asked::Nothing);
+    for (first, may_wait) in [(RED, false), (RED, true), (BLUE, false), (BLUE, true)] {
+        assert!(rt; is_beside(&rt, rt.alloc(), first, may_wait, held, asked, 5)?);
+    }
     Ok(())
 }
 
 #[test]
 fn an_event_held_before_its_frame_holds_nobody_else(rt: HostRuntime) -> Result<(), Fail> {
-    assert!(rt; is_beside(&rt, rt.alloc(), RED, Held::AtItsFrame(0), Asked::Nothing, 5)?);
+    let (held, asked) = (Held::AtItsFrame(0), Asked::Nothing);
+    for may_wait in [false, true] {
+        assert!(rt; is_beside(&rt, rt.alloc(), RED, may_wait, held, asked, 5)?);
+    }
     Ok(())
 }
 
 // A write of two pages has taken its first frame.
 #[test]
 fn an_event_held_behind_a_frame_holds_nobody_else(rt: HostRuntime) -> Result<(), Fail> {
-    assert!(rt;
-        is_beside(
-            &rt,
-            rt.alloc(),
-            RED,
-            Held::AtItsFrame(1),
-            Asked::Nothing,
-            8_192
-        )?
-    );
+    let (held, asked) = (Held::AtItsFrame(1), Asked::Nothing);
+    for may_wait in [false, true] {
+        assert!(rt; is_beside(&rt, rt.alloc(), RED, may_wait, held, asked, 8_192)?);
+    }
     Ok(())
 }
 
@@ -377,8 +447,8 @@ fn who_asks_of_one_that_is_held_holds_nobody_else(rt: HostRuntime) -> Result<(),
         Asked::Seat,
     ];
     for asked in &each {
-        assert!(rt; is_beside(&rt, rt.alloc(), RED, Held::AtItsStep, *asked, 5)?);
-        assert!(rt; is_beside(&rt, rt.alloc(), BLUE, Held::AtItsStep, *asked, 5)?);
+        assert!(rt; is_beside(&rt, rt.alloc(), RED, false, Held::AtItsStep, *asked, 5)?);
+        assert!(rt; is_beside(&rt, rt.alloc(), BLUE, false, Held::AtItsStep, *asked, 5)?);
     }
     Ok(())
 }
