@@ -448,11 +448,11 @@ fn are_calls_on_files_copied(alloc: Global, name: &[u8]) -> Result<bool, AllocEr
     )
 }
 
-// Each kind of step, with bytes that are kept in place and with others.
+// Each kind of step, with bytes that are kept in place and with others, with no group and with some.
 #[test]
 fn copied_steps_are_the_same(rt: HostRuntime) -> Result<(), Fail> {
     assert!(rt; are_calls_copied(rt.alloc())?);
-    for name in [EDGE, BEYOND] {
+    for (name, groups) in [(EDGE, 0), (BEYOND, 3)] {
         assert!(rt; are_calls_on_files_copied(rt.alloc(), name)?);
         let write = Step::Write {
             pid: 2,
@@ -460,8 +460,6 @@ fn copied_steps_are_the_same(rt: HostRuntime) -> Result<(), Fail> {
             payload: bytes(rt.alloc(), name)?,
         };
         assert!(rt; is_copied(rt.alloc(), write)?);
-    }
-    for groups in [0, 3] {
         let spawn = Step::Spawn {
             uid: 5,
             gid: 6,

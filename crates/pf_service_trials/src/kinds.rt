@@ -182,23 +182,6 @@ fn are_told<R: Wait, C: Ledger, H: Ledger>(
     Some(Counted { events, frames })
 }
 
-// The same of steps that are made here and let go.
-fn part<R: Wait, C: Ledger, H: Ledger>(
-    rt: &R,
-    alloc: Global,
-    service: &Service<Global, Recorder<'_>, C, H>,
-    seat: &mut Seat,
-    steps: Result<Vec<Step>, AllocError>,
-    may_wait: bool,
-    told: &Told,
-    before: Counted,
-) -> Option<Counted> {
-    let steps = steps.ok()?;
-    let made = are_told(rt, alloc, service, seat, &steps, may_wait, told, before);
-    drop(steps);
-    made
-}
-
 // A tenant comes, and makes steps of each kind, by calls or, but for the one that waits, by calls that may wait.
 #[derive(Drop)]
 struct EachKind<'a> {
@@ -207,6 +190,25 @@ struct EachKind<'a> {
 }
 
 impl EachKind<'_> {
+    // The same of steps that are made here and let go.
+    fn part<R: Wait, C: Ledger, H: Ledger>(
+        &self,
+        rt: &R,
+        alloc: Global,
+        service: &Service<Global, Recorder<'_>, C, H>,
+        seat: &mut Seat,
+        steps: Result<Vec<Step>, AllocError>,
+        may_wait: bool,
+        before: Counted,
+    ) -> Option<Counted> {
+        let steps = steps.ok()?;
+        let made = are_told(
+            rt, alloc, service, seat, &steps, may_wait, self.told, before,
+        );
+        drop(steps);
+        made
+    }
+
     // Whether the gate is told of all of them so.
     fn is_told<R: Wait, C: Ledger, H: Ledger>(
         &self,
@@ -219,39 +221,12 @@ impl EachKind<'_> {
             events: 0,
             frames: 0,
         };
-        let (told, may_wait) = (self.told, self.may_wait);
-        let made = part(
-            rt,
-            alloc,
-            service,
-            seat,
-            passes_on(alloc),
-            may_wait,
-            told,
-            none,
-        )?;
-        let made = part(rt, alloc, service, seat, waits(alloc), false, told, made)?;
-        let made = part(
-            rt,
-            alloc,
-            service,
-            seat,
-            goes_on(alloc),
-            may_wait,
-            told,
-            made,
-        )?;
-        let made = part(
-            rt,
-            alloc,
-            service,
-            seat,
-            makes_files(alloc),
-            may_wait,
-            told,
-            made,
-        )?;
-        part(rt, alloc, service, seat, goes(alloc), may_wait, told, made)
+        let all = self.may_wait;
+        let made = self.part(rt, alloc, service, seat, passes_on(alloc), all, none)?;
+        let made = self.part(rt, alloc, service, seat, waits(alloc), false, made)?;
+        let made = self.part(rt, alloc, service, seat, goes_on(alloc), all, made)?;
+        let made = self.part(rt, alloc, service, seat, makes_files(alloc), all, made)?;
+        self.part(rt, alloc, service, seat, goes(alloc), all, made)
     }
 }
 
@@ -295,7 +270,9 @@ fn each_kind<R: Wait + Abort>(rt: &R, alloc: Global, may_wait: bool) -> Closed {
         namespaces: 0,
         slack: 40,
     };
-    serve(rt, alloc, size, gate, &callers)
+    let closed = serve(rt, alloc, size, gate, &callers);
+    assert!(rt; red.is_of(26, 2) && blue.is_of(0, 0));
+    closed
 }
 
 // Whether the step that waits alone is told so, and none is refused by the machine.

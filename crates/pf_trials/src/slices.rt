@@ -2,7 +2,7 @@
 //! leaves the same.
 
 use crate::scripts::{is, is_told, spawn};
-use pf_base::{Answer, ByteString, Config, Errno, Reply, Step};
+use pf_base::{Answer, ByteString, Config, Errno, MAX_WRITE, Reply, Step};
 use pf_frame::{Frame, PoolFault};
 use pf_hub::Hub;
 use std::alloc::{AllocError, Global};
@@ -270,10 +270,10 @@ fn count(answer: Answer) -> usize {
 // How many bytes a reader finds, all of them sevens, where those that wait go on by turns.
 fn drained(hub: &mut Hub<Global>) -> usize {
     let mut found: usize = 0;
-    for turn in 0..24u32 {
-        let step = match turn % 4 {
-            3 => Step::Read {
-                pid: 4,
+    for turn in 0..115u32 {
+        let step = match turn % 5 {
+            4 => Step::Read {
+                pid: 5,
                 fd: 0,
                 n: 100_000,
             },
@@ -301,7 +301,8 @@ fn keeps(alloc: Global, hub: &mut Hub<Global>) -> Result<bool, AllocError> {
     drop(mine);
     let shared = waits(hub, 2, sevens(alloc, 131_072)?) == Some(false);
     let few = waits(hub, 3, sevens(alloc, 131_071)?) == Some(true);
-    Ok(copied && shared && few && drained(hub) == 393_215)
+    let most = waits(hub, 4, sevens(alloc, MAX_WRITE)?) == Some(false);
+    Ok(copied && shared && few && most && drained(hub) == 393_215 + MAX_WRITE)
 }
 
 #[test]
@@ -313,7 +314,7 @@ fn a_write_that_waits_keeps_what_its_step_alone_has(rt: HostRuntime) -> Result<(
         Config::DEFAULT_MAX,
     )?;
     let mut hub = opened(rt.alloc(), limits)?;
-    assert!(rt; opens(&mut hub, 3));
+    assert!(rt; opens(&mut hub, 4));
     assert!(rt; keeps(rt.alloc(), &mut hub) == Ok(true));
     drop(hub);
     Ok(())
