@@ -261,8 +261,8 @@ fn make_beside<R: Wait, C: Ledger, H: Ledger>(
     signals.give();
     let seat = service.seat(rt, signals.second).ok()?;
     let seat = make_each(rt, service, seat, steps, signals)?;
-    let all =
-        are_answered(rt, service, signals.second) && comes_and_goes(rt, signals.alloc, service);
+    let all = are_answered(rt, service, signals.second)
+        && comes_and_goes(rt, signals.alloc, service);
     signals.done.store(1, Ordering::SeqCst);
     seat_if(all, seat)
 }
