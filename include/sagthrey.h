@@ -1,9 +1,10 @@
 /* Sagthrey for C and C++: many tenants in one process, each a namespace with processes, descriptors, pipes and files of
  * its own, over one pool of pages.
  *
- * A call makes one step of one namespace: what its process `pid` would be told by the system call that the function
- * follows. Its manual page stands beside each function; docs/SPECIFICATION.md has the profile. `ns` is the number of a
- * namespace, and descriptors are of the process, from 0.
+ * Each function from sag_spawn on, but for the questions sag_can_go_on, sag_next_to_go_on and sag_readiness, makes one
+ * step of one namespace: it tells what a process would be told by the system call that the function follows, whose
+ * manual page stands beside it, or it is this profile's own; docs/SPECIFICATION.md has the profile. `ns` is the number
+ * of a namespace, `pid` a process of it, and descriptors are of the process, from 0.
  *
  * Results. A call tells 0 or more as the system call does; a system call's error as -errno, with Linux's numbers
  * (-EBADF is -9); or one of three codes, which are no error's:
