@@ -22,7 +22,7 @@ pub(crate) fn old_frames(alloc: Global, count: usize) -> Result<Vec<Frame>, Allo
 }
 
 // Takes two frames, if there are credits for them, writes to both, and keeps them or gives them back. Says whether they
-// showed what was written.
+// showed what was written, and elsewhere what they held from the start: no frame is cleared, nor another in its place.
 fn borrow_two<F: Frames>(frames: &mut F, byte: u8, is_kept: bool) -> bool
     requires { F.fact frames.old }
     ensures fact { F.fact frames.new }
@@ -33,8 +33,10 @@ fn borrow_two<F: Frames>(frames: &mut F, byte: u8, is_kept: bool) -> bool
     }
     let first = frames.take();
     frames.fill(first, 100, &[byte; 3]);
-    let right = frames.view(first, 100, 3) == [byte; 3].as_slice();
+    let right = frames.view(first, 100, 3) == [byte; 3].as_slice()
+        && frames.view(first, 4_095, 1) == [OLD].as_slice();
     let second = frames.take();
+    let right = right && frames.view(second, 4_095, 1) == [OLD].as_slice();
     frames.fill(second, 0, &[byte]);
     if !is_kept {
         frames.release(second);

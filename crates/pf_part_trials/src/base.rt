@@ -112,6 +112,19 @@ fn refusals_have_their_texts(rt: HostRuntime) -> Result<(), Fail> {
     Ok(())
 }
 
+#[test]
+fn texts_have_their_numbers(rt: HostRuntime) -> Result<(), Fail> {
+    let alloc = rt.alloc();
+    let text = "the reservation is above the 65536 frames that nobody has reserved";
+    assert!(rt; reads(alloc, &AdmitFault::NoRoom { slack: 65_536 }, text)?);
+    let text = "the namespace has 256 processes";
+    assert!(rt; reads(alloc, &RetireFault::Alive { processes: 256 }, text)?);
+    let shown = format!(in alloc; "{:?}", bytes(alloc, b"0123456789abcdef")?)?;
+    let text = "ByteString([48, 49, 50, 51, 52, 53, 54, 55, 56, 57, 97, 98, 99, 100, 101, 102])";
+    assert!(rt; shown.as_str() == text);
+    Ok(())
+}
+
 fn bytes(alloc: Global, bytes: &[u8]) -> Result<ByteString, AllocError> {
     ByteString::from_slice(alloc, bytes)
 }
@@ -188,6 +201,9 @@ fn bytes_are_shared_that_have_one_owner(rt: HostRuntime) -> Result<(), Fail> {
     drop(bytes);
     assert!(rt; Arc::get_mut(&mut mine).is_some());
     let bytes = ByteString::from_arc(mine);
+    let filled = ByteRoom::new(rt.alloc(), 4_096)?.fill(rt.alloc(), &bytes);
+    assert!(rt; bytes.share().is_none() && filled.share().is_none());
+    drop(filled);
     let shared = bytes.share();
     assert!(rt; shared.is_some() && bytes.share().is_none());
     drop(shared);

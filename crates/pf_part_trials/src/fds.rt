@@ -78,6 +78,25 @@ fn what_is_refused_leaves_the_registry(rt: HostRuntime) -> Result<(), Fail> {
     Ok(())
 }
 
+// Whether so many values are inserted, for none of which room was reserved, each under the next number, and found.
+fn inserts(alloc: Global, count: u32) -> bool {
+    let mut registry = Registry::new(alloc);
+    for n in 0..count {
+        let Ok(key) = registry.insert(n) else {
+            return false;
+        };
+        if key.serial != u64::from(n) || registry.get(key).copied() != Some(n) {
+            return false;
+        }
+    }
+    registry.drawn() == u64::from(count)
+}
+
+#[test]
+fn a_registry_grows_as_values_come(rt: HostRuntime) {
+    assert!(rt; inserts(rt.alloc(), 10_000));
+}
+
 // How many names a key has, and its value.
 type Seen = (u32, Option<u32>);
 

@@ -53,7 +53,7 @@ fn pool_faults_come_in_order(rt: HostRuntime) {
 }
 
 // What is said of a refusal.
-const TEXTS: [(PoolFault, &str); 4] = [
+const TEXTS: [(PoolFault, &str); 5] = [
     (
         PoolFault::TooManyNamespaces,
         "there are more than 64 reservations",
@@ -65,6 +65,13 @@ const TEXTS: [(PoolFault, &str); 4] = [
             frames: 32,
         },
         "33 frames are reserved, of 32",
+    ),
+    (
+        PoolFault::ReservesExceed {
+            sum: 65_537,
+            frames: 0,
+        },
+        "65537 frames are reserved, of 0",
     ),
     (PoolFault::NoMemory, "out of memory"),
 ];

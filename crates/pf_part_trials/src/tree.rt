@@ -57,6 +57,9 @@ const BUILT: [(Call, &[u8]); 6] = [
     (Call::Mkfifo, b"b/x/z"),
 ];
 
+// Their root, and two of them.
+const DIRECTORIES: [&[&[u8]]; 3] = [&[], &[b"b"], &[b"b", b"x"]];
+
 // What shuts them to others, and takes one away.
 const CHANGED: [(Call, &[u8]); 4] = [
     (Call::Chmod, b"ab"),
@@ -65,7 +68,7 @@ const CHANGED: [(Call, &[u8]); 4] = [
     (Call::Unlink, b"b/y"),
 ];
 
-// What is told of a tree before and behind its changes, at a desk whose root is empty.
+// What is told of a tree before and behind its changes, at a desk whose root is empty. A FIFO has no names.
 fn told_at<A: Allocator + Clone>(
     desk: &mut Desk<A>,
     text: Global,
@@ -77,11 +80,11 @@ fn told_at<A: Allocator + Clone>(
     }
     let mut lines = desk.list(b"/")?;
     lines.extend_from_slice(desk.list(b"b")?.as_slice())?;
-    lines.extend_from_slice(names_told(
-        &desk.tree,
-        text,
-        &[b"b".as_slice(), b"x".as_slice()],
-    )?.as_slice())?;
+    for path in DIRECTORIES {
+        lines.extend_from_slice(names_told(&desk.tree, text, path)?.as_slice())?;
+    }
+    let fifo = desk.tree.root().child(b"ab").ok_or("no file")?;
+    lines.extend_from_slice(fifo.names(text)?.as_slice())?;
     for (call, path) in CHANGED {
         desk.call(call, path, shut);
     }
@@ -96,7 +99,7 @@ fn told<A: Allocator + Clone>(alloc: A, text: Global) -> Result<Vec<u8>, Fail> {
     told_at(&mut desk, text, open, shut)
 }
 
-const TOLD: &[u8] = b"a/ab/b/x/y/z/0 /r\n1 a/r\n1 ab|-\n1 b/r\n2 x/-\n3 z|-\n";
+const TOLD: &[u8] = b"a/ab/b/x/y/a/ab/b/x/y/z/0 /r\n1 a/r\n1 ab|-\n1 b/r\n2 x/-\n3 z|-\n";
 
 #[test]
 fn a_tree_under_global(rt: HostRuntime) -> Result<(), Fail> {

@@ -4,7 +4,7 @@ use bumpalo::Bump;
 use pf_base::{Cred, Errno, Fault, File, Groups, Kind, Meta, Mode};
 use pf_tree::Tree;
 use pf_walk::{Last, Purpose, chmod, list, make, resolve, rmdir, split, stat, unlink};
-use std::alloc::{Allocator, Global};
+use std::alloc::{AllocError, Allocator, Global};
 use std::process::Abort;
 use std::test::Fail;
 
@@ -336,6 +336,63 @@ fn an_entry_is_sought_in_its_directory(rt: HostRuntime) -> Result<(), Fail> {
     assert!(rt; entry(&desk, b"/d/e/..")? == (3, 2, Last::DotDot, false));
     assert!(rt; entry(&desk, b"/d/.")? == (2, 1, Last::Dot, false));
     assert!(rt; entry(&desk, b"/")? == (0, 0, Last::Nothing, false));
+    Ok(())
+}
+
+// How many directories are made, each but the first in the one before.
+const LEVELS: usize = 200;
+
+// A path through all of them with a dot in front of each name, and this behind it.
+fn dotted(alloc: Global, last: &[u8]) -> Result<Vec<u8>, AllocError> {
+    let mut path = Vec::new(alloc);
+    for _ in 0..LEVELS {
+        path.extend_from_slice(b"./d/")?;
+    }
+    path.extend_from_slice(last)?;
+    Ok(path)
+}
+
+// What is done in the last of them.
+const AT_THE_END: [(Call, &[u8]); 8] = [
+    (Call::Mkdir, b"n"),
+    (Call::Stat, b"n/.."),
+    (Call::Chmod, b"n"),
+    (Call::List, b"n"),
+    (Call::Rmdir, b"n"),
+    (Call::Mkfifo, b"f"),
+    (Call::Stat, b"f"),
+    (Call::Unlink, b"f"),
+];
+
+// Makes the directories, and does all that by the dotted path; what of it is refused first.
+fn first_refused(
+    desk: &mut Desk<Global>,
+    alloc: Global,
+    mode: Mode,
+) -> Result<Option<Call>, AllocError> {
+    let mut plain = Vec::new(alloc);
+    for _ in 0..LEVELS {
+        plain.extend_from_slice(b"d/")?;
+        desk.call(Call::Mkdir, &plain, mode);
+    }
+    for (call, last) in AT_THE_END {
+        let path = dotted(alloc, last)?;
+        if desk.call(call, &path, mode).is_some() {
+            return Ok(Some(call));
+        }
+    }
+    Ok(None)
+}
+
+#[test]
+fn a_path_with_dots_may_be_long(rt: HostRuntime) -> Result<(), Fail> {
+    let (alloc, open) = (rt.alloc(), Mode::new(0o777)?);
+    let mut desk = Desk::new(alloc, alloc, open, 5);
+    assert!(rt; first_refused(&mut desk, alloc, open)?.is_none());
+    let path = dotted(alloc, b"n")?;
+    assert!(rt; entry(&desk, &path)? == (200, LEVELS, Last::Name(b"n"), false));
+    let path = dotted(alloc, b".")?;
+    assert!(rt; desk.number(&path)? == (200, LEVELS));
     Ok(())
 }
 

@@ -202,6 +202,26 @@ fn a_gate_is_told_of_each_frame(rt: HostRuntime) -> Result<(), Fail> {
     Ok(())
 }
 
+/// Scripts of which nothing is run, and the name that is chosen: a line is refused, one retires a namespace, and nobody
+/// has the name.
+const NOT_RUN: [(&str, Option<&str>); 3] = [
+    ("pool 1\nspace red 1\nred spawn 5 5 022\nred jump\n", None),
+    ("pool 1\nspace red 1\nred spawn 5 5 022\nretire red\n", None),
+    ("pool 1\nspace red 1\nred spawn 5 5 022\n", Some("green")),
+];
+
+/// The gate is told nothing of these.
+#[test]
+fn a_gate_is_told_nothing_where_nothing_is_run(rt: HostRuntime) -> Result<(), Fail> {
+    for (script, name) in NOT_RUN {
+        let gate = Frames::new();
+        let (end, writer) = played_of(&rt, rt.alloc(), script, "", name, &gate);
+        assert!(rt; end.is_err() && writer.is_empty(), "{script}");
+        assert!(rt; gate.are(0, 0, 0), "{script}");
+    }
+    Ok(())
+}
+
 const RED_WRITTEN: &str = "== red
 1: pid 1
 2: fds 0 1

@@ -2,8 +2,9 @@
 //! of memory, and then the FIFO isn't there; each other one is. In four times the bytes there is room for more than
 //! twice as many.
 
+use crate::texts::OPTIONS;
 use crate::words::words_of;
-use pf_play::{Collected, MemoryBytes, NoGate, Status, obey};
+use pf_play::{Collected, MemoryBytes, NoGate, Options, Status, obey, replay};
 use std::alloc::{AllocError, Global};
 use std::sync::Wait;
 use std::test::Fail;
@@ -98,5 +99,32 @@ fn a_heap_is_filled(rt: HostRuntime) -> Result<(), Fail> {
             fewer = made;
         }
     }
+    Ok(())
+}
+
+/// How many FIFOs are there in a heap of so many bytes, where no words are judged.
+fn made_in(alloc: Global, script: &str, bytes: u32) -> Result<usize, Fail> {
+    let options = Options {
+        tree_heap: Some(bytes),
+        ..OPTIONS
+    };
+    let mut reader = MemoryBytes::new(script.as_bytes());
+    let mut writer = Collected::new(alloc);
+    let end = replay(alloc, &mut reader, &mut writer, &options);
+    let text = String::from_utf8(Vec::from_slice(alloc, writer.as_slice())?)?;
+    let (made, _) = counted(text.as_str()).ok_or("told otherwise")?;
+    if end.is_err() {
+        return Ok(0);
+    }
+    Ok(made)
+}
+
+/// A replay that is called has heaps of just the bytes that it asks for, also of fewer than the words may ask for.
+#[test]
+fn a_heap_has_fewer_bytes_than_words_may_ask_for(rt: HostRuntime) -> Result<(), Fail> {
+    let script = script(rt.alloc())?;
+    let few = made_in(rt.alloc(), script.as_str(), 512)?;
+    let more = made_in(rt.alloc(), script.as_str(), 1_024)?;
+    assert!(rt; few > 0 && few < more);
     Ok(())
 }

@@ -1,9 +1,11 @@
 //! A long script is read, and its text is written, in large pieces, whatever the words of a command line ask for: each
 //! call of a reader or of a writer may be one of the system.
 
+use crate::texts::OPTIONS;
 use crate::words::{WAYS, words_of};
-use pf_play::{Failed, NoGate, Sink, Source, obey};
+use pf_play::{Failed, NoGate, Reading, Sink, Source, Writing, obey, replay};
 use std::alloc::{AllocError, Global};
+use std::io::{self, Read, Write};
 use std::sync::Wait;
 use std::test::Fail;
 use std::thread::Threads;
@@ -39,6 +41,25 @@ impl Source for Giving<'_> {
     }
 }
 
+/// The same of std.
+#[derive(Debug, Drop)]
+struct GivingOfStd<'a> {
+    rest: &'a [u8],
+    asked: usize,
+}
+
+impl Read for GivingOfStd<'_> {
+    fn read(&mut self, buffer: &mut [u8]) -> io::Result<usize> {
+        self.asked = self.asked.saturating_add(1);
+        let n = self.rest.len().min(buffer.len());
+        let (front, back) = self.rest.split_at(n);
+        let (room, _) = buffer.split_at_mut(n);
+        room.copy_from_slice(front);
+        self.rest = back;
+        Ok(n)
+    }
+}
+
 /// Takes all bytes, and counts them and how often it is asked.
 #[derive(Debug, Drop)]
 struct Taking {
@@ -55,6 +76,25 @@ impl Sink for Taking {
         self.asked = self.asked.saturating_add(1);
         self.taken = self.taken.saturating_add(bytes.len());
         Ok(bytes.len())
+    }
+}
+
+/// The same of std.
+#[derive(Debug, Drop)]
+struct TakingOfStd {
+    taken: usize,
+    asked: usize,
+}
+
+impl Write for TakingOfStd {
+    fn write(&mut self, bytes: &[u8]) -> io::Result<usize> {
+        self.asked = self.asked.saturating_add(1);
+        self.taken = self.taken.saturating_add(bytes.len());
+        Ok(bytes.len())
+    }
+
+    fn flush(&mut self) -> io::Result<()> {
+        Ok(())
     }
 }
 
@@ -97,5 +137,26 @@ fn few_pieces_are_read_and_written(rt: HostRuntime) -> Result<(), Fail> {
             "{texts:?}"
         );
     }
+    Ok(())
+}
+
+/// Those of std are asked no more often.
+#[test]
+fn few_pieces_are_read_and_written_by_std(rt: HostRuntime) -> Result<(), Fail> {
+    let script = script(rt.alloc())?;
+    let mut giving = GivingOfStd {
+        rest: script.as_bytes(),
+        asked: 0,
+    };
+    let mut taking = TakingOfStd { taken: 0, asked: 0 };
+    let end = replay(
+        rt.alloc(),
+        &mut Reading::new(&mut giving),
+        &mut Writing::new(&mut taking),
+        &OPTIONS,
+    );
+    assert!(rt; end.is_ok());
+    assert!(rt; giving.asked <= script.len() / READ + 2);
+    assert!(rt; taking.taken > 10 * STEPS && taking.asked <= taking.taken / WRITTEN + 1);
     Ok(())
 }

@@ -72,21 +72,22 @@ impl Source for Stopping {
     }
 }
 
-/// A reader of std that gives a byte at a time, is interrupted once before one of them, and goes on where it is asked
-/// again.
+/// A reader of std that gives a byte at a time, fails once before one of them, by an interruption or otherwise, and goes
+/// on where it is asked again.
 #[derive(Debug, Drop)]
-struct Interrupted {
+struct Failing {
     rest: &'static [u8],
+    kind: ErrorKind,
     stops_at: usize,
     asked: usize,
 }
 
-impl Read for Interrupted {
+impl Read for Failing {
     fn read(&mut self, buffer: &mut [u8]) -> io::Result<usize> {
         let place = self.asked;
         self.asked = self.asked.saturating_add(1);
         if place == self.stops_at {
-            return Err(io::Error::from(ErrorKind::Interrupted));
+            return Err(io::Error::from(self.kind));
         }
         match self.rest.split_first() {
             Some((byte, rest)) if !buffer.is_empty() => {
@@ -152,20 +153,30 @@ fn a_reader_that_fails_at_each_byte(rt: HostRuntime) -> Result<(), Fail> {
     Ok(())
 }
 
+/// What failures of std are called.
+const KINDS: [ErrorKind; 3] = [
+    ErrorKind::Interrupted,
+    ErrorKind::WouldBlock,
+    ErrorKind::TimedOut,
+];
+
 #[test]
-fn a_reader_that_is_interrupted_at_each_byte(rt: HostRuntime) -> Result<(), Fail> {
-    for stops_at in 0..=SCRIPT.len() {
-        let mut interrupted = Interrupted {
-            rest: SCRIPT.as_bytes(),
-            stops_at,
-            asked: 0,
-        };
-        let mut writer = Collected::new(rt.alloc());
-        let mut reader = Reading::new(&mut interrupted);
-        let end = replay(rt.alloc(), &mut reader, &mut writer, &OPTIONS);
-        assert!(rt; matches!(end, Err(ReplayFault::ReadFault)), "{stops_at}");
-        assert_eq!(rt; interrupted.asked, stops_at.saturating_add(1));
-        assert!(rt; writer.as_slice().is_empty());
+fn a_reader_of_std_that_fails_at_each_byte(rt: HostRuntime) -> Result<(), Fail> {
+    for kind in KINDS {
+        for stops_at in 0..=SCRIPT.len() {
+            let mut failing = Failing {
+                rest: SCRIPT.as_bytes(),
+                kind,
+                stops_at,
+                asked: 0,
+            };
+            let mut writer = Collected::new(rt.alloc());
+            let mut reader = Reading::new(&mut failing);
+            let end = replay(rt.alloc(), &mut reader, &mut writer, &OPTIONS);
+            assert!(rt; matches!(end, Err(ReplayFault::ReadFault)), "{stops_at}");
+            assert_eq!(rt; failing.asked, stops_at.saturating_add(1));
+            assert!(rt; writer.as_slice().is_empty());
+        }
     }
     Ok(())
 }

@@ -8,13 +8,13 @@ use pf_play::{MemoryBytes, ReplayFault, Writing, replay};
 use std::io::{self, ErrorKind, Write};
 use std::test::Fail;
 
-/// Takes so many bytes, a few at a time, and then stops once: it is interrupted, or takes none. It counts the strays:
+/// Takes so many bytes, a few at a time, and then stops once: it fails, or takes none. It counts the strays:
 /// bytes that it takes and the text doesn't have at their place, and calls that give it none.
 #[derive(Debug, Drop)]
 struct Stopping {
     room: usize,
     at_once: usize,
-    interrupts: bool,
+    failure: Option<ErrorKind>,
     taken: usize,
     strays: usize,
     asked_again: bool,
@@ -24,10 +24,10 @@ impl Stopping {
     /// Stops, and goes on where it is asked again.
     fn stop(&mut self) -> io::Result<()> {
         self.room = usize::MAX;
-        if self.interrupts {
-            return Err(io::Error::from(ErrorKind::Interrupted));
+        match self.failure {
+            Some(kind) => Err(io::Error::from(kind)),
+            None => Ok(()),
         }
-        Ok(())
     }
 }
 
@@ -58,14 +58,22 @@ impl Write for Stopping {
     }
 }
 
+/// What its failure is called, where it fails.
+const FAILURES: [Option<ErrorKind>; 4] = [
+    Some(ErrorKind::Interrupted),
+    Some(ErrorKind::WouldBlock),
+    Some(ErrorKind::TimedOut),
+    None,
+];
+
 #[test]
 fn a_writer_that_stops_at_each_byte(rt: HostRuntime) -> Result<(), Fail> {
     for room in 0..TEXT.len() {
-        for interrupts in [true, false] {
+        for failure in FAILURES {
             let mut stopping = Stopping {
                 room,
                 at_once: 3,
-                interrupts,
+                failure,
                 taken: 0,
                 strays: 0,
                 asked_again: false,

@@ -9,7 +9,7 @@ ghost use Rattle.pf_depot.specs.Blanks.{IsBlankOf};
 
 use pf_base::{ByteString, Config, Groups, MAX_NAMESPACES, Step};
 use pf_frame::Frame;
-use pf_service::{CloseFault, Gate, Seat, Service, Transcripts};
+use pf_service::{CloseFault, Gate, Receipt, Seat, Service, Transcripts};
 use std::alloc::{AllocError, Global};
 use std::sync::Wait;
 use std::sync::ledger::{Blank, Ledger};
@@ -161,6 +161,44 @@ pub fn makes_all<R: Wait, G: Gate, C: Ledger, H: Ledger>(
         }
     }
     true
+}
+
+// The place of the one receipt, where the call isn't refused.
+fn one_place(is_made: bool, receipts: &[Receipt]) -> Option<u64> {
+    match receipts {
+        [receipt] if is_made => Some(receipt.place),
+        _ => None,
+    }
+}
+
+// The place of a step that isn't refused, by a call that may wait. It doesn't, and so has one receipt.
+fn place_of_waiting<R: Wait, G: Gate, C: Ledger, H: Ledger>(
+    rt: &R,
+    alloc: Global,
+    service: &Service<Global, G, C, H>,
+    seat: &mut Seat,
+    step: &Step,
+) -> Option<u64> {
+    let mut receipts = Vec::new(alloc);
+    let is_made = service.call_waiting(rt, seat, step, &mut receipts).is_ok();
+    let place = one_place(is_made, &receipts);
+    drop(receipts);
+    place
+}
+
+/// The place of a step that isn't refused, by a call, or by one that may wait.
+pub fn place_of<R: Wait, G: Gate, C: Ledger, H: Ledger>(
+    rt: &R,
+    alloc: Global,
+    service: &Service<Global, G, C, H>,
+    seat: &mut Seat,
+    step: &Step,
+    may_wait: bool,
+) -> Option<u64> {
+    if may_wait {
+        return place_of_waiting(rt, alloc, service, seat, step);
+    }
+    Some(service.call(rt, seat, step).ok()?.place)
 }
 
 /// Whether the next namespace that comes has this number, so nobody has used it up before. It reserves no frame.

@@ -1,11 +1,9 @@
 //! What a service refuses: namespaces, seats and events past their numbers, and seats that it didn't give.
 
-use crate::services::{
-    Callers, CallersOfTwo, Plain, is_new, no_seat, place_of, refused, serve, serve_two,
-};
+use crate::services::{Callers, CallersOfTwo, Plain, is_new, no_seat, refused, serve, serve_two};
 use pf_base::{Errno, Reply, Step};
 use pf_service::{CloseFault, Gate, MAX_SEATS, NoGate, Seat, Service, ServiceFault};
-use pf_service_fixture::{BLUE, RED, Size, config_of, namespaces, spawn};
+use pf_service_fixture::{BLUE, RED, Size, config_of, namespaces, place_of, spawn};
 use std::alloc::Global;
 use std::process::Abort;
 use std::sync::Wait;
@@ -33,6 +31,45 @@ impl Gate for Tally<'_> {
         let _ = ns;
         self.told.fetch_add(1, Ordering::SeqCst);
     }
+}
+
+// Why something is refused, and how that reads.
+const REFUSALS: [(ServiceFault, &str); 5] = [
+    (ServiceFault::NoMemory, "out of memory"),
+    (
+        ServiceFault::TranscriptFull,
+        "the transcript has 1000000 entries",
+    ),
+    (ServiceFault::NoSuchNamespace, "no such namespace"),
+    (
+        ServiceFault::TooManySeats,
+        "the namespace has given 4096 seats",
+    ),
+    (ServiceFault::Gone, "the namespace is retired"),
+];
+
+// The same of an end.
+const ENDS: [(CloseFault, &str); 3] = [
+    (
+        CloseFault::Disagree { ns: 7 },
+        "namespace 7 disagrees with its seats",
+    ),
+    (
+        CloseFault::SeatsMissing,
+        "the seats are not those that were given",
+    ),
+    (CloseFault::NoMemory, "out of memory"),
+];
+
+#[test]
+fn faults_have_their_texts(rt: HostRuntime) -> Result<(), Fail> {
+    for (fault, text) in REFUSALS {
+        assert_eq!(rt; fault.to_string(rt.alloc())?.as_str(), text);
+    }
+    for (fault, text) in ENDS {
+        assert_eq!(rt; fault.to_string(rt.alloc())?.as_str(), text);
+    }
+    Ok(())
 }
 
 // A seat that isn't handed in.

@@ -6,12 +6,12 @@
 
 ghost use Rattle.pf_depot.specs.Blanks.{IsBlankOf};
 
-use crate::services::{Callers, place_of, serve, steps_of_blue, steps_of_red};
+use crate::services::{Callers, no_seat, serve, steps_of_blue, steps_of_red};
 use pf_base::Step;
 use pf_service::{Gate, Seat, Service, ServiceFault};
 use pf_service_fixture::{
-    BLUE, Closed, RED, Size, blank, both, closed, config_of, is_next, namespaces, seat_if,
-    service_of, spawn,
+    BLUE, Closed, RED, Size, blank, both, closed, config_of, is_next, namespaces, place_of,
+    seat_if, service_of, spawn,
 };
 use std::alloc::Global;
 use std::marker::Brand;
@@ -211,9 +211,37 @@ fn are_gone<R: Wait, C: Ledger, H: Ledger>(
     true
 }
 
+// Whether of a number there is no seat and no answer, for this reason.
+fn is_unknown<R: Wait, C: Ledger, H: Ledger>(
+    rt: &R,
+    service: &Service<Global, Recorder<'_>, C, H>,
+    ns: u32,
+    fault: ServiceFault,
+) -> bool {
+    no_seat(service.seat(rt, ns)) == Some(fault)
+        && service.can_go_on(rt, ns, 1).err() == Some(fault)
+        && service.next_to_go_on(rt, ns, 0).err() == Some(fault)
+        && service.readiness(rt, ns, 1, 0).err() == Some(fault)
+}
+
+// Whether one more has no room, and of its number, which nobody was given, there is no seat and no answer.
+fn is_full<R: Wait, C: Ledger, H: Ledger>(
+    rt: &R,
+    alloc: Global,
+    service: &Service<Global, Recorder<'_>, C, H>,
+) -> bool {
+    match config_of(1) {
+        Some(config) => {
+            service.admit(rt, config, alloc).is_err()
+                && is_unknown(rt, service, 2, ServiceFault::NoSuchNamespace)
+        }
+        None => false,
+    }
+}
+
 // Two tenants in turn, the second of which is admitted. The gate is told of their events, by calls or by calls that may
 // wait, and of their frames, of which each takes 16 at once. It isn't told of their going, nor of who comes behind
-// them, nor of an event that is refused since they are gone.
+// them, nor of what is refused: an admission, and a seat, a question and an event of one that isn't there or is gone.
 #[derive(Drop)]
 struct ToldOnce<'a> {
     red: &'a Told,
@@ -230,6 +258,7 @@ impl<'a> Callers<Recorder<'a>> for ToldOnce<'_> {
     ) -> Result<Vec<Seat>, Fail> {
         let config = config_of(16).ok_or("limits")?;
         assert_eq!(rt; service.admit(rt, config, alloc)?, BLUE);
+        assert!(rt; is_full(rt, alloc, service));
         let (ours, theirs) = (service.seat(rt, RED)?, service.seat(rt, BLUE)?);
         let steps = steps_of_red(alloc)?;
         let told = Some(self.red);
@@ -239,6 +268,8 @@ impl<'a> Callers<Recorder<'a>> for ToldOnce<'_> {
         let theirs = make_told(rt, alloc, service, theirs, &steps, self.may_wait, told);
         assert!(rt; self.red.is_of(4, 16) && self.blue.is_of(4, 16));
         assert!(rt; both_go(rt, alloc, service));
+        assert!(rt; is_unknown(rt, service, RED, ServiceFault::Gone));
+        assert!(rt; is_unknown(rt, service, BLUE, ServiceFault::Gone));
         assert!(rt; self.red.is_of(4, 16) && self.blue.is_of(4, 16));
         let mut seats = both(alloc, ours, theirs)?;
         assert!(rt; are_gone(rt, alloc, service, &mut seats));

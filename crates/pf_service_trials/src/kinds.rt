@@ -2,11 +2,13 @@
 //! frames that they take alone, and none of them uses up a namespace's number.
 
 use crate::gates::{Recorder, Told};
-use crate::services::{Callers, place_of, serve};
+use crate::services::{Callers, serve};
 use bitflags::Flags;
 use pf_base::{ByteString, OpenFlags, Reply, Step};
 use pf_service::{Seat, Service};
-use pf_service_fixture::{Closed, RED, Size, config_of, is_next, seat_if, spawn, with, write};
+use pf_service_fixture::{
+    Closed, RED, Size, config_of, is_next, place_of, seat_if, spawn, with, write,
+};
 use std::alloc::{AllocError, Global};
 use std::process::Abort;
 use std::sync::Wait;

@@ -1,7 +1,7 @@
 //! What a host asks of a service's namespace besides its events: who can go on, and what an end of a pipe is ready for.
 
 use crate::services::{Callers, Plain, serve};
-use pf_base::{Errno, Readiness, Step};
+use pf_base::{BYTES_IN_PLACE, ByteString, Errno, Readiness, Step};
 use pf_service::{NoGate, Seat, ServiceFault};
 use pf_service_fixture::{BLUE, RED, Size, config_of, is_next, make, makes, spawn, with, write_by};
 use std::alloc::{AllocError, Global};
@@ -10,18 +10,21 @@ use std::sync::Wait;
 use std::sync::ledger::Ledger;
 use std::test::Fail;
 
-// A process with a pipe, and one that shares it. The first waits for a byte.
-fn opening(alloc: Global) -> Result<Vec<Step>, AllocError> {
-    let pipe = Step::Pipe {
+fn pipe() -> Step {
+    Step::Pipe {
         pid: 1,
         nonblock: false,
-    };
+    }
+}
+
+// A process with a pipe, and one that shares it. The first waits for a byte.
+fn opening(alloc: Global) -> Result<Vec<Step>, AllocError> {
     let read = Step::Read {
         pid: 1,
         fd: 0,
         n: 1,
     };
-    Ok(vec![in alloc; spawn(), pipe, Step::Fork { pid: 1 }, read]?)
+    Ok(vec![in alloc; spawn(), pipe(), Step::Fork { pid: 1 }, read]?)
 }
 
 // An empty pipe of 16 slots that somebody reads and somebody writes.
@@ -138,6 +141,107 @@ fn a_host_is_told_who_can_go_on(rt: HostRuntime) -> Result<(), Fail> {
         slack: 16,
     };
     serve(&rt, rt.alloc(), size, NoGate, &OneWaits)??;
+    Ok(())
+}
+
+// Three processes with two pipes. The first waits for a byte of the one, the third for a byte of the other.
+fn opening_two(alloc: Global) -> Result<Vec<Step>, AllocError> {
+    let ours = Step::Read {
+        pid: 1,
+        fd: 0,
+        n: 1,
+    };
+    let theirs = Step::Read {
+        pid: 3,
+        fd: 2,
+        n: 1,
+    };
+    let (child, other) = (Step::Fork { pid: 1 }, Step::Fork { pid: 1 });
+    Ok(vec![in alloc; spawn(), pipe(), pipe(), child, other, ours, theirs]?)
+}
+
+// The second process writes a byte to the pipe behind this descriptor.
+fn byte_to(fd: u32) -> Step {
+    Step::Write {
+        pid: 2,
+        fd,
+        payload: ByteString::in_place([0x61; BYTES_IN_PLACE], 1),
+    }
+}
+
+// A pipe with that byte.
+const ONE_BYTE: Readiness = Readiness {
+    bytes: 1,
+    room: 65_535,
+    has_reader: true,
+    has_writer: true,
+};
+
+// Whether the third process alone can go on, and each pipe is told of by its own descriptors.
+fn third_goes_on<C: Ledger, H: Ledger, R: Wait>(
+    rt: &R,
+    service: &Plain<C, H>,
+) -> Result<bool, ServiceFault> {
+    Ok(
+        !service.can_go_on(rt, RED, 1)?
+            && !service.can_go_on(rt, RED, 2)?
+            && service.can_go_on(rt, RED, 3)?
+            && service.next_to_go_on(rt, RED, 0)? == Some(3)
+            && service.next_to_go_on(rt, RED, 3)? == None
+            && service.readiness(rt, RED, 2, 1)? == Ok(EMPTY)
+            && service.readiness(rt, RED, 2, 2)? == Ok(ONE_BYTE)
+            && service.readiness(rt, RED, 2, 3)? == Ok(ONE_BYTE)
+            && service.readiness(rt, RED, 1, 2)? == Err(Errno::EBUSY)
+            && service.readiness(rt, RED, 4, 2)? == Err(Errno::ESRCH),
+    )
+}
+
+// Whether the first and the third can, and nobody between.
+fn two_go_on<C: Ledger, H: Ledger, R: Wait>(
+    rt: &R,
+    service: &Plain<C, H>,
+) -> Result<bool, ServiceFault> {
+    Ok(
+        service.can_go_on(rt, RED, 1)?
+            && !service.can_go_on(rt, RED, 2)?
+            && service.can_go_on(rt, RED, 3)?
+            && service.next_to_go_on(rt, RED, 0)? == Some(1)
+            && service.next_to_go_on(rt, RED, 1)? == Some(3)
+            && service.next_to_go_on(rt, RED, 3)? == None,
+    )
+}
+
+// Two wait at one namespace, which has come, for what a third process writes to the one pipe, and then to the other.
+struct TwoWait;
+
+impl Callers<NoGate> for TwoWait {
+    fn work<C: Ledger, H: Ledger, R: Wait + Abort>(
+        &self,
+        rt: &R,
+        alloc: Global,
+        service: &Plain<C, H>,
+    ) -> Result<Vec<Seat>, Fail> {
+        assert_eq!(rt;
+            service.admit(rt, config_of(40).ok_or("limits")?, alloc)?,
+            RED
+        );
+        let steps = opening_two(alloc)?;
+        let seat = make(rt, service, service.seat(rt, RED)?, &steps);
+        let mut seats = with(Vec::new(alloc), seat)?;
+        let seat = seats.first_mut().ok_or("no seat")?;
+        assert!(rt; makes(rt, service, seat, &byte_to(3)) && third_goes_on(rt, service)?);
+        assert!(rt; makes(rt, service, seat, &byte_to(1)) && two_go_on(rt, service)?);
+        Ok(seats)
+    }
+}
+
+#[test]
+fn a_host_is_told_of_each_process(rt: HostRuntime) -> Result<(), Fail> {
+    let size = Size {
+        namespaces: 0,
+        slack: 40,
+    };
+    serve(&rt, rt.alloc(), size, NoGate, &TwoWait)??;
     Ok(())
 }
 

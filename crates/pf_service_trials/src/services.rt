@@ -3,9 +3,7 @@
 ghost use Rattle.pf_depot.specs.Blanks.{IsBlankOf};
 
 use pf_base::{ByteString, Reply, Step};
-use pf_service::{
-    CloseFault, Gate, NoGate, Receipt, Seat, Service, ServiceFault, Transcript, Transcripts,
-};
+use pf_service::{CloseFault, Gate, NoGate, Seat, Service, ServiceFault, Transcript, Transcripts};
 use pf_service_fixture::{
     Closed, Size, blank, closed, makes_all, seat_if, service_of, spawn, write,
 };
@@ -180,44 +178,6 @@ pub(crate) fn is_new(seat: Result<Seat, ServiceFault>, ns: u32, number: u32) -> 
         Ok(seat) => seat.ns() == ns && seat.number() == number && seat.events().is_empty(),
         Err(_) => false,
     }
-}
-
-// The place of the one receipt, where the call isn't refused.
-fn one_place(is_made: bool, receipts: &[Receipt]) -> Option<u64> {
-    match receipts {
-        [receipt] if is_made => Some(receipt.place),
-        _ => None,
-    }
-}
-
-// The place of a step that isn't refused, by a call that may wait. It doesn't, and so has one receipt.
-fn place_of_waiting<R: Wait, G: Gate, C: Ledger, H: Ledger>(
-    rt: &R,
-    alloc: Global,
-    service: &Service<Global, G, C, H>,
-    seat: &mut Seat,
-    step: &Step,
-) -> Option<u64> {
-    let mut receipts = Vec::new(alloc);
-    let is_made = service.call_waiting(rt, seat, step, &mut receipts).is_ok();
-    let place = one_place(is_made, &receipts);
-    drop(receipts);
-    place
-}
-
-// The place of a step that isn't refused, by a call, or by one that may wait.
-pub(crate) fn place_of<R: Wait, G: Gate, C: Ledger, H: Ledger>(
-    rt: &R,
-    alloc: Global,
-    service: &Service<Global, G, C, H>,
-    seat: &mut Seat,
-    step: &Step,
-    may_wait: bool,
-) -> Option<u64> {
-    if may_wait {
-        return place_of_waiting(rt, alloc, service, seat, step);
-    }
-    Some(service.call(rt, seat, step).ok()?.place)
 }
 
 // Makes the steps in turn, many times, until one is refused; whether none is.

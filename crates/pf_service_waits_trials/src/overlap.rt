@@ -9,7 +9,7 @@ ghost use Rattle.pf_depot.specs.Blanks.{IsBlankOf};
 use pf_base::{ByteString, Reply, Step};
 use pf_service::{Gate, Seat, Service};
 use pf_service_fixture::{
-    BLUE, Closed, RED, blank, both, closed, config_of, make, makes, namespaces, seat_if,
+    BLUE, Closed, RED, blank, both, closed, config_of, make, namespaces, place_of, seat_if,
     service_of, spawn, with, write,
 };
 use std::alloc::{AllocError, Global};
@@ -173,20 +173,6 @@ fn are_answered<R: Wait, C: Ledger, H: Ledger>(
         && is_answered(rt, service, ns, Asked::Readiness)
 }
 
-// Whether a step isn't refused, by a call that may wait. It doesn't.
-fn makes_waiting<R: Wait, C: Ledger, H: Ledger>(
-    rt: &R,
-    alloc: Global,
-    service: &Service<Global, Holder<'_>, C, H>,
-    seat: &mut Seat,
-    step: &Step,
-) -> bool {
-    let mut receipts = Vec::new(alloc);
-    let is_made = service.call_waiting(rt, seat, step, &mut receipts).is_ok();
-    drop(receipts);
-    is_made
-}
-
 // Makes the steps in turn, by calls or by calls that may wait, until one is refused; whether none is.
 fn makes_each<R: Wait, C: Ledger, H: Ledger>(
     rt: &R,
@@ -196,12 +182,7 @@ fn makes_each<R: Wait, C: Ledger, H: Ledger>(
     signals: &Signals,
 ) -> bool {
     for step in steps {
-        let is_made = if signals.may_wait {
-            makes_waiting(rt, signals.alloc, service, seat, step)
-        } else {
-            makes(rt, service, seat, step)
-        };
-        if !is_made {
+        if place_of(rt, signals.alloc, service, seat, step, signals.may_wait).is_none() {
             return false;
         }
     }

@@ -6,7 +6,8 @@ ghost use Rattle.pf_depot.specs.Blanks.{IsBlankOf};
 use pf_base::{ByteString, Reply, Step};
 use pf_service::{Gate, Receipt, Seat, Service, ServiceFault};
 use pf_service_fixture::{
-    Closed, RED, blank, both, closed, make, namespaces, seat_if, service_of, spawn, with, write_by,
+    Closed, RED, Size, blank, both, closed, config_of, make, namespaces, seat_if, service_of,
+    spawn, with, write_by,
 };
 use std::alloc::{AllocError, Global};
 use std::marker::Brand;
@@ -327,7 +328,7 @@ fn two_readers<C: Ledger + Send + Sync, H: Ledger + Send + Sync, R: Threads + Wa
     with(both(alloc, ours, theirs)?, third)
 }
 
-// The same at a service of nobody yet.
+// The same at a service of nobody yet, to which the namespace comes where it has none.
 fn readers_and_writer<
     C: Ledger + Send + Sync,
     H: Ledger + Send + Sync,
@@ -336,8 +337,12 @@ fn readers_and_writer<
     rt: &R,
     alloc: Global,
     service: &Service<Global, Counter<'_>, C, H>,
+    size: Size,
     count: &Count,
 ) -> Result<Vec<Seat>, Fail> {
+    if size.namespaces == 0 {
+        service.admit(rt, config_of(16).ok_or("limits")?, alloc)?;
+    }
     let first = opened(rt, alloc, service, 2)?;
     let steps = writing(alloc, 3, 2)?;
     let (ours, theirs) = (service.seat(rt, RED)?, service.seat(rt, RED)?);
@@ -355,29 +360,54 @@ fn pipe_among_three_named<
     C: Ledger + Send + Sync,
     H: Ledger + Send + Sync,
     R: Threads + Wait + Abort + Sync,
->(rt: &R, alloc: Global, count: &Count, credits: Blank, held: Blank) -> Closed
+>(rt: &R, alloc: Global, size: Size, count: &Count, credits: Blank, held: Blank) -> Closed
     requires blanks { IsBlankOf C.name C.parts credits × IsBlankOf H.name H.parts held }
 {
-    let service = service_of::<_, C, H>(alloc, namespaces(1), Counter { count }, credits, held)?;
-    let seats = readers_and_writer(rt, alloc, &service, count);
+    let service = service_of::<_, C, H>(alloc, size, Counter { count }, credits, held)?;
+    let seats = readers_and_writer(rt, alloc, &service, size, count);
     closed(service, seats)
 }
 
 fn pipe_among_three<R: Threads + Wait + Abort + Sync>(
     rt: &R,
     alloc: Global,
+    size: Size,
     count: &Count,
 ) -> Closed {
-    pipe_among_three_named::<Brand, Brand, R>(rt, alloc, count, blank(), blank())
+    pipe_among_three_named::<Brand, Brand, R>(rt, alloc, size, count, blank(), blank())
 }
 
-// Of the events the two waiting reads, the write and the two bytes told may wake a waiter: so each reader is resumed at
-// most five times.
+// How many events there are. Of them the two waiting reads, the write and the two bytes told may wake a waiter: so each
+// reader is resumed at most five times.
+fn events_among_three<R: Threads + Wait + Abort + Sync>(
+    rt: &R,
+    alloc: Global,
+    size: Size,
+) -> Result<usize, Fail> {
+    let count = Count::new();
+    let transcripts = pipe_among_three(rt, alloc, size, &count)??;
+    Ok(
+        transcripts
+            .as_slice()
+            .first()
+            .ok_or("none")?
+            .entries()
+            .len(),
+    )
+}
+
 #[test]
 fn two_readers_wait_for_a_byte_each(rt: HostRuntime) -> Result<(), Fail> {
-    let count = Count::new();
-    let transcripts = pipe_among_three(&rt, rt.alloc(), &count)??;
-    let transcript = transcripts.as_slice().first().ok_or("none")?;
-    assert!(rt; transcript.entries().len() <= 4 + 2 + 1 + 10);
+    assert!(rt; events_among_three(&rt, rt.alloc(), namespaces(1))? <= 4 + 2 + 1 + 10);
+    Ok(())
+}
+
+#[test]
+fn two_readers_wait_so_where_they_were_admitted(rt: HostRuntime) -> Result<(), Fail> {
+    let size = Size {
+        namespaces: 0,
+        slack: 16,
+    };
+    assert!(rt; events_among_three(&rt, rt.alloc(), size)? <= 4 + 2 + 1 + 10);
     Ok(())
 }

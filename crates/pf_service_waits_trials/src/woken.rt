@@ -143,7 +143,7 @@ fn is_told<R: Wait, C: Ledger, H: Ledger>(
     service.can_go_on(rt, RED, 1).is_ok()
         && service.next_to_go_on(rt, RED, 0).is_ok()
         && service.readiness(rt, RED, 1, 0).is_ok()
-        && matches!(service.retire(rt, RED), Err(RetireFault::Alive { .. }))
+        && service.retire(rt, RED) == Err(RetireFault::Alive { processes: 2 })
 }
 
 // The last reply to a step that may wait, where there is a receipt for each event.

@@ -189,30 +189,53 @@ fn runs_answer_in_order(rt: HostRuntime) -> Result<(), Fail> {
     Ok(())
 }
 
-// A process's pipe holds 20 bytes, of which a child of it waits to read 7; and there is a FIFO.
-const WAITS: &str = "pool 16
-space red 16
+// A process's pipe holds 20 bytes, of which a child of it waits to read 7. Other children of it wait in an open, in a
+// write to a full pipe, in a splice and in a tee. There are two FIFOs.
+const WAITS: &str = "pool 18
+space red 18
 red spawn 5 5 022
 red pipe 1
+red pipe 1
+red fork 1
+red fork 1
+red fork 1
+red fork 1
 red fork 1
 red mkfifo 1 /f 0600
+red mkfifo 1 /g 0600
 red read 2 0 7
+red open 3 /f r
+red write 1 3 4096*61
+red write 4 3 61
+red splice 5 0 3 9
+red tee 6 0 3 9
 red write 1 1 20*61
 ";
 
 const WAITS_TEXT: &str = "== red
 1: pid 1
 2: fds 0 1
-3: pid 2
-4: num 0
-5: parked
-6: num 20
+3: fds 2 3
+4: pid 2
+5: pid 3
+6: pid 4
+7: pid 5
+8: pid 6
+9: num 0
+10: num 0
+11: parked
+12: parked
+13: num 4096
+14: parked
+15: parked
+16: parked
+17: num 20
 ";
 
 // Steps behind these: reads of more and of less than there is, of the end that is written, by a process that waits and
-// by none; a list; a Resume of the child, and of a process that waits for nothing; and an exit.
-const ASKS: &str = "pool 16
-space red 16
+// by none; a list; a Resume of each child, and of a process that waits for nothing; and an exit.
+const ASKS: &str = "pool 18
+space red 18
 red read 1 0 1000000000000
 red read 1 0 5
 red read 1 1 5
@@ -220,12 +243,16 @@ red read 2 0 5
 red read 9 0 5
 red list 1 /
 red resume 2
+red resume 3
+red resume 4
+red resume 5
+red resume 6
 red resume 1
 red exit 1
 ";
 
-// How many bytes the reply to each may have.
-const BOUNDS: [usize; 9] = [20, 5, 0, 0, 0, 256, 7, 0, 0];
+// How many bytes the reply to each may have: of the names those of two files.
+const BOUNDS: [usize; 13] = [20, 5, 0, 0, 0, 512, 7, 0, 0, 0, 0, 0, 0];
 
 // How many bytes the replies to a script's steps may have, as a hub tells it.
 fn bounds(alloc: Global, hub: &Hub<Global>, script: &Script) -> Result<Vec<usize>, AllocError> {
@@ -240,7 +267,7 @@ fn bounds(alloc: Global, hub: &Hub<Global>, script: &Script) -> Result<Vec<usize
     Ok(bounds)
 }
 
-// Whether a hub with a namespace of 16 frames tells these bounds.
+// Whether a hub with a namespace of 18 frames tells these bounds.
 fn tells_bounds(alloc: Global, hub: &mut Hub<Global>) -> Result<bool, Fail> {
     let waits = runs(alloc, hub, WAITS, WAITS_TEXT)?;
     let script = script_of(alloc, ASKS)?;
@@ -257,7 +284,7 @@ fn tells_bounds(alloc: Global, hub: &mut Hub<Global>) -> Result<bool, Fail> {
 #[test]
 fn bounds_of_replies(rt: HostRuntime) -> Result<(), Fail> {
     let alloc = rt.alloc();
-    let mut hub = open(alloc, frames(alloc, 16)?, &[16])?;
+    let mut hub = open(alloc, frames(alloc, 18)?, &[18])?;
     let tells = tells_bounds(alloc, &mut hub);
     drop(hub);
     assert!(rt; tells?);

@@ -5,7 +5,7 @@ use pf_play::{
     Collected, Failed, INPUT_LIMIT, MemoryBytes, Options, Reading, ReplayFault, Replayed, Sink,
     Source, Writing, frames_of, replay,
 };
-use pf_script::ScriptFault;
+use pf_script::{Cause, Refusal, ScriptFault};
 use std::alloc::{AllocError, Global};
 use std::io::{self, ErrorKind, Read};
 use std::test::Fail;
@@ -282,7 +282,14 @@ const FAULTS: [(ReplayFault, &str); 5] = [
 ];
 
 /// The same of a script that isn't read.
-const UNREAD: [(ScriptFault, &str); 2] = [
+const UNREAD: [(ScriptFault, &str); 3] = [
+    (
+        ScriptFault::Refused(Refusal {
+            line: 3,
+            cause: Cause::CutShort,
+        }),
+        "line 3: cut short",
+    ),
     (ScriptFault::NoMemory, "no memory"),
     (ScriptFault::ReadFault, "read fault"),
 ];
@@ -407,18 +414,25 @@ fn frames_hold_the_fill(rt: HostRuntime) -> Result<(), Fail> {
     Ok(())
 }
 
+/// More bytes than any buffer of the replayer's has room for.
+const MANY: usize = 200_000;
+
 #[test]
-fn memory_gives_all_at_once(rt: HostRuntime) {
-    let mut reader = MemoryBytes::new(b"abc");
-    let mut buffer = [0; 8];
-    assert!(rt; matches!(reader.read(&mut buffer), Ok(3)));
-    assert!(rt; buffer.starts_with(b"abc"));
+fn memory_gives_all_at_once(rt: HostRuntime) -> Result<(), Fail> {
+    let bytes = Vec::from_elem(rt.alloc(), b'a', MANY)?;
+    let mut buffer = Vec::from_elem(rt.alloc(), 0u8, MANY + 1)?;
+    let mut reader = MemoryBytes::new(bytes.as_slice());
+    assert!(rt; matches!(reader.read(&mut buffer), Ok(MANY)));
+    assert!(rt; buffer.starts_with(bytes.as_slice()));
     assert!(rt; matches!(reader.read(&mut buffer), Ok(0)));
+    Ok(())
 }
 
 #[test]
-fn memory_takes_all_at_once(rt: HostRuntime) {
+fn memory_takes_all_at_once(rt: HostRuntime) -> Result<(), Fail> {
+    let bytes = Vec::from_elem(rt.alloc(), b'a', MANY)?;
     let mut writer = Collected::new(rt.alloc());
-    assert!(rt; matches!(writer.write(b"abc"), Ok(3)));
-    assert!(rt; writer.as_slice() == b"abc".as_slice());
+    assert!(rt; matches!(writer.write(bytes.as_slice()), Ok(MANY)));
+    assert!(rt; writer.as_slice() == bytes.as_slice());
+    Ok(())
 }

@@ -136,7 +136,7 @@ fn a_frame_in_stock_is_had_while_the_depots_lock_is_held(rt: HostRuntime) -> Res
     Ok(())
 }
 
-// Each kind of step. Six frames are taken in front of it, six while the lock is held, and one by a write from a slice.
+// Each kind of step. Seven frames are taken in front of it, seven while the lock is held, and one by a write from a slice.
 // Two of them are in stock in the end.
 #[test]
 fn no_kind_of_step_takes_the_depots_lock_for_nothing(rt: HostRuntime) -> Result<(), Fail> {
@@ -145,7 +145,7 @@ fn no_kind_of_step_takes_the_depots_lock_for_nothing(rt: HostRuntime) -> Result<
     let meeting = Meeting::new();
     let told = while_held_by_name(&rt, alloc, &meeting, [35, 34], &begins, asks.as_slice());
     assert_eq!(rt; told, Some((true, 33)));
-    assert!(rt; meeting.watch.is_told(13, 0));
+    assert!(rt; meeting.watch.is_told(15, 0));
     Ok(())
 }
 
@@ -158,6 +158,6 @@ fn no_call_on_a_slice_takes_the_depots_lock_for_nothing(rt: HostRuntime) -> Resu
     let meeting = Meeting::new();
     let told = while_held_by_name(&rt, alloc, &meeting, [35, 34], &begins, asks.as_slice());
     assert_eq!(rt; told, Some((true, 33)));
-    assert!(rt; meeting.watch.is_told(13, 0));
+    assert!(rt; meeting.watch.is_told(15, 0));
     Ok(())
 }

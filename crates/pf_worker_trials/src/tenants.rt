@@ -427,15 +427,76 @@ fn writes_later(alloc: Global) -> Result<[Row; 9], AllocError> {
     ])
 }
 
+// So many bytes 7a.
+fn many(alloc: Global, count: usize) -> Result<ByteString, AllocError> {
+    ByteString::new(alloc, Vec::from_elem(alloc, 0x7A, count)?)
+}
+
+// Process 3 writes so many.
+fn writes_many(alloc: Global, count: usize) -> Result<Row, AllocError> {
+    let step = Step::Write {
+        pid: 3,
+        fd: 1,
+        payload: many(alloc, count)?,
+    };
+    Ok(Row::new(step, Reply::Num(count as u64)))
+}
+
+// It makes a pipe of one page.
+fn makes_pipe(told: Reply) -> Row {
+    let step = Step::Pipe {
+        pid: 3,
+        nonblock: true,
+    };
+    Row::new(step, told)
+}
+
+fn closes(fd: u32) -> Row {
+    Row::new(Step::Close { pid: 3, fd }, Reply::Num(0))
+}
+
+// Process 3 comes with two pipes. What it writes tops up a page, more bytes are read than stand in place, a part of a
+// slot passes on, and both pipes go with bytes. One frame is taken.
+fn moves_many(alloc: Global) -> Result<[Row; 13], AllocError> {
+    let read = Step::Read {
+        pid: 3,
+        fd: 0,
+        n: 16,
+    };
+    let splice = Step::Splice {
+        pid: 3,
+        source: 0,
+        sink: 3,
+        n: 9,
+        nonblock: true,
+    };
+    Ok([
+        spawn_of(3),
+        makes_pipe(Reply::Fds(0, 1)),
+        makes_pipe(Reply::Fds(2, 3)),
+        writes_many(alloc, 10)?,
+        writes_many(alloc, 10)?,
+        Row::new(read, Reply::Bytes(many(alloc, 16)?)),
+        writes_many(alloc, 12)?,
+        Row::new(splice, Reply::Num(9)),
+        closes(1),
+        closes(0),
+        closes(3),
+        closes(2),
+        Row::new(Step::Exit { pid: 3 }, Reply::Num(0)),
+    ])
+}
+
 /// Steps of each kind, by the processes of `begins_two` and others that come and go; each call that may wait does so, and
-/// is resumed. They leave all as it was. Six of them take a frame each, and two of these are held at once.
+/// is resumed. They leave all as it was. Seven of them take a frame each, and two of these are held at once.
 pub(crate) fn each_kind(alloc: Global) -> Result<Vec<Row>, AllocError> {
-    let mut rows = Vec::with_capacity(alloc, 53)?;
+    let mut rows = Vec::with_capacity(alloc, 66)?;
     rows.extend(passes_on())?;
     rows.extend(comes())?;
     rows.extend(makes_files_and_goes())?;
     rows.extend(passes_on_later())?;
     rows.extend(opens_later())?;
     rows.extend(writes_later(alloc)?)?;
+    rows.extend(moves_many(alloc)?)?;
     Ok(rows)
 }
