@@ -1,4 +1,4 @@
-ghost use Rattle.std.specs.Prelude.{◌≡◌, ◌≢◌, ◌≤◌, ◌<◌, map, take, length, slice_get, IfOk, OnOk, IfSome, Some, None, Ok, Err, true, option_copied};
+ghost use Rattle.std.specs.Prelude.{◌≡◌, ◌≢◌, ◌≤◌, ◌<◌, map, take, length, slice_get, IfOk, OnOk, OnErr, IfSome, Some, None, Ok, Err, true, option_copied};
 ghost use Rattle.pf_base.specs.declared.TheConstants.{MAX_FRAMES};
 ghost use Rattle.pf_script.specs.Script as grammar;
 ghost use Rattle.pf_script.specs.Script.{blank, place_of, reserved, number_or};
@@ -251,6 +251,7 @@ impl Script {
     fn pool_with(&mut self, frames: &[u8]) -> Result<(), LineFault>
         requires { self.old.frames ≡ 0 }
         ensures moves { Moves result self.new (grammar.pool_with self.old frames.now) }
+        ensures unchanged { OnErr result (self.new ≡ self.old) }
         ensures none { result ≢ Err faults.NoMemory }
     {
         let frames = small_number(MAX_FRAMES as u32, frames)?;
@@ -265,6 +266,7 @@ impl Script {
     fn pool_line(&mut self, words: &[&[u8]]) -> Result<(), LineFault>
         requires { self.old.frames ≡ 0 }
         ensures moves { Moves result self.new (grammar.pool_line self.old (map (λ w. w.now) words.now)) }
+        ensures unchanged { OnErr result (self.new ≡ self.old) }
         ensures none { result ≢ Err faults.NoMemory }
     {
         match words {
@@ -278,7 +280,8 @@ impl Script {
         requires none { length self.old.steps ≡ 0 }
         requires few { length self.old.spaces < 64 }
         requires fresh { place_of name.now self.old.spaces ≡ None }
-        ensures { Moves result self.new (grammar.with_limits self.old name.now config) }
+        ensures moves { Moves result self.new (grammar.with_limits self.old name.now config) }
+        ensures unchanged { OnErr result (self.new ≡ self.old) }
     {
         let sum = self.reserved_frames() + u64::from(config.reserve());
         if sum > u64::from(self.frames) {
@@ -333,8 +336,9 @@ impl Script {
         max: Option<&[u8]>,
     ) -> Result<(), LineFault>
         requires { length self.old.steps ≡ 0 }
-        ensures { Moves result self.new (grammar.space_with self.old name.now reserve.now
+        ensures moves { Moves result self.new (grammar.space_with self.old name.now reserve.now
             (option_copied soft.entry) (option_copied hard.entry) (option_copied max.entry)) }
+        ensures unchanged { OnErr result (self.new ≡ self.old) }
     {
         let config = self.fresh_limits(name, reserve, soft, hard, max)?;
         self.with_limits(alloc, name, config)
@@ -343,7 +347,8 @@ impl Script {
     #[tactic(auto, unfolding(crate::specs::Script::space_words))]
     fn space_words(&mut self, alloc: Global, words: &[&[u8]]) -> Result<(), LineFault>
         requires { length self.old.steps ≡ 0 }
-        ensures { Moves result self.new (grammar.space_words self.old (map (λ w. w.now) words.now)) }
+        ensures moves { Moves result self.new (grammar.space_words self.old (map (λ w. w.now) words.now)) }
+        ensures unchanged { OnErr result (self.new ≡ self.old) }
     {
         match words {
             [name, reserve] => self.space_with(alloc, name, reserve, None, None, None),
@@ -360,7 +365,8 @@ impl Script {
 
     #[tactic(auto, unfolding(crate::specs::Script::space_line))]
     fn space_line(&mut self, alloc: Global, words: &[&[u8]]) -> Result<(), LineFault>
-        ensures { Moves result self.new (grammar.space_line self.old (map (λ w. w.now) words.now)) }
+        ensures moves { Moves result self.new (grammar.space_line self.old (map (λ w. w.now) words.now)) }
+        ensures unchanged { OnErr result (self.new ≡ self.old) }
     {
         if self.steps.as_slice().is_empty() {
             self.space_words(alloc, words)
@@ -373,7 +379,8 @@ impl Script {
     fn admit(&mut self, alloc: Global, name: &[u8], config: Config) -> Result<(), LineFault>
         requires few { length self.old.spaces < 64 }
         requires fresh { place_of name.now self.old.spaces ≡ None }
-        ensures { Moves result self.new (Ok (grammar.admitted self.old name.now config)) }
+        ensures moves { Moves result self.new (Ok (grammar.admitted self.old name.now config)) }
+        ensures unchanged { OnErr result (self.new ≡ self.old) }
     {
         let place = self.spaces.len() as u32;
         let name = Vec::from_slice(alloc, name)?;
@@ -394,8 +401,9 @@ impl Script {
         hard: Option<&[u8]>,
         max: Option<&[u8]>,
     ) -> Result<(), LineFault>
-        ensures { Moves result self.new (grammar.admit_with self.old name.now reserve.now
+        ensures moves { Moves result self.new (grammar.admit_with self.old name.now reserve.now
             (option_copied soft.entry) (option_copied hard.entry) (option_copied max.entry)) }
+        ensures unchanged { OnErr result (self.new ≡ self.old) }
     {
         let config = self.fresh_limits(name, reserve, soft, hard, max)?;
         self.admit(alloc, name, config)
@@ -403,7 +411,8 @@ impl Script {
 
     #[tactic(auto, unfolding(crate::specs::Script::admit_line))]
     fn admit_line(&mut self, alloc: Global, words: &[&[u8]]) -> Result<(), LineFault>
-        ensures { Moves result self.new (grammar.admit_line self.old (map (λ w. w.now) words.now)) }
+        ensures moves { Moves result self.new (grammar.admit_line self.old (map (λ w. w.now) words.now)) }
+        ensures unchanged { OnErr result (self.new ≡ self.old) }
     {
         match words {
             [name, reserve] => self.admit_with(alloc, name, reserve, None, None, None),
@@ -420,7 +429,8 @@ impl Script {
 
     #[tactic(auto, unfolding(crate::specs::Script::retire_with))]
     fn retire_with(&mut self, name: &[u8]) -> Result<(), LineFault>
-        ensures { Moves result self.new (grammar.retire_with self.old name.now) }
+        ensures moves { Moves result self.new (grammar.retire_with self.old name.now) }
+        ensures unchanged { OnErr result (self.new ≡ self.old) }
     {
         let Some(place) = self.place(name) else {
             return Err(LineFault::Refused(Cause::UnknownNamespace));
@@ -431,7 +441,8 @@ impl Script {
 
     #[tactic(auto, unfolding(crate::specs::Script::retire_line))]
     fn retire_line(&mut self, words: &[&[u8]]) -> Result<(), LineFault>
-        ensures { Moves result self.new (grammar.retire_line self.old (map (λ w. w.now) words.now)) }
+        ensures moves { Moves result self.new (grammar.retire_line self.old (map (λ w. w.now) words.now)) }
+        ensures unchanged { OnErr result (self.new ≡ self.old) }
     {
         match words {
             [name] => self.retire_with(name),
@@ -441,7 +452,8 @@ impl Script {
 
     #[tactic(auto, unfolding(crate::specs::Script::step_line))]
     fn step_line(&mut self, alloc: Global, name: &[u8], words: &[&[u8]]) -> Result<(), LineFault>
-        ensures { Moves result self.new (grammar.step_line self.old name.now (map (λ w. w.now) words.now)) }
+        ensures moves { Moves result self.new (grammar.step_line self.old name.now (map (λ w. w.now) words.now)) }
+        ensures unchanged { OnErr result (self.new ≡ self.old) }
     {
         let Some(place) = self.place_of_step(name) else {
             return Err(LineFault::Refused(Cause::UnknownNamespace));
@@ -458,8 +470,9 @@ impl Script {
         first: &[u8],
         words: &[&[u8]],
     ) -> Result<(), LineFault>
-        ensures { Moves result self.new
+        ensures moves { Moves result self.new
             (grammar.first_word_line self.old first.now (map (λ w. w.now) words.now)) }
+        ensures unchanged { OnErr result (self.new ≡ self.old) }
     {
         if first == b"pool".as_slice() {
             if self.frames == 0 {
@@ -482,7 +495,8 @@ impl Script {
 
     #[tactic(auto, unfolding(crate::specs::Script::words_line))]
     fn words_line(&mut self, alloc: Global, words: &[&[u8]]) -> Result<(), LineFault>
-        ensures { Moves result self.new (grammar.words_line self.old (map (λ w. w.now) words.now)) }
+        ensures moves { Moves result self.new (grammar.words_line self.old (map (λ w. w.now) words.now)) }
+        ensures unchanged { OnErr result (self.new ≡ self.old) }
     {
         match words {
             [] => Ok(()),
@@ -490,7 +504,8 @@ impl Script {
         }
     }
 
-    /// Takes a line that a line feed ended. `words` is where its words are put: what it had doesn't matter.
+    /// Takes a line that a line feed ended. One that is refused, be it for want of memory, leaves the script as it was.
+    /// `words` is where its words are put: what it had doesn't matter.
     #[tactic(auto, unfolding(crate::specs::Script::line_of))]
     pub fn line<'a>(
         &mut self,
@@ -498,7 +513,8 @@ impl Script {
         words: &mut Vec<&'a [u8]>,
         text: &'a [u8],
     ) -> Result<(), LineFault>
-        ensures { Moves result self.new (grammar.line_of self.old text.now) }
+        ensures moves { Moves result self.new (grammar.line_of self.old text.now) }
+        ensures unchanged { OnErr result (self.new ≡ self.old) }
     {
         if text.len() > LINE_LIMIT {
             return Err(LineFault::Refused(Cause::TooLong));

@@ -15,7 +15,7 @@ mod words;
 
 pub use arguments::{number_32, small_number};
 pub use cause::Cause;
-pub use cut::{cut_at, cut_into};
+pub use cut::cut_at;
 pub use fault::LineFault;
 pub use line_words::cut_line;
 pub use marks::find_near;

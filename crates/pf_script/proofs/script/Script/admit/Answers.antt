@@ -31,5 +31,5 @@ invariant_of-self-2 c =
     let fresh = rw (← c.self.view_is) at c.requires.fresh in
     rw (put c, kept c) (admit_sound _ c.args.name.now c.args.config c.self.invariant fresh few)
 
-pub returns : goal.returns
-returns c = rw (← c.self.view_is, put c, kept c) refl
+pub returns-clause-moves : goal.returns-clause-moves
+returns-clause-moves c = rw (← c.self.view_is, put c, kept c) refl

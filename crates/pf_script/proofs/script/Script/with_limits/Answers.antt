@@ -38,5 +38,5 @@ invariant_of-self-2 c =
     let fresh = rw (← c.self.view_is) at c.requires.fresh in
     rw (put c, many c) (space_sound _ c.args.name.now c.args.config c.self.invariant fresh few none (left c))
 
-pub returns : goal.returns
-returns c = rw (← c.self.view_is, put c, many c) (reserves _ c.args.name.now c.args.config (left c))
+pub returns-clause-moves : goal.returns-clause-moves
+returns-clause-moves c = rw (← c.self.view_is, put c, many c) (reserves _ c.args.name.now c.args.config (left c))
