@@ -201,7 +201,8 @@ fn bytes_are_shared_that_have_one_owner(rt: HostRuntime) -> Result<(), Fail> {
     drop(bytes);
     assert!(rt; Arc::get_mut(&mut mine).is_some());
     let bytes = ByteString::from_arc(mine);
-    let filled = ByteRoom::new(rt.alloc(), 4_096)?.fill(rt.alloc(), &bytes);
+    let room = ByteRoom::new(rt.alloc(), bytes.as_slice().len())?;
+    let filled = room.fill(rt.alloc(), &bytes);
     assert!(rt; bytes.share().is_none() && filled.share().is_none());
     drop(filled);
     let shared = bytes.share();
