@@ -119,6 +119,12 @@ fn texts_have_their_numbers(rt: HostRuntime) -> Result<(), Fail> {
     assert!(rt; reads(alloc, &AdmitFault::NoRoom { slack: 65_536 }, text)?);
     let text = "the namespace has 256 processes";
     assert!(rt; reads(alloc, &RetireFault::Alive { processes: 256 }, text)?);
+    Ok(())
+}
+
+#[test]
+fn bytes_are_shown_each(rt: HostRuntime) -> Result<(), Fail> {
+    let alloc = rt.alloc();
     let shown = format!(in alloc; "{:?}", bytes(alloc, b"0123456789abcdef")?)?;
     let text = "ByteString([48, 49, 50, 51, 52, 53, 54, 55, 56, 57, 97, 98, 99, 100, 101, 102])";
     assert!(rt; shown.as_str() == text);

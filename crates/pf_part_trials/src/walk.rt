@@ -364,17 +364,22 @@ const AT_THE_END: [(Call, &[u8]); 8] = [
     (Call::Unlink, b"f"),
 ];
 
-// Makes the directories, and does all that by the dotted path; what of it is refused first.
+// Makes the directories.
+fn builds_down(desk: &mut Desk<Global>, alloc: Global, mode: Mode) -> Result<(), AllocError> {
+    let mut path = Vec::new(alloc);
+    for _ in 0..LEVELS {
+        path.extend_from_slice(b"d/")?;
+        desk.call(Call::Mkdir, &path, mode);
+    }
+    Ok(())
+}
+
+// Does all that by the dotted path; what of it is refused first.
 fn first_refused(
     desk: &mut Desk<Global>,
     alloc: Global,
     mode: Mode,
 ) -> Result<Option<Call>, AllocError> {
-    let mut plain = Vec::new(alloc);
-    for _ in 0..LEVELS {
-        plain.extend_from_slice(b"d/")?;
-        desk.call(Call::Mkdir, &plain, mode);
-    }
     for (call, last) in AT_THE_END {
         let path = dotted(alloc, last)?;
         if desk.call(call, &path, mode).is_some() {
@@ -388,6 +393,7 @@ fn first_refused(
 fn a_path_with_dots_may_be_long(rt: HostRuntime) -> Result<(), Fail> {
     let (alloc, open) = (rt.alloc(), Mode::new(0o777)?);
     let mut desk = Desk::new(alloc, alloc, open, 5);
+    builds_down(&mut desk, alloc, open)?;
     assert!(rt; first_refused(&mut desk, alloc, open)?.is_none());
     let path = dotted(alloc, b"n")?;
     assert!(rt; entry(&desk, &path)? == (200, LEVELS, Last::Name(b"n"), false));

@@ -119,7 +119,7 @@ fn made_in(alloc: Global, script: &str, bytes: u32) -> Result<usize, Fail> {
     Ok(made)
 }
 
-/// A replay that is called has heaps of just the bytes that it asks for, also of fewer than the words may ask for.
+/// A replay that is called may have heaps of fewer bytes than the words may ask for.
 #[test]
 fn a_heap_has_fewer_bytes_than_words_may_ask_for(rt: HostRuntime) -> Result<(), Fail> {
     let script = script(rt.alloc())?;

@@ -1,4 +1,5 @@
-//! What a service refuses: namespaces, seats and events past their numbers, and seats that it didn't give.
+//! What a service refuses: namespaces, seats and events past their numbers, and seats that it didn't give; and how that
+//! reads.
 
 use crate::services::{Callers, CallersOfTwo, Plain, is_new, no_seat, refused, serve, serve_two};
 use pf_base::{Errno, Reply, Step};

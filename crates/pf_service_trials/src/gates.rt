@@ -212,7 +212,7 @@ fn are_gone<R: Wait, C: Ledger, H: Ledger>(
 }
 
 // Whether of a number there is no seat and no answer, for this reason.
-fn is_unknown<R: Wait, C: Ledger, H: Ledger>(
+fn gives_nothing<R: Wait, C: Ledger, H: Ledger>(
     rt: &R,
     service: &Service<Global, Recorder<'_>, C, H>,
     ns: u32,
@@ -233,7 +233,7 @@ fn is_full<R: Wait, C: Ledger, H: Ledger>(
     match config_of(1) {
         Some(config) => {
             service.admit(rt, config, alloc).is_err()
-                && is_unknown(rt, service, 2, ServiceFault::NoSuchNamespace)
+                && gives_nothing(rt, service, 2, ServiceFault::NoSuchNamespace)
         }
         None => false,
     }
@@ -241,7 +241,8 @@ fn is_full<R: Wait, C: Ledger, H: Ledger>(
 
 // Two tenants in turn, the second of which is admitted. The gate is told of their events, by calls or by calls that may
 // wait, and of their frames, of which each takes 16 at once. It isn't told of their going, nor of who comes behind
-// them, nor of what is refused: an admission, and a seat, a question and an event of one that isn't there or is gone.
+// them, nor of what is refused: an admission, a seat and a question of one that isn't there or is gone, and an event of
+// one that is gone.
 #[derive(Drop)]
 struct ToldOnce<'a> {
     red: &'a Told,
@@ -268,8 +269,8 @@ impl<'a> Callers<Recorder<'a>> for ToldOnce<'_> {
         let theirs = make_told(rt, alloc, service, theirs, &steps, self.may_wait, told);
         assert!(rt; self.red.is_of(4, 16) && self.blue.is_of(4, 16));
         assert!(rt; both_go(rt, alloc, service));
-        assert!(rt; is_unknown(rt, service, RED, ServiceFault::Gone));
-        assert!(rt; is_unknown(rt, service, BLUE, ServiceFault::Gone));
+        assert!(rt; gives_nothing(rt, service, RED, ServiceFault::Gone));
+        assert!(rt; gives_nothing(rt, service, BLUE, ServiceFault::Gone));
         assert!(rt; self.red.is_of(4, 16) && self.blue.is_of(4, 16));
         let mut seats = both(alloc, ours, theirs)?;
         assert!(rt; are_gone(rt, alloc, service, &mut seats));

@@ -144,8 +144,14 @@ fn a_host_is_told_who_can_go_on(rt: HostRuntime) -> Result<(), Fail> {
     Ok(())
 }
 
-// Three processes with two pipes. The first waits for a byte of the one, the third for a byte of the other.
+// Three processes with two pipes of a page each. The first waits for a byte of the one, the third for a byte of the
+// other.
 fn opening_two(alloc: Global) -> Result<Vec<Step>, AllocError> {
+    let page = Step::SetSize {
+        pid: 1,
+        fd: 0,
+        bytes: 4_096,
+    };
     let ours = Step::Read {
         pid: 1,
         fd: 0,
@@ -157,7 +163,7 @@ fn opening_two(alloc: Global) -> Result<Vec<Step>, AllocError> {
         n: 1,
     };
     let (child, other) = (Step::Fork { pid: 1 }, Step::Fork { pid: 1 });
-    Ok(vec![in alloc; spawn(), pipe(), pipe(), child, other, ours, theirs]?)
+    Ok(vec![in alloc; spawn(), pipe(), page, pipe(), child, other, ours, theirs]?)
 }
 
 // The second process writes a byte to the pipe behind this descriptor.
@@ -169,30 +175,35 @@ fn byte_to(fd: u32) -> Step {
     }
 }
 
-// A pipe with that byte.
+// A pipe of a page, and one with that byte.
+const EMPTY_PAGE: Readiness = Readiness {
+    room: 4_096,
+    ..EMPTY
+};
+
 const ONE_BYTE: Readiness = Readiness {
     bytes: 1,
-    room: 65_535,
-    has_reader: true,
-    has_writer: true,
+    room: 4_095,
+    ..EMPTY
 };
 
 // Whether the third process alone can go on, and each pipe is told of by its own descriptors.
 fn third_goes_on<C: Ledger, H: Ledger, R: Wait>(
     rt: &R,
     service: &Plain<C, H>,
+    ns: u32,
 ) -> Result<bool, ServiceFault> {
     Ok(
-        !service.can_go_on(rt, RED, 1)?
-            && !service.can_go_on(rt, RED, 2)?
-            && service.can_go_on(rt, RED, 3)?
-            && service.next_to_go_on(rt, RED, 0)? == Some(3)
-            && service.next_to_go_on(rt, RED, 3)? == None
-            && service.readiness(rt, RED, 2, 1)? == Ok(EMPTY)
-            && service.readiness(rt, RED, 2, 2)? == Ok(ONE_BYTE)
-            && service.readiness(rt, RED, 2, 3)? == Ok(ONE_BYTE)
-            && service.readiness(rt, RED, 1, 2)? == Err(Errno::EBUSY)
-            && service.readiness(rt, RED, 4, 2)? == Err(Errno::ESRCH),
+        !service.can_go_on(rt, ns, 1)?
+            && !service.can_go_on(rt, ns, 2)?
+            && service.can_go_on(rt, ns, 3)?
+            && service.next_to_go_on(rt, ns, 0)? == Some(3)
+            && service.next_to_go_on(rt, ns, 3)? == None
+            && service.readiness(rt, ns, 2, 1)? == Ok(EMPTY_PAGE)
+            && service.readiness(rt, ns, 2, 2)? == Ok(ONE_BYTE)
+            && service.readiness(rt, ns, 2, 3)? == Ok(ONE_BYTE)
+            && service.readiness(rt, ns, 1, 2)? == Err(Errno::EBUSY)
+            && service.readiness(rt, ns, 4, 2)? == Err(Errno::ESRCH),
     )
 }
 
@@ -200,19 +211,24 @@ fn third_goes_on<C: Ledger, H: Ledger, R: Wait>(
 fn two_go_on<C: Ledger, H: Ledger, R: Wait>(
     rt: &R,
     service: &Plain<C, H>,
+    ns: u32,
 ) -> Result<bool, ServiceFault> {
     Ok(
-        service.can_go_on(rt, RED, 1)?
-            && !service.can_go_on(rt, RED, 2)?
-            && service.can_go_on(rt, RED, 3)?
-            && service.next_to_go_on(rt, RED, 0)? == Some(1)
-            && service.next_to_go_on(rt, RED, 1)? == Some(3)
-            && service.next_to_go_on(rt, RED, 3)? == None,
+        service.can_go_on(rt, ns, 1)?
+            && !service.can_go_on(rt, ns, 2)?
+            && service.can_go_on(rt, ns, 3)?
+            && service.next_to_go_on(rt, ns, 0)? == Some(1)
+            && service.next_to_go_on(rt, ns, 1)? == Some(3)
+            && service.next_to_go_on(rt, ns, 3)? == None,
     )
 }
 
-// Two wait at one namespace, which has come, for what a third process writes to the one pipe, and then to the other.
-struct TwoWait;
+// The first and the third process of a namespace, one that was there or one that has come, wait for what the second
+// writes to the other pipe, and then to the one.
+#[derive(Drop)]
+struct TwoWait {
+    ns: u32,
+}
 
 impl Callers<NoGate> for TwoWait {
     fn work<C: Ledger, H: Ledger, R: Wait + Abort>(
@@ -222,15 +238,15 @@ impl Callers<NoGate> for TwoWait {
         service: &Plain<C, H>,
     ) -> Result<Vec<Seat>, Fail> {
         assert_eq!(rt;
-            service.admit(rt, config_of(40).ok_or("limits")?, alloc)?,
-            RED
+            service.admit(rt, config_of(16).ok_or("limits")?, alloc)?,
+            BLUE
         );
         let steps = opening_two(alloc)?;
-        let seat = make(rt, service, service.seat(rt, RED)?, &steps);
+        let seat = make(rt, service, service.seat(rt, self.ns)?, &steps);
         let mut seats = with(Vec::new(alloc), seat)?;
         let seat = seats.first_mut().ok_or("no seat")?;
-        assert!(rt; makes(rt, service, seat, &byte_to(3)) && third_goes_on(rt, service)?);
-        assert!(rt; makes(rt, service, seat, &byte_to(1)) && two_go_on(rt, service)?);
+        assert!(rt; makes(rt, service, seat, &byte_to(3)) && third_goes_on(rt, service, self.ns)?);
+        assert!(rt; makes(rt, service, seat, &byte_to(1)) && two_go_on(rt, service, self.ns)?);
         Ok(seats)
     }
 }
@@ -238,10 +254,11 @@ impl Callers<NoGate> for TwoWait {
 #[test]
 fn a_host_is_told_of_each_process(rt: HostRuntime) -> Result<(), Fail> {
     let size = Size {
-        namespaces: 0,
-        slack: 40,
+        namespaces: 1,
+        slack: 16,
     };
-    serve(&rt, rt.alloc(), size, NoGate, &TwoWait)??;
+    serve(&rt, rt.alloc(), size, NoGate, &TwoWait { ns: RED })??;
+    serve(&rt, rt.alloc(), size, NoGate, &TwoWait { ns: BLUE })??;
     Ok(())
 }
 

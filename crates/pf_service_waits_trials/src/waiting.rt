@@ -403,7 +403,7 @@ fn two_readers_wait_for_a_byte_each(rt: HostRuntime) -> Result<(), Fail> {
 }
 
 #[test]
-fn two_readers_wait_so_where_they_were_admitted(rt: HostRuntime) -> Result<(), Fail> {
+fn two_readers_wait_so_at_one_that_was_admitted(rt: HostRuntime) -> Result<(), Fail> {
     let size = Size {
         namespaces: 0,
         slack: 16,

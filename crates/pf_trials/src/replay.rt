@@ -414,7 +414,7 @@ fn frames_hold_the_fill(rt: HostRuntime) -> Result<(), Fail> {
     Ok(())
 }
 
-/// More bytes than any buffer of the replayer's has room for.
+/// More bytes than the replayer asks a reader for at once.
 const MANY: usize = 200_000;
 
 #[test]

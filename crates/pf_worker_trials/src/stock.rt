@@ -136,8 +136,8 @@ fn a_frame_in_stock_is_had_while_the_depots_lock_is_held(rt: HostRuntime) -> Res
     Ok(())
 }
 
-// Each kind of step. Seven frames are taken in front of it, seven while the lock is held, and one by a write from a slice.
-// Two of them are in stock in the end.
+// Each kind of step. Seven frames are taken in front of it, seven while the lock is held, and one by a write from a
+// slice. Two of them are in stock in the end.
 #[test]
 fn no_kind_of_step_takes_the_depots_lock_for_nothing(rt: HostRuntime) -> Result<(), Fail> {
     let alloc = rt.alloc();
