@@ -157,6 +157,8 @@ fn few_pieces_are_read_and_written_by_std(rt: HostRuntime) -> Result<(), Fail> {
     );
     assert!(rt; end.is_ok());
     assert!(rt; giving.asked <= script.len() / READ + 2);
-    assert!(rt; taking.taken > 10 * STEPS && taking.asked <= taking.taken / WRITTEN + 1);
+    assert!(rt;
+        taking.taken > 10 * STEPS && taking.asked <= (taking.taken / WRITTEN).saturating_add(1)
+    );
     Ok(())
 }
