@@ -3,28 +3,27 @@
 
 use Rattle.std.proofs.Common.{◌≡◌, ℕ, ◌+◌, length, Option, Some, None, Result, Ok, Err, IsOk, OnErr, refl, sym, ap}
 use Rattle.std.proofs.Common.{subst, ◌∙◌}
-use Rattle.std.specs.Prelude.{⊤}
 use Rattle.pf_tables.proofs.TablesShown.{each-same}
 use Rattle.pf_space.proofs.Common.{option_map, Limits, Errno, Fault, Reply, Step, Call, Moving, call, Segment, ◌>>=◌}
 use Rattle.pf_space.proofs.Common.{itself, State, Process, Outcome, ready, Live, Window, Namespace, meaning, Owns, Told}
 use Rattle.pf_space.proofs.Common.{settled}
-use Rattle.pf_base.specs.declared.errno.Errno.TheVariants.{EINVAL}
 use Rattle.pf_base.specs.declared.fault.Fault.TheVariants as faults
 use Rattle.pf_base.specs.declared.meta.Kind.TheVariants as kinds
 use Rattle.pf_base.specs.declared.step.Step.TheVariants as steps
 use Rattle.pf_machine.specs.Attempts.{has_nonblock, is_nonblocking}
 use Rattle.pf_machine.specs.Calls.{Opening}
-use Rattle.pf_machine.specs.Machine.{Tries, deed_by, done_at}
 use Rattle.pf_machine.specs.Maps.{if_ok, call_as, process_as, description_as, state_as, outcome_as}
 use Rattle.pf_machine.specs.State.{of_ready, told}
 use Rattle.pf_machine.proofs.Natural.{born-as, call-as, dup-as, get_size-as, set_nonblock-as, spawn-as}
-use Rattle.pf_machine.proofs.NaturalCalls.{close-call, exit-call, open-call, pipe-call}
+use Rattle.pf_machine.proofs.NaturalCalls.{open-call, pipe-call}
 use Rattle.pf_machine.proofs.NaturalFiles.{chmod-as, list-as, make-as, rmdir-as, stat-as, unlink-as}
 use Rattle.pf_machine.proofs.NaturalSizes.{set_size-as}
 use Rattle.pf_machine.proofs.NaturalWaits.{has_nonblock-as}
 use Rattle.pf_ring.specs.Ring.{segment_of}
+use Rattle.pf_tables.specs.Calls.{IsBooked, own_of}
 use Rattle.pf_tables.specs.Tables.{Says}
 use Rattle.pf_tables.proofs.MeaningLaws.{settled-meaning}
+use Rattle.pf_tables.proofs.Refusals.{ok_is}
 
 -- what is mapped to itself
 
@@ -57,10 +56,6 @@ abbrev pub Natural : Limits → State Window ℕ → Step → Result (Outcome Wi
 Natural limits s step own =
     (shows : Window → Segment) → call limits (state_as shows itself s) step ≡ if_ok (outcome_as shows itself) own
 
-pub ok_is : {A : Type 0} (r : Result A Errno) → IsOk r → (x : A) × (r ≡ Ok x)
-ok_is (Ok x) ok = (x, refl)
-ok_is (Err e) ok = absurd (cc)
-
 -- What the machine's call is at the meaning of a state. step: the kind that it is of
 module _ (f : Live) (limits : Limits) (s : State Window ℕ) (step : Step) (own : Result (Outcome Window ℕ) Errno)
     (natural : Natural limits s step own) where
@@ -86,14 +81,13 @@ pub as_ready : (shows : Window → Segment) (s : State Window ℕ) (pid : ℕ)
     → (ready (state_as shows itself s) pid >>= m) ≡ if_ok (outcome_as shows itself) (of_ready s pid k)
 as_ready shows = call-as shows itself (outcome_as shows itself)
 
--- A call that was made, or refused. given: what is handed on of what the tables told; step: the kind that it is of
+-- A call that was made, or refused. given: what is handed on of what the tables told
 pub booked : {f : Live} {tables old new : Namespace} → tables ≡ old → Owns f old → {given result : Result Reply Fault}
-    → given ≡ result → {step asked : Step} → asked ≡ step → (own : Result (Outcome Window ℕ) Errno)
-    → Says tables new result own → OnErr result (new ≡ tables)
-    → Natural tables.limits tables.state step own
-    → Told f f old new given (call old.limits (meaning f old.state) asked)
-booked {f} {tables} {old} {new} view owns {given} {result} moved {step} {asked} is own says refused natural =
-    rw (← view, is, moved) (by_result result says refused)
+    → given ≡ result → (step : Step) → (own : Result (Outcome Window ℕ) Errno) → Says tables new result own
+    → OnErr result (new ≡ tables) → Natural tables.limits tables.state step own
+    → Told f f old new given (call old.limits (meaning f old.state) step)
+booked {f} {tables} {old} {new} view owns {given} {result} moved step own says refused natural =
+    rw (← view, moved) (by_result result says refused)
   where
     owned : Owns f tables
     owned = rw (← view) at owns
@@ -115,76 +109,49 @@ booked {f} {tables} {old} {new} view owns {given} {result} moved {step} {asked} 
         })
     by_result (Err faults.NoMemory) wanted same = rw same (record { owns = owned; limits = refl; says = (refl, refl) })
 
--- What the tables make of a step at their own state, of a kind that moves no bytes and tries no call again
+-- What the tables make of a step at their own state
 
-abbrev pub Stays : Step → Type 0
-Stays (steps.Read pid fd n) = ⊥
-Stays (steps.Write pid fd x) = ⊥
-Stays (steps.Tee pid source sink n nonblock) = ⊥
-Stays (steps.Splice pid source sink n nonblock) = ⊥
-Stays (steps.Resume pid) = ⊥
-Stays _ = ⊤
-
--- what would look into slots is no part of it
-abbrev untried : Tries Window
-untried = record { moves = λ s pid p nonblock transfer. Err EINVAL; resumes = λ s pid p. Err EINVAL }
-
-abbrev pub own_of : Namespace → Step → Result (Outcome Window ℕ) Errno
-own_of n step = done_at n.limits n.state (deed_by untried step)
-
-pub natural : (n : Namespace) (step : Step) → Stays step → Natural n.limits n.state step (own_of n step)
-natural n (steps.Spawn uid gid umask groups) stays shows =
+pub natural : (n : Namespace) (step : Step) → IsBooked step → Natural n.limits n.state step (own_of n step)
+natural n (steps.Spawn uid gid umask groups) is shows =
     spawn-as shows itself n.state (record { uid = uid; gid = gid; groups = groups; umask = umask })
-natural n (steps.Exit pid) stays shows = exit-call shows itself n.limits n.state pid
-natural n (steps.Fork pid) stays shows = as_ready shows n.state pid _ _ (λ p. born-as shows itself n.state p)
-natural n (steps.Pipe pid nonblock) stays shows =
+natural n (steps.Fork pid) is shows = as_ready shows n.state pid _ _ (λ p. born-as shows itself n.state p)
+natural n (steps.Pipe pid nonblock) is shows =
     pipe-call shows itself n.limits n.state pid (length n.state.descriptions) (length n.state.descriptions + 1)
     (length n.state.pipes) refl refl refl nonblock
-natural n (steps.Dup pid fd) stays shows = as_ready shows n.state pid _ _ (λ p. dup-as shows itself n.state pid p fd)
-natural n (steps.Close pid fd) stays shows = close-call shows itself n.limits n.state pid fd
-natural n (steps.SetNonblock pid fd on) stays shows =
+natural n (steps.Dup pid fd) is shows = as_ready shows n.state pid _ _ (λ p. dup-as shows itself n.state pid p fd)
+natural n (steps.SetNonblock pid fd on) is shows =
     as_ready shows n.state pid _ _ (λ p. set_nonblock-as shows itself itself itself (λ m. refl) n.state p _ _)
-natural n (steps.SetSize pid fd bytes) stays shows =
+natural n (steps.SetSize pid fd bytes) is shows =
     as_ready shows n.state pid _ _ (λ p. set_size-as shows itself itself itself (λ m. refl) _ n.state p _ _)
-natural n (steps.GetSize pid fd) stays shows =
+natural n (steps.GetSize pid fd) is shows =
     as_ready shows n.state pid _ _ (λ p. get_size-as shows itself itself itself (λ m. refl) n.state p _)
-natural n (steps.Mkdir pid path mode) stays shows =
+natural n (steps.Mkdir pid path mode) is shows =
     as_ready shows n.state pid _ _ (λ p. make-as shows itself n.state p path kinds.Directory mode)
-natural n (steps.Mkfifo pid path mode) stays shows =
+natural n (steps.Mkfifo pid path mode) is shows =
     as_ready shows n.state pid _ _ (λ p. make-as shows itself n.state p path kinds.Fifo mode)
-natural n (steps.Unlink pid path) stays shows =
+natural n (steps.Unlink pid path) is shows =
     as_ready shows n.state pid _ _ (λ p. unlink-as shows itself n.state p path)
-natural n (steps.Rmdir pid path) stays shows =
+natural n (steps.Rmdir pid path) is shows =
     as_ready shows n.state pid _ _ (λ p. rmdir-as shows itself n.state p path)
-natural n (steps.Chmod pid path mode) stays shows =
+natural n (steps.Chmod pid path mode) is shows =
     as_ready shows n.state pid _ _ (λ p. chmod-as shows itself n.state p path mode)
-natural n (steps.Stat pid path) stays shows = as_ready shows n.state pid _ _ (λ p. stat-as shows itself n.state p path)
-natural n (steps.List pid path) stays shows = as_ready shows n.state pid _ _ (λ p. list-as shows itself n.state p path)
-natural n (steps.Open pid path flags) stays shows =
+natural n (steps.Stat pid path) is shows = as_ready shows n.state pid _ _ (λ p. stat-as shows itself n.state p path)
+natural n (steps.List pid path) is shows = as_ready shows n.state pid _ _ (λ p. list-as shows itself n.state p path)
+natural n (steps.Open pid path flags) is shows =
     open-call shows itself n.limits n.state pid path (length n.state.descriptions) itself refl (λ m. refl) flags
-natural n _ stays shows = absurd stays
+natural n _ is shows = absurd is
 
--- a step that the tables make, or refuse
+-- a step that they make, or refuse
 pub booked_step : {f : Live} {tables old new : Namespace} → tables ≡ old → Owns f old
-    → {given result : Result Reply Fault} → given ≡ result → {step asked : Step} → asked ≡ step → Stays step
+    → {given result : Result Reply Fault} → given ≡ result → (step : Step) → IsBooked step
     → Says tables new result (own_of tables step) → OnErr result (new ≡ tables)
-    → Told f f old new given (call old.limits (meaning f old.state) asked)
-booked_step {tables = tables} view owns moved {step} is stays says refused =
-    booked view owns moved is (own_of tables step) says refused (natural tables step stays)
+    → Told f f old new given (call old.limits (meaning f old.state) step)
+booked_step {tables = tables} view owns moved step is says refused =
+    booked view owns moved step (own_of tables step) says refused (natural tables step is)
 
-pub booked_not : {f : Live} {tables old new : Namespace} → tables ≡ old → Owns f old → (step : Step) → Stays step
-    → {e : Errno} → own_of tables step ≡ Err e → new ≡ tables
+-- a refusal
+pub booked_not : {f : Live} {tables old new : Namespace} → tables ≡ old → Owns f old → (step : Step)
+    → {own : Result (Outcome Window ℕ) Errno} → Natural tables.limits tables.state step own
+    → {e : Errno} → own ≡ Err e → new ≡ tables
     → Told f f old new (Err (faults.Errno e)) (call old.limits (meaning f old.state) step)
-booked_not view owns step stays is same = booked_step view owns refl {step = step} refl stays is same
-
--- one that only looks something up
-pub looked_up : {f : Live} {tables old : Namespace} → tables ≡ old → Owns f old → {given result : Result Reply Fault}
-    → given ≡ result → {step asked : Step} → asked ≡ step → Stays step
-    → Says tables tables result (own_of tables step)
-    → Told f f old old given (call old.limits (meaning f old.state) asked)
-looked_up {tables = tables} view owns {result = result} moved is stays says =
-    rw (← view) (booked_step refl (rw (← view) at owns) moved is stays says (on_err result))
-  where
-    on_err : (r : Result Reply Fault) → OnErr r (tables ≡ tables)
-    on_err (Ok reply) = tt
-    on_err (Err fault) = refl
+booked_not view owns step {own} natural is same = booked view owns refl step own is same natural

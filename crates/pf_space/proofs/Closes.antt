@@ -18,6 +18,7 @@ use Rattle.pf_machine.specs.Processes.{exit}
 use Rattle.pf_machine.specs.State.{of_ready, without_process, done}
 use Rattle.pf_machine.specs.State as machine
 use Rattle.pf_machine.proofs.ExitLaws.{sum_of-falls}
+use Rattle.pf_machine.proofs.NaturalCalls.{close-call}
 use Rattle.pf_machine.proofs.NumberedLaws.{at_past, at_within, at-put_same, at-put_other}
 use Rattle.pf_machine.proofs.SweepLaws.{with_processes, sweep-sweep}
 use Rattle.pf_ring.specs.Ring.{Ring}
@@ -30,7 +31,7 @@ use Rattle.pf_tables.specs.Tables.{descriptor, emptied, woken, Begun, Closes, Is
 use Rattle.pf_tables.specs.Told.{Becomes}
 use Rattle.pf_tables.proofs.MeaningLaws.{pipes-left, pipes-without, settled-meaning, sweep-meaning, woken-left}
 use Rattle.pf_tables.proofs.OwnsLaws.{joined_gone, others_written, stands_at}
-use Rattle.pf_space.proofs.Books.{made-as, natural}
+use Rattle.pf_space.proofs.Books.{made-as}
 
 -- What went
 
@@ -80,7 +81,8 @@ pub closed : {f g : Live} {tables old new : Namespace} → tables ≡ old → Ow
     → Told f g old new (Ok (Num 0)) (call old.limits (meaning f old.state) (steps.Close pid fd))
 closed {f} {tables = tables} view owns gone pid fd c keeps same =
     rw (← view) (leaves (cleared (rw (← view) at owns) gone c.2 keeps same)
-    (made-as f tables.limits tables.state (steps.Close pid fd) _ (natural tables (steps.Close pid fd) tt) c.1))
+    (made-as f tables.limits tables.state (steps.Close pid fd) _
+    (λ shows. close-call shows itself tables.limits tables.state pid fd) c.1))
 
 -- An exit on its way
 

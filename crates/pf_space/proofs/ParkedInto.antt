@@ -2,14 +2,13 @@
 -- there.
 
 use Rattle.std.proofs.lemmas.List.{nil_from_length}
-use Rattle.std.proofs.Common.{◌≡◌, ◌⊎◌, inl, inr, ℕ, ◌≤◌, ◌&&◌, true, false, List, [], Option, Some, None}
+use Rattle.std.proofs.Common.{◌≡◌, ◌⊎◌, inl, inr, ℕ, ◌≤◌, true, false, List, [], Option, Some, None}
 use Rattle.std.proofs.Common.{Result, Ok, Err, refl, sym, ap, subst, ◌∙◌, arith}
-use Rattle.pf_space.proofs.Common.{Reading, Writing, Bringing, Call, Moving, Finished, transfer_told, call, Segment}
-use Rattle.pf_space.proofs.Common.{itself, Limits, State, Outcome, sweep, Tried, Errno, Fault, Progress, Moved}
+use Rattle.pf_space.proofs.Common.{Reading, Moving, Finished, transfer_told, call, Segment}
+use Rattle.pf_space.proofs.Common.{itself, Outcome, sweep, Tried, Errno, Fault, Progress, Moved}
 use Rattle.pf_space.proofs.Common.{WouldBlock, EndOfFile}
 use Rattle.pf_space.proofs.Common.{NoReader, Reply, Live, Namespace, meaning, Owns, Told, tried_call, waits_in, ended}
-use Rattle.pf_machine.specs.Calls.{Opening}
-use Rattle.pf_machine.specs.Machine.{Answers, act, call_of, hands_many, hands_out, is_let_in, may_want_memory, step_of}
+use Rattle.pf_machine.specs.Machine.{Answers, call_of, hands_out, step_of}
 use Rattle.pf_machine.specs.Progress.{moved}
 use Rattle.pf_machine.specs.Replies.{reply_length}
 use Rattle.pf_machine.proofs.ReplyLaws.{resume-few, few}
@@ -19,47 +18,19 @@ use Rattle.pf_base.specs.declared.step.Reply.TheVariants as replies
 use Rattle.pf_base.specs.declared.step.Step.TheVariants as steps
 use Rattle.pf_ring.specs.Laid.{laid}
 use Rattle.pf_ring.proofs.LaidLaws.{no_byte_lies}
-use Rattle.pf_tables.specs.declared.tables.parked.ParkedRead.{ParkedRead}
-use Rattle.pf_tables.specs.Buffers.{read_in, Truncates, Replied, number_told, bytes_told}
-use Rattle.pf_tables.specs.Tables.{awoken}
+use Rattle.pf_parked.specs.declared.call.Call.TheVariants.{Read}
+use Rattle.pf_tables.specs.Buffers.{Truncates, Replied, number_told, bytes_told}
+use Rattle.pf_tables.specs.Tables.{Woken}
 use Rattle.pf_tables.specs.Told.{Came, Refused}
 use Rattle.pf_space.proofs.ParkedResume.{resumed}
 use Rattle.pf_space.proofs.ParkedTransfers.{parks, finishes, refuses}
 use Rattle.pf_space.proofs.Steps.{made_step, refused_step}
 
 -- a Resume is told so, and the first of its bytes lie in a buffer
-abbrev Resumed : Live → Live → Namespace → Namespace → ℕ → Result (Option ℕ) Errno → List ℕ → List ℕ → Type 0
+abbrev pub Resumed : Live → Live → Namespace → Namespace → ℕ → Result (Option ℕ) Errno → List ℕ → List ℕ → Type 0
 Resumed f g old new pid told before after =
     Replied (λ (reply : Reply). Answers old.limits (Done reply) (meaning f old.state) (steps.Resume pid)
     (meaning g new.state)) told before after
-
--- Which call it is
-
-pub read_is : (o : Option (Call ℕ)) (r : ParkedRead) → Some r ≡ read_in o → o ≡ Some (Moving (Reading r.fd r.n))
-read_is None r e = absurd (cc)
-read_is (Some (Opening description kept)) r e = absurd (cc)
-read_is (Some (Moving (Reading fd n))) r e =
-    let here : ParkedRead = record { fd = fd; n = n } in
-    let same : r ≡ here = cc in
-    ap (λ (x : ParkedRead). Some (Moving (Reading x.fd x.n))) (sym same)
-read_is (Some (Moving (Writing fd bytes written))) r e = absurd (cc)
-read_is (Some (Moving (Bringing crossing source sink n))) r e = absurd (cc)
-
-pub no_read : (o : Option (Call ℕ)) → None ≡ read_in o → hands_out o ≡ false
-no_read None e = refl
-no_read (Some (Opening description kept)) e = refl
-no_read (Some (Moving (Reading fd n))) e = absurd (cc)
-no_read (Some (Moving (Writing fd bytes written))) e = refl
-no_read (Some (Moving (Bringing crossing source sink n))) e = refl
-
--- and then it wants no memory
-pub wants_none : (c : Limits) (s : State Segment ℕ) (pid : ℕ) → hands_out (call_of s pid) ≡ false
-    → may_want_memory c s (steps.Resume pid) ≡ true → ⊥
-wants_none c s pid quiet wants =
-    let gap : false ≡ true =
-    sym (ap (λ b. (b && hands_many (act c s (steps.Resume pid)).reply) && is_let_in s (steps.Resume pid)) quiet)
-    ∙ wants in
-    absurd (cc)
 
 -- A read
 
@@ -69,23 +40,21 @@ nothing : (progress : Progress) (before after : List ℕ) (r : Tried) → Trunca
 nothing progress before after r lie zero =
     lie.1 ∙ ap (λ (xs : List ℕ). laid xs before) (nil_from_length r.bytes (lie.0 ∙ zero))
 
-module _ {D : Type 0} (live : D → Live) {x y : D} {tables old mid new : Namespace} (view : tables ≡ old) (pid : ℕ)
-    {fd n : ℕ} (waits : call_of (meaning (live x) old.state) pid ≡ Some (Moving (Reading fd n)))
-    (mid_is : mid ≡ record tables { state = awoken tables.state pid })
-    (still : tables.state ≡ sweep itself tables.state) {told : Result (Option ℕ) Errno} (before : List ℕ)
+-- old: as it was before its process was woken. tables: as it is then, and is seen in the tables
+module _ {D : Type 0} (live : D → Live) {x y : D} {tables mid old new : Namespace} (view : tables ≡ mid) (pid : ℕ)
+    {fd n : ℕ} (woken : Woken old mid pid (Read fd n)) {told : Result (Option ℕ) Errno} (before : List ℕ)
     {after : List ℕ} where
   -- what it is told as a first call, it is told
   answered : (reply : Reply) (result : Result Reply Fault) → ended result ≡ Ok reply
       → (result ≡ Err faults.NoMemory → ⊥)
-      → Told (live x) (live y) mid new result (tried_call (meaning (live x) mid.state) pid false (Reading fd n))
+      → Told (live x) (live y) tables new result (tried_call (meaning (live x) tables.state) pid false (Reading fd n))
       → told ≡ number_told reply → after ≡ laid (bytes_told reply) before
       → Resumed (live x) (live y) old new pid told before after
   answered reply result is ample tried told_is lie =
       let here : Told (live x) (live y) old new (Ok reply)
       (call old.limits (meaning (live x) old.state) (steps.Resume pid)) =
-      resumed (live x) view pid (Reading fd n)
-      (subst (λ (o : Namespace). call_of o.state pid ≡ Some (Moving (Reading fd n))) (sym view) waits) mid_is still
-      tried ample (sym is) in
+      resumed (live x) {tables = old} refl pid (Reading fd n) woken.waited (view ∙ woken.namespace) woken.still tried
+      ample (sym is) in
       record {
         reply = reply;
         is = made_step old.limits (meaning (live x) old.state) (meaning (live y) new.state) (steps.Resume pid) reply
@@ -94,7 +63,7 @@ module _ {D : Type 0} (live : D → Live) {x y : D} {tables old mid new : Namesp
         bytes_lie = lie;
       }
 
-  module _ {between : Namespace} {progress : Progress} (came : Came live x y mid between pid (Reading fd n) progress
+  module _ {between : Namespace} {progress : Progress} (came : Came live x y tables between pid (Reading fd n) progress
       (Truncates progress before after)) where
     pub waits_on : progress ≡ WouldBlock → new ≡ waits_in (Some (Moving (Reading fd n))) between pid → told ≡ Ok None
         → Resumed (live x) (live y) old new pid told before after
@@ -104,7 +73,7 @@ module _ {D : Type 0} (live : D → Live) {x y : D} {tables old mid new : Namesp
         (ap (transfer_told (Reading fd n) came.tried) (came.progress_is ∙ is)) waiting) says
         (nothing progress before after came.tried came.holds (ap moved is))
 
-  module _ {progress : Progress} (came : Came live x y mid new pid (Reading fd n) progress
+  module _ {progress : Progress} (came : Came live x y tables new pid (Reading fd n) progress
       (Truncates progress before after)) where
     pub comes : {m : ℕ} → progress ≡ Moved m → told ≡ Ok (Some m)
         → Resumed (live x) (live y) old new pid told before after
@@ -129,7 +98,7 @@ module _ {D : Type 0} (live : D → Live) {x y : D} {tables old mid new : Namesp
       | inr e ↦ finished (ap (transfer_told (Reading fd n) came.tried) (came.progress_is ∙ e)) (ap moved e) says
     ]
 
-  pub is_refused : {e : Errno} → Refused live x y mid new pid (Reading fd n) e → Owns (live x) mid → told ≡ Err e
+  pub is_refused : {e : Errno} → Refused live x y tables new pid (Reading fd n) e → Owns (live x) tables → told ≡ Err e
       → after ≡ before → Resumed (live x) (live y) old new pid told before after
   is_refused {e} refused owns says lie =
       answered (replies.Err e) (Err (faults.Errno e)) refl (λ x. absurd (cc))

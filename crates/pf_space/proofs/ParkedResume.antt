@@ -1,5 +1,5 @@
 -- A transfer that waits is tried again: its process is woken, and the transfer tried as a call of its own, which waits
--- where it has to.
+-- where it has to. In the end: who isn't woken is refused, and an open that waits is tried where it is.
 
 use Rattle.std.proofs.lemmas.Option.{option_and_then_some}
 use Rattle.std.proofs.Common.{◌≡◌, ℕ, zero, suc, ◌+◌, ◌-◌, Bool, true, false, ◌&&◌, List, length, set, Option, Some}
@@ -23,16 +23,18 @@ use Rattle.pf_base.specs.declared.errno.Errno.TheVariants.{EBUSY, EINVAL, EPIPE}
 use Rattle.pf_base.specs.declared.fault.Fault.TheVariants as faults
 use Rattle.pf_base.specs.declared.step.Reply.TheVariants as replies
 use Rattle.pf_base.specs.declared.step.Step.TheVariants as steps
-use Rattle.pf_frame.specs.declared.frames.Frames.{Ghosts}
-use Rattle.pf_tables.specs.Door.{Serves}
-use Rattle.pf_tables.specs.Tables.{over, woken, awoken}
+use Rattle.pf_tables.specs.Rows as rows
+use Rattle.pf_tables.specs.Tables.{Wakes, Woken, awoken, is_open, over, waits_in_open, woken}
 use Rattle.pf_tables.specs.Told.{HandsMany, Says, attempted}
 use Rattle.pf_machine.specs.Maps.{if_ok}
+use Rattle.pf_machine.proofs.NaturalCalls.{resume-call}
 use Rattle.pf_machine.proofs.MapLaws.{bind-as, bind-same, then-as}
 use Rattle.pf_machine.proofs.ExitLaws.{change-change}
-use Rattle.pf_tables.proofs.MeaningLaws.{settled-meaning, woken-left}
+use Rattle.pf_tables.proofs.MeaningLaws.{settled-meaning}
 use Rattle.pf_tables.proofs.Refusals.{same_ok}
 use Rattle.pf_tables.proofs.TablesShown.{set_same, place_in}
+use Rattle.pf_tables.specs.Opened.{Reopens}
+use Rattle.pf_space.proofs.Books.{booked}
 use Rattle.pf_space.proofs.ParkedTransfers.{sweep-waiting}
 
 -- A transfer of a process that was woken
@@ -107,7 +109,7 @@ pub record WaitsIn (s : State Segment ℕ) (pid : ℕ) (t : Transfer) : Type 0 w
   pub waits : p.parked ≡ Some (Moving t)
   pub stands : at s.processes (pid - 1) ≡ Some p
 
-pub waiter : (s : State Segment ℕ) (pid : ℕ) (t : Transfer) → call_of s pid ≡ Some (Moving t) → WaitsIn s pid t
+waiter : (s : State Segment ℕ) (pid : ℕ) (t : Transfer) → call_of s pid ≡ Some (Moving t) → WaitsIn s pid t
 waiter s pid t h =
     option_and_then_some (λ (p : Process ℕ). p.parked) (process s pid) (Moving t) h
     (λ p g e. record { p = p; lives = g; waits = e; stands = place_in s pid g })
@@ -173,6 +175,15 @@ module _ (s : State Segment ℕ) (pid : ℕ) (t : Transfer) (w : WaitsIn s pid t
       by_attempt (Ok (Waits z c)) h = absurd (cc)
       by_attempt (Err x) h =
           let same : x ≡ e = cc in λ i. Ok (record { state = still_awake still i; reply = replies.Err (same i) })
+
+-- What the tables say of a process that is to be woken, once it is known which call they gave out
+module _ {old new : Namespace} (pid : ℕ) {o : Option (rows.Call rows.Key)} (wakes : Wakes old new pid (Ok o)) where
+  pub woken_for : {call : rows.Call rows.Key} → o ≡ Some call → Woken old new pid call
+  woken_for is = subst (λ (x : Option (rows.Call rows.Key)). Wakes old new pid (Ok x)) is wakes
+
+  -- none: it waits in an open
+  pub waits_on : o ≡ None → (new ≡ old) × (waits_in_open new.state pid ≡ Ok true)
+  waits_on is = subst (λ (x : Option (rows.Call rows.Key)). Wakes old new pid (Ok x)) is wakes
 
 -- A call is taken from its process, and tried as a first one would be. tables: the namespace as its own code has it
 module _ (f : Live) {tables old mid : Namespace} (view : tables ≡ old) (pid : ℕ) (t : Transfer)
@@ -267,11 +278,48 @@ module _ (f : Live) {tables old mid : Namespace} (view : tables ≡ old) (pid : 
       ∙ set-set ps (pid - 1) (option_map woken (at ps (pid - 1))) (Some w.p)
       ∙ set_same ps (pid - 1) (Some w.p) (sym w.stands)) ∙ view
 
--- the frames are the namespace's own when its process is woken
-pub woken_served : {D : Type 0} {F : Ghosts D} {d : D} {tables old mid : Namespace} → tables ≡ old → Serves F d old
-    → (pid : ℕ) → mid ≡ record tables { state = awoken tables.state pid } → mid.state ≡ sweep itself mid.state
-    → Serves F d mid
-woken_served {F = F} {d = d} {tables = tables} {mid = mid} view served pid is still =
-    let f = F.live d in
-    let woken = woken-left f tables mid pid is still (subst (Owns f) (sym view) served.owns) in
-    record { fact = served.fact; owns = woken.owns }
+-- what is told of the namespace as its own code has it
+pub told_seen : {f g : Live} {tables old new : Namespace} → tables ≡ old → (pid : ℕ) → {result : Result Reply Fault}
+    → Told f g tables new result (call tables.limits (meaning f tables.state) (steps.Resume pid))
+    → Told f g old new result (call old.limits (meaning f old.state) (steps.Resume pid))
+told_seen {f} {g} {new = new} view pid {result} told =
+    subst (λ (n : Namespace). Told f g n new result (call n.limits (meaning f n.state) (steps.Resume pid))) view told
+
+-- who is not woken is refused as the machine refuses it
+module _ (f : Live) {tables mid old : Namespace} (view : tables ≡ old) (pid : ℕ) {e : Errno}
+    (refused : Wakes tables mid pid (Err e)) where
+  abbrev asked : Option (Process ℕ) → Result Bool Errno
+  asked o = or_refuse ESRCH o >>= (λ p. or_refuse EINVAL p.parked >>= (λ c. Ok (is_open c)))
+
+  is_refused : (s : State Segment ℕ) (o : Option (Process ℕ)) → asked o ≡ Err e
+      → (or_refuse ESRCH o >>= (λ p. resume s pid p)) ≡ Err e
+  is_refused s None h = let same : ESRCH ≡ e = cc in ap Err same
+  is_refused s (Some p) h = by_call p.parked h
+    where
+      by_call : (q : Option (Call ℕ)) → (or_refuse EINVAL q >>= (λ c. Ok (is_open c))) ≡ Err e
+          → (or_refuse EINVAL q >>= (λ x. Ok (again s pid (attempt s pid p x)))) ≡ Err e
+      by_call None h = let same : EINVAL ≡ e = cc in ap Err same
+      by_call (Some c) h = absurd (cc)
+
+  pub not_woken : Owns f old → Told f f old mid (Err (faults.Errno e))
+      (call old.limits (meaning f old.state) (steps.Resume pid))
+  not_woken owns =
+      let same : mid ≡ old = refused.0 ∙ view in
+      record {
+        owns = subst (Owns f) (sym same) owns;
+        limits = ap (λ (n : Namespace). n.limits) same;
+        says = (
+          subst (λ (n : Namespace). call n.limits (meaning f n.state) (steps.Resume pid) ≡ Err e) same
+              (is_refused (meaning f mid.state) (process mid.state pid) refused.1),
+          ap (λ (n : Namespace). meaning f n.state) same,
+        );
+      }
+
+-- and an open that waits is tried again
+pub reopened : (f : Live) {tables mid old new : Namespace} → tables ≡ old → (pid : ℕ)
+    → {o : Option (rows.Call rows.Key)} → Wakes tables mid pid (Ok o) → o ≡ None → Owns f old → {reply : Reply}
+    → Reopens mid new pid reply
+    → Told f f old new (Ok reply) (call old.limits (meaning f old.state) (steps.Resume pid))
+reopened f {mid = mid} view pid wakes is owns again =
+    booked ((waits_on pid wakes is).0 ∙ view) owns refl (steps.Resume pid) _ again.makes tt
+    (λ shows. resume-call shows itself mid.limits mid.state pid again.n again.before again.waits)

@@ -2,41 +2,26 @@
 -- and a call on a path but Stat, all where they aren't refused, a call on a path that is walked by `.` or `..` also
 -- where it is, and a Read and a Write of many bytes.
 
-use Rattle.std.proofs.Common.{◌≡◌, ℕ, Bool, true, false, not, ◌&&◌, ◌||◌, List, is_some, Result, Ok}
-use Rattle.std.proofs.Common.{Err, IsOk, refl, sym, ap, ◌∙◌}
+use Rattle.std.proofs.Common.{◌≡◌, ℕ, true, false, ◌&&◌, Result, Ok, Err, IsOk, refl, ap, ◌∙◌}
 use Rattle.std.specs.Prelude.{⊤}
-use Rattle.std.proofs.lemmas.Bool.{false≢true}
-use Rattle.std.specs.Option.{option_and_then}
-use Rattle.pf_base.specs.declared.errno.Errno.TheVariants.{EBUSY}
 use Rattle.pf_base.specs.declared.step.Reply.TheVariants as replies
 use Rattle.pf_base.specs.declared.step.Step.TheVariants as steps
 use Rattle.pf_machine.specs.Attempts.{Attempt, first, nonblocking, transfer}
 use Rattle.pf_machine.specs.Calls.{Transfer}
-use Rattle.pf_machine.specs.Machine.{Deed, OfLiving, OfNobody, OfReady, act, call_of, deed, doer, done_at, hands_many}
-use Rattle.pf_machine.specs.Machine.{is_let_in, is_of_living, is_refusal, lives, may_want_memory, waits}
+use Rattle.pf_machine.specs.Machine.{act, hands_many, is_refusal, may_want_memory}
 use Rattle.pf_machine.specs.FileCalls as calls
-use Rattle.pf_machine.specs.Paths.{has_dots}
-use Rattle.pf_machine.specs.Refusals.{◌>>◌, refuse_if}
-use Rattle.pf_machine.specs.State.{living, process, settle, told}
+use Rattle.pf_machine.specs.State.{settle, told}
 use Rattle.pf_machine.specs.Transfers.{tried}
 use Rattle.pf_machine.proofs.AttemptLaws.{open-comes}
 use Rattle.pf_machine.proofs.HoldsLaws.{Holds, carries}
 use Rattle.pf_machine.proofs.StepLaws.{IsNoError, Moves, Still, step-keeps}
+use Rattle.pf_tables.specs.Calls.{IsBooked, MayWant, own_of}
 use Rattle.pf_tables.specs.Told.{HandsMany, attempted}
-use Rattle.pf_tables.proofs.Refusals.{both_came, not_refused, is_there}
-use Rattle.pf_space.proofs.Common.{Reading, Limits, call, Segment, ◌>>=◌, or_refuse, State, Process, Outcome}
-use Rattle.pf_space.proofs.Common.{ready, transfer_told, Reply, Step, Errno, ESRCH, Live, Namespace}
-use Rattle.pf_space.proofs.Common.{meaning}
-use Rattle.pf_space.proofs.Books.{Stays, natural, ok-as, ok_is, own_of}
-
-let_in : (s : State Segment ℕ) (pid : ℕ) (p : Process ℕ) → ready s pid ≡ Ok p
-    → (is_some (process s pid) && not (is_some (call_of s pid))) ≡ true
-let_in s pid p h =
-    let test : Process ℕ → Result (Process ℕ) Errno = λ q. refuse_if (is_some q.parked) EBUSY >> Ok q in
-    let w = both_came (or_refuse ESRCH (process s pid)) test h in
-    let there = is_there ESRCH (process s pid) w.1 in
-    let awake = (not_refused (is_some w.0.parked) EBUSY (Ok w.0) w.2).0 in
-    (λ i. is_some (there i) && not (is_some (option_and_then (λ (q : Process ℕ). q.parked) (there i)))) ∙ ap not awake
+use Rattle.pf_tables.proofs.Calls.{let_in}
+use Rattle.pf_tables.proofs.Refusals.{both_came}
+use Rattle.pf_space.proofs.Common.{Reading, Limits, call, Segment, ◌>>=◌, State, Outcome, ready, transfer_told, Reply}
+use Rattle.pf_space.proofs.Common.{Step, Errno, Live, Namespace, meaning}
+use Rattle.pf_space.proofs.Books.{natural, ok-as}
 
 pub read_wants : (c : Limits) (s : State Segment ℕ) (pid fd n : ℕ) → HandsMany (attempted s pid (Reading fd n))
     → may_want_memory c s (steps.Read pid fd n) ≡ true
@@ -80,68 +65,26 @@ still s = record {
 }
 
 by_call : (s : State Segment ℕ) (r : Result (Outcome Segment ℕ) Errno) → Holds EndsWell r → IsOk r
-    → not (is_refusal (settle s r).reply) ≡ true
-by_call s (Ok o) well ok = ap not well
+    → is_refusal (settle s r).reply ≡ false
+by_call s (Ok o) well ok = well
 by_call s (Err e) well ok = absurd (cc)
 
--- who is told what is no refusal was let in
-first_ok : {A B : Type 0} (m : Result A Errno) (k : A → Result B Errno) → IsOk (m >>= k) → (x : A) × (m ≡ Ok x)
-first_ok (Ok x) k ok = (x, refl)
-first_ok (Err e) k ok = absurd (cc)
+-- what a List hands out is no refusal, and no other of these kinds hands anything out
+comes_well : (s : State Segment ℕ) (step : Step) → IsBooked step → Moves s EndsWell step
+comes_well s (steps.List pid path) is =
+    λ p free. carries EndsWell (calls.list s.files p.cred path) _ (λ x. refl)
+comes_well s (steps.Read pid fd n) is = absurd is
+comes_well s (steps.Write pid fd x) is = absurd is
+comes_well s (steps.Tee pid source sink n nonblock) is = absurd is
+comes_well s (steps.Splice pid source sink n nonblock) is = absurd is
+comes_well s (steps.Resume pid) is = absurd is
+comes_well s _ is = tt
 
-made_in : (c : Limits) (s : State Segment ℕ) (d : Deed Segment) → IsOk (done_at c s d)
-    → (lives s (doer d) && (is_of_living d || not (waits s (doer d)))) ≡ true
-made_in c s (OfNobody does) ok = refl
-made_in c s (OfLiving pid does) ok =
-    let w = first_ok (living s pid) (does c s) ok in λ i. is_some (is_there ESRCH (process s pid) w.1 i) && true
-made_in c s (OfReady pid does) ok = let w = first_ok (ready s pid) (does c s) ok in let_in s pid w.0 w.1
-
--- what List hands out is no refusal
-pub lists_well : (s : State Segment ℕ) (pid : ℕ) (path : List ℕ) → Moves s EndsWell (steps.List pid path)
-lists_well s pid path p free = carries EndsWell (calls.list s.files p.cred path) _ (λ x. refl)
-
-by_dots : (dots other : Bool) → (dots ≡ false → other ≡ true) → (dots || other) ≡ true
-by_dots true other h = refl
-by_dots false other h = h refl
-
--- No step wants memory that may not. step: the kind that it is of
-module _ (f : Live) {tables old : Namespace} (view : tables ≡ old) {step asked : Step} (is : asked ≡ step) where
-  abbrev s : State Segment ℕ
-  s = meaning f tables.state
-
-  not_wanted : may_want_memory tables.limits s step ≡ true
-      → may_want_memory old.limits (meaning f old.state) asked ≡ false → ⊥
-  not_wanted wants quiet = absurd (false≢true (sym (rw (is, ← view) at quiet) ∙ wants))
-
-  -- Where its call goes through, it may. may: what it comes to of this kind that it isn't refused
-  module _ (stays : Stays step) (moves : Moves s EndsWell step) where
-    goes : IsOk (own_of tables step) → IsOk (call tables.limits s step)
-    goes ok = ok-as f tables.limits tables.state step (own_of tables step) (natural tables step stays) ok
-
-    well : IsOk (own_of tables step) → not (is_refusal (act tables.limits s step).reply) ≡ true
-    well ok =
-        by_call s (call tables.limits s step) (step-keeps s EndsWell (still s) tables.limits step moves) (goes ok)
-
-    pub wanted_not : ((not (is_refusal (act tables.limits s step).reply) && is_let_in s step) ≡ true
-        → may_want_memory tables.limits s step ≡ true) → IsOk (own_of tables step)
-        → may_want_memory old.limits (meaning f old.state) asked ≡ false → ⊥
-    wanted_not may ok =
-        not_wanted (may (λ i. well ok i && made_in tables.limits s (deed step) (goes ok) i))
-
-    -- the same of a call on a path, where no name is `.` or `..`; and where one is, it may
-    pub path_not : (pid : ℕ) (path : List ℕ) → (((has_dots path || not (is_refusal (act tables.limits s step).reply))
-        && (is_some (process s pid) && not (is_some (call_of s pid)))) ≡ true
-        → may_want_memory tables.limits s step ≡ true)
-        → IsOk (ready s pid) → (has_dots path ≡ false → IsOk (own_of tables step))
-        → may_want_memory old.limits (meaning f old.state) asked ≡ false → ⊥
-    path_not pid path may there plainly =
-        let w = ok_is (ready s pid) there in
-        not_wanted (may (λ i. by_dots (has_dots path) _ (λ plain. well (plainly plain)) i && let_in s pid w.0 w.1 i))
-
--- and a Stat wants it for a walk by `.` and `..` alone
-pub stat_not : (f : Live) {tables old : Namespace} → tables ≡ old → {pid : ℕ} {path : List ℕ} {asked : Step}
-    → asked ≡ steps.Stat pid path → IsOk (ready (meaning f tables.state) pid) → has_dots path ≡ true
-    → may_want_memory old.limits (meaning f old.state) asked ≡ false → ⊥
-stat_not f {tables} view {pid} is there walks =
-    let w = ok_is (ready (meaning f tables.state) pid) there in
-    not_wanted f view is (λ i. walks i && let_in (meaning f tables.state) pid w.0 w.1 i)
+-- where the tables want memory for a step, it may want it
+pub wants : (f : Live) (n : Namespace) (step : Step) → IsBooked step → MayWant n step
+    → may_want_memory n.limits (meaning f n.state) step ≡ true
+wants f n step is may =
+    let s = meaning f n.state in
+    may f (act n.limits s step).reply (λ ok. by_call s (call n.limits s step)
+    (step-keeps s EndsWell (still s) n.limits step (comes_well s step is))
+    (ok-as f n.limits n.state step (own_of n step) (natural n step is) ok))

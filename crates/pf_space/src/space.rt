@@ -1,6 +1,6 @@
 ghost use Rattle.std.specs.Prelude.{◌≡◌};
 
-use pf_base::{Answer, Config, Crossing, Fault, Kind, Reply, Step};
+use pf_base::{Answer, Config, Crossing, Fault, Reply, Step};
 use pf_frame::Frames;
 use pf_tables::Tables;
 use std::alloc::{AllocError, Allocator, Global};
@@ -102,7 +102,8 @@ impl<A: Allocator + Clone> Space<A> {
         }
     }
 
-    // The call of each kind of step.
+    // The call of each kind of step: of those that move bytes, let something go or try a call again here, and of the
+    // others in the tables.
     #[inline(always)]
     fn call<F: Frames>(&mut self, door: &mut F, step: &Step) -> Result<Reply, Fault>
         requires door { Serves F.Frames door.old self.old }
@@ -114,28 +115,10 @@ impl<A: Allocator + Clone> Space<A> {
             ≡ false → result ≢ Err Fault.NoMemory }
     {
         match step {
-            Step::Spawn {
-                uid,
-                gid,
-                umask,
-                groups,
-            } => handed(self.tables.spawn(self.alloc, *uid, *gid, *umask, groups)),
-            Step::Exit { pid } => self.exit(door, *pid),
-            Step::Pipe { pid, nonblock } => handed(self.tables.pipe(self.alloc, *pid, *nonblock)),
-            Step::Close { pid, fd } => self.close(door, *pid, *fd),
             Step::Read { pid, fd, n } => self.read(door, *pid, *fd, *n),
             Step::Write { pid, fd, payload } => {
                 self.write(door, *pid, *fd, payload.as_slice(), Some(payload))
             }
-            Step::SetSize { pid, fd, bytes } => {
-                handed(self.tables.set_size(self.alloc, *pid, *fd, *bytes))
-            }
-            Step::GetSize { pid, fd } => handed(self.tables.size(*pid, *fd)),
-            Step::Fork { pid } => handed(self.tables.fork(self.alloc, *pid)),
-            Step::Dup { pid, fd } => handed(self.tables.dup(*pid, *fd)),
-            Step::SetNonblock { pid, fd, on } => handed(
-                self.tables.set_nonblocking(*pid, *fd, *on),
-            ),
             Step::Tee {
                 pid,
                 source,
@@ -168,33 +151,10 @@ impl<A: Allocator + Clone> Space<A> {
                 *nonblock,
                 false,
             ),
-            Step::Mkdir { pid, path, mode } => {
-                handed(
-                    self.tables
-                        .make_file(self.alloc, *pid, Kind::Directory, path.as_slice(), *mode),
-                )
-            }
-            Step::Mkfifo { pid, path, mode } => {
-                handed(
-                    self.tables
-                        .make_file(self.alloc, *pid, Kind::Fifo, path.as_slice(), *mode),
-                )
-            }
-            Step::Unlink { pid, path } => handed(
-                self.tables.unlink(self.alloc, *pid, path.as_slice()),
-            ),
-            Step::Rmdir { pid, path } => handed(
-                self.tables.rmdir(self.alloc, *pid, path.as_slice()),
-            ),
-            Step::Chmod { pid, path, mode } => {
-                handed(self.tables.chmod(self.alloc, *pid, path.as_slice(), *mode))
-            }
-            Step::Stat { pid, path } => handed(self.tables.stat(self.alloc, *pid, path.as_slice())),
-            Step::List { pid, path } => handed(self.tables.list(self.alloc, *pid, path.as_slice())),
-            Step::Open { pid, path, flags } => {
-                handed(self.tables.open(self.alloc, *pid, path.as_slice(), *flags))
-            }
+            Step::Close { pid, fd } => self.close(door, *pid, *fd),
+            Step::Exit { pid } => self.exit(door, *pid),
             Step::Resume { pid } => self.resume(door, *pid),
+            _ => handed(self.tables.call(self.alloc, step)),
         }
     }
 }

@@ -9,6 +9,7 @@ use Rattle.pf_machine.specs.State as machine
 use Rattle.pf_base.specs.declared.fault.Fault.TheVariants as faults
 use Rattle.pf_tables.specs.Tables.{made_reply}
 use Rattle.pf_tables.proofs.ProcessTableReady.{readies}
+use Rattle.pf_tables.proofs.Refusals.{ok_is}
 use Rattle.pf_tables.proofs.TablesSettled.{makes}
 use Rattle.pf_walk.specs.Told.{Changed}
 
@@ -16,10 +17,6 @@ use Rattle.pf_walk.specs.Told.{Changed}
 pub unmade : (made : Result (Unit {0}) Fault) → made_reply made ≡ Err faults.NoMemory → made ≡ Err faults.NoMemory
 unmade (Ok done) none = absurd (cc)
 unmade (Err fault) none = cc none
-
-pub ok_is : {A : Type 0} (r : Result A Errno) → IsOk r → (x : A) × (r ≡ Ok x)
-ok_is (Ok x) ok = (x, refl)
-ok_is (Err e) ok = absurd (cc)
 
 module _ {limits : Limits} {ps : ProcessRows} {ds : DescriptionRows} {pipes : PipeRows} {files : Files} {files_made : ℕ}
     (tied : Tied ps ds pipes) {n : Namespace}

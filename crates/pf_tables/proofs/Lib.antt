@@ -2,6 +2,7 @@ pub mod MeaningLaws
 pub mod OwnsLaws
 pub mod Bounds
 mod Buffers
+pub mod Calls
 mod Common
 mod ProcessTableReady
 mod DescriptorsLetGo

@@ -5,7 +5,7 @@ use Rattle.std.proofs.Common.{◌≡◌, ℕ, ◌+◌, ◌-◌, ◌^◌, ◌<◌
 use Rattle.std.proofs.Common.{is_some, Result, Ok, Err, IsOk, nat_eq, nat_lt, if◌then◌else◌, refl, sym, ap, subst, ◌∙◌}
 use Rattle.std.proofs.Common.{arith}
 use Rattle.std.proofs.Math.Seq.{set-append_seam}
-use Rattle.pf_tables.proofs.Refusals.{same_some, then-bind}
+use Rattle.pf_tables.proofs.Refusals.{ok_is, same_some, then-bind}
 use Rattle.pf_tables.proofs.Common.{option_map, lookup, Window, Files, Limits, at, put_at, empty, ◌>>=◌, ◌>>◌, itself}
 use Rattle.pf_tables.proofs.Common.{refuse_if, told_as, capacity_for, is_spent, is_privileged, State, readers, writers}
 use Rattle.pf_tables.proofs.Common.{fifo_pipe, Errno, ENFILE, Fault, find, Live, UserPages, Joined, ring_or, rings_of}
@@ -27,7 +27,6 @@ use Rattle.pf_tables.specs.Opened.{GetsPipe}
 use Rattle.pf_tables.proofs.DescriptorsDup.{at_most_one, sum-le-length}
 use Rattle.pf_tables.proofs.Ends.{as_kept, counted as ends_counted}
 use Rattle.pf_tables.proofs.Fifos.{fifos-pushed}
-use Rattle.pf_tables.proofs.Files.{ok_is}
 use Rattle.pf_tables.proofs.OpensDescribe.{IsSided, entered, founded}
 use Rattle.pf_tables.proofs.OpensFind.{key_finds, fifo_is}
 use Rattle.pf_tables.proofs.OwnsLaws.{joined_opened}

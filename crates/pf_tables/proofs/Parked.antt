@@ -1,19 +1,24 @@
 -- A call is over, or begins: what the tables keep and show of it.
 
-use Rattle.std.proofs.Common.{◌≡◌, ℕ, zero, suc, ◌-◌, List, [], ◌∷◌, set, map, Option, Some, None, IsOk, Ok, refl, sym}
-use Rattle.std.proofs.Common.{ap, subst, ◌∙◌, arith}
+use Rattle.std.proofs.Common.{◌≡◌, ℕ, zero, suc, ◌-◌, false, List, [], ◌∷◌, set, map, Option, Some, None, IsOk, Ok}
+use Rattle.std.proofs.Common.{refl, sym, ap, subst, ◌∙◌, arith}
 use Rattle.pf_tables.proofs.TablesShown.{shown_change}
 use Rattle.pf_tables.proofs.Common.{option_map, option_and_then, Files, Limits, at, put_at, change_at, first_free}
-use Rattle.pf_tables.proofs.Common.{ready, waiting, UserPages, Open, Namespace, ProcessRows}
+use Rattle.pf_tables.proofs.Common.{◌>>=◌, or_refuse, itself, ready, waiting, sweep, EINVAL, ESRCH, UserPages}
+use Rattle.pf_tables.proofs.Common.{Open, Namespace, ProcessRows}
 use Rattle.pf_tables.proofs.Common.{DescriptionRows, PipeRows, Key, Process, made_by, process_in, ready_in}
 use Rattle.pf_tables.proofs.Common.{process_of, state_of, TiedWith, Tied, Whole, over, woken, awoken, map-set, set-set}
 use Rattle.pf_tables.proofs.Common.{at-map, at_within, at-put_same, at-first_free, first_free-map, IsSpare}
+use Rattle.pf_machine.specs.Calls as calls
 use Rattle.pf_machine.specs.State as machine
 use Rattle.pf_machine.specs.Machine.{call_of as machine_call_of}
 use Rattle.pf_machine.specs.State.{living, change_process}
+use Rattle.pf_parked.specs.declared.call.Call.TheVariants.{Read, Write, Cross}
 use Rattle.pf_tables.specs.Rows as rows
 use Rattle.pf_tables.specs.Rows.{Call, call_of}
+use Rattle.pf_tables.specs.Tables.{Wakes, is_open, waits_in_open}
 use Rattle.pf_tables.specs.Told.{waits_in}
+use Rattle.pf_tables.proofs.Refusals.{same_ok}
 use Rattle.pf_tables.proofs.ProcessTableReady.{found_in, living_shown, ready_shown, place_of, place_is, is_awake}
 use Rattle.pf_tables.proofs.TablesTied.{moved, put}
 
@@ -143,3 +148,45 @@ module _ {charges : UserPages} {limits : Limits} {es : List (ℕ × Key)} {ps : 
     pub parked-namespace : record { limits = limits; state = state_of qs ds pipes files files_made }
         ≡ waits_in (Some (call_of call)) n pid
     parked-namespace = changed-namespace there (rows.with_call (Some call)) are (waiting (Some (call_of call))) refl
+
+-- Who waits in a transfer is woken
+
+-- a call that is no open moves bytes
+moves_bytes : (call : Call Key) → is_open (call_of call) ≡ false → made_by (Some call) ≡ None
+moves_bytes (Open key kept) e = absurd (cc)
+moves_bytes (Read fd n) e = refl
+moves_bytes (Write fd write) e = refl
+moves_bytes (Cross crossing source sink n) e = refl
+
+-- a process that waits in no open waits in a transfer
+in_transfer : (o : Option (machine.Process ℕ))
+    → (or_refuse ESRCH o >>= (λ p. or_refuse EINVAL p.parked >>= (λ c. Ok (is_open c)))) ≡ Ok false
+    → (c : calls.Call ℕ) × (option_and_then (λ (p : machine.Process ℕ). p.parked) o ≡ Some c) × (is_open c ≡ false)
+in_transfer None h = absurd (cc)
+in_transfer (Some p) h = by_call p.parked h
+  where
+    by_call : (q : Option (calls.Call ℕ)) → (or_refuse EINVAL q >>= (λ c. Ok (is_open c))) ≡ Ok false
+        → (c : calls.Call ℕ) × (q ≡ Some c) × (is_open c ≡ false)
+    by_call None h = absurd (cc)
+    by_call (Some c) h = (c, refl, same_ok h)
+
+-- the call that was given out is that one
+pub given_out : {old new : Namespace} (pid : ℕ) (o : Option (Call Key))
+    → option_map call_of o ≡ machine_call_of old.state pid → waits_in_open old.state pid ≡ Ok false
+    → new ≡ record old { state = awoken old.state pid } → old.state ≡ sweep itself old.state
+    → new.state ≡ sweep itself new.state → Wakes old new pid (Ok o)
+given_out {old} {new} pid o is waits namespace still swept =
+    let w = in_transfer (machine.process old.state pid) waits in by_given w.0 w.1 w.2 o (is ∙ w.1)
+  where
+    by_given : (c : calls.Call ℕ) → machine_call_of old.state pid ≡ Some c → is_open c ≡ false
+        → (o : Option (Call Key)) → option_map call_of o ≡ Some c → Wakes old new pid (Ok o)
+    by_given c waited moves None e = absurd (cc)
+    by_given c waited moves (Some call) e =
+        let same : call_of call ≡ c = cc in
+        record {
+          waited = waited ∙ ap Some (sym same);
+          moves = moves_bytes call (ap is_open same ∙ moves);
+          namespace = namespace;
+          still = still;
+          swept = swept;
+        }

@@ -1,7 +1,7 @@
 -- What came through a chain of refusals: each of its steps gave what the next went on with.
 
-use Rattle.std.proofs.Common.{◌≡◌, ℕ, ◌<◌, ◌≤◌, Bool, true, false, nat_le, Option, Some, None, is_some, Result, Ok}
-use Rattle.std.proofs.Common.{Err, refl, ap, ◌∙◌}
+use Rattle.std.proofs.Common.{◌≡◌, ℕ, ◌<◌, ◌≤◌, Bool, true, false, nat_le, Option, Some, None, is_some, IsOk}
+use Rattle.std.proofs.Common.{Result, Ok, Err, refl, ap, ◌∙◌}
 use Rattle.std.proofs.lemmas.Bool.{le-leb, lt-leb}
 use Rattle.pf_tables.proofs.Common.{◌>>=◌, ◌>>◌, refuse_if, or_refuse, Errno}
 
@@ -31,6 +31,10 @@ same_ok is = cc
 pub is_none : {A : Type 0} (o : Option A) → is_some o ≡ false → o ≡ None
 is_none None h = refl
 is_none (Some x) h = absurd (cc)
+
+pub ok_is : {A : Type 0} (r : Result A Errno) → IsOk r → (x : A) × (r ≡ Ok x)
+ok_is (Ok x) ok = (x, refl)
+ok_is (Err e) ok = absurd (cc)
 
 -- a test that is met, and one that a number is too high
 pub is_refused : {A : Type 0} {b : Bool} (e : Errno) (r : Result A Errno) → b ≡ true → (refuse_if b e >> r) ≡ Err e

@@ -1,7 +1,7 @@
 -- A read whose bytes lie in a buffer that its caller has: what it came to, and what stands in the buffer then.
 
 use Rattle.std.specs.Prelude.{◌≡◌, ℕ, ◌≤◌, List, [], length, take, drop, Option, Some, None, Result, Ok, Err}
-use Rattle.pf_machine.specs.Calls.{Transfer, Call, Reading, Moving}
+use Rattle.pf_machine.specs.Calls.{Transfer, Reading}
 use Rattle.pf_machine.specs.Progress.{moved}
 use Rattle.pf_machine.specs.Transfers.{Tried}
 use Rattle.pf_base.specs.declared.errno.Errno.{Errno}
@@ -14,7 +14,6 @@ use Rattle.pf_base.specs.declared.step.Reply.{Reply}
 use Rattle.pf_base.specs.declared.step.Reply.TheVariants as replies
 use Rattle.pf_frame.specs.Live.{Live}
 use Rattle.pf_ring.specs.Laid.{laid}
-use Rattle.pf_tables.specs.declared.tables.parked.ParkedRead.{ParkedRead}
 use Rattle.pf_tables.specs.Meaning.{Namespace}
 use Rattle.pf_tables.specs.Told.{Came, Refused}
 
@@ -59,11 +58,6 @@ number_in (Ok None) = 0
 number_in (Err e) = 0
 
 -- A call that is tried again. It may be a read, which asked for more bytes than the buffer has room for now
-
--- the read in which a process waits
-abbrev pub read_in : {N : Type 0} → Option (Call N) → Option ParkedRead
-read_in (Some (Moving (Reading fd n))) = Some (record { fd = fd; n = n })
-read_in _ = None
 
 -- a read took as many bytes as it says, and the first of them lie at the front of a buffer
 abbrev pub Truncates : Progress → List ℕ → List ℕ → Tried → Type 0

@@ -1,5 +1,6 @@
 pub mod Bounds
 pub mod Buffers
+pub mod Calls
 pub mod Door
 pub mod Held
 pub mod Meaning

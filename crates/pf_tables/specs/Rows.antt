@@ -1,4 +1,5 @@
--- What the tables mean to the lone machine, and how their counters are tied to it. No public clause cites this module.
+-- What the tables mean to the lone machine, and how their counters are tied to it. Public clauses cite of it what shows a
+-- call that waits and a pipe that goes: `call_of`, `made_by`, `pipe_of`.
 
 use Rattle.std.specs.Prelude.{◌≡◌, ℕ, zero, suc, ◌+◌, ◌-◌, ◌*◌, ◌<◌, ◌≤◌, Bool, true, false, not, ◌&&◌, List, [], ◌∷◌}
 use Rattle.std.specs.Prelude.{length, map, Option, Some, None, is_some, nat_lt, nat_eq, ⊤, if◌then◌else◌, Result, Ok}

@@ -11,6 +11,7 @@ use Rattle.pf_machine.specs.Calls.{Call, Opening, Moving}
 use Rattle.pf_machine.specs.State.{itself, State, Process, Outcome, living, of_living, told, done, change_process}
 use Rattle.pf_machine.specs.State.{waiting, with_descriptor}
 use Rattle.pf_machine.specs.Descriptors.{without_descriptor}
+use Rattle.pf_machine.specs.Machine.{call_of}
 use Rattle.pf_machine.specs.Processes.{exit}
 use Rattle.pf_machine.specs.Sweep.{sweep}
 use Rattle.pf_machine.specs.Pipes.{second_free}
@@ -105,6 +106,20 @@ pub record Leaves (old new : Namespace) (s : State Window ℕ) (pipe : Option ro
 abbrev pub Closes : Namespace → Namespace → Result (Option rows.Pipe) Errno → Result (Outcome Window ℕ) Errno → Type 0
 Closes old new (Ok gone) call = (s : State Window ℕ) × (call ≡ Ok (done s 0)) × Leaves old new s gone
 Closes old new (Err e) call = call ≡ Err e
+
+-- a process that waited in a transfer waits in no call any more
+pub record Woken (old new : Namespace) (pid : ℕ) (call : rows.Call rows.Key) : Type 0 where
+  pub waited : call_of old.state pid ≡ Some (rows.call_of call)
+  pub moves : rows.made_by (Some call) ≡ None
+  pub namespace : new ≡ record old { state = awoken old.state pid }
+  pub still : old.state ≡ sweep itself old.state
+  pub swept : new.state ≡ sweep itself new.state
+
+-- or it waits on, in an open; or it doesn't wait
+abbrev pub Wakes : Namespace → Namespace → ℕ → Result (Option (rows.Call rows.Key)) Errno → Type 0
+Wakes old new pid (Ok (Some call)) = Woken old new pid call
+Wakes old new pid (Ok None) = (new ≡ old) × (waits_in_open new.state pid ≡ Ok true)
+Wakes old new pid (Err e) = (new ≡ old) × (waits_in_open new.state pid ≡ Err e)
 
 -- the process in a place waits in no call, and has none of its first descriptors
 pub record IsBare (s : State Window ℕ) (i n : ℕ) : Type 0 where

@@ -9,6 +9,7 @@ ghost use Rattle.std.specs.Prelude.{◌≡◌, Some, None, IfOk};
 ghost use Rattle.pf_tables.specs.Rows.{key_in, end_of_row, end_in};
 
 mod bounds;
+mod calls;
 mod descriptors;
 mod files;
 mod opens;

@@ -1,38 +1,42 @@
 //! Calls that wait, tried again (this profile's own).
 
-ghost use Rattle.std.specs.Prelude.{◌≡◌, ◌≤◌, ℕ, List, Some, Ok, Err, true, false};
-ghost use Rattle.pf_machine.specs.Calls.{Moving, Reading};
-ghost use Rattle.pf_machine.specs.Machine.{Answers, call, call_of, hands_out, may_want_memory};
+ghost use Rattle.std.specs.Prelude.{◌≡◌, ◌≢◌, ◌≤◌, Some, None, Ok, Err, true, false};
+ghost use Rattle.pf_machine.specs.Machine.{Answers, call, hands_out, may_want_memory};
 ghost use Rattle.pf_tables.specs.Buffers.{Replied, number_told};
-ghost use Rattle.pf_tables.specs.Meaning.{meaning, occupied, AreEmpty};
-ghost use Rattle.pf_tables.specs.Owns.{Owns};
-ghost use Rattle.pf_tables.specs.Told.{Told, ended};
 ghost use Rattle.pf_tables.specs.Door.{Serves, HandsOn};
+ghost use Rattle.pf_tables.specs.Meaning.{Namespace, meaning, occupied, AreEmpty};
+ghost use Rattle.pf_tables.specs.Owns.{Owns};
+ghost use Rattle.pf_tables.specs.Rows.{call_of, made_by};
+ghost use Rattle.pf_tables.specs.Tables.{Woken};
+ghost use Rattle.pf_tables.specs.Told.{Told, ended};
 
 use super::Space;
 use pf_base::{Answer, Errno, Fault, Progress, Reply, Step};
 use pf_frame::Frames;
 use pf_parked::Call;
+use pf_tables::Key;
 use std::alloc::Allocator;
 
 // A call that is refused is over too: that is its reply.
-fn over(answer: Result<Reply, Fault>) -> Result<Reply, Fault>
-    ensures { result ≡ ended answer }
+fn over(answer: Result<Reply, Fault>) -> Reply
+    requires { answer ≢ Err Fault.NoMemory }
+    ensures { Ok result ≡ ended answer }
 {
     match answer {
-        Err(Fault::Errno(errno)) => Ok(Reply::Err(errno)),
-        answer => answer,
+        Ok(reply) => reply,
+        Err(Fault::Errno(errno)) => Reply::Err(errno),
+        Err(Fault::NoMemory) => unreachable!(),
     }
 }
 
 // What a reply is told as that has no bytes, or whose bytes go another way.
-fn number_told(reply: &Reply) -> Result<Option<usize>, Errno>
-    ensures { result ≡ number_told reply.now }
+fn number_told(reply: Reply) -> Result<Option<usize>, Errno>
+    ensures { result ≡ number_told reply }
 {
     match reply {
-        Reply::Num(number) => Ok(Some(*number as usize)),
+        Reply::Num(number) => Ok(Some(number as usize)),
         Reply::Bytes(bytes) => Ok(Some(bytes.as_slice().len())),
-        Reply::Err(errno) => Err(*errno),
+        Reply::Err(errno) => Err(errno),
         _ => Ok(None),
     }
 }
@@ -65,13 +69,16 @@ impl<A: Allocator + Clone> Space<A> {
         ensures spread { (F.live door.new).held ≤ occupied self.new.state }
         ensures none { (F.live door.new).held ≡ 0 → AreEmpty (F.live door.new) self.new.state }
     {
-        match self.tables.parked_read(pid) {
-            Some(read) => self.fill_again(door, pid, read.fd, read.n, buffer),
-            None => self.resume_others(door, pid),
+        self.tables.settled();
+        match self.tables.wake(pid)? {
+            Some(Call::Read { fd, n }) => self.fill_again(door, pid, fd, n, buffer),
+            Some(call) => number_told(self.go_on(door, pid, call)),
+            None => number_told(self.tables.resume_open(pid)),
         }
     }
 
-    // Tries a read again, into this buffer.
+    // Goes on with a read that waited, into this buffer. What it promises is said of each namespace whose process was
+    // woken for it.
     fn fill_again<F: Frames>(
         &mut self,
         door: &mut F,
@@ -81,16 +88,13 @@ impl<A: Allocator + Clone> Space<A> {
         buffer: &mut [u8],
     ) -> Result<Option<usize>, Errno>
         requires door { Serves F.Frames door.old self.old }
-        requires waits { call_of (meaning (F.live door.old) self.old.state) pid ≡ Some (Moving (Reading fd n)) }
         ensures door { HandsOn F.Frames door.old door.new }
         ensures owns { Owns (F.live door.new) self.new }
         ensures limits { self.new.limits ≡ self.old.limits }
-        ensures answers { Replied
-            (λ reply. Answers self.old.limits (Answer.Done reply) (meaning (F.live door.old) self.old.state)
+        ensures answers { (before : Namespace) → Woken before self.old pid (Call.Read fd n) → Replied
+            (λ reply. Answers before.limits (Answer.Done reply) (meaning (F.live door.old) before.state)
             (Step.Resume pid) (meaning (F.live door.new) self.new.state)) result buffer.old buffer.new }
     {
-        self.tables.settled();
-        self.tables.wake(pid);
         match self.tables.read_truncated(door, pid, fd, n, buffer)? {
             Progress::Moved(number) => return Ok(Some(number as usize)),
             Progress::EndOfFile | Progress::NoReader => return Ok(Some(0)),
@@ -101,23 +105,26 @@ impl<A: Allocator + Clone> Space<A> {
         Ok(None)
     }
 
-    // Tries a call again that is no read.
-    fn resume_others<F: Frames>(&mut self, door: &mut F, pid: u32) -> Result<Option<usize>, Errno>
+    // Goes on with a write, a tee or a splice that waited. Its promise too is said of each namespace whose process was
+    // woken for it.
+    fn go_on<F: Frames>(&mut self, door: &mut F, pid: u32, waited: Call<Key>) -> Reply
         requires door { Serves F.Frames door.old self.old }
-        requires quiet { hands_out (call_of (meaning (F.live door.old) self.old.state) pid) ≡ false }
+        requires moves { made_by (Some waited) ≡ None }
+        requires quiet { hands_out (Some (call_of waited)) ≡ false }
         ensures door { HandsOn F.Frames door.old door.new }
-        ensures owns { Owns (F.live door.new) self.new }
-        ensures limits { self.new.limits ≡ self.old.limits }
-        // No buffer has any byte for it.
-        ensures answers { (buffer : List ℕ) → Replied
-            (λ reply. Answers self.old.limits (Answer.Done reply) (meaning (F.live door.old) self.old.state)
-            (Step.Resume pid) (meaning (F.live door.new) self.new.state)) result buffer buffer }
+        ensures told { (before : Namespace) → Woken before self.old pid waited
+            → Told (F.live door.old) (F.live door.new) before self.new (Ok result)
+            (call before.limits (meaning (F.live door.old) before.state) (Step.Resume pid)) }
     {
-        self.tables.settled();
-        match self.resume(door, pid) {
-            Ok(reply) => number_told(&reply),
-            Err(Fault::Errno(errno)) => Err(errno),
-            Err(Fault::NoMemory) => unreachable!(),
+        match waited {
+            Call::Write { fd, write } => over(self.write_on(door, pid, fd, write)),
+            Call::Cross {
+                crossing,
+                source,
+                sink,
+                n,
+            } => over(self.cross(door, crossing, pid, source, sink, n, false, true)),
+            Call::Read { .. } | Call::Open { .. } => unreachable!(),
         }
     }
 
@@ -132,11 +139,7 @@ impl<A: Allocator + Clone> Space<A> {
         ensures wants { result ≡ Err Fault.NoMemory
             → may_want_memory self.old.limits (meaning (F.live door.old) self.old.state) (Step.Resume pid) ≡ true }
     {
-        if self.tables.waits_in_open(pid)? {
-            return Ok(self.tables.resume_open(pid));
-        }
-        self.tables.settled();
-        match self.tables.wake(pid) {
+        match self.tables.wake(pid)? {
             Some(Call::Read { fd, n }) => match self.read_on(door, pid, fd, n, true) {
                 Err(Fault::NoMemory) => {
                     self.tables.park(pid, Call::Read { fd, n });
@@ -145,16 +148,8 @@ impl<A: Allocator + Clone> Space<A> {
                 Err(Fault::Errno(errno)) => Ok(Reply::Err(errno)),
                 Ok(reply) => Ok(reply),
             },
-            Some(Call::Write { fd, write }) => over(self.write_on(door, pid, fd, write)),
-            Some(
-                Call::Cross {
-                    crossing,
-                    source,
-                    sink,
-                    n,
-                },
-            ) => over(self.cross(door, crossing, pid, source, sink, n, false, true)),
-            Some(Call::Open { .. }) | None => unreachable!(),
+            Some(call) => Ok(self.go_on(door, pid, call)),
+            None => Ok(self.tables.resume_open(pid)),
         }
     }
 }

@@ -133,7 +133,7 @@ impl<A: Allocator> Tables<A> {
     }
 
     /// Gives the description that a process's descriptor names one name more, the lowest free descriptor (dup(2)).
-    pub fn dup(&mut self, pid: u32, fd: u32) -> Result<Reply, Fault>
+    pub(super) fn dup(&mut self, pid: u32, fd: u32) -> Result<Reply, Fault>
         ensures says { Says self.old self.new result (of_ready self.old.state pid (λ p. dup self.old.state pid p fd)) }
         ensures refused { OnErr result (self.new ≡ self.old) }
         ensures succeeds { result ≢ Err Fault.NoMemory }
@@ -150,7 +150,7 @@ impl<A: Allocator> Tables<A> {
 
     /// Sets O_NONBLOCK of the description that a process's descriptor names, or takes it away (fcntl(2), F_SETFL).
     /// Whatever else names the description sees it.
-    pub fn set_nonblocking(&mut self, pid: u32, fd: u32, on: bool) -> Result<Reply, Fault>
+    pub(super) fn set_nonblocking(&mut self, pid: u32, fd: u32, on: bool) -> Result<Reply, Fault>
         ensures says { Says self.old self.new result
             (of_ready self.old.state pid (λ p. set_nonblock itself self.old.state p fd on)) }
         ensures refused { OnErr result (self.new ≡ self.old) }

@@ -24,7 +24,7 @@ fn made_reply(made: Result<(), Fault>) -> Result<Reply, Fault>
 // else, but for stat, where nothing stands against the call.
 impl<A: Allocator + Clone> Tables<A> {
     /// Makes a file of a process at a path (mkdir(), mkfifo()). `bits` is the mode asked for.
-    pub fn make_file(
+    pub(super) fn make_file(
         &mut self,
         alloc: Global,
         pid: u32,
@@ -48,7 +48,7 @@ impl<A: Allocator + Clone> Tables<A> {
     }
 
     /// Takes a FIFO's name away (unlink()).
-    pub fn unlink(&mut self, alloc: Global, pid: u32, path: &[u8]) -> Result<Reply, Fault>
+    pub(super) fn unlink(&mut self, alloc: Global, pid: u32, path: &[u8]) -> Result<Reply, Fault>
         ensures says { Says self.old self.new result
             (of_ready self.old.state pid (λ p. unlink self.old.state p path.now)) }
         ensures ready { result ≡ Err Fault.NoMemory → IsOk (ready self.old.state pid) }
@@ -61,7 +61,7 @@ impl<A: Allocator + Clone> Tables<A> {
     }
 
     /// Takes a directory away that has no entries (rmdir()).
-    pub fn rmdir(&mut self, alloc: Global, pid: u32, path: &[u8]) -> Result<Reply, Fault>
+    pub(super) fn rmdir(&mut self, alloc: Global, pid: u32, path: &[u8]) -> Result<Reply, Fault>
         ensures says { Says self.old self.new result
             (of_ready self.old.state pid (λ p. rmdir self.old.state p path.now)) }
         ensures ready { result ≡ Err Fault.NoMemory → IsOk (ready self.old.state pid) }
@@ -74,7 +74,13 @@ impl<A: Allocator + Clone> Tables<A> {
     }
 
     /// Gives a file another mode (chmod()). `bits` is the mode.
-    pub fn chmod(&mut self, alloc: Global, pid: u32, path: &[u8], bits: u32) -> Result<Reply, Fault>
+    pub(super) fn chmod(
+        &mut self,
+        alloc: Global,
+        pid: u32,
+        path: &[u8],
+        bits: u32,
+    ) -> Result<Reply, Fault>
         ensures says { Says self.old self.new result
             (of_ready self.old.state pid (λ p. chmod self.old.state p path.now bits)) }
         ensures ready { result ≡ Err Fault.NoMemory → IsOk (ready self.old.state pid) }
@@ -88,7 +94,7 @@ impl<A: Allocator + Clone> Tables<A> {
     }
 
     /// What is known of a file (stat()).
-    pub fn stat(&self, alloc: Global, pid: u32, path: &[u8]) -> Result<Reply, Fault>
+    pub(super) fn stat(&self, alloc: Global, pid: u32, path: &[u8]) -> Result<Reply, Fault>
         ensures says { Says self.now self.now result
             (of_ready self.now.state pid (λ p. stat self.now.state p path.now)) }
         ensures ready { result ≡ Err Fault.NoMemory → IsOk (ready self.now.state pid) }
@@ -102,7 +108,7 @@ impl<A: Allocator + Clone> Tables<A> {
     }
 
     /// The names in a directory, each with a slash behind it.
-    pub fn list(&self, alloc: Global, pid: u32, path: &[u8]) -> Result<Reply, Fault>
+    pub(super) fn list(&self, alloc: Global, pid: u32, path: &[u8]) -> Result<Reply, Fault>
         ensures says { Says self.now self.now result
             (of_ready self.now.state pid (λ p. list self.now.state p path.now)) }
         ensures ready { result ≡ Err Fault.NoMemory → IsOk (ready self.now.state pid) }

@@ -224,7 +224,7 @@ impl<A: Allocator> Tables<A> {
     /// Opens the FIFO at a path for a process (open(2), fifo(7)): its lowest free descriptor names the description, or
     /// the process waits for the other side. A FIFO that nobody has open gets its pipe. The process is looked up
     /// once, and its place is found again where its descriptor is given; the FIFO's key is looked up once.
-    pub fn open(
+    pub(super) fn open(
         &mut self,
         alloc: Global,
         pid: u32,
@@ -296,7 +296,7 @@ impl<A: Allocator> Tables<A> {
             return Reply::Parked;
         }
         let fd = process.descriptors.lowest();
-        self.wake(pid);
+        self.end_wait(pid);
         Reply::Num(fd as u64)
     }
 }

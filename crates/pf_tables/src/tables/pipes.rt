@@ -129,7 +129,12 @@ fn resize(
 impl<A: Allocator> Tables<A> {
     /// Makes a pipe that has its two ends at the two lowest free descriptors of a process, which is charged with it
     /// (pipe(2)).
-    pub fn pipe(&mut self, alloc: Global, pid: u32, nonblocking: bool) -> Result<Reply, Fault>
+    pub(super) fn pipe(
+        &mut self,
+        alloc: Global,
+        pid: u32,
+        nonblocking: bool,
+    ) -> Result<Reply, Fault>
         ensures says { let s = self.old.state in Says self.old self.new result
             (of_ready s pid (λ p. pipe (length s.descriptions) (length s.descriptions + 1) (length s.pipes)
             self.old.limits s pid p nonblocking)) }
@@ -172,7 +177,7 @@ impl<A: Allocator> Tables<A> {
     }
 
     /// The capacity in bytes of the pipe that a process's descriptor names (fcntl(2), F_GETPIPE_SZ).
-    pub fn size(&self, pid: u32, fd: u32) -> Result<Reply, Fault>
+    pub(super) fn size(&self, pid: u32, fd: u32) -> Result<Reply, Fault>
         ensures says { Says self.now self.now result
             (of_ready self.now.state pid (λ p. get_size itself self.now.state p fd)) }
         ensures succeeds { result ≢ Err Fault.NoMemory }
@@ -187,7 +192,13 @@ impl<A: Allocator> Tables<A> {
     /// Gives the pipe that a process's descriptor names the capacity that holds so many bytes, and tells it in bytes
     /// (fcntl(2), F_SETPIPE_SZ). Its owner is charged with the pages by which it grows, and gets those back by which it
     /// shrinks.
-    pub fn set_size(&mut self, alloc: Global, pid: u32, fd: u32, bytes: u64) -> Result<Reply, Fault>
+    pub(super) fn set_size(
+        &mut self,
+        alloc: Global,
+        pid: u32,
+        fd: u32,
+        bytes: u64,
+    ) -> Result<Reply, Fault>
         ensures says { Says self.old self.new result
             (of_ready self.old.state pid (λ p. set_size itself self.old.limits self.old.state p fd bytes)) }
         // Memory is wanted where nothing else stands against it.

@@ -45,7 +45,7 @@ impl<A: Allocator> Tables<A> {
     }
 
     /// Makes a process with these credentials and no descriptors, under the lowest free pid (the profile's own).
-    pub fn spawn(
+    pub(super) fn spawn(
         &mut self,
         alloc: Global,
         uid: u32,
@@ -84,7 +84,7 @@ impl<A: Allocator> Tables<A> {
     }
 
     /// Makes a process with the credentials and the descriptors of another one, under the lowest free pid (fork(2)).
-    pub fn fork(&mut self, alloc: Global, pid: u32) -> Result<Reply, Fault>
+    pub(super) fn fork(&mut self, alloc: Global, pid: u32) -> Result<Reply, Fault>
         ensures says { Says self.old self.new result (of_ready self.old.state pid (λ p. fork self.old.state p)) }
         // Memory is wanted where nothing else stands against it.
         ensures wanted { let s = self.old.state in result ≡ Err Fault.NoMemory
@@ -117,7 +117,7 @@ impl<A: Allocator> Tables<A> {
         ensures refused { OnErr result (self.new ≡ self.old) }
     {
         self.processes.living(pid)?;
-        self.wake(pid);
+        self.end_wait(pid);
         Ok(())
     }
 

@@ -1,5 +1,7 @@
 use Rattle.std.proofs.Common.{◌-◌, refl, sym, ap, ◌∙◌, rules}
 use Rattle.pf_space.proofs.Common.{Namespace}
+use Rattle.pf_machine.proofs.NaturalCalls.{exit-call}
+use Rattle.pf_machine.specs.State.{itself}
 use Rattle.pf_base.specs.declared.step.Step.TheVariants.{Exit}
 use Rattle.pf_tables.specs.Tables.{descriptor}
 use Rattle.pf_space.proofs.Books.{booked_not}
@@ -37,8 +39,9 @@ end_exit-requires-clause-bare g c =
 pub returns-in_err-begin_exit-clause-told : goal.returns-in_err-begin_exit-clause-told
 returns-in_err-begin_exit-clause-told g c =
     let refused =
-    booked_not c.self.view_is c.requires.door.owns (Exit c.args.pid) tt c.in_err-begin_exit.ensures.begins
-    c.in_err-begin_exit.ensures.refused in
+    booked_not c.self.view_is c.requires.door.owns (Exit c.args.pid)
+    (λ shows. exit-call shows itself c.self.inside.tables.limits c.self.inside.tables.state c.args.pid)
+    c.in_err-begin_exit.ensures.begins c.in_err-begin_exit.ensures.refused in
     search rules
 
 pub returns-clause-told : goal.returns-clause-told

@@ -9,4 +9,4 @@ returns-in_err-living-clause-begins g c =
 
 pub returns-clause-begins : goal.returns-clause-begins
 returns-clause-begins g c =
-    begins _ _ _ c.self.view_is _ c.in_ok-living.ensures _ c.wake.ensures.namespace c.wake.ensures.swept
+    begins _ _ _ c.self.view_is _ c.in_ok-living.ensures _ c.end_wait.ensures.namespace c.end_wait.ensures.swept

@@ -14,4 +14,4 @@ returns g c =
     comes c.self.invariant.kept.tied c.self.view_is c.args.pid c.in-Ok.ensures
     (sym (ap Some (sym c.in-Some-Open.field-0-is) ∙ c.in-Some-Open.ensures.value))
     (lt-ltb _ _ (omega (arith, c.others.ensures, c.if-others-kept.false))) c.lowest-fd.ensures.lowest
-    c.wake.ensures.namespace c.wake.ensures.swept
+    c.end_wait.ensures.namespace c.end_wait.ensures.swept

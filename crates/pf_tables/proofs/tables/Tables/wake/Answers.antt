@@ -1,16 +1,11 @@
-use Rattle.pf_tables.proofs.Parked.{awoken-whole, awoken-namespace, call-shown}
-use Rattle.pf_tables.proofs.TablesSettled.{settled}
+-- The call that was given out is a transfer's, since the process waits in no open.
+
+use Rattle.std.proofs.Common.{Ok, sym, ap, ◌∙◌}
+use Rattle.pf_tables.proofs.Parked.{given_out}
 use Rattle.pf_tables.proofs.tables.Tables.wake.Goals as goal
 
-pub invariant_of-self : goal.invariant_of-self
-invariant_of-self g c =
-    awoken-whole c.self.invariant c.self.view_is _ c.requires.lives c.wake.ensures.spare c.wake.ensures.rows
-
 pub returns : goal.returns
-returns g c = record {
-  call = call-shown _ _ _ c.self.view_is c.args.pid c.wake.ensures.call;
-  namespace =
-      awoken-namespace c.self.invariant c.self.view_is _ c.requires.lives c.wake.ensures.spare
-      c.wake.ensures.rows;
-  swept = let whole = invariant_of-self g c in settled _ _ whole.kept.tied;
-}
+returns g c =
+    given_out c.args.pid c.end_wait.result c.end_wait.ensures.call
+    (sym c.in_ok-waits_in_open.ensures ∙ ap Ok c.if-branch.false) c.end_wait.ensures.namespace c.settled.ensures
+    c.end_wait.ensures.swept
