@@ -140,6 +140,16 @@ fn few_pieces_are_read_and_written(rt: HostRuntime) -> Result<(), Fail> {
     Ok(())
 }
 
+/// A help is written at once, and nothing is read for it.
+#[test]
+fn a_help_is_one_piece(rt: HostRuntime) -> Result<(), Fail> {
+    let words = words_of(rt.alloc(), &["pfplay", "--help"])?;
+    let (reads, writes, taken, status) = asked(&rt, rt.alloc(), &words, "");
+    assert_eq!(rt; (reads, writes, status), (0, 1, 2));
+    assert!(rt; taken > 1_000);
+    Ok(())
+}
+
 /// Those of std are asked no more often.
 #[test]
 fn few_pieces_are_read_and_written_by_std(rt: HostRuntime) -> Result<(), Fail> {

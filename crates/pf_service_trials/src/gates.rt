@@ -6,8 +6,8 @@
 
 ghost use Rattle.pf_depot.specs.Blanks.{IsBlankOf};
 
-use crate::services::{Callers, no_seat, serve, steps_of_blue, steps_of_red};
-use pf_base::Step;
+use crate::services::{Callers, no_answer, no_seat, serve, steps_of_blue, steps_of_red};
+use pf_base::{AdmitFault, Step};
 use pf_service::{Gate, Seat, Service, ServiceFault};
 use pf_service_fixture::{
     BLUE, Closed, RED, Size, blank, both, closed, config_of, is_next, namespaces, place_of,
@@ -218,10 +218,7 @@ fn gives_nothing<R: Wait, C: Ledger, H: Ledger>(
     ns: u32,
     fault: ServiceFault,
 ) -> bool {
-    no_seat(service.seat(rt, ns)) == Some(fault)
-        && service.can_go_on(rt, ns, 1).err() == Some(fault)
-        && service.next_to_go_on(rt, ns, 0).err() == Some(fault)
-        && service.readiness(rt, ns, 1, 0).err() == Some(fault)
+    no_seat(service.seat(rt, ns)) == Some(fault) && no_answer(rt, service, ns, fault)
 }
 
 // Whether one more has no room, and of its number, which nobody was given, there is no seat and no answer.
@@ -232,7 +229,7 @@ fn is_full<R: Wait, C: Ledger, H: Ledger>(
 ) -> bool {
     match config_of(1) {
         Some(config) => {
-            service.admit(rt, config, alloc).is_err()
+            service.admit(rt, config, alloc).err() == Some(AdmitFault::NoRoom { slack: 0 })
                 && gives_nothing(rt, service, 2, ServiceFault::NoSuchNamespace)
         }
         None => false,

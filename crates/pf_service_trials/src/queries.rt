@@ -1,6 +1,6 @@
 //! What a host asks of a service's namespace besides its events: who can go on, and what an end of a pipe is ready for.
 
-use crate::services::{Callers, Plain, serve};
+use crate::services::{Callers, Plain, no_answer, serve};
 use pf_base::{BYTES_IN_PLACE, ByteString, Errno, Readiness, Step};
 use pf_service::{NoGate, Seat, ServiceFault};
 use pf_service_fixture::{BLUE, RED, Size, config_of, is_next, make, makes, spawn, with, write_by};
@@ -79,18 +79,6 @@ fn is_empty<C: Ledger, H: Ledger, R: Wait>(
     )
 }
 
-// Whether nothing is told of a number, for this reason.
-fn is_refused<C: Ledger, H: Ledger, R: Wait>(
-    rt: &R,
-    service: &Plain<C, H>,
-    ns: u32,
-    fault: ServiceFault,
-) -> bool {
-    service.can_go_on(rt, ns, 1).err() == Some(fault)
-        && service.next_to_go_on(rt, ns, 0).err() == Some(fault)
-        && service.readiness(rt, ns, 1, 0).err() == Some(fault)
-}
-
 // The seat of who makes a namespace's first process wait, and then, at one that has just come, writes the byte.
 fn opened<C: Ledger, H: Ledger, R: Wait>(
     rt: &R,
@@ -127,7 +115,7 @@ impl Callers<NoGate> for OneWaits {
         let seat = seats.first_mut().ok_or("no seat")?;
         assert!(rt; makes(rt, service, seat, &byte));
         assert!(rt; goes_on(rt, service, RED)? && is_empty(rt, service, BLUE)?);
-        assert!(rt; is_refused(rt, service, 3, ServiceFault::NoSuchNamespace));
+        assert!(rt; no_answer(rt, service, 3, ServiceFault::NoSuchNamespace));
         // no question has used up a number
         assert!(rt; is_next(rt, alloc, service, 3));
         Ok(seats)
@@ -275,8 +263,8 @@ impl Callers<NoGate> for BothWent {
         let guest = service.admit(rt, config_of(16).ok_or("limits")?, alloc)?;
         service.retire(rt, RED)?;
         service.retire(rt, guest)?;
-        assert!(rt; is_refused(rt, service, RED, ServiceFault::Gone));
-        assert!(rt; is_refused(rt, service, guest, ServiceFault::Gone));
+        assert!(rt; no_answer(rt, service, RED, ServiceFault::Gone));
+        assert!(rt; no_answer(rt, service, guest, ServiceFault::Gone));
         assert!(rt; is_next(rt, alloc, service, 2));
         Ok(Vec::new(alloc))
     }

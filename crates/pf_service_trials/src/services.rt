@@ -164,6 +164,18 @@ pub(crate) fn refused(closed: Result<Transcripts, CloseFault>) -> Option<CloseFa
     }
 }
 
+// Whether no question of a number is answered, for this reason.
+pub(crate) fn no_answer<G: Gate, C: Ledger, H: Ledger, R: Wait>(
+    rt: &R,
+    service: &Service<Global, G, C, H>,
+    ns: u32,
+    fault: ServiceFault,
+) -> bool {
+    service.can_go_on(rt, ns, 1).err() == Some(fault)
+        && service.next_to_go_on(rt, ns, 0).err() == Some(fault)
+        && service.readiness(rt, ns, 1, 0).err() == Some(fault)
+}
+
 // Why a seat was refused, if it was.
 pub(crate) fn no_seat(seat: Result<Seat, ServiceFault>) -> Option<ServiceFault> {
     match &seat {
